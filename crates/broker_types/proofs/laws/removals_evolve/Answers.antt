@@ -1,0 +1,11 @@
+use Rattle.broker_types.proofs.Removals.{revoke_evolves, revoke_orphan_evolves, at_moment_evolves}
+use Rattle.broker_types.proofs.laws.removals_evolve.Goals as goal
+
+pub returns-clause-revoked : goal.returns-clause-revoked
+returns-clause-revoked c = revoke_evolves
+
+pub returns-clause-revoked_alone : goal.returns-clause-revoked_alone
+returns-clause-revoked_alone c = revoke_orphan_evolves
+
+pub returns-clause-expired : goal.returns-clause-expired
+returns-clause-expired c = at_moment_evolves

@@ -1,0 +1,159 @@
+-- Laws of the tree of tokens, of the first broker and of runs, as statements.
+use Rattle.std.specs.Prelude.{◌≡◌, ◌≢◌, ◌<◌, ◌≤◌, ◌^◌, ℕ, [], ◌∷◌, true, false, Some, None}
+use Rattle.broker_types.specs.Text.{Text}
+use Rattle.broker_types.specs.Map.{get}
+use Rattle.broker_types.specs.Moment.{greatest_moment}
+use Rattle.broker_types.specs.Token.{Token, Tokens}
+use Rattle.broker_types.specs.Lineage.{lineage, is_under, ParentsStand, ChainsEnd, alive_at, with_live_leases, revoke, revoke_orphan}
+use Rattle.broker_types.specs.Broker as broker
+use Rattle.broker_types.specs.Broker.{Broker}
+use Rattle.broker_types.specs.Evolves.{Evolves, IsSpent, HasEnded, IsTakenOut}
+use Rattle.broker_types.specs.Sound.{Forms, Sound}
+use Rattle.broker_types.specs.First.{default_policy, first_broker}
+
+-- ---- lineages
+
+-- an unknown token has no lineage
+abbrev pub UnknownHasNoLineage : Type 0
+UnknownHasNoLineage = (ts : Tokens) (t : Text) → get ts t ≡ None → lineage ts t ≡ []
+
+-- the lineage of a token without parent is the token
+abbrev pub LineageOfOrphan : Type 0
+LineageOfOrphan = (ts : Tokens) (t : Text) (x : Token) → get ts t ≡ Some x → x.parent ≡ None → lineage ts t ≡ t ∷ []
+
+-- the lineage of another is the token and the lineage of its parent
+abbrev pub LineageOfChild : Type 0
+LineageOfChild = (ts : Tokens) (t p : Text) (x : Token) → ChainsEnd ts → get ts t ≡ Some x → x.parent ≡ Some p → lineage ts t ≡ t ∷ lineage ts p
+
+abbrev pub StandsUnderItself : Type 0
+StandsUnderItself = (ts : Tokens) (t : Text) → get ts t ≢ None → is_under ts t t ≡ true
+
+abbrev pub UnderIsTransitive : Type 0
+UnderIsTransitive = (ts : Tokens) (t a b : Text) → ChainsEnd ts → is_under ts t a ≡ true → is_under ts a b ≡ true → is_under ts t b ≡ true
+
+-- what is under another stands, and so does the other
+abbrev pub UnderOfStanding : Type 0
+UnderOfStanding = (ts : Tokens) (t a : Text) → is_under ts t a ≡ true → (get ts t ≢ None) × (get ts a ≢ None)
+
+-- ---- revocation
+
+abbrev pub RevokedUnknown : Type 0
+RevokedUnknown = (ts : Tokens) (t : Text) → get ts t ≡ None → revoke ts t ≡ ts
+
+-- nothing under the revoked token stands
+abbrev pub RevokedIsGone : Type 0
+RevokedIsGone = (ts : Tokens) (t q : Text) → is_under ts q t ≡ true → get (revoke ts t) q ≡ None
+
+-- a token that is not under it is as it was
+abbrev pub OthersAreAsBefore : Type 0
+OthersAreAsBefore = (ts : Tokens) (t q : Text) → is_under ts q t ≡ false → get (revoke ts t) q ≡ get ts q
+
+-- ---- revocation of one token
+
+abbrev pub OrphanedByUnknown : Type 0
+OrphanedByUnknown = (ts : Tokens) (t : Text) → ParentsStand ts → get ts t ≡ None → revoke_orphan ts t ≡ ts
+
+abbrev pub OrphanedIsGone : Type 0
+OrphanedIsGone = (ts : Tokens) (t : Text) → get (revoke_orphan ts t) t ≡ None
+
+-- its children have no parent then
+abbrev pub ChildrenAreOrphans : Type 0
+ChildrenAreOrphans = (ts : Tokens) (t q : Text) (x : Token) → q ≢ t → get ts q ≡ Some x → x.parent ≡ Some t → get (revoke_orphan ts t) q ≡ Some (record x { parent = None })
+
+-- a token of another parent, or of none, is as it was
+abbrev pub StrangersAreAsBefore : Type 0
+StrangersAreAsBefore = (ts : Tokens) (t q : Text) (x : Token) → q ≢ t → get ts q ≡ Some x → x.parent ≢ Some t → get (revoke_orphan ts t) q ≡ Some x
+
+-- and no token is new
+abbrev pub NoneIsNew : Type 0
+NoneIsNew = (ts : Tokens) (t q : Text) → get ts q ≡ None → get (revoke_orphan ts t) q ≡ None
+
+-- ---- expiry
+
+-- the token and all above it have no end, or one after now
+abbrev pub OutlastsAbove : ℕ → Tokens → Text → Type 0
+OutlastsAbove now ts t = (a : Text) (y : Token) (m : ℕ) → is_under ts t a ≡ true → get ts a ≡ Some y → y.ends ≡ Some m → now < m
+
+-- what stands outlasts now, as does all above it
+abbrev pub StandingOutlasts : Type 0
+StandingOutlasts = (now : ℕ) (ts : Tokens) (t : Text) → get (alive_at now ts) t ≢ None → OutlastsAbove now ts t
+
+-- a token that outlasts now, as does all above it, stays, with its leases that do
+abbrev pub OutlastingStands : Type 0
+OutlastingStands = (now : ℕ) (ts : Tokens) (t : Text) (x : Token) → get ts t ≡ Some x → OutlastsAbove now ts t → get (alive_at now ts) t ≡ Some (with_live_leases now x)
+
+-- ---- trees stay trees
+
+-- parents stand, and chains end
+pub record IsTree (ts : Tokens) : Type 0 where
+  pub parents_stand : ParentsStand ts
+  pub chains_end : ChainsEnd ts
+
+abbrev pub RevokeKeepsTrees : Type 0
+RevokeKeepsTrees = (ts : Tokens) (t : Text) → IsTree ts → IsTree (revoke ts t)
+
+abbrev pub RevokeOrphanKeepsTrees : Type 0
+RevokeOrphanKeepsTrees = (ts : Tokens) (t : Text) → IsTree ts → IsTree (revoke_orphan ts t)
+
+abbrev pub ExpiryKeepsTrees : Type 0
+ExpiryKeepsTrees = (now : ℕ) (ts : Tokens) → IsTree ts → IsTree (alive_at now ts)
+
+-- ---- the first broker
+
+abbrev pub FirstBrokerIsSound : Type 0
+FirstBrokerIsSound = (forms : Forms) (moment v w : ℕ) → moment ≤ greatest_moment → v < 2 ^ 128 → w < 2 ^ 128 → v ≢ w → forms.is_policy default_policy ≡ true → Sound forms (first_broker moment v w)
+
+-- ---- soundness is kept
+
+abbrev pub RevokeKeepsSoundness : Type 0
+RevokeKeepsSoundness = (forms : Forms) (b : Broker) (t : Text) → Sound forms b → Sound forms (broker.revoke b t)
+
+abbrev pub RevokeOrphanKeepsSoundness : Type 0
+RevokeOrphanKeepsSoundness = (forms : Forms) (b : Broker) (t : Text) → Sound forms b → Sound forms (broker.revoke_orphan b t)
+
+abbrev pub ExpiryKeepsSoundness : Type 0
+ExpiryKeepsSoundness = (forms : Forms) (b : Broker) (moment : ℕ) → moment ≤ greatest_moment → Sound forms b → Sound forms (broker.at_moment b moment)
+
+-- ---- runs
+
+abbrev pub EvolvingIsTransitive : Type 0
+EvolvingIsTransitive = (b c d : Broker) → Evolves b c → Evolves c d → Evolves b d
+
+abbrev pub EvolvesFromItself : Type 0
+EvolvesFromItself = (b : Broker) → Evolves b b
+
+-- an origin whose response was handed out stays so
+abbrev pub SpentStaysSpent : Type 0
+SpentStaysSpent = (b c : Broker) (origin : Text) → Evolves b c → IsSpent b origin → IsSpent c origin
+
+-- a token that ended never stands again
+abbrev pub EndedStaysEnded : Type 0
+EndedStaysEnded = (b c : Broker) (t : Text) → Evolves b c → HasEnded b t → HasEnded c t
+
+-- a wrapping token that was taken out never waits again
+abbrev pub TakenOutStaysOut : Type 0
+TakenOutStaysOut = (b c : Broker) (t : Text) → Evolves b c → IsTakenOut b t → IsTakenOut c t
+
+-- what goes lets a broker evolve
+
+abbrev pub RevokeEvolves : Type 0
+RevokeEvolves = (b : Broker) (t : Text) → Evolves b (broker.revoke b t)
+
+abbrev pub RevokeOrphanEvolves : Type 0
+RevokeOrphanEvolves = (b : Broker) (t : Text) → Evolves b (broker.revoke_orphan b t)
+
+abbrev pub ExpiryEvolves : Type 0
+ExpiryEvolves = (b : Broker) (moment : ℕ) → Evolves b (broker.at_moment b moment)
+
+-- a token that stood in a sound broker and was taken out of it has ended
+abbrev pub Ends : Broker → Broker → Type 0
+Ends b c = (q : Text) → get b.tokens q ≢ None → get c.tokens q ≡ None → HasEnded c q
+
+abbrev pub RevokeEnds : Type 0
+RevokeEnds = (forms : Forms) (b : Broker) (t : Text) → Sound forms b → Ends b (broker.revoke b t)
+
+abbrev pub RevokeOrphanEnds : Type 0
+RevokeOrphanEnds = (forms : Forms) (b : Broker) (t : Text) → Sound forms b → Ends b (broker.revoke_orphan b t)
+
+abbrev pub ExpiryEnds : Type 0
+ExpiryEnds = (forms : Forms) (b : Broker) (moment : ℕ) → Sound forms b → Ends b (broker.at_moment b moment)

@@ -1,0 +1,186 @@
+-- Sound brokers: what the start makes true and every request keeps true.
+use Rattle.std.specs.Prelude.{◌≡◌, ◌≢◌, ◌<◌, ◌≤◌, ◌^◌, ◌+◌, ◌++◌, ◌&&◌, ℕ, List, [], ◌∷◌, Bool, true, length, codes, IsUtf8, Some, All}
+use Rattle.std.specs.Ordering.{is_lt}
+use Rattle.std.specs.FinMap as fin
+use Rattle.broker_types.specs.Text.{Text, text_cmp}
+use Rattle.broker_types.specs.Map.{get, len}
+use Rattle.broker_types.specs.Identifier.{id}
+use Rattle.broker_types.specs.TokenText.{token_text}
+use Rattle.broker_types.specs.Moment.{greatest_moment}
+use Rattle.broker_types.specs.Duration.{most as longest_duration}
+use Rattle.broker_types.specs.Limits.{longest_ttl, greatest_version}
+use Rattle.broker_types.specs.Name.{is_name, is_mount_name}
+use Rattle.broker_types.specs.Path.{is_path}
+use Rattle.broker_types.specs.Token.{Token, Lease}
+use Rattle.broker_types.specs.Secret.{Key, Version}
+use Rattle.broker_types.specs.Lineage.{ParentsStand, ChainsEnd}
+use Rattle.broker_types.specs.Broker.{Broker, Waiting, Mount, Role}
+use Rattle.broker_types.specs.Places.{IsUsed, OnePlaceEach, AllUsed}
+
+-- which texts are compact JSON objects, and which are policies; the crates that read JSON say it
+pub record Forms : Type 0 where
+  pub is_object : Text → Bool
+  pub is_policy : Text → Bool
+
+-- ---- texts
+
+-- the identifier of a word
+abbrev pub IsIdentifier : Text → Type 0
+IsIdentifier i = (word : ℕ) × (word < 2 ^ 128) × (i ≡ id word)
+
+-- `hvs.` and an identifier
+abbrev pub IsTokenText : Text → Type 0
+IsTokenText t = (i : Text) × IsIdentifier i × (t ≡ token_text i)
+
+-- UTF-8, of a length that four bytes hold
+pub record IsShortText (t : Text) : Type 0 where
+  pub utf8 : IsUtf8 t
+  pub short : length t < 2 ^ 32
+
+-- the path of a request, or a part of one
+pub record IsPathText (p : Text) : Type 0 where
+  pub good : is_path p ≡ true
+  pub utf8 : IsUtf8 p
+
+pub record IsObjectText (forms : Forms) (t : Text) : Type 0 where
+  pub object : forms.is_object t ≡ true
+  pub short : IsShortText t
+
+-- ascending by bytes, each once
+abbrev pub is_ascending : List Text → Bool
+is_ascending [] = true
+is_ascending (x ∷ []) = true
+is_ascending (x ∷ y ∷ zs) = is_lt (text_cmp x y) && is_ascending (y ∷ zs)
+
+-- ---- times
+
+abbrev pub IsMoment : ℕ → Type 0
+IsMoment n = n ≤ greatest_moment
+
+-- an end is set no further ahead than 32 days
+abbrev pub IsEnd : ℕ → Type 0
+IsEnd n = n ≤ greatest_moment + longest_ttl
+
+-- ---- entries
+
+-- the mount, `/creds/`, the role, `/` and an identifier
+pub record IsLeaseId (lease_id : Text) : Type 0 where
+  pub mount : Text
+  pub role : Text
+  pub identifier : Text
+  pub mount_name : is_mount_name mount ≡ true
+  pub role_name : is_name role ≡ true
+  pub is_identifier : IsIdentifier identifier
+  pub parts : lease_id ≡ mount ++ codes "/creds/" ++ role ++ codes "/" ++ identifier
+
+pub record IsSoundLease (lease_id : Text) (l : Lease) : Type 0 where
+  pub name : IsLeaseId lease_id
+  pub issued : IsMoment l.issued
+  pub ttl : l.ttl ≤ l.max_ttl
+  pub max_ttl : l.max_ttl ≤ longest_ttl
+  pub ends : IsEnd l.ends
+  pub renewed : (m : ℕ) → l.renewed ≡ Some m → IsMoment m
+  pub credential : IsIdentifier l.credential
+
+pub record IsSoundToken (forms : Forms) (t : Text) (x : Token) : Type 0 where
+  pub name : IsTokenText t
+  pub accessor : IsIdentifier x.accessor
+  pub policy_names : All (λ p. is_name p ≡ true) x.policies
+  pub policies_ascend : is_ascending x.policies ≡ true
+  pub few_policies : length x.policies < 2 ^ 32
+  pub issued : IsMoment x.issued
+  pub ends : (m : ℕ) → x.ends ≡ Some m → IsEnd m
+  pub ttl : x.ttl ≤ longest_ttl
+  pub explicit_max_ttl : x.explicit_max_ttl ≤ longest_duration
+  pub period : x.period ≤ longest_ttl
+  pub uses_left : (n : ℕ) → x.uses_left ≡ Some n → n < 2 ^ 64
+  pub few_meta : len x.meta < 2 ^ 32
+  pub meta : (name value : Text) → get x.meta name ≡ Some value → IsShortText name × IsShortText value
+  pub cubbyhole : (path object : Text) → get x.cubbyhole path ≡ Some object → IsPathText path × IsObjectText forms object
+  pub leases : (lease_id : Text) (l : Lease) → get x.leases lease_id ≡ Some l → IsSoundLease lease_id l
+
+pub record IsSoundVersion (forms : Forms) (k : Key) (n : ℕ) (v : Version) : Type 0 where
+  pub first : 0 < n
+  pub last : n ≤ k.current
+  pub created : IsMoment v.created
+  pub deleted : (m : ℕ) → v.deleted ≡ Some m → IsMoment m
+  pub secret : (object : Text) → v.secret ≡ Some object → IsObjectText forms object
+
+-- a member of custom metadata
+pub record IsSoundMetadata (name value : Text) : Type 0 where
+  pub name_utf8 : IsUtf8 name
+  pub name_nonempty : 0 < length name
+  pub name_short : length name ≤ 128
+  pub value_utf8 : IsUtf8 value
+  pub value_short : length value ≤ 512
+
+-- the mount, `/` and the path
+pub record IsSecretName (q : Text) : Type 0 where
+  pub mount : Text
+  pub path : Text
+  pub mount_name : is_mount_name mount ≡ true
+  pub is_path_text : IsPathText path
+  pub parts : q ≡ mount ++ codes "/" ++ path
+
+pub record IsSoundKey (forms : Forms) (q : Text) (k : Key) : Type 0 where
+  pub name : IsSecretName q
+  pub created : IsMoment k.created
+  pub updated : IsMoment k.updated
+  pub current : k.current ≤ greatest_version
+  pub versions : (n : ℕ) (v : Version) → fin.get k.versions n ≡ Some v → IsSoundVersion forms k n v
+  pub max_versions : k.max_versions < 2 ^ 64
+  pub few_metadata : len k.custom_metadata ≤ 64
+  pub metadata : (name value : Text) → get k.custom_metadata name ≡ Some value → IsSoundMetadata name value
+
+pub record IsSoundWaiting (t : Text) (w : Waiting) : Type 0 where
+  pub name : IsTokenText t
+  pub accessor : IsIdentifier w.accessor
+  pub created : IsMoment w.created
+  pub waits : 0 < w.ttl
+  pub ttl : w.ttl ≤ longest_ttl
+  pub path : IsPathText w.path
+  pub origin : IsIdentifier w.origin
+  pub reply : IsUtf8 w.reply
+  pub short : length w.reply < 2 ^ 64
+
+pub record IsSoundMount (name : Text) (m : Mount) : Type 0 where
+  pub mount_name : is_mount_name name ≡ true
+  pub max_versions : m.max_versions < 2 ^ 64
+
+-- the mount, `/` and the role's name
+pub record IsSoundRole (q : Text) (r : Role) : Type 0 where
+  pub mount : Text
+  pub role : Text
+  pub mount_name : is_mount_name mount ≡ true
+  pub role_name : is_name role ≡ true
+  pub parts : q ≡ mount ++ codes "/" ++ role
+  pub ttl : r.ttl ≤ longest_duration
+  pub max_ttl : r.max_ttl ≤ longest_duration
+
+-- the policy `root` is never kept
+pub record IsSoundPolicy (forms : Forms) (name text : Text) : Type 0 where
+  pub policy_name : is_name name ≡ true
+  pub not_root : name ≢ codes "root"
+  pub policy : forms.is_policy text ≡ true
+  pub short : IsShortText text
+
+-- ---- the broker
+
+pub record Sound (forms : Forms) (b : Broker) : Type 0 where
+  pub clock : IsMoment b.clock
+  pub used : (i : Text) → IsUsed b i → IsIdentifier i
+  pub tokens : (t : Text) (x : Token) → get b.tokens t ≡ Some x → IsSoundToken forms t x
+  pub secrets : (q : Text) (k : Key) → get b.secrets q ≡ Some k → IsSoundKey forms q k
+  pub waiting : (t : Text) (w : Waiting) → get b.waiting t ≡ Some w → IsSoundWaiting t w
+  pub mounts : (name : Text) (m : Mount) → get b.mounts name ≡ Some m → IsSoundMount name m
+  pub roles : (q : Text) (r : Role) → get b.roles q ≡ Some r → IsSoundRole q r
+  pub policies : (name text : Text) → get b.policies name ≡ Some text → IsSoundPolicy forms name text
+  -- between two requests no token has spent its last use
+  pub none_spent : (t : Text) (x : Token) → get b.tokens t ≡ Some x → x.uses_left ≢ Some 0
+  pub parents_stand : ParentsStand b.tokens
+  pub chains_end : ChainsEnd b.tokens
+  pub one_place : OnePlaceEach b
+  pub all_used : AllUsed b
+  pub origins_used : (t : Text) (w : Waiting) → get b.waiting t ≡ Some w → IsUsed b w.origin
+  -- no two waiting responses have one origin
+  pub one_origin : (t u : Text) (v w : Waiting) → get b.waiting t ≡ Some v → get b.waiting u ≡ Some w → v.origin ≡ w.origin → t ≡ u

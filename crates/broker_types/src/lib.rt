@@ -1,0 +1,42 @@
+//! Values of the broker, and the definitions that every crate above speaks of.
+#![tactic(auto)]
+
+mod answer;
+mod ask;
+mod duration;
+mod fault;
+mod identifier;
+mod laws;
+mod moment;
+mod path;
+mod refusal;
+mod reply;
+mod seconds;
+mod status;
+#[cfg(test)]
+mod tests;
+mod text;
+mod time;
+mod token;
+mod words;
+
+pub use answer::{Answer, Room, errors_body};
+pub use ask::{Ask, Body, Verb, WrapTtl};
+pub use duration::read_duration;
+pub use fault::Fault;
+pub use identifier::{id_bytes, id_text, identifiers_differ};
+pub use laws::{
+    evolving_lasts, expiry_ends_descendants, first_broker_is_sound, lineages_climb,
+    removals_end_tokens, removals_evolve, removals_keep_soundness, revocation_ends_descendants,
+    revocation_orphans_children,
+};
+pub use moment::Moment;
+pub use path::Path;
+pub use refusal::{Denial, Field, Reason, Refusal, cutting_text};
+pub use reply::Reply;
+pub use seconds::Seconds;
+pub use status::{Methods, Status};
+pub use text::{Bytes, CowBytes, CowText, TextBuf};
+pub use time::time_text;
+pub use token::{Accessor, TokenText};
+pub use words::Words;

@@ -1,0 +1,291 @@
+use super::*;
+use std::alloc::{AllocError, AllocFailed, Global};
+use std::borrow::{CowSlice, CowStr};
+use std::process::Abort;
+use std::test::Fail;
+
+/// Texts that Python's `uuid` prints.
+#[test]
+fn identifiers(rt: HostRuntime) -> Result<(), Fail> {
+    let table = [
+        (0x20, "00000000-0000-0000-0000-000000000020"),
+        (
+            0x0123456789abcdeffedcba9876543210,
+            "01234567-89ab-cdef-fedc-ba9876543210",
+        ),
+        (u128::MAX, "ffffffff-ffff-ffff-ffff-ffffffffffff"),
+    ];
+    for (word, want) in table {
+        assert_eq!(rt; id_text(rt.alloc(), word)?.as_str(), want);
+        assert_eq!(rt; id_bytes(word).as_slice(), want.as_bytes());
+        assert_eq!(rt; Accessor::of_word(rt.alloc(), word)?.as_str(), want);
+    }
+    let token = TokenText::of_word(rt.alloc(), 0x20)?;
+    assert_eq!(rt; token.as_str(), "hvs.00000000-0000-0000-0000-000000000020");
+    Ok(())
+}
+
+/// Texts that Python's `datetime` prints.
+#[test]
+fn times(rt: HostRuntime) -> Result<(), Fail> {
+    let table = [
+        (0, "1970-01-01T00:00:00Z"),
+        (100, "1970-01-01T00:01:40Z"),
+        (951_782_400, "2000-02-29T00:00:00Z"),
+        (951_868_800, "2000-03-01T00:00:00Z"),
+        (1_700_000_000, "2023-11-14T22:13:20Z"),
+        (4_107_542_399, "2100-02-28T23:59:59Z"),
+        (4_107_542_400, "2100-03-01T00:00:00Z"),
+        (253_402_300_799, "9999-12-31T23:59:59Z"),
+    ];
+    for (seconds, want) in table {
+        assert!(rt; seconds < 253_402_300_800);
+        assert_eq!(rt; time_text(rt.alloc(), seconds)?.as_str(), want);
+    }
+    Ok(())
+}
+
+#[test]
+fn moments(rt: HostRuntime) {
+    assert_eq!(rt;
+        Moment::new(250_000_000_000).map(|moment| moment.seconds()),
+        Some(250_000_000_000)
+    );
+    assert_eq!(rt; Moment::new(250_000_000_001), None);
+}
+
+#[test]
+fn later_moments(rt: HostRuntime) {
+    for (one, other) in [(60, 0), (0, 60), (60, 60)] {
+        match (Moment::new(one), Moment::new(other)) {
+            (Some(one), Some(other)) => assert_eq!(rt; one.later(other).seconds(), 60),
+            _ => assert!(rt; false, "a moment is not accepted"),
+        }
+    }
+}
+
+#[test]
+fn wrap_ttls(rt: HostRuntime) {
+    let cut = [
+        (0, 0),
+        (60, 60),
+        (2_764_800, 2_764_800),
+        (2_764_801, 2_764_800),
+    ];
+    for (asked, want) in cut {
+        assert_eq!(rt; WrapTtl::cut(Seconds::new(asked)).count(), want);
+    }
+}
+
+#[test]
+fn bodies(rt: HostRuntime) -> Result<(), Fail> {
+    let alloc = rt.alloc();
+    match Body::new(CowSlice::Borrowed(b"{}".as_slice())) {
+        Some(body) => assert!(rt; body.as_slice() == b"{}".as_slice()),
+        None => assert!(rt; false, "a short body is refused"),
+    }
+    let longest = vec![in alloc; b' '; 1_048_576]?;
+    assert!(rt; Body::new(CowSlice::Borrowed(longest.as_slice())).is_some());
+    let longer = vec![in alloc; b' '; 1_048_577]?;
+    assert!(rt; Body::new(CowSlice::Borrowed(longer.as_slice())).is_none());
+    Ok(())
+}
+
+#[test]
+fn texts_of_cut_requests(rt: HostRuntime) {
+    let texts = [
+        (Status::BadRequest, Some("malformed request")),
+        (Status::PayloadTooLarge, Some("request body too large")),
+        (Status::HeaderFieldsTooLarge, Some("request head too large")),
+        (Status::NotImplemented, None),
+    ];
+    for (status, want) in texts {
+        assert_eq!(rt; cutting_text(status), want);
+    }
+}
+
+#[test]
+fn durations(rt: HostRuntime) {
+    let table = [
+        ("", 0),
+        ("90", 90),
+        ("1h30m", 5400),
+        ("1h1h", 7200),
+        ("0000000000000000000000007", 7),
+        ("4294967295", 4_294_967_295),
+    ];
+    for (text, want) in table {
+        assert_eq!(rt;
+            read_duration(text).map(|found| found.count()),
+            Ok(want),
+            "at {text}"
+        );
+    }
+    for text in [
+        "1d",
+        "h",
+        "1h5",
+        "4294967296",
+        "1193047h",
+        "-1",
+        " 1",
+        "1.5h",
+    ] {
+        assert_eq!(rt;
+            read_duration(text),
+            Err(Refusal::BadRequest(Reason::InvalidDuration)),
+            "at {text}"
+        );
+    }
+}
+
+fn expect_path<R: Abort>(rt: &R, text: &str, want: &str) {
+    match Path::read(CowStr::Borrowed(text)) {
+        Ok(path) => assert_eq!(rt; path.as_str(), want),
+        Err(_) => assert!(rt; false, "{text} is refused"),
+    }
+}
+
+fn expect_no_path<R: Abort>(rt: &R, text: &str) {
+    match Path::read(CowStr::Borrowed(text)) {
+        Ok(_) => assert!(rt; false, "{text} is a path"),
+        Err(refusal) => assert_eq!(rt; refusal, Refusal::BadRequest(Reason::InvalidPath)),
+    }
+}
+
+#[test]
+fn paths(rt: HostRuntime) -> Result<(), Fail> {
+    for (text, want) in [
+        ("a", "a"),
+        ("a/", "a"),
+        ("secret/data/a b", "secret/data/a b"),
+        ("a/...", "a/..."),
+    ] {
+        expect_path(&rt, text, want);
+    }
+    for text in [
+        "", "/", "a//", "a//b", "/a", "..", ".", "a/./b", "a/..", "a\u{1f}b", "a\u{7f}",
+    ] {
+        expect_no_path(&rt, text);
+    }
+    let long = "a".repeat(rt.alloc(), 512)?;
+    expect_path(&rt, long.as_str(), long.as_str());
+    let longer = "a".repeat(rt.alloc(), 513)?;
+    expect_no_path(&rt, longer.as_str());
+    Ok(())
+}
+
+/// The bodies of refusals, word for word.
+#[test]
+fn refusals(rt: HostRuntime) -> Result<(), Fail> {
+    let methods = Methods {
+        get: true,
+        ..Methods::none()
+    };
+    let table = [
+        (
+            Refusal::BadRequest(Reason::MalformedRequest),
+            400,
+            "{\"errors\":[\"malformed request\"]}\n",
+        ),
+        (
+            Refusal::BadRequest(Reason::InvalidField(Field::TypeName)),
+            400,
+            "{\"errors\":[\"invalid field: type\"]}\n",
+        ),
+        (
+            Refusal::BadRequest(Reason::MissingField(Field::LeaseId)),
+            400,
+            "{\"errors\":[\"missing field: lease_id\"]}\n",
+        ),
+        (
+            Refusal::Forbidden(Denial::PermissionDenied),
+            403,
+            "{\"errors\":[\"permission denied\"]}\n",
+        ),
+        (
+            Refusal::Forbidden(Denial::BadToken),
+            403,
+            "{\"errors\":[\"bad token\"]}\n",
+        ),
+        (Refusal::NotFound, 404, "{\"errors\":[]}\n"),
+        (
+            Refusal::MethodNotAllowed(methods),
+            405,
+            "{\"errors\":[\"unsupported operation\"]}\n",
+        ),
+        (
+            Refusal::IdentifierUsed,
+            500,
+            "{\"errors\":[\"identifier already used\"]}\n",
+        ),
+    ];
+    for (refusal, code, text) in table {
+        let answer = Answer::refused(rt.alloc(), refusal)?;
+        assert_eq!(rt; answer.status.code(), code);
+        assert_eq!(rt; answer.methods, refusal.methods());
+        assert_eq!(rt; answer.text.as_str(), text);
+    }
+    assert_eq!(rt;
+        errors_body(rt.alloc(), Some("a"))?.as_str(),
+        "{\"errors\":[\"a\"]}\n"
+    );
+    Ok(())
+}
+
+#[test]
+fn answers(rt: HostRuntime) -> Result<(), Fail> {
+    let text = TextBuf::copied(rt.alloc(), "{}\n")?;
+    let answer = Answer::new(rt.alloc(), Status::Success, Methods::none(), text)?;
+    assert_eq!(rt; answer.status, Status::Success);
+    let Answer {
+        status: _,
+        methods: _,
+        text,
+        room,
+    } = answer;
+    assert_eq!(rt; text.into_string().as_str(), "{}\n");
+    let bytes = room.into_vec();
+    assert!(rt; bytes.is_empty());
+    assert!(rt; bytes.capacity() >= 1027);
+    assert!(rt; Room::reserve(rt.alloc(), 7)?.into_vec().capacity() >= 7);
+    Ok(())
+}
+
+#[test]
+fn texts(rt: HostRuntime) -> Result<(), Fail> {
+    assert_eq!(rt; CowText::new(CowStr::Borrowed("a")).as_str(), "a");
+    assert_eq!(rt;
+        CowBytes::new(CowSlice::Borrowed(b"a".as_slice())).as_slice(),
+        b"a".as_slice()
+    );
+    let bytes = Bytes::new(b"ab".to_vec(rt.alloc())?);
+    assert_eq!(rt; bytes.as_slice(), b"ab".as_slice());
+    assert_eq!(rt; bytes.into_vec().as_slice(), b"ab".as_slice());
+    Ok(())
+}
+
+/// Converts through the bound, at a concrete type.
+fn fault_of<E: Drop>(error: E) -> Fault
+where
+    Fault: From<E>,
+{
+    Fault::from(error)
+}
+
+#[test]
+fn faults(rt: HostRuntime) -> Result<(), Fail> {
+    assert_eq!(rt; fault_of(AllocError), Fault::Memory);
+    assert_eq!(rt; fault_of(AllocFailed { value: 7u8 }), Fault::Memory);
+    let numbers = [
+        (Fault::Memory, 1, "out of memory"),
+        (Fault::Storage, 2, "the storage failed"),
+        (Fault::Damaged, 3, "a damaged row"),
+        (Fault::BadStart, 4, "the store cannot be started or opened"),
+    ];
+    for (fault, number, text) in numbers {
+        assert_eq!(rt; fault.number(), number);
+        assert_eq!(rt; format!(in rt.alloc(); "{fault}")?.as_str(), text);
+    }
+    Ok(())
+}
