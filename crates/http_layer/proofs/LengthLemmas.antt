@@ -1,0 +1,36 @@
+-- The number of a text of digits, one digit after another.
+use Rattle.std.proofs.Common.{◌≡◌, ℕ, ◌+◌, ◌-◌, ◌*◌, ◌<◌, Bool, true, List, [], ◌∷◌, ◌++◌, length, take, min, ap, ◌∙◌, arith, get_or}
+use Rattle.std.specs.Prelude.{◌&&◌}
+use Rattle.std.specs.Char.{is_ascii_digit, digit_value}
+use Rattle.std.specs.List.{list_all}
+use Rattle.std.specs.Str.Parse.{digits_value}
+use Rattle.std.proofs.lemmas.List.{take_more}
+use Rattle.std.proofs.lemmas.List.Folds.{list_all-append}
+use Rattle.std.proofs.lemmas.Int.Digits.{digits_value_push}
+use Rattle.std.proofs.lemmas.Bool.Decides.{nat_tests}
+
+digit_value_at : (d : ℕ) → is_ascii_digit d ≡ true → digit_value d ≡ d - 48
+digit_value_at d digit = grind (arith, nat_tests)
+
+pub capped_more : (ds : List ℕ) (i value : ℕ) → i < length ds → list_all is_ascii_digit (take i ds) ≡ true
+    → value ≡ min (digits_value 10 (take i ds)) 1048577
+    → is_ascii_digit (get_or ds i 0) ≡ true → (next : ℕ) → next ≡ min (10 * value + (get_or ds i 0 - 48)) 1048577
+    → (list_all is_ascii_digit (take (i + 1) ds) ≡ true) × (next ≡ min (digits_value 10 (take (i + 1) ds)) 1048577)
+capped_more ds i value lt digits so_far digit next is =
+    let more : take (i + 1) ds ≡ take i ds ++ get_or ds i 0 ∷ [] = take_more ds i 0 lt in
+    let grown : digits_value 10 (take (i + 1) ds) ≡ digits_value 10 (take i ds) * 10 + digit_value (get_or ds i 0) =
+    ap (digits_value 10) more ∙ digits_value_push 10 (take i ds) (get_or ds i 0) in
+    let at : digit_value (get_or ds i 0) ≡ get_or ds i 0 - 48 = digit_value_at (get_or ds i 0) digit in (
+      ap (list_all is_ascii_digit) more ∙ list_all-append is_ascii_digit (take i ds) (get_or ds i 0 ∷ []) ∙ both _ _ digits (one _ digit),
+      capped_next _ _ _ _ _ _ so_far is grown at,
+    )
+  where
+    both : (a b : Bool) → a ≡ true → b ≡ true → (a && b) ≡ true
+    both a b p q = ap (λ (x : Bool). x && b) p ∙ q
+
+    one : (a : Bool) → a ≡ true → (a && true) ≡ true
+    one a p = ap (λ (x : Bool). x && true) p
+
+    capped_next : (value before next after d e : ℕ) → value ≡ min before 1048577 → next ≡ min (10 * value + d) 1048577
+        → after ≡ before * 10 + e → e ≡ d → next ≡ min after 1048577
+    capped_next value before next after d e so_far is grown at = omega arith

@@ -1,0 +1,10 @@
+-- How often a field stands in a head.
+use Rattle.std.specs.Prelude.{◌≡◌, ℕ, List, [], ◌∷◌}
+use Rattle.http_layer.specs.declared.fields.Named.{Named}
+use Rattle.http_layer.specs.declared.fields.Named.TheVariants.{Absent, Once, Several}
+
+-- these are all values of a field: none, one, or more
+abbrev pub AreNamed : List (List ℕ) → Named → Type 0
+AreNamed values Absent = values ≡ []
+AreNamed values (Once value) = values ≡ value.now ∷ []
+AreNamed values Several = (v w : List ℕ) × (vs : List (List ℕ)) × (values ≡ v ∷ w ∷ vs)

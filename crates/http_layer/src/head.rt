@@ -1,0 +1,117 @@
+ghost use Rattle.std.specs.Prelude.{◌≡◌, ◌<◌, length, IfSome, IfNone};
+ghost use Rattle.http_layer.specs.HeadParts.{HeadParts, IsHead, values_named};
+ghost use Rattle.http_layer.specs.Closing.{closes};
+ghost use Rattle.http_layer.specs.Front.{body_length, is_served};
+ghost use Rattle.http_layer.specs.Named.{AreNamed};
+
+use crate::closing::asks_to_close;
+use crate::fields::{Named, find_named};
+use crate::length::body_len_of;
+use broker_types::Status;
+use httparse::spans::{EMPTY_HEADER_SPAN, HeaderSpan, RequestSpans, parse_request};
+use std::marker::Model;
+use std::str;
+
+/// A request head over the bytes that it was read from.
+#[derive(Drop)]
+pub struct Head<'b> {
+    text: &'b [u8],
+    spans: RequestSpans,
+    headers: [HeaderSpan; 64],
+}
+
+impl<'b> Model for Head<'b> {
+    ghost use Rattle.std.specs.Prelude.{map, take};
+    ghost use Rattle.http_layer.specs.HeadParts.{HeadParts, HeadInvariant};
+    ghost use Rattle.httparse.specs.Spans.{span_bytes, header_bytes};
+
+    ghost Value = { HeadParts };
+
+    ghost view = { λ h. record {
+      method = span_bytes h.text.now h.spans.method;
+      target = span_bytes h.text.now h.spans.path;
+      minor = h.spans.version;
+      size = h.spans.len;
+      fields = map (header_bytes h.text.now) (take h.spans.headers h.headers);
+    } };
+
+    ghost invariant = { λ h. HeadInvariant h.text.now h.headers h.spans };
+}
+
+impl<'b> Head<'b> {
+    /// The head that is exactly these bytes; none if they are no head of at most 64 fields.
+    pub(crate) fn read(text: &'b [u8]) -> Option<Head<'b>>
+        ensures read { IfSome result (IsHead text.now) }
+        ensures size { IfSome result (λ h. h.size ≡ length text.now) }
+        ensures none { IfNone result ((p : HeadParts) → ¬ (IsHead text.now p)) }
+    {
+        let mut headers = [EMPTY_HEADER_SPAN; 64];
+        match parse_request(text, &mut headers) {
+            Ok(httparse::Status::Complete(spans)) if spans.len == text.len() => Some(Head {
+                text,
+                spans,
+                headers,
+            }),
+            _ => None,
+        }
+    }
+
+    /// How many bytes the head takes, its empty line among them.
+    pub fn size(&self) -> usize
+        ensures { result ≡ self.now.size }
+    {
+        self.spans.len
+    }
+
+    /// The method, in the case in which it stands.
+    pub fn method(&self) -> &'b [u8]
+        ensures { result.now ≡ self.now.method }
+    {
+        self.spans.method.of(self.text)
+    }
+
+    /// The target, as it stands.
+    pub fn target(&self) -> &'b str
+        ensures value { result.now ≡ self.now.target }
+        ensures nonempty { 0 < length result.now }
+    {
+        str::from_utf8(self.spans.path.of(self.text)).unwrap()
+    }
+
+    /// Whether the connection closes after the reply: HTTP/1.0, or a Connection field with the
+    /// element `close` in any case (RFC 9112, section 9.6).
+    pub fn closes(&self) -> bool
+        ensures { result ≡ closes self.now }
+    {
+        self.spans.version == 0 || asks_to_close(self.text, &self.headers[..self.spans.headers])
+    }
+
+    /// The fields with the name, in any case.
+    pub(crate) fn named(&self, name: &[u8]) -> Named<'b>
+        ensures { AreNamed (values_named name.now self.now.fields) result }
+    {
+        find_named(self.text, &self.headers[..self.spans.headers], name)
+    }
+
+    /// The length of the body, or the status of the refusal.
+    pub(crate) fn body_len(&self) -> Result<usize, Status>
+        ensures { result ≡ body_length self.now }
+    {
+        if !self.is_served() {
+            return Err(Status::BadRequest);
+        }
+        match self.named(b"content-length") {
+            Named::Absent => Ok(0),
+            Named::Once(value) => body_len_of(value),
+            Named::Several => Err(Status::BadRequest),
+        }
+    }
+
+    fn is_served(&self) -> bool
+        ensures { result ≡ is_served self.now }
+    {
+        self.spans.version == 1
+            && matches!(self.named(b"host"), Named::Once(_))
+            && matches!(self.named(b"transfer-encoding"), Named::Absent)
+    }
+}

@@ -1,0 +1,29 @@
+ghost use Rattle.std.specs.Prelude.{◌≡◌, ◌≤◌, length, IfSome, IfNone};
+ghost use Rattle.std.specs.List.{prefix_len};
+ghost use Rattle.http_layer.specs.Front.{is_line_byte, HeadEnds, HasNoHeadEnd};
+
+/// The length of the head, if it ends.
+pub(crate) fn head_end(bytes: &[u8]) -> Option<usize>
+    ensures found { IfSome result (HeadEnds bytes.now) }
+    ensures none { IfNone result (HasNoHeadEnd bytes.now) }
+    ensures within { IfSome result (λ len. (4 ≤ len) × (len ≤ length bytes.now)) }
+{
+    for i in line_bytes(bytes)..bytes.len().saturating_sub(3) {
+        if &bytes[i..i + 4] == b"\r\n\r\n".as_slice() {
+            return Some(i + 4);
+        }
+    }
+    None
+}
+
+/// How many bytes are CR or LF, before the first that is neither.
+fn line_bytes(bytes: &[u8]) -> usize
+    ensures { result ≡ prefix_len is_line_byte bytes.now }
+{
+    for (i, b) in bytes.iter().enumerate() {
+        if *b != b'\r' && *b != b'\n' {
+            return i;
+        }
+    }
+    bytes.len()
+}

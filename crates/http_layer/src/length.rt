@@ -1,0 +1,35 @@
+ghost use Rattle.std.specs.Prelude.{◌≡◌, ◌+◌, ◌∷◌, [], min, IfSome, IfNone, IsTrue, false};
+ghost use Rattle.std.specs.Str.Parse.{digits_value};
+ghost use Rattle.http_layer.specs.Front.{is_number, content_length};
+
+use broker_types::Status;
+
+/// How many bytes a body may have.
+const BODY_LIMIT: u64 = 1_048_576;
+
+/// The length of the body that the value of Content-Length tells, or the status of the refusal.
+pub(crate) fn body_len_of(value: &[u8]) -> Result<usize, Status>
+    ensures { result ≡ content_length (value.now ∷ []) }
+{
+    match capped_number(value) {
+        Some(len) if len <= BODY_LIMIT => Ok(len as usize),
+        _ => Err(Status::BadRequest),
+    }
+}
+
+/// The value of the digits, or one more than the greatest length if that is less. None if there is
+/// another byte, or no byte.
+fn capped_number(digits: &[u8]) -> Option<u64>
+    ensures some { IfSome result (λ n. IsTrue (is_number digits.now)
+        × (n ≡ min (digits_value 10 digits.now) (BODY_LIMIT + 1))) }
+    ensures none { IfNone result (is_number digits.now ≡ false) }
+{
+    let mut value = 0u64;
+    for b in digits {
+        if !b.is_ascii_digit() {
+            return None;
+        }
+        value = (10 * value + u64::from(*b - b'0')).min(BODY_LIMIT + 1);
+    }
+    if digits.is_empty() { None } else { Some(value) }
+}

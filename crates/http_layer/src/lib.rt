@@ -1,0 +1,27 @@
+//! Requests cut from a stream of bytes, what they ask, and the bytes of replies
+//! (RFC 9110, RFC 9112).
+#![tactic(auto)]
+
+mod asking;
+mod closing;
+mod cutting;
+mod fields;
+mod front;
+mod head;
+mod head_end;
+mod laws;
+mod length;
+mod lines;
+mod refusal;
+mod reply;
+
+pub use asking::ask_of;
+pub use cutting::cut;
+pub use front::Cut;
+pub use head::Head;
+pub use laws::{front_laws, reply_law};
+pub use refusal::{AskError, HttpRefusal, front_refusal};
+pub use reply::{ReplyBytes, reply_bytes};
+
+#[cfg(test)]
+mod tests;
