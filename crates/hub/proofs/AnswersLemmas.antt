@@ -1,0 +1,65 @@
+-- A run of the hub, one event after another.
+use Rattle.std.proofs.Common.{inl, inr, arith, ◌≡◌, ◌∙◌, ℕ, ◌+◌, ◌<◌, ◌≤◌, List, [], ◌∷◌, ◌++◌, length, take, get_or, sym, ap, subst}
+use Rattle.std.proofs.lemmas.List.{take_more, take_all}
+use Rattle.broker.specs.Kept.{Kept, IsHonest}
+use Rattle.broker_types.specs.Broker.{Broker}
+use Rattle.broker.specs.Standing.{Holds}
+use Rattle.broker.specs.Transaction.{Rows}
+use Rattle.broker_types.specs.declared.fault.Fault.{Fault}
+use Rattle.hub.specs.World.{World, Next, Run}
+use Rattle.hub.specs.Standing.{StandsFor, AfterFault, HasConnections, shown}
+use Rattle.hub.specs.Runs.{Answers, StopsAt}
+use Rattle.hub.specs.declared.hub.Hub.{Hub}
+use Rattle.hub.specs.declared.event.Event.{Event}
+use Rattle.hub.proofs.RunLemmas.{Run-push, Run-unique}
+
+-- the first events, and one more
+take-more : (events : List Event) (i : ℕ) (e : Event) → i < length events → e ≡ get_or events i e
+    → take (i + 1) events ≡ take i events ++ e ∷ []
+take-more events i e lt is =
+    take_more events i e lt ∙ ap (λ (x : Event). take i events ++ x ∷ []) (sym is)
+
+-- an event with its piece as it was handed on
+abbrev pub with_piece : Event → List ℕ → Event
+with_piece e piece = record { conn = e.conn; piece = piece; moment = e.moment; words = e.words }
+
+pub answers_more : {S : Type 0} (seen : S → Kept) (w : World) (events : List Event) (i : ℕ) (e : Event) (piece bytes : List ℕ) (replies : List (List ℕ)) (old new : Hub S)
+    → i < length events → e ≡ get_or events i e → piece ≡ e.piece → Answers seen w (take i events) replies old
+    → ((v : World) → StandsFor seen old v → (next : World) × Next v (with_piece e piece) bytes next × StandsFor seen new next)
+    → Answers seen w (take (i + 1) events) (replies ++ bytes ∷ []) new
+answers_more seen w events i e piece bytes replies old new lt is same a next =
+    let n = next a.after a.stands in
+    let one : Next a.after e bytes n.0 = subst (λ (l : List ℕ). Next a.after (with_piece e l) bytes n.0) same n.1 in
+    record {
+      after = n.0;
+      run = subst (λ (es : List Event). Run w es (replies ++ bytes ∷ []) n.0) (sym (take-more events i e lt is))
+          (Run-push w (take i events) replies a.after e bytes n.0 a.run one);
+      stands = n.2;
+    }
+
+broker_stays : (fault : Fault) (w : World) (conn : ℕ) (after : World) → AfterFault fault w conn after → after.broker ≡ w.broker
+broker_stays fault w conn after (inl is) = ap (λ (x : World). x.broker) is
+broker_stays fault w conn after (inr p) = ap (λ (x : World). x.broker) p.2
+
+pub honest_before : (a b : Kept) → a.doubt ≤ b.doubt → IsHonest b → IsHonest a
+honest_before a b le honest = omega (arith, le, honest)
+
+pub stops_at : {S : Type 0} (seen : S → Kept) (w : World) (events : List Event) (i : ℕ) (e : Event) (replies : List (List ℕ)) (fault : Fault) (old new : Hub S)
+    → i < length events → e ≡ get_or events i e → Answers seen w (take i events) replies old
+    → (shown seen new).rows ≡ (shown seen old).rows
+    → ((v : World) → HasConnections old v → (next : World) × AfterFault fault v e.conn next × HasConnections new next)
+    → StopsAt seen w events i replies fault new
+stops_at seen w events i e replies fault old new lt is a kept left =
+    let f = left a.after a.stands.each in
+    let held : Holds (shown seen new).rows f.0.broker =
+    subst (λ (b : Broker). Holds (shown seen new).rows b) (sym (broker_stays fault a.after e.conn f.0 f.1))
+    (subst (λ (l : Rows). Holds l a.after.broker) (sym kept) a.stands.store) in
+    record { within = lt; before = a.after; after = f.0; event = e; at = is; run = a.run; left = f.1; stands = record { store = held; each = f.2 } }
+
+pub answers_all : {S : Type 0} (seen : S → Kept) (w : World) (events : List Event) (i : ℕ) (replies : List (List ℕ)) (hub : Hub S)
+    → length events ≤ i → Answers seen w (take i events) replies hub → Answers seen w events replies hub
+answers_all seen w events i replies hub le a = subst (λ (es : List Event). Answers seen w es replies hub) (take_all i events le) a
+
+pub answers_only : {S : Type 0} (seen : S → Kept) (w : World) (es : List Event) (replies others : List (List ℕ)) (hub : Hub S) (after : World)
+    → Answers seen w es replies hub → Run w es others after → replies ≡ others
+answers_only seen w es replies others hub after a other = (Run-unique w es replies others a.after after a.run other).0

@@ -1,0 +1,16 @@
+use Rattle.std.proofs.Common.{◌≡◌, ◌≤◌, IsTrue, length, take, vec_len, vec_capacity}
+use Rattle.hub.specs.World.{World}
+use Rattle.hub.specs.Standing.{StandsFor, shown}
+use Rattle.broker.specs.Kept.{IsHonest}
+use Rattle.hub.specs.Runs.{bytes_of, Answers}
+use Rattle.hub.proofs.running.run.Given as goal
+
+abbrev pub invariant-loop-i : goal.invariant-loop-i
+invariant-loop-i g l = record {
+  count : vec_len l.replies ≡ l.i;
+  room : length l.events ≤ vec_capacity l.replies;
+  doubts : (shown g.S.Store.seen l.fn.hub).doubt ≤ (shown g.S.Store.seen l.hub).doubt;
+  stays_shut : IsTrue (shown g.S.Store.seen l.hub).is_open → IsTrue (shown g.S.Store.seen l.fn.hub).is_open;
+  answers : IsHonest (shown g.S.Store.seen l.hub) → (w : World) → StandsFor g.S.Store.seen l.fn.hub w
+      → Answers g.S.Store.seen w (take l.i l.events) (bytes_of l.replies.items) l.hub;
+}

@@ -1,0 +1,20 @@
+//! The connections of the broker: pieces of bytes come in, at most one request is answered for each.
+#![tactic(auto)]
+
+mod connection;
+mod ends;
+mod event;
+mod hub;
+mod laws;
+mod running;
+mod serving;
+mod table;
+
+pub use ends::{Failed, Reading, Sink, Source, Writing};
+pub use event::Event;
+pub use hub::Hub;
+pub use laws::run_law;
+pub use running::run;
+
+#[cfg(test)]
+mod tests;

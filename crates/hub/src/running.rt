@@ -1,0 +1,75 @@
+ghost use Rattle.std.specs.Prelude.{◌≡◌, ◌≤◌, ◌⊎◌, IsTrue, ℕ, List, [], IfOk, IfErr};
+ghost use Rattle.broker_types.specs.Fault.{IsWant};
+ghost use Rattle.broker.specs.Kept.{IsHonest};
+ghost use Rattle.hub.specs.World.{World, Run};
+ghost use Rattle.hub.specs.Standing.{StandsFor, shown};
+ghost use Rattle.hub.specs.Runs.{bytes_of, Answers, StopsAt};
+
+use crate::event::Event;
+use crate::hub::Hub;
+use broker::Store;
+use broker_types::Fault;
+use std::alloc::Global;
+
+/// Feeds the events in turn, and answers their replies, one an event; an event without a reply has an
+/// empty one. A fault ends the run, with the place of its event, counted from 0, and the replies
+/// before it. The places of all replies are reserved first: where that finds no memory, the place is
+/// 0, there are no replies, and the hub is as before.
+///
+/// **Each connection receives exactly the reply bytes of the broker**, asked by the complete requests
+/// in the order in which their events answered them: for each world that the hub stands for, the
+/// replies are those of a run from this world, no other replies are a run's, and the hub then stands
+/// for the world after it. From a new hub this is the world of the store's broker with no connection
+/// seen.
+pub fn run<S: Store>(
+    alloc: Global,
+    hub: &mut Hub<S>,
+    events: &[Event],
+) -> Result<Vec<Vec<u8>>, (usize, Vec<Vec<u8>>, Fault)>
+    ensures replies { IsHonest (shown S.seen hub.new) → IfOk result (λ replies.
+        (w : World) → StandsFor S.seen hub.old w
+        → Answers S.seen w events.now (bytes_of replies.items) hub.new) }
+
+    // No other replies are those to the events.
+    ensures only { IsHonest (shown S.seen hub.new) → IfOk result (λ replies.
+        (w : World) → StandsFor S.seen hub.old w
+        → (others : List (List ℕ)) (after : World) → Run w events.now others after
+        → bytes_of replies.items ≡ others) }
+
+    // The run stopped at an event, or no memory was found for the places of the replies.
+    ensures stopped { IsHonest (shown S.seen hub.new) → IsTrue (shown S.seen hub.new).is_open
+        → IfErr result (λ stop. (w : World) → StandsFor S.seen hub.old w
+        → StopsAt S.seen w events.now stop.0 (bytes_of stop.1.items) stop.2 hub.new
+        ⊎ ((stop.0 ≡ 0) × (stop.1.items ≡ []) × (stop.2 ≡ Fault.Memory) × (hub.new ≡ hub.old))) }
+
+    // Over the rows of a sound broker memory or storage is wanting, and storage only where the store
+    // failed.
+    ensures wants { IsHonest (shown S.seen hub.new) → IfErr result (λ stop.
+        (w : World) → StandsFor S.seen hub.old w → IsWant stop.2) }
+    ensures storage { IfErr result (λ stop.
+        stop.2 ≡ Fault.Storage → IsTrue (shown S.seen hub.new).has_failed) }
+    ensures doubts { (shown S.seen hub.old).doubt ≤ (shown S.seen hub.new).doubt }
+    ensures stays_shut { IsTrue (shown S.seen hub.new).is_open
+        → IsTrue (shown S.seen hub.old).is_open }
+{
+    let mut replies = Vec::new(alloc);
+    if let Err(_) = replies.reserve(events.len()) {
+        return Err((0, replies, Fault::Memory));
+    }
+    for (i, event) in events.iter().enumerate() {
+        match hub.feed(
+            event.conn,
+            event.piece.as_slice(),
+            event.moment,
+            &event.words,
+        ) {
+            Ok(bytes) => {
+                if let Err(_) = replies.push(bytes) {
+                    unreachable!();
+                }
+            }
+            Err(fault) => return Err((i, replies, fault)),
+        }
+    }
+    Ok(replies)
+}

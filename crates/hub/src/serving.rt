@@ -1,0 +1,133 @@
+ghost use Rattle.std.specs.Prelude.{◌≡◌, IfOk, IfErr, IsOk, Some, None, [], true, false};
+ghost use Rattle.broker_types.specs.Answer.{response_of, HasRoom};
+ghost use Rattle.broker_types.specs.Broker.{Broker};
+ghost use Rattle.broker.specs.Kept.{IsHonest};
+ghost use Rattle.broker.specs.Standing.{Holds};
+ghost use Rattle.http_layer.specs.Asked.{asked};
+ghost use Rattle.http_layer.specs.Front.{IsFront, need};
+ghost use Rattle.http_layer.specs.Refusing.{front_refused};
+ghost use Rattle.http_layer.specs.Reply.{IsReply};
+ghost use Rattle.hub.specs.Serving.{Serves, IsServed, Keeps};
+ghost use Rattle.hub.specs.World.{request_effect};
+
+use broker::Store;
+use broker_types::{Answer, Fault, Moment, Room, Status, Words};
+use http_layer::{AskError, Cut, Head, ask_of, cut, front_refusal, reply_bytes};
+use std::alloc::Global;
+use std::mem;
+
+/// What serving the front of a connection's bytes gave.
+#[derive(Drop)]
+pub(crate) struct Served {
+    /// The bytes of the reply, if there is one.
+    pub(crate) bytes: Vec<u8>,
+    /// The length of the request that was answered.
+    pub(crate) len: Option<usize>,
+    /// Whether the connection closes.
+    pub(crate) closes: bool,
+}
+
+impl Served {
+    /// No reply: more bytes are wanted.
+    fn nothing(alloc: Global) -> Served
+        ensures bytes { result.bytes.items ≡ [] }
+        ensures len { result.len ≡ None }
+        ensures closes { result.closes ≡ false }
+    {
+        Served {
+            bytes: Vec::new(alloc),
+            len: None,
+            closes: false,
+        }
+    }
+
+    /// The reply to an answer, in the room that was reserved for its bytes. The spare room takes the
+    /// place of that room, so nothing can run out once the broker has answered.
+    fn reply(
+        mut answer: Answer,
+        spare: Room,
+        moment: Moment,
+        len: Option<usize>,
+        closes: bool,
+    ) -> Served
+        requires { HasRoom answer }
+        ensures reply { IsReply (response_of answer) moment closes result.bytes.items }
+        ensures len { result.len ≡ len }
+        ensures closes { result.closes ≡ closes }
+    {
+        let mut bytes = mem::replace(&mut answer.room, spare).into_vec();
+        match reply_bytes(&answer, moment, closes).append_to(&mut bytes) {
+            Ok(()) => Served { bytes, len, closes },
+            Err(_) => unreachable!(),
+        }
+    }
+}
+
+/// Serves the front of the bytes that are not answered.
+pub(crate) fn serve<S: Store>(
+    alloc: Global,
+    store: &mut S,
+    rest: &[u8],
+    moment: Moment,
+    words: &Words,
+) -> Result<Served, Fault>
+    ensures ok { IsHonest (S.seen store.new) → (b : Broker) → Holds (S.seen store.old).rows b
+        → IfOk result (λ served. Serves b moment words.now rest.now served
+        (S.seen store.new).rows) }
+    ensures free { IsFront rest.now need → IsOk result }
+    ensures keeps { Keeps (S.seen store.old) (S.seen store.new) result }
+{
+    match cut(rest) {
+        Cut::Need => Ok(Served::nothing(alloc)),
+        Cut::Refused { status } => serve_refusal(alloc, status, moment),
+        Cut::Whole { len, head } => {
+            let body = &rest[head.size()..len];
+            serve_request(alloc, store, &head, body, len, moment, words)
+        }
+    }
+}
+
+/// The refusal of a front.
+fn serve_refusal(alloc: Global, status: Status, moment: Moment) -> Result<Served, Fault>
+    ensures reply { IfOk result (λ served. IsReply
+        (front_refused status) moment true served.bytes.items) }
+    ensures len { IfOk result (λ served. served.len ≡ None) }
+    ensures closes { IfOk result (λ served. served.closes ≡ true) }
+    ensures memory { IfErr result (λ fault. fault ≡ Fault.Memory) }
+{
+    let spare = Room::reserve(alloc, 0)?;
+    let answer = front_refusal(alloc, status)?;
+    Ok(Served::reply(answer, spare, moment, None, true))
+}
+
+/// The reply to a whole request: the broker's answer to what it asks, or the refusal of one that asks
+/// nothing.
+fn serve_request<S: Store>(
+    alloc: Global,
+    store: &mut S,
+    head: &Head<'_>,
+    body: &[u8],
+    len: usize,
+    moment: Moment,
+    words: &Words,
+) -> Result<Served, Fault>
+    ensures ok { IsHonest (S.seen store.new) → (b : Broker) → Holds (S.seen store.old).rows b
+        → IfOk result (λ served. IsServed (request_effect b moment words.now head.now
+        (asked head.now body.now)) moment served (S.seen store.new).rows) }
+    ensures len { IfOk result (λ served. served.len ≡ Some len) }
+    ensures keeps { Keeps (S.seen store.old) (S.seen store.new) result }
+{
+    let spare = Room::reserve(alloc, 0)?;
+    match ask_of(alloc, head, body) {
+        Ok(ask) => {
+            let answer = store.one(moment, words, &ask)?;
+            Ok(Served::reply(answer, spare, moment, Some(len), head.closes()))
+        }
+        Err(AskError::Refused(refusal)) => {
+            let answer = refusal.answer(alloc)?;
+            let closes = head.closes() || refusal.close;
+            Ok(Served::reply(answer, spare, moment, Some(len), closes))
+        }
+        Err(AskError::Fault(fault)) => Err(fault),
+    }
+}
