@@ -1,0 +1,5 @@
+pub mod ExitLemmas
+pub mod InputLemmas
+pub mod WritingLemmas
+pub mod LineLemmas
+pub mod ScriptLemmas

@@ -1,0 +1,4 @@
+pub mod CommandLine
+pub mod Exits
+pub mod Lines
+pub mod Replays

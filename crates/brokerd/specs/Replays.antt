@@ -1,0 +1,38 @@
+-- What a replay answers.
+use Rattle.std.specs.Prelude.{◌≡◌, ◌+◌, ℕ, List, [], Option, Some, None, ⊤, length, slice_index, if◌then◌else◌}
+use Rattle.std.specs.Io.KnownBytes.{Appends}
+use Rattle.std.specs.List.{concat}
+use Rattle.broker_types.specs.First.{first_broker}
+use Rattle.hub.specs.World.{World, Run, new_world}
+use Rattle.hub.specs.declared.event.Event.{Event}
+use Rattle.brokerd.specs.Lines.{Told}
+use Rattle.brokerd.specs.declared.lines.Start.{Start}
+use Rattle.brokerd.specs.declared.replay.Exit.{Exit}
+use Rattle.brokerd.specs.declared.replay.Exit.TheVariants.{Done, Faulted, BadLine}
+use Rattle.brokerd.specs.declared.script.Script.{Script}
+
+-- nothing failed
+abbrev pub IsUnfaulted : Exit → Type 0
+IsUnfaulted Done = ⊤
+IsUnfaulted (BadLine line) = ⊤
+IsUnfaulted (Faulted number) = ⊥
+
+-- what a script tells
+abbrev pub told : Script → Told
+told script = record { start = script.start; events = script.events.items; is_cut = script.is_cut }
+
+-- how the lines end a replay where nothing fails: lines are counted from 1, the start among them
+abbrev pub exit_of : Told → Exit
+exit_of t = if t.is_cut then BadLine (length t.events + 2) else Done
+
+-- the events were answered from the first broker of the start, with no connection seen, and the replies were written
+pub record Replayed (start : Start) (events : List Event) (old new : Option (List ℕ)) : Type 0 where
+  pub replies : List (List ℕ)
+  pub after : World
+  pub run : Run (new_world (first_broker start.moment (slice_index start.words.0 1) (slice_index start.words.0 2))) events replies after
+  pub written : Appends old new (concat replies)
+
+-- what the lines tell was replayed; nothing was written where the first is bad
+abbrev pub Replays : Option Told → Option (List ℕ) → Option (List ℕ) → Exit → Type 0
+Replays None old new exit = (exit ≡ BadLine 1) × Appends old new []
+Replays (Some t) old new exit = (exit ≡ exit_of t) × Replayed t.start t.events old new

@@ -1,0 +1,73 @@
+//! The program `brokerd`: a broker for secrets.
+#![tactic(auto)]
+
+mod command;
+mod input;
+mod lines;
+mod replay;
+mod script;
+
+use clap::error::{Error, ErrorKind};
+use command::{Command, command_of};
+use hub::{Reading, Writing};
+use replay::Exit;
+use std::io::{Eprint, Print};
+use std::process::ExitCode;
+use std::{env, io};
+
+fn main(rt: HostRuntime) -> anyhow::Result<ExitCode> {
+    let alloc = rt.alloc();
+    let words = match env::args(&rt).and_then(|words| Ok(words.collect::<Vec<String>>(alloc)?)) {
+        Ok(words) => words,
+        Err(error) => return refuse_words(&rt, &error),
+    };
+    match command_of(alloc, words.as_slice()) {
+        Ok(Some(Command::Replay)) => {
+            let mut reader = Reading::new(rt.reader());
+            let mut writer = Writing::new(io::writer(&rt));
+            let exit = replay::replay(alloc, &mut reader, &mut writer);
+            tell(&rt, exit)
+        }
+        Ok(None) => Ok(ExitCode::from(2)),
+        Err(error) => refuse(&rt, &error),
+    }
+}
+
+/// Says on standard error how a replay ended, unless all lines were run, and answers the status: 0, or
+/// 1 after a fault, or 2 at a bad line.
+fn tell<R: Eprint>(rt: &R, exit: Exit) -> anyhow::Result<ExitCode> {
+    match exit {
+        Exit::Done => Ok(ExitCode::SUCCESS),
+        Exit::Faulted(number) => {
+            eprintln!(rt; "fault {number}")?;
+            Ok(ExitCode::from(1))
+        }
+        Exit::BadLine(number) => {
+            eprintln!(rt; "bad line {number}")?;
+            Ok(ExitCode::from(2))
+        }
+    }
+}
+
+/// Says why the words of the command line cannot be had: want of memory is a fault, and a word that is
+/// not UTF-8 makes a bad command line.
+fn refuse_words<R: Eprint>(rt: &R, error: &io::Error) -> anyhow::Result<ExitCode> {
+    if error.kind() == io::ErrorKind::OutOfMemory {
+        return tell(rt, Exit::Faulted(1));
+    }
+    eprintln!(rt; "brokerd: {error}")?;
+    Ok(ExitCode::from(2))
+}
+
+/// Prints the text of a command line that names no command: on standard error with status 2, or, where
+/// help was asked for, on standard output with status 0. Want of memory is a fault.
+fn refuse<R: Eprint + Print>(rt: &R, error: &Error) -> anyhow::Result<ExitCode> {
+    if error.kind() == ErrorKind::OutOfMemory {
+        return tell(rt, Exit::Faulted(1));
+    }
+    error.print(rt)?;
+    Ok(ExitCode::from(error.exit_code() as u8))
+}
+
+#[cfg(test)]
+mod tests;

@@ -1,0 +1,105 @@
+ghost use Rattle.std.specs.Prelude.{◌≡◌, ◌⊎◌, ◌+◌, ◌≤◌, ℕ, List, Some, IsTrue};
+ghost use Rattle.std.specs.Io.KnownBytes.{Appends};
+ghost use Rattle.std.specs.List.{concat};
+ghost use Rattle.hub.specs.Runs.{bytes_of};
+ghost use Rattle.brokerd.specs.Exits.{EndsBy, EndsByRead};
+ghost use Rattle.brokerd.specs.Lines.{lines_of, told_in};
+ghost use Rattle.brokerd.specs.Replays.{IsUnfaulted, Replayed, Replays, exit_of, told};
+ghost use Rattle.brokerd.specs.declared.replay.Exit.TheVariants.{Faulted};
+
+use crate::input::{Unread, read_to_end};
+use crate::script::{Script, read_script};
+use broker::ListStore;
+use broker_types::Fault;
+use hub::{Failed, Hub, Sink, Source, run};
+use std::alloc::Global;
+
+/// How a replay ended.
+#[derive(Clone, Copy, Debug, PartialEq, Eq)]
+pub(crate) enum Exit {
+    /// All lines were run.
+    Done,
+    /// Memory (1), the storage (2), a read (5) or a write (6) failed, a row was damaged (3), or the
+    /// store could not be started (4).
+    Faulted(u8),
+    /// The line of this number, counted from 1, is bad; those before it were run.
+    BadLine(u64),
+}
+
+impl From<Fault> for Exit {
+    ghost use Rattle.std.specs.Prelude.{◌≡◌};
+    ghost use Rattle.broker_types.specs.Fault.{fault_number};
+    ghost use Rattle.brokerd.specs.declared.replay.Exit.TheVariants.{Faulted};
+
+    ghost from_gives = { λ fault exit. exit ≡ Faulted (fault_number fault) };
+
+    fn from(fault: Fault) -> Exit {
+        Exit::Faulted(fault.number())
+    }
+}
+
+/// Runs the lines of the source over a broker in memory, up to the first that is bad, and writes the
+/// bytes of their replies. A fault goes before a bad line; the replies before it are written.
+pub(crate) fn replay<R: Source, W: Sink>(alloc: Global, reader: &mut R, writer: &mut W) -> Exit
+    ensures replays { (input : List ℕ) → R.left reader.old ≡ Some input → IsUnfaulted result
+        → Replays (told_in (lines_of input)) (W.written writer.old) (W.written writer.new) result }
+
+    // A fault of reading comes only where the source failed, or after 4,294,967,296 pulls; one of writing
+    // only where the sink failed.
+    ensures ends { EndsByRead (IsTrue (R.has_failed reader.new)
+        ⊎ (R.pulls reader.old + 4294967296 ≤ R.pulls reader.new))
+        (W.has_failed writer.new) result }
+{
+    match read_to_end(alloc, reader) {
+        Ok(input) => replay_input(alloc, input.as_slice(), writer),
+        Err(Unread::Memory) => Exit::Faulted(1),
+        Err(Unread::Failed) => Exit::Faulted(5),
+    }
+}
+
+/// Runs the lines of the input, and writes the replies.
+fn replay_input<W: Sink>(alloc: Global, input: &[u8], writer: &mut W) -> Exit
+    ensures ends { EndsBy (W.has_failed writer.new) result }
+    ensures replays { IsUnfaulted result
+        → Replays (told_in (lines_of input.now)) (W.written writer.old)
+        (W.written writer.new) result }
+{
+    match read_script(alloc, input) {
+        Ok(Some(script)) => run_script(alloc, &script, writer),
+        Ok(None) => Exit::BadLine(1),
+        Err(_) => Exit::Faulted(1),
+    }
+}
+
+/// Starts a broker in memory, feeds it the events, and writes the replies.
+fn run_script<W: Sink>(alloc: Global, script: &Script, writer: &mut W) -> Exit
+    ensures ends { EndsBy (W.has_failed writer.new) result }
+    ensures exit { IsUnfaulted result → result ≡ exit_of (told script.now) }
+    ensures ran { IsUnfaulted result
+        → Replayed script.now.start script.now.events.items (W.written writer.old)
+        (W.written writer.new) }
+{
+    let mut store = ListStore::new(alloc);
+    if let Err(fault) = store.start(script.start.moment, &script.start.words) {
+        return Exit::from(fault);
+    }
+    let mut hub = Hub::new(alloc, store);
+    match run(alloc, &mut hub, script.events.as_slice()) {
+        Ok(replies) => finish(writer, replies.as_slice(), script.exit()),
+        Err((_, replies, fault)) => finish(writer, replies.as_slice(), Exit::from(fault)),
+    }
+}
+
+/// Writes the replies, one after another, and ends as said, or with the fault of a write that failed.
+fn finish<W: Sink>(writer: &mut W, replies: &[Vec<u8>], exit: Exit) -> Exit
+    ensures { ((result ≡ exit)
+        × Appends (W.written writer.old) (W.written writer.new) (concat (bytes_of replies.now)))
+        ⊎ ((result ≡ Faulted 6) × IsTrue (W.has_failed writer.new)) }
+{
+    for reply in replies {
+        if let Err(Failed) = writer.push(reply.as_slice()) {
+            return Exit::Faulted(6);
+        }
+    }
+    exit
+}
