@@ -1,0 +1,794 @@
+#!/usr/bin/env python3
+"""Draws inputs for `brokerd replay`.
+
+    python3 draw.py [--seed N] > inputs.jsonl
+
+Writes one JSON object a line, with the `name` of a run and its `stdin`. Every run is drawn by a
+generator of its own, seeded by the seed and the run's name, so that a theme that is changed or added
+leaves the inputs of the others as they were. What the replies must be is not known here.
+
+An input is a start line and 3 to 12 events, but for some runs of the theme `lines`, in which a line is
+bad at once. A theme draws inputs about one matter; `THEMES` names them all, with how many runs each has.
+"""
+
+import argparse
+import base64
+import json
+import random
+import sys
+
+GREATEST_MOMENT = 250_000_000_000
+GREATEST_CONNECTION = 2**64 - 1
+GREATEST_WORD = 2**128 - 1
+
+PATHS = ("a", "b", "a/b", "team/x", "team", "x.y", "-_~", "x:y@z", "été", "Ω/😀", "a;b=c", "...", "cubbyhole")
+NAMES = ("a", "b", "k", "K", "", "a.b", "10", "2", "é", "z", "\u007f", "\uffff", "😀", "\u0000", "\n", '"', "\\",
+         "a b")
+SPACES = ("", "", "", "", "", "", " ", "\n", "\t", "\r\n", "  ")
+
+
+# ------------------------------------------------------------------------------------------- requests
+
+def request(method, target, fields=(), body=None, version="HTTP/1.1"):
+    """The text of a request. With a body comes the field that tells its length in bytes."""
+    lines = [f"{method} {target} {version}", *fields]
+    if body is not None:
+        lines.append(f"Content-Length: {len(body.encode())}")
+    return "".join(line + "\r\n" for line in lines) + "\r\n" + (body or "")
+
+
+def identifier(word):
+    """The 36 characters that the identifier of a word is."""
+    digits = f"{word % 2**128:032x}"
+    return "-".join((digits[:8], digits[8:12], digits[12:16], digits[16:20], digits[20:]))
+
+
+class Run:
+    """The lines of one input, and what draws them."""
+
+    def __init__(self, seed):
+        self.random = random.Random(seed)
+        self.size = self.random.randrange(3, 13)
+        self.moment = self.pick(0, 1000, 951782400, 1700000000, 4102444799, self.random.randrange(GREATEST_MOMENT))
+        self.first_word = self.pick(0, 0, 0x10, GREATEST_WORD, GREATEST_WORD - 1, self.random.getrandbits(128))
+        self.lines = []
+        self.written = []
+        self.add({"moment": self.moment, "words": f"{self.first_word:032x}"})
+
+    def pick(self, *choices):
+        """One of the arguments."""
+        return self.random.choice(choices)
+
+    def chance(self, one_in):
+        """True once in so many times."""
+        return self.random.randrange(one_in) == 0
+
+    def room(self):
+        """How many events there is room for."""
+        return self.size + 1 - len(self.lines)
+
+    def add(self, members):
+        """Adds a line that is a JSON object."""
+        text = json.dumps(members, separators=(",", ":"), ensure_ascii=self.chance(3))
+        self.lines.append(text.encode())
+
+    def event(self, piece, connection=1, moment=None, word=None):
+        """Adds an event, where there is room for one."""
+        if self.room() <= 0:
+            return
+        if moment is None:
+            self.moment = min(self.moment + self.pick(0, 0, 1, 5, 3600), GREATEST_MOMENT)
+            moment = self.moment
+        if word is None:
+            word = 0x10 * len(self.lines)
+        self.add({"conn": connection, "moment": moment, "words": f"{word:032x}", "piece": piece})
+
+    def stdin(self):
+        """The bytes of the input."""
+        return b"".join(line + b"\n" for line in self.lines)
+
+    # What requests are made of.
+
+    def root(self):
+        """The root token."""
+        return "hvs." + identifier(self.first_word + 1)
+
+    def fields(self):
+        """The fields of a request by the root token, in any order and spelling."""
+        name = self.pick("X-Vault-Token", "X-Vault-Token", "x-vault-token", "X-VAULT-TOKEN")
+        fields = [self.pick("Host: b", "Host: b", "host:localhost:8200", "HOST: "), f"{name}: {self.root()}"]
+        if self.chance(5):
+            fields.append(self.pick("Accept: */*", "User-Agent: é", "Content-Type: text/plain",
+                                    "Expect: 100-continue", "X-Vault-Request: true", "Connection: keep-alive", "A:",
+                                    "A: \t b \t"))
+        self.random.shuffle(fields)
+        return fields
+
+    def path(self):
+        """A path of the cubbyhole, out of few."""
+        return "cubbyhole/" + self.pick(*PATHS[:self.pick(2, 5, len(PATHS))])
+
+    def read(self, path):
+        """A request by root that reads a path."""
+        return request("GET", "/v1/" + path, self.fields())
+
+    def write(self, path, body):
+        """A request by root that writes a body to a path."""
+        self.written.append(path)
+        return request(self.pick("POST", "PUT"), "/v1/" + path, self.fields(), body)
+
+    def served(self):
+        """A request that is well made, and mostly answered 200 or 204."""
+        if self.chance(2):
+            return self.write(self.path(), self.object_text(self.random.randrange(3)))
+        if self.written and not self.chance(4):
+            return self.read(self.pick(*self.written))
+        return self.read(self.pick(self.path(), self.path(), "none", "none/x", "b/c/d"))
+
+    def pieces(self, text, count):
+        """The text in so many pieces, cut anywhere. A piece may be empty."""
+        places = sorted(self.random.randrange(len(text) + 1) for _ in range(count - 1))
+        return [text[start:end] for start, end in zip([0, *places], [*places, len(text)])]
+
+    # JSON.
+
+    def space(self):
+        """White space of JSON, mostly none."""
+        return self.pick(*SPACES)
+
+    def character(self, c):
+        """One way to write a character within a text."""
+        units = c.encode("utf-16-be")
+        escaped = "".join(f"\\u{units[n] * 256 + units[n + 1]:04x}" for n in range(0, len(units), 2))
+        short = {'"': '\\"', "\\": "\\\\", "\b": "\\b", "\f": "\\f", "\n": "\\n", "\r": "\\r", "\t": "\\t"}.get(c)
+        if short is not None or c < " ":
+            return self.pick(short or escaped, escaped)
+        if self.chance(12):
+            return self.pick(escaped, escaped.upper().replace("\\U", "\\u"))
+        return "\\/" if c == "/" and self.chance(2) else c
+
+    def spelled(self, text):
+        """One way to write a text."""
+        return '"' + "".join(self.character(c) for c in text) + '"'
+
+    def text(self):
+        """A text, written in one of its ways."""
+        letters = 'ab/"\\\b\f\n\r\t\x00\x1f\x7fé€\u2028\ud7ff\ue000\uffff😀\U0010ffff'
+        return self.spelled("".join(self.random.choices(letters, k=self.random.randrange(7))))
+
+    def whole_number(self):
+        """A whole number that is read as one."""
+        return str(self.pick(0, 1, -1, 7, 10, 2**53 + 1, 2**63 - 1, 2**63, -2**63, 2**64 - 1, 1 - 2**63,
+                             self.random.getrandbits(64), -self.random.getrandbits(63) - 1))
+
+    def value_text(self, depth):
+        """A JSON value, with so many levels below it at most."""
+        kind = self.random.randrange(8 if depth else 5)
+        if kind == 0:
+            return self.pick("null", "true", "false")
+        if kind in (1, 2):
+            return self.whole_number()
+        if kind in (3, 4):
+            return self.text()
+        if kind in (5, 6):
+            return self.object_text(depth - 1, least=0)
+        items = [self.space() + self.value_text(depth - 1) + self.space() for _ in range(self.random.randrange(4))]
+        return "[" + (",".join(items) or self.space()) + "]"
+
+    def member(self, name, value):
+        """A member of an object, of the texts of its name and its value."""
+        return self.space() + name + self.space() + ":" + self.space() + value + self.space()
+
+    def object_text(self, depth, least=1):
+        """A JSON object, with members of one name among them now and then."""
+        names = [self.pick(*NAMES) for _ in range(self.random.randrange(least, 6))]
+        members = [self.member(self.spelled(name), self.value_text(depth)) for name in names]
+        return self.space() + "{" + (",".join(members) or self.space()) + "}" + self.space()
+
+
+# --------------------------------------------------------------------------------------------- themes
+
+def bodies(run):
+    """Objects written and read back: every spelling of texts, numbers, white space, members of one name."""
+    while run.room() > 0:
+        path = run.path()
+        run.event(run.write(path, run.object_text(3)))
+        run.event(run.read(path))
+
+
+EMPTY_BODIES = (None, "", "null", "{}", " { } ", " null\n", "{ }", " ", "\n", "nul", "Null", "{}{}", "null null")
+NO_OBJECTS = ("[]", "1", '"a"', "true", "[{}]", "-1", '"{}"', "[[]]", "false", "0")
+NO_JSON = ('{"a":1}x', '{"a":1}}', '{"a":1', '{"a"}', '{"a":}', '{a:1}', "{'a':1}", '{"a":1,}', '{,"a":1}',
+           '{"a":1,,"b":2}', '{"a" 1}', '{"a":1 "b":2}', '{"a":tru}', '{"a":True}', '{"a":nulll}', '{"a":[1,]}',
+           '{"a":[,1]}', '{"a":[1 2]}', '{"a":"', '{"a":"b}', '{"a":[}', '{"a":]}', '{1:2}', '{null:1}',
+           '\ufeff{"a":1}', '{"a":1}\x00', '\x0b{"a":1}', '{"a":1}\u00a0', '/**/{"a":1}', '{"a":1}\n\n\r\t ',
+           '{"a":undefined}', '{"a":{}', '{"a":{"b":1,}}', '{"a":1;"b":2}')
+NO_WHOLE_NUMBERS = ("1.0", "1.5", "0.0", "-0", "-0.0", "1e3", "1E3", "1e-3", "0e0", "18446744073709551616",
+                    "-9223372036854775809", "1" + "0" * 40, "1e308", "1e309", "-1e999", "1" + "0" * 400, "1e-999",
+                    "01", "-01", "+1", "1.", ".5", "-", "--1", "0x1", "1e", "1e+", "NaN", "Infinity", "-Infinity",
+                    "1_0", "00", "1.e1", "- 1", "1 1", "1e1.0", "９", "1a")
+NO_TEXTS = ('"\n"', '"\x00"', '"\x1f"', '"\t"', '"\\x"', '"\\u12"', '"\\u12g4"', '"\\ud800"', '"\\udc00"',
+            '"\\ud800\\u0041"', '"\\ud83d\\ud83d"', '"\\ud83d', '"\\', '"\\"', '"\\u', '"\\ud83dx"',
+            '"\\udE00\\ud83d"', '"\\U0041"', "\"\\'\"", "'a'", '"\\a"', '"\\ud83d\\n"', '"\\u+123"', '"\\u 123"',
+            '"a\r"')
+
+
+def refused_bodies(run):
+    """Bodies that are no JSON objects, or have floats, between good ones that must stand."""
+    path = run.path()
+    run.event(run.write(path, run.object_text(1)))
+    while run.room() > 0:
+        run.event(run.write(path, run.pick(
+            run.pick(*EMPTY_BODIES), run.pick(*NO_OBJECTS), run.pick(*NO_JSON), run.pick(*NO_JSON),
+            f'{{"a":{run.pick(*NO_WHOLE_NUMBERS)}}}', f'{{"a":[1,{{"b":{run.pick(*NO_WHOLE_NUMBERS)}}}]}}',
+            f'{{"a":{run.pick(*NO_TEXTS)}}}', f"{{{run.pick(*NO_TEXTS)}:1}}", changed(run, run.object_text(2)))))
+        if run.chance(3):
+            run.event(run.read(path))
+
+
+def changed(run, text):
+    """The text with one character taken out, put in or another one. It may still be good."""
+    place = run.random.randrange(len(text) + 1)
+    return text[:place] + run.pick("", *'",:[]{}\\0-.e u\n') + text[place + run.random.randrange(2):]
+
+
+def numbers(run):
+    """Numbers of many digits, with points and exponents; in half of them a later member takes the place."""
+    while run.room() > 0:
+        sign = run.pick("", "-")
+        whole = run.pick("0", str(run.random.randrange(1, 10)) + digits(run, 0, 17, 18, 19, 30, 310))
+        point = run.pick("", "", "." + digits(run, 1, 20))
+        exponent = run.pick("", "", run.pick("e", "E-", "e+") + digits(run, 1, 3, 20))
+        number, path = sign + whole + point + exponent, run.path()
+        run.event(run.write(path, run.pick(f'{{"a":{number}}}', f'{{"a":{number},"a":1}}')))
+        run.event(run.read(path))
+
+
+def digits(run, *counts):
+    """So many digits as one of the counts."""
+    return "".join(run.random.choices("0123456789", k=run.pick(*counts)))
+
+
+def replaced_members(run):
+    """Members of one name: the last one stands, but what the reader refuses stays refused."""
+    while run.room() > 0:
+        path = run.path()
+        first = run.pick(*NO_WHOLE_NUMBERS, "1", "null", nested(run, run.pick(125, 126, 127, 200)), '{"b":1.5}',
+                         "[1e3]", '"\\ud800"')
+        last = run.pick("2", "null", '"x"', "{}", "[]", "1.5", run.value_text(1))
+        name, again = run.pick(('"a"', '"a"'), ('"a"', '"\\u0061"'), ('"é"', '"\\u00e9"'), ('""', '""'),
+                               ('"a"', '"A"'))
+        text = f"{{{name}:{first},{again}:{last}}}"
+        run.event(run.write(path, text if run.chance(2) else f'{{"in":[{text}]}}'))
+        run.event(run.read(path))
+
+
+def nested(run, levels):
+    """A value of so many levels of arrays and objects."""
+    kinds = [run.pick(("[", "]"), ('{"a":', "}")) for _ in range(levels)]
+    inner = "" if kinds and kinds[-1][0] == "[" and run.chance(2) else "1"
+    return "".join(begin for begin, _ in kinds) + inner + "".join(end for _, end in reversed(kinds))
+
+
+def depths(run):
+    """Objects of about as many levels as are read, and of far more."""
+    while run.room() > 0:
+        path = run.path()
+        levels = run.pick(125, 126, 127, 127, 128, 128, 129, run.pick(300, 600))
+        text = f'{{"a":{nested(run, levels - 1)}}}'
+        if run.chance(8):
+            text = "[" * levels if run.chance(2) else text[:-levels]
+        run.event(run.write(path, text))
+        run.event(run.read(path))
+
+
+def odd_target(run):
+    """A target that may be a path, or none."""
+    if run.chance(6):
+        length = run.pick(511, 512, 512, 513, 513, 514)
+        path = run.pick("cubbyhole/", "cubbyhole/a/", "cubbyhole/b/c/").ljust(length, "x")
+        return "/v1/" + path + run.pick("", "", "/")
+    return run.pick(
+        "/v1/cubbyhole/a/", "/v1/cubbyhole/a//", "/v1/cubbyhole//a", "/v1//cubbyhole/a", "/v1/cubbyhole/./a",
+        "/v1/cubbyhole/..", "/v1/cubbyhole/.", "/v1/cubbyhole/...", "/v1/cubbyhole/.a", "/v1/cubbyhole/a/../b",
+        "/v1/", "/v1", "/v1//", "/v2/cubbyhole/a", "/V1/cubbyhole/a", "/", "*", "v1/cubbyhole/a", "//v1/a",
+        "http://b/v1/cubbyhole/a", "b:80", "/v1/Cubbyhole/a", "/v1/cubbyholes/a", "/v1/cubbyhol", "/v1/cubbyhole\\a",
+        '/v1/cubbyhole/"', "/v1/cubbyhole/<a>", "/v1/cubbyhole/a#b", "/v1/cubbyhole/{a}", "/v1/cubbyhole/:a",
+        "/v1/cubbyhole/*a", "/v1/cubbyhole/^|`", "/v1/cubbyhole/é", "/v1/cubbyhole/e\u0301", "/v1/cubbyhole/\u0085",
+        "/v1/cubbyhole/\ufffe", "/v1/none", "/v1/.", "/v1/..", "/v1/./cubbyhole/a", "/v1x/a",
+        "/v1/cubbyhole/a/b/c/d/e/f", "/v1/cubbyhole/" + "é" * run.pick(250, 251, 252),
+        "/v1/cubbyhole/" + "a/" * run.pick(250, 251, 252), "/" + "v1/a" * 200)
+
+
+def paths(run):
+    """Paths of every form: segments, final slashes, lengths, letters past ASCII, targets that are none."""
+    while run.room() > 0:
+        target = odd_target(run)
+        if run.chance(2):
+            run.event(request(run.pick("POST", "PUT"), target, run.fields(), json.dumps({"to": target[-9:]})))
+        run.event(request("GET", run.pick(target, target, target.rstrip("/"), target + "/"), run.fields()))
+
+
+def odd_token(run):
+    """Fields of the client token: another one, none, two, other spellings."""
+    root = run.root()
+    return run.pick(
+        [], ["X-Vault-Token:"], ["X-Vault-Token: "], [f"X-Vault-Token: {root}x"], [f"X-Vault-Token: {root[:-1]}"],
+        [f"X-Vault-Token: {root[4:]}"], [f"X-Vault-Token: {root.upper()}"], [f"X-Vault-Token: HVS{root[3:]}"],
+        ["X-Vault-Token: hvs." + identifier(run.first_word + 2)],
+        ["X-Vault-Token: hvs." + identifier(run.first_word)], ["X-Vault-Token: é"], ["X-Vault-Token: nobody"],
+        [f"X-Vault-Token: {root} {root}"], [f"X-Vault-Token: {root},x"], [f"X-Vault-Token:{root}"],
+        [f"X-Vault-Token: \t {root} \t "], [f"x-VAULT-tokeN: {root}"], [f"X-Vault-Token: \"{root}\""],
+        [f"X-Vault-Token: {root}", f"X-Vault-Token: {root}"], [f"X-Vault-Token: {root}", "x-vault-token: x"],
+        ["X-Vault-Token:", f"X-Vault-Token: {root}"], [f"X_Vault_Token: {root}"], [f"X-Vault-Tokens: {root}"],
+        [f"Cookie: {root}"], ["X-Vault-Token: " + "x" * 300], [f"X-Vault-Token: {root.replace('-', '')}"])
+
+
+def tokens(run):
+    """Client tokens: the root token alone is served, and what the others send changes nothing."""
+    path = run.path()
+    run.event(run.write(path, '{"kept":1}'))
+    while run.room() > 0:
+        fields = ["Host: b", *odd_token(run)]
+        target = "/v1/" + run.pick(path, path, path, "none/x")
+        if run.chance(6):
+            target = run.pick("/v2/x", "/v1/a//b", "/")
+        if run.chance(2):
+            run.event(request("GET", target, fields))
+        else:
+            run.event(request(run.pick("PUT", "POST"), target, fields, run.pick('{"other":2}', "{", '{"a":1.5}')))
+        if run.chance(4):
+            run.event(run.read(path))
+
+
+def methods(run):
+    """Methods that are not served end the connection."""
+    for connection in range(1, run.size + 1):
+        method = run.pick("HEAD", "PATCH", "OPTIONS", "TRACE", "CONNECT", "get", "Post", "puT", "GETX", "GE", "X",
+                          "SCAN", "list", "Delete", "PROPFIND", "!#$%&'*+.^_`|~9", "G", "P" * 40)
+        target = run.pick("/v1/cubbyhole/a", "/v1/none", "/v2/a", "/v1/a//b", "*")
+        fields = run.fields() if not run.chance(4) else ["Host: b", "X-Vault-Token: x", "X-Vault-Token: y"]
+        run.event(request(method, target, fields, run.pick(None, None, '{"a":1}')), connection)
+        run.event(run.pick("", run.read("cubbyhole/a")), run.pick(connection, connection, connection + 1))
+
+
+ODD_LINES = ("Host: c", "host:", "A : b", " A: b", "\tA: b", "A", ": b", "A b: c", "A\t: b", "(a): b", "é: b",
+             "A: \x01", "A: \x7f", "A: b\rc", "A: \x00", "A\x00: b", "A: é", "A: \u0085", "A: b\tc",
+             "!#$%&'*+-.^_`|~0: b", "A:b:c", "A:", "A: \"", "A/b: c", "A@: b", "A: b\n c", "A: b\r\n c",
+             "A: b\r\n\tc", "A;b: c", "A=b: c", "[A]: b", "{A}: b")
+ODD_LENGTHS = ("Content-Length: x", "Content-Length:", "Content-Length: ", "Content-Length: -1", "Content-Length: +7",
+               "Content-Length: 7, 7", "Content-Length: 7 7", "Content-Length: 0x7", "Content-Length: 7.0",
+               "Content-Length: 7e0", "Content-Length: 7\r\nContent-Length: 7",
+               "Content-Length: 7\r\ncontent-length: 8", "Content-Length: ７", "Content-Length: 7;",
+               "Content-Length: \"7\"", "Content-Length: 1_0", "Content-Length:\t7\r\nContent-Length:7")
+GOOD_LENGTHS = ("Content-Length: 7", "Content-Length:7", "Content-Length: \t 7 \t ", "content-length: 007",
+                "CONTENT-LENGTH: 0000000000000000000000000000000000000000000000000007")
+
+
+ODD_FIRST_LINES = (
+    "GET  {} HTTP/1.1", "GET {}  HTTP/1.1", "GET {} HTTP/1.1 ", " GET {} HTTP/1.1", "GET {} HTTP/1.2",
+    "GET {} HTTP/2", "GET {} HTTP/2.0", "GET {} http/1.1", "GET {}", "GET", "", "GET {} HTTP/1.1\t",
+    "GET\t{}\tHTTP/1.1", "GET HTTP/1.1", "GET {} b HTTP/1.1", "G(T {} HTTP/1.1", "GÉT {} HTTP/1.1",
+    "GET {}\x01 HTTP/1.1", "GET {}\x7f HTTP/1.1", "GET {}\tb HTTP/1.1", "GET {} HTTP/1.11", "GET {} HTTP/11",
+    "GET {} HTTP /1.1", "HTTP/1.1 200 OK", "GET\x00{} HTTP/1.1", "GET {} HTTP/1.1\x00", "GET {}\r HTTP/1.1",
+    "{{}}GET {} HTTP/1.1", "GET {} HTTP/0.9", "GET {} HTTP/1,1", "GET {} HTTP/01.1")
+
+
+def odd_head(run, target="/v1/cubbyhole/a"):
+    """A request whose head is well made, or has one fault, or what is nearly one."""
+    first = f"GET {target} HTTP/1.1"
+    fields = [f"X-Vault-Token: {run.root()}", "Host: b"]
+    body, before, end = "", "", "\r\n"
+    kind = run.random.randrange(10)
+    if kind < 3:
+        first = run.pick(*ODD_FIRST_LINES).format(target)
+    elif kind < 6:
+        fields.append(run.pick(*ODD_LINES))
+    elif kind < 8:
+        fields.append(run.pick(*ODD_LENGTHS, *GOOD_LENGTHS * 2))
+        body = '{"a":1}'
+    elif kind == 8:
+        fields = run.pick(fields[:1], [*fields, "Host: b"], [*fields[:1], "Hosts: b"], [*fields[:1], "Host:"])
+    else:
+        before, end = run.pick(("\r\n", "\r\n"), ("\n", "\r\n"), ("\r", "\r\n"), (" ", "\r\n"), ("", "\n"))
+    run.random.shuffle(fields)
+    return before + "".join(line + end for line in [first, *fields]) + "\r\n" + body
+
+
+def heads(run):
+    """Heads that are none or nearly so, each on a connection of its own, and what comes behind them."""
+    path = run.path()
+    run.event(run.write(path, run.object_text(1)))
+    connection = run.pick(1, GREATEST_CONNECTION - 20)
+    while run.room() > 0:
+        connection += 1
+        run.event(odd_head(run, "/v1/" + path), connection)
+        if run.chance(3):
+            run.event(run.pick("", "\r\n\r\n", run.read(path)), connection)
+
+
+def changed_heads(run):
+    """Requests with one character taken out, put in or another one, on a connection each."""
+    path = run.path()
+    run.event(run.write(path, run.object_text(1)))
+    letters = " \t\r\n:,;/.\"()<>@[]{}=\\-_aZ9\x00\x01\x0b\x1f\x7f\x80é€"
+    for connection in range(2, run.size + 1):
+        text = run.read(path) if run.chance(2) else run.write(path, '{"a":1}')
+        place = run.random.randrange(text.index("\r\n\r\n") + 4)
+        text = text[:place] + run.pick("", *letters) + text[place + run.random.randrange(2):]
+        run.event(text, connection)
+        if run.chance(3):
+            run.event(run.pick("", "\r\n\r\n", run.read(path)), connection)
+
+
+def line_ends(run):
+    """Line ends: LF alone, CR alone, empty lines before a request, an empty line that comes late."""
+    path = run.path()
+    run.event(run.write(path, run.object_text(1)))
+    for connection in range(2, run.size + 1):
+        text = run.read(path) if run.chance(2) else run.write(path, '{"a":1}')
+        head, _, body = text.partition("\r\n\r\n")
+        lines = head.split("\r\n")
+        ends = [run.pick("\r\n", "\n") for _ in lines[1:]] + [run.pick("\r\n", "\r\n", "\r\n", "\n")]
+        if run.chance(3):
+            ends[run.random.randrange(len(ends))] = run.pick("\r", "\n\r", "\r\r\n", "\n\n", "\r\n\n")
+        before = run.pick("", "", "\r\n", "\n", "\n\n\r\n", "\r\n" * 40, run.pick("\r", "\r\r\n", "\n\r"))
+        last = run.pick("\r\n", "\r\n", "\r\n", "\r\n", "\n", "\r", "")
+        run.event(before + "".join(line + end for line, end in zip(lines, ends)) + last + body, connection)
+        if run.chance(2):
+            run.event(run.pick("", "\r\n", "\r\n\r\n", "\n", text), connection)
+
+
+def many_fields(run):
+    """The number of fields that are read: 64 at most, the known ones among them."""
+    path = run.path()
+    run.event(run.write(path, run.object_text(1)))
+    for connection in range(2, run.size + 1):
+        body = run.pick(None, None, '{"a":1}')
+        known = run.fields()
+        count = run.pick(62, 63, 64, 64, 65, 66, 100) - len(known) - (body is not None and run.chance(2))
+        more = [run.pick("A: b", "B:", "C: " + "c" * n) for n in range(count)]
+        place = run.random.randrange(len(known) + 1)
+        fields = known[:place] + more + known[place:]
+        run.event(request("PUT" if body else "GET", "/v1/" + path, fields, body), connection)
+
+
+def body_lengths(run):
+    """Lengths that are not those of the body: what is over stands before the next request."""
+    path = run.path()
+    for connection in range(1, run.size + 1):
+        body = run.pick('{"a":1}', '{"é":"😀"}', '{"a":"\\u00e9"}', "", "{}", '{"a":{"b":[]}}')
+        length = max(0, len(body.encode()) + run.pick(-3, -2, -1, -1, 0, 0, 1, 1, 2, 5))
+        method = run.pick("PUT", "POST", "PUT", "GET")
+        fields = [*run.fields(), f"Content-Length: {length}"]
+        run.event(request(method, "/v1/" + path, fields) + body, connection)
+        run.event(run.pick("", "\r\n", "}", " ", run.read(path)), connection)
+        run.event(run.pick("", run.read(path)), run.pick(connection, connection + 100))
+
+
+def cuts(run):
+    """Requests that come in pieces, cut anywhere; the words and moment are those of the last piece."""
+    path = run.path()
+    while run.room() > 0:
+        text = run.pick(run.write(path, run.object_text(1)), run.read(path), run.served(),
+                        run.write(path, run.pick(*NO_JSON)))
+        for piece in run.pieces(text, min(run.pick(1, 2, 2, 3, 5), run.room())):
+            run.event(piece)
+
+
+def single_bytes(run):
+    """The last bytes of a request, one by one."""
+    path = run.path()
+    run.event(run.write(path, run.object_text(1)))
+    text = run.pick(run.read(path), run.write(path, '{"a":1}'), run.pick("\r\n", "\n") + run.read(path))
+    count = min(run.room() - 1, len(text))
+    place = len(text) - count if run.chance(2) else text.index("\r\n\r\n") + 4 - count
+    run.event(text[:place])
+    for piece in text[place:place + count - 1]:
+        run.event(piece)
+    run.event(text[place + count - 1:])
+
+
+def pipelines(run):
+    """Several requests in one piece: each event answers one of them."""
+    while run.room() > 0:
+        path = run.path()
+        count = run.pick(2, 2, 3, 4)
+        parts = [run.pick(run.write(path, run.object_text(1)), run.read(path), run.served()) for _ in range(count)]
+        if run.chance(4):
+            parts.insert(run.random.randrange(count), run.pick("\r\n", "\n\n", "garbage\r\n\r\n", "\r\n\r\n"))
+        text = "".join(parts)
+        waiting = run.pieces(text, 2)[-1] if run.chance(3) else ""
+        run.event(text[:len(text) - len(waiting)])
+        for _ in range(count - 1):
+            run.event("")
+        if waiting:
+            run.event(waiting)
+            run.event("")
+
+
+def connections(run):
+    """Several connections at once, each with a stream of its own, in any order."""
+    run.event(run.write(run.path(), run.object_text(1)))
+    numbers = [run.pick(0, 1, 2), run.pick(3, 2**32, 2**63), run.pick(7, 2**63 + 1, GREATEST_CONNECTION)]
+    streams = {}
+    for number in numbers:
+        text = "".join(run.served() for _ in range(run.pick(1, 2, 3)))
+        streams[number] = run.pieces(text, run.pick(2, 3, 4)) + ["", ""]
+    while run.room() > 0 and any(streams.values()):
+        number = run.random.choice([n for n in numbers if streams[n]])
+        run.event(streams[number].pop(0), number)
+
+
+def closing(run):
+    """Fields that end a connection after its reply, and fields that do not."""
+    path = run.path()
+    run.event(run.write(path, run.object_text(1)))
+    for connection in range(2, run.size + 1):
+        element = run.pick(
+            "close", "close", "Close", "CLOSE", "keep-alive", "keep-alive, close", "close,keep-alive", " close ,",
+            ",,close", "close;q=1", "closed", "clos", "\"close\"", "upgrade,\tclose", "", ",", "close close",
+            "x, y, cLoSe")
+        fields = [*run.fields(), f"{run.pick('Connection', 'connection')}: {element}"]
+        if run.chance(5):
+            fields.append(run.pick("Connection: close", "Connection: keep-alive", "Proxy-Connection: close",
+                                   "Keep-Alive: close"))
+        run.random.shuffle(fields)
+        method, target, body = run.pick(
+            ("GET", "/v1/" + path, None), ("GET", "/v1/" + path, None), ("PUT", "/v1/" + path, '{"a":1}'),
+            ("PUT", "/v1/" + path, "["), ("GET", "/v2/a", None), ("GET", "/v1/a//b", None), ("GET", "/v1/none", None))
+        text = request(method, target, fields, body)
+        run.event(text + run.pick("", "", run.read(path), "x"), connection)
+        run.event(run.pick("", run.read(path)), connection)
+
+
+def moments(run):
+    """Moments that go back and moments at the ends of what is handed in; words of every size."""
+    days = (0, 1, 59, 86399, 86400, 951782399, 951868800, 1709164800, 4107542400, GREATEST_MOMENT,
+            GREATEST_MOMENT - 1, 68169600, 1000000000)
+    words = (0, 1, GREATEST_WORD, GREATEST_WORD - 6, 2**64 - 1, 2**64, 2**127, 0xABCDEF << 100, run.first_word)
+    path = run.path()
+    while run.room() > 0:
+        word = run.pick(*words, run.random.getrandbits(128))
+        moment = run.pick(*days, run.random.randrange(GREATEST_MOMENT + 1))
+        run.event(run.pick(run.write(path, run.object_text(1)), run.read(path)), moment=moment, word=word)
+
+
+def spellings(run):
+    """Lines in other spellings: the order of members, white space, escapes, capitals, members of one name."""
+    lines = []
+    while run.room() > 0:
+        run.event(run.served(), run.pick(1, 2), word=run.random.getrandbits(128))
+    for line in run.lines:
+        members = list(json.loads(line).items())
+        run.random.shuffle(members)
+        if run.chance(4):
+            members.insert(0, (members[-1][0], run.pick(0, "x", None, [], {"a": 1.5}, 2.5)))
+        parts = [run.member(respelled(run, name), respelled(run, value)) for name, value in members]
+        text = run.pick("", " ", "\t") + "{" + ",".join(parts) + "}" + run.pick("", "\r", " ")
+        lines.append(text.replace("\n", " ").encode())
+    run.lines = lines
+
+
+def respelled(run, value):
+    """One way to write a member of a line. Words may have capitals."""
+    if not isinstance(value, str):
+        return json.dumps(value)
+    if len(value) == 32 and run.chance(2):
+        value = value.upper()
+    return '"' + "".join(run.character(c) if run.chance(3) else json.dumps(c)[1:-1] for c in value) + '"'
+
+
+def changed_lines(run):
+    """Lines with one byte taken out, put in or another one: most are bad."""
+    while run.room() > 0:
+        run.event(run.served(), run.pick(1, 2))
+    place = run.random.randrange(min(3, run.size), run.size + 1) if not run.chance(6) else 0
+    line = run.lines[place]
+    column = run.random.randrange(len(line) + 1) if run.chance(2) else run.random.randrange(80)
+    byte = run.pick(b"", bytes([run.random.randrange(256)]),
+                    run.pick(*[bytes([b]) for b in b'{}[]",:\\0-+.eEu \n\r\t']))
+    run.lines[place] = line[:column] + byte + line[column + run.random.randrange(2):]
+
+
+def bad_line(run):
+    """A line that is no event."""
+    good = {"conn": 1, "moment": 1000, "words": "0" * 32, "piece": ""}
+    text = json.dumps(good)
+    short = run.pick(b"", b" ", b"{}", b"null", b"[]", b"1", b'"x"', b"x", b"{", b"\xff", b"\x00")
+    return run.pick(
+        short, b"\xef\xbb\xbf" + text.encode(),
+        json.dumps(run.pick(*bad_members(run, good))).encode(),
+        json.dumps(run.pick(*bad_members(run, good))).encode(),
+        run.pick(f"[{text}]", text + text, text + ",", text[:-1], text[1:]).encode(),
+        text.replace("1000", run.pick("-0", "1e3", "1000.0", "01000", "+1", "1" + "0" * 30, "0x10")).encode(),
+        text.replace('""', run.pick('"\\ud800"', '"\x01"', '"\\x"', "''")).encode(),
+        text.replace('"conn": 1', '"conn": 1, "conn": -1').encode(),
+        text.replace("1000", str(GREATEST_MOMENT + 1)).encode(),
+        text.replace("1,", f"{GREATEST_CONNECTION + 1},").encode(),
+        text.encode()[:-2] + run.pick(b"\xff", b"\xc3", b"\xed\xa0\x80", b"\xf5\x80\x80\x80") + b'"}')
+
+
+def bad_members(run, good):
+    """Objects with the members of an event, but for one that is lacking, wrong or over."""
+    lacking = dict(good)
+    del lacking[run.pick("conn", "moment", "words", "piece")]
+    return (lacking, {"moment": 1000, "words": "0" * 32}, {**good, "more": 1}, {**good, "Conn": 1},
+            {**good, "moment": GREATEST_MOMENT + 1}, {**good, "conn": GREATEST_CONNECTION + 1},
+            {**good, run.pick("conn", "moment"): run.pick(-1, 1.5, "1", None, True, [], {})},
+            {**good, "words": run.pick("0" * 31, "0" * 33, "g" * 32, "", " " + "0" * 31, "０" * 32, "-" + "0" * 31)},
+            {**good, "words": run.pick(0, None, [], ["0" * 32], {})},
+            {**good, "piece": run.pick(None, 1, [], ["a"], {}, True)})
+
+
+def lines(run):
+    """A bad line behind good ones, or at once; replies before it are written, those behind it are not."""
+    while run.room() > 0:
+        run.event(run.served(), run.pick(1, 2))
+    if not run.chance(5):
+        del run.lines[run.random.randrange(2, len(run.lines)):]
+        run.lines.append(bad_line(run))
+        if not run.chance(4):
+            run.event(run.served())
+        return
+    start = run.pick(b"", b"{}", b"null", run.lines[1], b'{"moment":1}', b'{"moment":-1,"words":"%032d"}' % 0,
+                     b"\xff", b'{"moment":250000000001,"words":"%032d"}' % 0, b'{"moment":1.0,"words":"%032d"}' % 0,
+                     b'{"moment":1,"words":"%031d"}' % 0, b'{"moment":1,"words":"%032d","conn":1}' % 0,
+                     run.lines[0] + b"}")
+    run.lines = [] if run.chance(6) else [start, *run.lines[1:run.pick(1, 3)]]
+
+
+def large(run):
+    """Long heads and bodies that are served."""
+    path = run.path()
+    size = run.pick(4096, 8192, 8193, 12000)
+    run.event(run.write(path, json.dumps({"a": "x" * size, "b": [0] * run.pick(1, 500)})))
+    run.event(run.read(path))
+    run.event(request("GET", "/v1/" + path, [*run.fields(), "A: " + "b" * run.pick(4000, 8000)]), moment=0)
+    for piece in run.pieces("\r\n" * 2000 + run.write(path, "{" + " " * size + '"a":1}') + run.read(path), 4):
+        run.event(piece)
+    while run.room() > 0:
+        run.event(run.pick("", run.read(path)))
+
+
+def mixed(run):
+    """Requests of all kinds, on three connections, some cut and some pipelined."""
+    path = run.path()
+    run.event(run.write(path, run.object_text(1)))
+    while run.room() > 0:
+        text = run.pick(
+            run.served(), run.served(), run.served(), run.read(path), run.read(path),
+            run.write(path, run.pick(*NO_JSON)), request("GET", odd_target(run), run.fields()),
+            request("GET", "/v1/" + path, ["Host: b", *odd_token(run)]),
+            request("GET", "/v1/" + path, [*run.fields(), "Connection: close"]), odd_head(run, "/v1/" + path))
+        connection = run.pick(1, 1, 2, 3, 4)
+        if run.chance(3):
+            text += run.served()
+        for piece in run.pieces(text, run.pick(1, 1, 1, 2)):
+            run.event(piece, connection)
+            if run.chance(4):
+                run.event("", run.pick(1, 2, 3))
+
+
+UNSERVED_ROUTES = (
+    ("GET", "auth/token/lookup-self", None), ("POST", "auth/token/create", '{"ttl":60}'),
+    ("POST", "auth/token/create", "["), ("LIST", "auth/token/accessors", None),
+    ("POST", "auth/token/revoke-self", None), ("GET", "secret/data/x", None), ("PUT", "secret/data/x", '{"data":{}}'),
+    ("LIST", "secret/metadata", None), ("DELETE", "secret/data/x", None), ("POST", "secret/config", "{}"),
+    ("GET", "sys/mounts", None), ("POST", "sys/mounts/db", '{"type":"issued"}'),
+    ("GET", "sys/policies/acl/default", None), ("LIST", "sys/policies/acl", None),
+    ("POST", "sys/wrapping/wrap", '{"a":1}'), ("POST", "sys/wrapping/unwrap", '{"token":"x"}'),
+    ("POST", "sys/wrapping/lookup", None), ("POST", "sys/leases/lookup", "{}"), ("GET", "db/creds/r", None),
+    ("LIST", "cubbyhole", None), ("GET", "cubbyhole", None), ("DELETE", "cubbyhole", None),
+    ("POST", "cubbyhole", '{"a":1}'), ("GET", "sys", None), ("GET", "auth", None), ("DELETE", "none", None),
+    ("LIST", "secret", None))
+
+
+def unserved_routes(run):
+    """Routes of the broker that are not served yet, and methods of the cubbyhole that are not."""
+    path = run.path()
+    run.event(run.write(path, run.object_text(1)))
+    while run.room() > 0:
+        method, route, body = run.pick(*UNSERVED_ROUTES)
+        if run.chance(3):
+            method, route, body = run.pick("LIST", "DELETE"), path, run.pick(None, None, '{"a":1}', "{")
+        fields = run.fields() if not run.chance(6) else ["Host: b", *odd_token(run)]
+        run.event(request(method, "/v1/" + route + run.pick("", "", "", "/"), fields, body))
+        if run.chance(4):
+            run.event(run.read(path))
+
+
+def unserved_targets(run):
+    """Queries, percent signs and fields that are not read yet."""
+    path = run.path()
+    run.event(run.write(path, run.object_text(1)))
+    while run.room() > 0:
+        target = "/v1/" + path + run.pick("", "", "?", "?list=true", "?version=1", "%", "%20", "%2F", "?%", "/?a=b",
+                                          "%61?", "?a/../b")
+        if run.chance(8):
+            target = run.pick("/v2/x?%", "/?", "/v1?a", "/v1/?a", "/v1/%", "/v1//?", "?", "%")
+        fields = run.fields()
+        if run.chance(2):
+            fields += run.pick(["X-Vault-Wrap-TTL: 60"], ["X-Vault-Wrap-TTL: 1d"], ["X-Vault-Wrap-TTL: é"],
+                               ["Authorization: a"], ["X-Vault-Wrap-TTL: 5", "X-Vault-Wrap-TTL: 6"],
+                               ["Authorization: a", "Authorization: b"], ["X-Vault-Namespace: a"])
+        if run.chance(6):
+            fields = ["Host: b", f"Authorization: Bearer {run.root()}"]
+        run.event(request(run.pick("GET", "GET", "PUT", "LIST"), target, fields, run.pick(None, '{"a":1}')))
+
+
+def unserved_heads(run):
+    """Heads that are refused as malformed until they are told apart, and heads of any length."""
+    for connection in range(1, run.size + 1):
+        fields = run.fields()
+        version = "HTTP/1.1"
+        kind = run.random.randrange(5)
+        if kind == 0:
+            version = "HTTP/1.0"
+            fields = run.pick(fields, fields, [f"X-Vault-Token: {run.root()}"], [*fields, "Connection: keep-alive"])
+        elif kind == 1:
+            fields.append(run.pick("Transfer-Encoding: chunked", "transfer-encoding: identity", "Transfer-Encoding:",
+                                   "Transfer-Encoding: gzip, chunked\r\nContent-Length: 3"))
+        elif kind == 2:
+            fields.append("Content-Length: " + run.pick("1048577", "2000000", "0001048577", "18446744073709551616",
+                                                        "9" * 50))
+        elif kind == 3 and run.chance(3):
+            fields.append("A: " + "b" * run.pick(16300, 16384, 17000))
+        run.event(request(run.pick("GET", "PUT"), "/v1/cubbyhole/a", fields, version=version), connection)
+        run.event(run.pick("", run.read("cubbyhole/a"), "0\r\n\r\n"),
+                  run.pick(connection, connection, connection + 1))
+
+
+def unserved_lines(run):
+    """Forms of a line that are not read yet make it bad."""
+    while run.room() > 1:
+        run.event(run.served())
+    event = {"conn": 1, "moment": run.moment, "words": "0" * 32}
+    words = [f"{n:032x}" for n in range(16, 24)]
+    run.add(run.pick({**event, "hex": ""}, {**event, "hex": run.read("cubbyhole/a").encode().hex()},
+                     {**event, "words": words, "piece": ""}, {**event, "words": words, "hex": "00"},
+                     {**event, "piece": "", "hex": ""}))
+    if run.chance(4):
+        run.lines[0] = json.dumps({"moment": run.moment, "words": words}).encode()
+    run.event(run.served())
+
+
+THEMES = {
+    bodies: 24, refused_bodies: 32, numbers: 10, replaced_members: 14, depths: 8, paths: 24, tokens: 18, methods: 12,
+    heads: 36, changed_heads: 20, line_ends: 16, many_fields: 8, body_lengths: 14, cuts: 20, single_bytes: 10,
+    pipelines: 16, connections: 14, closing: 14, moments: 10, spellings: 12, lines: 56, changed_lines: 24, large: 4,
+    mixed: 40,
+    unserved_routes: 14, unserved_targets: 12, unserved_heads: 12, unserved_lines: 6,
+}
+
+
+def inputs(seed):
+    """The names and inputs of all runs."""
+    for theme, count in THEMES.items():
+        for number in range(1, count + 1):
+            name = f"{theme.__name__}_{number:02}"
+            run = Run(f"{seed} {name}")
+            theme(run)
+            stdin = run.stdin()
+            yield name, stdin[:-1] if run.chance(10) and stdin else stdin
+
+
+def text_or_base64(data):
+    """Bytes as a text where they are UTF-8, else as an object with their base64."""
+    try:
+        return data.decode()
+    except UnicodeDecodeError:
+        return {"base64": base64.b64encode(data).decode()}
+
+
+def main():
+    parser = argparse.ArgumentParser(description="draws inputs for `brokerd replay`")
+    parser.add_argument("--seed", type=int, default=1)
+    arguments = parser.parse_args()
+    for name, stdin in inputs(arguments.seed):
+        line = json.dumps({"name": name, "stdin": text_or_base64(stdin)}, ensure_ascii=False, separators=(",", ":"))
+        sys.stdout.buffer.write(line.encode() + b"\n")
+
+
+if __name__ == "__main__":
+    main()

@@ -1,0 +1,58 @@
+#!/bin/bash
+# Runs `brokerd replay` on every row of tests/rows, and compares what it writes byte for byte, its exit
+# status and its standard error. The last line is 'N passed, M failed'; the status is 0 where nothing
+# failed.
+set -u
+cd "$(dirname "$0")/.."
+
+rows=tests/rows
+passed=0
+failed=0
+found=$(mktemp -d)
+trap 'rm -rf "$found"' EXIT
+
+fail() {
+    echo "row $1: $2"
+    failed=$((failed + 1))
+}
+
+# Says what differs from the row: nothing where all is as it should be.
+difference() {
+    local name=$1 status=$2 word=$3 exit
+    bin/brokerd replay < "$rows/$name.replay" > "$found/out" 2> "$found/err"
+    exit=$?
+    if [ -n "$word" ]; then echo "$word"; fi > "$found/word"
+    if ! cmp -s "$found/out" "$rows/$name.out"; then
+        echo "another output"
+    elif [ "$exit" != "$status" ]; then
+        echo "status $exit"
+    elif ! cmp -s "$found/err" "$found/word"; then
+        echo "another standard error: $(head -c 200 "$found/err")"
+    fi
+}
+
+# The first use builds the program, and says so on standard error.
+if ! bin/brokerd --help > /dev/null; then
+    fail "brokerd" "it cannot be built"
+    echo "$passed passed, $failed failed"
+    exit 1
+fi
+
+while IFS='|' read -r _ name _ status word _; do
+    name=${name//[ \`]/}
+    word=$(echo "${word//\`/}" | sed 's/^ *//; s/ *$//')
+    what=$(difference "$name" "${status// /}" "$word")
+    if [ -z "$what" ]; then
+        passed=$((passed + 1))
+    else
+        fail "$name" "$what"
+    fi
+done < <(grep '^| `' "$rows/INDEX.md")
+
+for file in "$rows"/*.replay; do
+    name=$(basename "$file" .replay)
+    grep -q "^| \`$name\` |" "$rows/INDEX.md" || fail "$name" "it is not in INDEX.md"
+done
+
+echo "$passed passed, $failed failed"
+[ "$failed" -eq 0 ]
