@@ -24,6 +24,15 @@ impl Model for Room {
 }
 
 impl Room {
+    /// Room for no bytes. It takes no memory.
+    pub fn empty(alloc: Global) -> Room
+        ensures { result ≡ 0 }
+    {
+        Room {
+            bytes: Vec::new(alloc),
+        }
+    }
+
     /// Room for at least so many bytes. It fails for want of memory alone.
     pub fn reserve(alloc: Global, len: usize) -> Result<Room, AllocError>
         ensures { IfOk result (λ room. len ≤ room) }
@@ -67,10 +76,7 @@ impl Answer {
         ensures response { IfOk result (λ a. response_of a ≡ record { status = status; methods = methods; text = text }) }
         ensures room { IfOk result HasRoom }
     {
-        let Some(len) = text.as_str().len().checked_add(1024) else {
-            return Err(AllocError);
-        };
-        let room = Room::reserve(alloc, len)?;
+        let room = Room::reserve(alloc, text.as_str().len() + 1024)?;
         Ok(Answer {
             status,
             methods,

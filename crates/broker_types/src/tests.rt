@@ -249,6 +249,7 @@ fn answers(rt: HostRuntime) -> Result<(), Fail> {
     assert!(rt; bytes.is_empty());
     assert!(rt; bytes.capacity() >= 1027);
     assert!(rt; Room::reserve(rt.alloc(), 7)?.into_vec().capacity() >= 7);
+    assert_eq!(rt; Room::empty(rt.alloc()).into_vec().capacity(), 0);
     Ok(())
 }
 
