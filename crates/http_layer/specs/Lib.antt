@@ -3,11 +3,7 @@ pub mod Closing
 pub mod Cutting
 pub mod Front
 pub mod HeadParts
+pub mod Listed
 pub mod Named
 pub mod Refusing
 pub mod Reply
-pub use Rattle.broker_types.specs.Answer
-pub use Rattle.http.specs.StatusCode
-pub use Rattle.httparse.specs.Grammar
-pub use Rattle.httparse.specs.Spans
-pub use Rattle.httpdate.specs.Date
