@@ -3,8 +3,7 @@ use Rattle.std.proofs.Common.{◌≡◌, ◌∙◌, ℕ, zero, suc, ◌+◌, ◌
 use Rattle.std.proofs.lemmas.List.{drop-append-le, length-drop}
 use Rattle.http_layer.specs.Front.{need, refused, whole, IsFront}
 use Rattle.http_layer.specs.HeadParts.{HeadParts}
-use Rattle.http_layer.proofs.FrontLemmas.{IsFront-unique, IsFront-append, whole_known}
-use Rattle.hub.proofs.FrontFacts.{whole_within}
+use Rattle.http_layer.proofs.FrontLemmas.{IsFront-unique, IsFront-append, whole_known, whole_within}
 use Rattle.http_layer.specs.Cutting.{front_of}
 use Rattle.http_layer.specs.declared.front.Cut.{Cut}
 use Rattle.http_layer.specs.declared.front.Cut.TheVariants.{Need, Whole, Refused}

@@ -1,7 +1,7 @@
 pub mod AnswersLemmas
-pub mod FrontFacts
 pub mod HistoryLemmas
 pub mod HubLemmas
+pub mod ListedLemmas
 pub mod RunLemmas
 pub mod ServeLemmas
 pub mod TurnLemmas

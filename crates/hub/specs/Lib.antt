@@ -1,4 +1,5 @@
 pub mod Ends
+pub mod Listed
 pub mod Pending
 pub mod Runs
 pub mod Serving

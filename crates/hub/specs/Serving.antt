@@ -11,6 +11,7 @@ use Rattle.broker.specs.Standing.{Holds}
 use Rattle.broker.specs.Transaction.{Rows}
 use Rattle.http_layer.specs.Front.{Front, need, refused, whole, IsFront}
 use Rattle.hub.specs.World.{Effect, front_effect, AreReplyBytes, History, Turns}
+use Rattle.hub.specs.Listed.{IsListedReply}
 use Rattle.hub.specs.Pending.{Tracks, Unanswered}
 use Rattle.hub.specs.declared.connection.Connection.{Connection}
 use Rattle.hub.specs.declared.serving.Served.{Served}
@@ -54,6 +55,7 @@ pub record Keeps {A : Type 0} (old new : Kept) (r : Result A Fault) : Type 0 whe
 pub record Feeds (old new : Kept) (c d : Connection) (piece : List ℕ) (moment : ℕ) (words : Words) (r : Result (Vec ℕ Global) Fault) : Type 0 where
   pub ok : IsHonest new → (h : History) (b : Broker) → Tracks c h → h.closed ≡ false → Holds old.rows b
       → IfOk r (λ bytes. TookTurn h b piece moment words bytes.items d new.rows)
+  pub listed : IfOk r (λ bytes. IsListedReply bytes.items)
   pub closed : OnErr r (d.closed ≡ true)
   pub free : piece ≡ [] → (rest : List ℕ) → Unanswered c rest → IsFront rest need → IsOk r
   pub keeps : Keeps old new r

@@ -5,6 +5,7 @@ ghost use Rattle.broker.specs.Standing.{Holds};
 ghost use Rattle.http_layer.specs.Front.{IsFront, whole, need};
 ghost use Rattle.http_layer.specs.HeadParts.{HeadParts};
 ghost use Rattle.hub.specs.World.{History, new_history};
+ghost use Rattle.hub.specs.Listed.{IsListedReply};
 ghost use Rattle.hub.specs.Serving.{TookTurn, Feeds, Keeps};
 ghost use Rattle.hub.specs.Pending.{Unanswered, Tracks};
 
@@ -75,6 +76,7 @@ impl Connection {
             → h.closed ≡ false → Holds (S.seen store.old).rows b
             → IfOk result (λ bytes. TookTurn h b piece.now moment words.now bytes.items self.new
             (S.seen store.new).rows) }
+        ensures listed { IfOk result (λ bytes. IsListedReply bytes.items) }
         ensures free { piece.now ≡ [] → (rest : List ℕ) → Unanswered self.old rest
             → IsFront rest need → IsOk result }
         ensures keeps { Keeps (S.seen store.old) (S.seen store.new) result }

@@ -20,6 +20,7 @@ impl<S: Store> Hub<S> {
     ghost use Rattle.broker.specs.Kept.{IsHonest};
     ghost use Rattle.broker.specs.Standing.{Holds};
     ghost use Rattle.http_layer.specs.Front.{IsFront, need};
+    ghost use Rattle.hub.specs.Listed.{IsListedReply};
     ghost use Rattle.hub.specs.World.{World, History, FollowsRequests, Next, history_at, new_world};
     ghost use Rattle.hub.specs.Standing.{StandsFor, HasConnections, shown, AfterFault};
 
@@ -53,6 +54,9 @@ impl<S: Store> Hub<S> {
             × Next w (record { conn = conn; piece = piece.now; moment = moment; words = words.now })
             bytes.items after
             × StandsFor S.seen self.new after) }
+
+        // Whatever the rows are, a refusal is a listed one.
+        ensures listed { IfOk result (λ bytes. IsListedReply bytes.items) }
 
         // After a fault the rows are as before, and so are the other connections.
         ensures kept { IsHonest (shown S.seen self.new) → IsTrue (shown S.seen self.new).is_open

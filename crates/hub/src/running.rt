@@ -1,6 +1,8 @@
-ghost use Rattle.std.specs.Prelude.{◌≡◌, ◌≤◌, ◌⊎◌, IsTrue, ℕ, List, [], IfOk, IfErr};
+ghost use Rattle.std.specs.Prelude.{◌≡◌, ◌≤◌, ◌⊎◌, IsTrue, ℕ, List, [], IfOk, IfErr, MatchResult};
+ghost use Rattle.std.specs.List.{All};
 ghost use Rattle.broker_types.specs.Fault.{IsWant};
 ghost use Rattle.broker.specs.Kept.{IsHonest};
+ghost use Rattle.hub.specs.Listed.{IsListedReply};
 ghost use Rattle.hub.specs.World.{World, Run};
 ghost use Rattle.hub.specs.Standing.{StandsFor, shown};
 ghost use Rattle.hub.specs.Runs.{bytes_of, Answers, StopsAt};
@@ -35,6 +37,11 @@ pub fn run<S: Store>(
         (w : World) → StandsFor S.seen hub.old w
         → (others : List (List ℕ)) (after : World) → Run w events.now others after
         → bytes_of replies.items ≡ others) }
+
+    // Whatever the rows are, each refusal is a listed one.
+    ensures listed { MatchResult result
+        (λ replies. All IsListedReply (bytes_of replies.items))
+        (λ stop. All IsListedReply (bytes_of stop.1.items)) }
 
     // The run stopped at an event, or no memory was found for the places of the replies.
     ensures stopped { IsHonest (shown S.seen hub.new) → IsTrue (shown S.seen hub.new).is_open

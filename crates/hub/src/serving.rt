@@ -7,6 +7,7 @@ ghost use Rattle.http_layer.specs.Asked.{asked};
 ghost use Rattle.http_layer.specs.Front.{IsFront, need};
 ghost use Rattle.http_layer.specs.Refusing.{front_refused};
 ghost use Rattle.http_layer.specs.Reply.{IsReply};
+ghost use Rattle.hub.specs.Listed.{IsListedReply};
 ghost use Rattle.hub.specs.Serving.{Serves, IsServed, Keeps};
 ghost use Rattle.hub.specs.World.{request_effect};
 
@@ -41,11 +42,11 @@ impl Served {
         }
     }
 
-    /// The reply to an answer, in the room that was reserved for its bytes. The spare room takes the
-    /// place of that room, so nothing can run out once the broker has answered.
+    /// The reply to an answer, in the room that was reserved for its bytes, so nothing can run out once
+    /// the broker has answered.
     fn reply(
+        alloc: Global,
         mut answer: Answer,
-        spare: Room,
         moment: Moment,
         len: Option<usize>,
         closes: bool,
@@ -55,7 +56,7 @@ impl Served {
         ensures len { result.len ≡ len }
         ensures closes { result.closes ≡ closes }
     {
-        let mut bytes = mem::replace(&mut answer.room, spare).into_vec();
+        let mut bytes = mem::replace(&mut answer.room, Room::empty(alloc)).into_vec();
         match reply_bytes(&answer, moment, closes).append_to(&mut bytes) {
             Ok(()) => Served { bytes, len, closes },
             Err(_) => unreachable!(),
@@ -74,6 +75,7 @@ pub(crate) fn serve<S: Store>(
     ensures ok { IsHonest (S.seen store.new) → (b : Broker) → Holds (S.seen store.old).rows b
         → IfOk result (λ served. Serves b moment words.now rest.now served
         (S.seen store.new).rows) }
+    ensures listed { IfOk result (λ served. IsListedReply served.bytes.items) }
     ensures free { IsFront rest.now need → IsOk result }
     ensures keeps { Keeps (S.seen store.old) (S.seen store.new) result }
 {
@@ -95,9 +97,8 @@ fn serve_refusal(alloc: Global, status: Status, moment: Moment) -> Result<Served
     ensures closes { IfOk result (λ served. served.closes ≡ true) }
     ensures memory { IfErr result (λ fault. fault ≡ Fault.Memory) }
 {
-    let spare = Room::reserve(alloc, 0)?;
     let answer = front_refusal(alloc, status)?;
-    Ok(Served::reply(answer, spare, moment, None, true))
+    Ok(Served::reply(alloc, answer, moment, None, true))
 }
 
 /// The reply to a whole request: the broker's answer to what it asks, or the refusal of one that asks
@@ -114,19 +115,19 @@ fn serve_request<S: Store>(
     ensures ok { IsHonest (S.seen store.new) → (b : Broker) → Holds (S.seen store.old).rows b
         → IfOk result (λ served. IsServed (request_effect b moment words.now head.now
         (asked head.now body.now)) moment served (S.seen store.new).rows) }
+    ensures listed { IfOk result (λ served. IsListedReply served.bytes.items) }
     ensures len { IfOk result (λ served. served.len ≡ Some len) }
     ensures keeps { Keeps (S.seen store.old) (S.seen store.new) result }
 {
-    let spare = Room::reserve(alloc, 0)?;
     match ask_of(alloc, head, body) {
         Ok(ask) => {
             let answer = store.one(moment, words, &ask)?;
-            Ok(Served::reply(answer, spare, moment, Some(len), head.closes()))
+            Ok(Served::reply(alloc, answer, moment, Some(len), head.closes()))
         }
         Err(AskError::Refused(refusal)) => {
             let answer = refusal.answer(alloc)?;
             let closes = head.closes() || refusal.close;
-            Ok(Served::reply(answer, spare, moment, Some(len), closes))
+            Ok(Served::reply(alloc, answer, moment, Some(len), closes))
         }
         Err(AskError::Fault(fault)) => Err(fault),
     }

@@ -1,9 +1,23 @@
-use Rattle.std.proofs.Common.{◌≡◌, ◌∙◌, ◌+◌, ℕ, List, [], ◌∷◌, ◌++◌, ap, sym, subst, inl, arith, take, refl, rules}
+use Rattle.std.proofs.Common.{◌≡◌, ◌∙◌, ◌+◌, ℕ, List, [], ◌∷◌, ◌++◌, ap, sym, subst, inl, arith, take, refl, rules, Vec}
 use Rattle.std.proofs.lemmas.List.{map_push}
+use Rattle.std.proofs.lemmas.List.Elements.{All-nil, All-push}
+use Rattle.std.specs.List.{All}
+use Rattle.std.specs.declared.alloc.Global.{Global}
+use Rattle.hub.specs.Listed.{IsListedReply}
 use Rattle.hub.specs.Standing.{shown}
 use Rattle.hub.specs.Runs.{bytes_of, Answers}
 use Rattle.hub.proofs.AnswersLemmas.{answers_more, answers_all, answers_only, stops_at, honest_before}
 use Rattle.hub.proofs.running.run.Goals as goal
+
+-- the replies after one more
+replies_more : (now before : List (Vec ℕ Global)) (bytes : Vec ℕ Global) → now ≡ before ++ bytes ∷ [] → bytes_of now ≡ bytes_of before ++ bytes.items ∷ []
+replies_more now before bytes is = ap bytes_of is ∙ map_push (λ r. r.items) before bytes
+
+pub returns-in-Err-feed-clause-listed : goal.returns-in-Err-feed-clause-listed
+returns-in-Err-feed-clause-listed g c = c.loop-i.invariant.listed
+
+pub returns-clause-listed : goal.returns-clause-listed
+returns-clause-listed g c = c.loop-i.invariant.listed
 
 pub returns-in-Err-feed-clause-stopped : goal.returns-in-Err-feed-clause-stopped
 returns-in-Err-feed-clause-stopped g c = λ honest open_ w stands.
@@ -23,6 +37,7 @@ loop-i-init g c = record {
   room = search rules;
   doubts = search rules;
   stays_shut = λ open_. open_;
+  listed = subst (All IsListedReply) (sym (ap bytes_of (c.reserve.ensures.items ∙ c.new-replies.ensures.items))) (All-nil IsListedReply);
   answers = λ honest w stands.
       subst (λ (l : List (List ℕ)). Answers g.S.Store.seen w [] l c.args.hub.now)
       (sym (ap bytes_of (c.reserve.ensures.items ∙ c.new-replies.ensures.items)))
@@ -35,10 +50,11 @@ loop-i-preserved g c = record {
   room = omega (arith, c.push.ensures.capacity, c.loop-i.invariant.room);
   doubts = omega (arith, c.loop-i.invariant.doubts, c.feed.ensures.doubts);
   stays_shut = λ open_. c.loop-i.invariant.stays_shut (c.feed.ensures.stays_shut open_);
+  listed = subst (All IsListedReply) (sym (replies_more c.push.new.self.items c.loop-i.replies.items c.in-Ok.bytes c.in_default-push.ensures.items))
+      (All-push IsListedReply (bytes_of c.loop-i.replies.items) c.in-Ok.bytes.items c.loop-i.invariant.listed c.in-Ok.ensures.listed);
   answers = λ honest w stands.
       let before = honest_before (shown g.S.Store.seen c.loop-i.hub) (shown g.S.Store.seen c.feed.new.self) c.feed.ensures.doubts honest in
-      let items : bytes_of c.push.new.self.items ≡ bytes_of c.loop-i.replies.items ++ c.in-Ok.bytes.items ∷ [] =
-      ap bytes_of c.in_default-push.ensures.items ∙ map_push (λ r. r.items) c.loop-i.replies.items c.in-Ok.bytes in
+      let items = replies_more c.push.new.self.items c.loop-i.replies.items c.in-Ok.bytes c.in_default-push.ensures.items in
       subst (λ (l : List (List ℕ)). Answers g.S.Store.seen w (take (c.loop-i.i + 1) c.args.events.now) l c.feed.new.self) (sym items)
       (answers_more g.S.Store.seen w c.args.events.now c.loop-i.i c.index-events-i.result c.as_slice.result.now c.in-Ok.bytes.items
       (bytes_of c.loop-i.replies.items) c.loop-i.hub c.feed.new.self c.loop-i-test.true c.index-events-i.is c.as_slice.ensures

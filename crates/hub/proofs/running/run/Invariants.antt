@@ -1,4 +1,6 @@
 use Rattle.std.proofs.Common.{◌≡◌, ◌≤◌, IsTrue, length, take, vec_len, vec_capacity}
+use Rattle.std.specs.List.{All}
+use Rattle.hub.specs.Listed.{IsListedReply}
 use Rattle.hub.specs.World.{World}
 use Rattle.hub.specs.Standing.{StandsFor, shown}
 use Rattle.broker.specs.Kept.{IsHonest}
@@ -11,6 +13,7 @@ invariant-loop-i g l = record {
   room : length l.events ≤ vec_capacity l.replies;
   doubts : (shown g.S.Store.seen l.fn.hub).doubt ≤ (shown g.S.Store.seen l.hub).doubt;
   stays_shut : IsTrue (shown g.S.Store.seen l.hub).is_open → IsTrue (shown g.S.Store.seen l.fn.hub).is_open;
+  listed : All IsListedReply (bytes_of l.replies.items);
   answers : IsHonest (shown g.S.Store.seen l.hub) → (w : World) → StandsFor g.S.Store.seen l.fn.hub w
       → Answers g.S.Store.seen w (take l.i l.events) (bytes_of l.replies.items) l.hub;
 }
