@@ -1,5 +1,6 @@
 pub mod ExitLemmas
 pub mod InputLemmas
-pub mod WritingLemmas
 pub mod LineLemmas
 pub mod ScriptLemmas
+pub mod StoppedLemmas
+pub mod WritingLemmas

@@ -1,5 +1,5 @@
 -- What a replay answers.
-use Rattle.std.specs.Prelude.{◌≡◌, ◌+◌, ℕ, List, [], Option, Some, None, ⊤, length, slice_index, if◌then◌else◌}
+use Rattle.std.specs.Prelude.{◌≡◌, ◌≢◌, ◌+◌, ℕ, List, [], Option, Some, None, ⊤, length, take, slice_index, if◌then◌else◌}
 use Rattle.std.specs.Io.KnownBytes.{Appends}
 use Rattle.std.specs.List.{concat}
 use Rattle.broker_types.specs.First.{first_broker}
@@ -36,3 +36,14 @@ pub record Replayed (start : Start) (events : List Event) (old new : Option (Lis
 abbrev pub Replays : Option Told → Option (List ℕ) → Option (List ℕ) → Exit → Type 0
 Replays None old new exit = (exit ≡ BadLine 1) × Appends old new []
 Replays (Some t) old new exit = (exit ≡ exit_of t) × Replayed t.start t.events old new
+
+-- the replies to some number of the first events were written whole, and nothing else; none, where the start is bad
+abbrev pub WroteFirst : Option Told → Option (List ℕ) → Option (List ℕ) → Type 0
+WroteFirst None old new = Appends old new []
+WroteFirst (Some t) old new = (count : ℕ) × Replayed t.start (take count t.events) old new
+
+-- Where it ended by a fault that is none of writing, nothing but replies of the run was written. How many
+-- were there before the fault is not told.
+abbrev pub Stopped : Option Told → Option (List ℕ) → Option (List ℕ) → Exit → Type 0
+Stopped t old new (Faulted number) = number ≢ 6 → WroteFirst t old new
+Stopped t old new _ = ⊤

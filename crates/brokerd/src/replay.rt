@@ -4,7 +4,7 @@ ghost use Rattle.std.specs.List.{concat};
 ghost use Rattle.hub.specs.Runs.{bytes_of};
 ghost use Rattle.brokerd.specs.Exits.{EndsBy, EndsByRead};
 ghost use Rattle.brokerd.specs.Lines.{lines_of, told_in};
-ghost use Rattle.brokerd.specs.Replays.{IsUnfaulted, Replayed, Replays, exit_of, told};
+ghost use Rattle.brokerd.specs.Replays.{IsUnfaulted, Replayed, Replays, Stopped, exit_of, told};
 ghost use Rattle.brokerd.specs.declared.replay.Exit.TheVariants.{Faulted};
 
 use crate::input::{Unread, read_to_end};
@@ -44,6 +44,10 @@ pub(crate) fn replay<R: Source, W: Sink>(alloc: Global, reader: &mut R, writer: 
     ensures replays { (input : List ℕ) → R.left reader.old ≡ Some input → IsUnfaulted result
         → Replays (told_in (lines_of input)) (W.written writer.old) (W.written writer.new) result }
 
+    // After a fault, but one of writing, nothing was written but the replies to the first events.
+    ensures stopped { (input : List ℕ) → R.left reader.old ≡ Some input
+        → Stopped (told_in (lines_of input)) (W.written writer.old) (W.written writer.new) result }
+
     // A fault of reading comes only where the source failed, or after 4,294,967,296 pulls; one of writing
     // only where the sink failed.
     ensures ends { EndsByRead (IsTrue (R.has_failed reader.new)
@@ -63,6 +67,8 @@ fn replay_input<W: Sink>(alloc: Global, input: &[u8], writer: &mut W) -> Exit
     ensures replays { IsUnfaulted result
         → Replays (told_in (lines_of input.now)) (W.written writer.old)
         (W.written writer.new) result }
+    ensures stopped { Stopped (told_in (lines_of input.now)) (W.written writer.old)
+        (W.written writer.new) result }
 {
     match read_script(alloc, input) {
         Ok(Some(script)) => run_script(alloc, &script, writer),
@@ -78,6 +84,8 @@ fn run_script<W: Sink>(alloc: Global, script: &Script, writer: &mut W) -> Exit
     ensures ran { IsUnfaulted result
         → Replayed script.now.start script.now.events.items (W.written writer.old)
         (W.written writer.new) }
+    ensures stopped { Stopped (Some (told script.now)) (W.written writer.old)
+        (W.written writer.new) result }
 {
     let mut store = ListStore::new(alloc);
     if let Err(fault) = store.start(script.start.moment, &script.start.words) {

@@ -1,15 +1,17 @@
-use Rattle.std.proofs.Common.{◌≡◌, ◌⊎◌, inl, inr, false, IsTrue, ℕ, List, Vec, Global, slice_index, refl, subst}
+use Rattle.std.proofs.Common.{◌≡◌, ◌∙◌, ◌⊎◌, inl, inr, false, IsTrue, ℕ, List, Some, Vec, Global, slice_index, refl, ap, subst}
 use Rattle.std.specs.Io.KnownBytes.{Appends}
 use Rattle.std.specs.List.{concat}
 use Rattle.broker_types.specs.First.{first_broker}
 use Rattle.hub.specs.World.{new_world, Run}
+use Rattle.broker.specs.StoreRows.{store_rows}
 use Rattle.hub.specs.Runs.{bytes_of}
 use Rattle.hub.specs.declared.event.Event.{Event}
-use Rattle.brokerd.specs.Replays.{IsUnfaulted}
+use Rattle.brokerd.specs.Replays.{IsUnfaulted, told}
 use Rattle.brokerd.specs.declared.replay.Exit.{Exit}
 use Rattle.brokerd.specs.declared.replay.Exit.TheVariants.{Faulted}
 use Rattle.broker_types.specs.Fault.{fault_number}
 use Rattle.brokerd.proofs.ExitLemmas.{ends_of, want_number}
+use Rattle.brokerd.proofs.StoppedLemmas.{stopped_none, stopped_of, stopped_run, world_of}
 use Rattle.brokerd.proofs.replay.run_script.Goals as goal
 
 -- where nothing failed the replies were written
@@ -43,3 +45,18 @@ returns-clause-ends g c =
   where
     none : IsTrue false → ⊥
     none e = cc
+
+pub returns-in-Err-clause-stopped : goal.returns-in-Err-clause-stopped
+returns-in-Err-clause-stopped g c = stopped_none (Some (told c.args.script.now)) (g.W.Sink.written c.args.writer.now) c.from.result
+
+pub returns-clause-stopped : goal.returns-clause-stopped
+returns-clause-stopped g c =
+    let t = told c.args.script.now in
+    let old = g.W.Sink.written c.args.writer.now in
+    let new = g.W.Sink.written c.finish-in-Err-run.new.writer in
+    let b = (world_of t).broker in
+    let stop = c.in-Err-run.ensures.stopped refl refl (world_of t) (c.new-hub.ensures.stands b c.in_default.ensures.ok) in
+    stopped_of (Some t) old new c.finish-in-Err-run.result c.from-in-Err-run.result _ _ c.finish-in-Err-run.ensures
+    (λ written. stopped_run _ t c.as_slice.result.now c.in-Err-run.field-0-0 c.in-Err-run.replies.items c.in-Err-run.fault c.new-hub.result c.run.new.hub
+    old new c.from-in-Err-run.result c.as_slice.ensures.value stop
+    (subst (λ (rs : List (Vec ℕ Global)). Appends old new (concat (bytes_of rs))) c.as_slice-in-Err-run.ensures.value written))
