@@ -25,6 +25,6 @@ HasRoom a = length a.text + 1024 ≤ a.room
 abbrev pub refused : Refusal → Response
 refused r = record { status = refusal_status r; methods = refusal_methods r; text = errors_body (refusal_text r) }
 
--- a success, or the answer to a refused request; so its text is one of those that are listed
+-- a success, or the answer to a refused request, whose text is then a listed one
 abbrev pub IsListed : Response → Type 0
 IsListed r = ((r.status ≡ status.Success) ⊎ (r.status ≡ status.NoContent)) ⊎ ((why : Refusal) × (r ≡ refused why))

@@ -55,11 +55,13 @@ impl Room {
 /// What the broker answers to a request, with room reserved for the bytes of its reply.
 #[derive(Drop)]
 pub struct Answer {
+    /// The status of the reply.
     pub status: Status,
     /// The methods of the path, on 405.
     pub methods: Methods,
     /// The body.
     pub text: TextBuf,
+    /// The room for the reply's head and body.
     pub room: Room,
 }
 

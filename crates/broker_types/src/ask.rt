@@ -9,7 +9,8 @@ use crate::text::{CowBytes, CowText};
 use std::borrow::CowSlice;
 use std::marker::Model;
 
-/// What a request does with its path. POST and PUT are one, `Write`.
+/// What a request does with its path (RFC 9110, section 9; Vault's documentation, "HTTP API", for LIST).
+/// POST and PUT are one, `Write`.
 #[derive(Clone, Copy, Debug, PartialEq, Eq)]
 pub enum Verb {
     Get,
@@ -21,18 +22,22 @@ pub enum Verb {
 /// What a request asks of the broker.
 #[derive(Drop)]
 pub struct Ask<'b> {
+    /// What is done with the path.
     pub verb: Verb,
+    /// What stands behind `/v1/`.
     pub path: Path<'b>,
     /// The version that the query asks for, as it stands there; empty if it asks for none.
     pub version: CowBytes<'b>,
     /// The client token, if one is shown.
     pub token: Option<CowText<'b>>,
+    /// How long the reply is to be kept for unwrapping, in seconds; 0 if it is not to be wrapped.
     pub wrap_ttl: WrapTtl,
+    /// The body, as it came.
     pub body: Body<'b>,
 }
 
-/// How long a reply is kept for unwrapping: at most 2,764,800 seconds (32 days), and 0 for a reply
-/// that is not wrapped.
+/// How long a reply is kept for unwrapping (Vault's documentation, "Response wrapping"): at most
+/// 2,764,800 seconds (32 days), and 0 for a reply that is not wrapped.
 #[derive(Clone, Copy, Debug, PartialEq, Eq)]
 pub struct WrapTtl {
     count: u32,

@@ -11,7 +11,7 @@ pub enum Fault {
     /// A row's bytes have no reading.
     Damaged,
     /// A store cannot be started, since it has rows or the words of the first token and its accessor
-    /// are equal; or it has rows and was never started.
+    /// are equal; or its clock has no row, so it was never started.
     BadStart,
 }
 

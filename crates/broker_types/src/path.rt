@@ -10,7 +10,7 @@ use std::borrow::CowStr;
 use std::marker::Model;
 
 /// The path of a request, below `/v1/`: a text of 1 to 512 bytes, none of them below 0x20 or 0x7F,
-/// without a final `/`, of which no segment is empty, `.` or `..`.
+/// without a final `/`, of which no segment is empty, `.` or `..` (RFC 3986, section 3.3).
 #[derive(Drop)]
 pub struct Path<'b> {
     text: CowStr<'b>,

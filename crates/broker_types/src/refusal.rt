@@ -71,13 +71,17 @@ impl Field {
     }
 }
 
-/// Why a request is refused with 400.
+/// Why a request is refused with 400. Each reason has a text of its own (Vault's documentation, "HTTP
+/// API", where Vault has such a text; else this profile's).
 #[derive(Clone, Copy, Debug, PartialEq, Eq)]
 pub enum Reason {
-    /// A head outside the grammar, or with a wrong number of Host or Content-Length fields; or a field
-    /// of the client that is there twice or is not UTF-8.
+    /// A head outside the grammar, with a wrong number of Host or Content-Length fields, HTTP/1.0, a
+    /// Transfer-Encoding field, or a length that is no number or too great; or a field of the client
+    /// that is there twice or is not UTF-8.
     MalformedRequest,
+    /// A target whose path is none, or that has a query or an encoded byte where none is read.
     InvalidPath,
+    /// A text that is no duration of at most 4,294,967,295 seconds.
     InvalidDuration,
     /// The body is no JSON object, or has a float or too many levels.
     InvalidJson,
@@ -98,22 +102,35 @@ pub enum Reason {
     RootByRootAlone,
     /// A caller gives a policy that it does not have.
     PoliciesBeyondParent,
+    /// A caller without `sudo` creates a token without a parent.
     OrphanNeedsSudo,
     /// A root token that ends creates one that does not.
     ExpiringRoot,
+    /// A token or a lease that cannot be renewed is renewed.
     TokenNotRenewable,
+    /// An accessor of no token.
     InvalidAccessor,
+    /// A policy whose text is none.
     UnsupportedPolicy,
+    /// The policy `root` is written, or one of those that stay is deleted.
     PolicyFixed,
+    /// A secret's write that does not name the version that it follows, where it has to.
     CheckAndSetRequired,
+    /// A secret's write that names another version than the current one.
     CheckAndSetFailed,
+    /// A mount at a path that has one.
     PathInUse,
+    /// A mount of an engine that is none of this profile's.
     UnsupportedMount,
+    /// A mount that stays is disabled.
     MountFixed,
+    /// A caller with one use left asks for a lease, which would end with it.
     LastUseTakesLease,
+    /// A lease id of no lease.
     InvalidLease,
     /// `sys/wrapping/wrap` without a TTL.
     WrappingRequired,
+    /// A wrapping token under which no response waits.
     InvalidWrappingToken,
 }
 
@@ -166,9 +183,10 @@ impl Reason {
     }
 }
 
-/// Why a request is refused with 403.
+/// Why a request is refused with 403 (Vault's documentation, "HTTP API").
 #[derive(Clone, Copy, Debug, PartialEq, Eq)]
 pub enum Denial {
+    /// The client token is none, or its policies do not allow what is asked.
     PermissionDenied,
     /// A token that is looked up or renewed is not there.
     BadToken,
@@ -226,7 +244,8 @@ impl Refusal {
     }
 }
 
-/// The text of a refusal of bytes that are no request, by its status; a 501 has none.
+/// The text of a refusal of bytes that are no request, by its status; a 501 has none. The texts are
+/// this profile's own.
 pub fn cutting_text(status: Status) -> Option<&'static str>
     ensures { option_map (λ s. s.now) result ≡ cutting_text status }
 {

@@ -13,6 +13,7 @@ pub struct Reply {
     pub lease_duration: u64,
     /// Empty without a lease.
     pub lease_id: TextBuf,
+    /// Whether the token or the lease can be renewed.
     pub renewable: bool,
     /// The identifier of the request.
     pub request_id: TextBuf,

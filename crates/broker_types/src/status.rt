@@ -46,12 +46,17 @@ impl Status {
     }
 }
 
-/// The methods that a path has. POST and PUT are one, `write`.
+/// The methods that a path has, as `Allow` tells them (RFC 9110, section 10.2.1). POST and PUT are one,
+/// `write`.
 #[derive(Clone, Copy, Debug, PartialEq, Eq)]
 pub struct Methods {
+    /// GET.
     pub get: bool,
+    /// LIST.
     pub list: bool,
+    /// POST and PUT.
     pub write: bool,
+    /// DELETE.
     pub delete: bool,
 }
 

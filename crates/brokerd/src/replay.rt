@@ -39,12 +39,14 @@ impl From<Fault> for Exit {
 }
 
 /// Runs the lines of the source over a broker in memory, up to the first that is bad, and writes the
-/// bytes of their replies. A fault goes before a bad line; the replies before it are written.
+/// bytes of their replies. A fault goes before a bad line; unless a write failed, the whole replies to
+/// some number of the first events are written then, and nothing else.
 pub(crate) fn replay<R: Source, W: Sink>(alloc: Global, reader: &mut R, writer: &mut W) -> Exit
     ensures replays { (input : List ℕ) → R.left reader.old ≡ Some input → IsUnfaulted result
         → Replays (told_in (lines_of input)) (W.written writer.old) (W.written writer.new) result }
 
-    // After a fault, but one of writing, nothing was written but the replies to the first events.
+    // After a fault, but one of writing, what was written is the whole replies to some number of the
+    // first events.
     ensures stopped { (input : List ℕ) → R.left reader.old ≡ Some input
         → Stopped (told_in (lines_of input)) (W.written writer.old) (W.written writer.new) result }
 

@@ -12,11 +12,12 @@ use std::alloc::Global;
 use std::borrow::{CowSlice, CowStr};
 use std::str;
 
-/// What a whole request asks, or why it is refused, in this order: 501 for a method that is not GET,
-/// LIST, POST, PUT or DELETE; 400 for X-Vault-Token that stands twice or is not UTF-8; 404 for a
-/// target that does not begin with `/v1/`; 400 for a target with `?` or `%`, or whose rest is no
-/// path; 413 for a body of more than 1,048,576 bytes, which a front that is whole never has. Other
-/// fields are ignored. A fault is want of memory alone.
+/// What a whole request asks (RFC 9110, section 9; Vault's documentation, "HTTP API"), or why it is
+/// refused, in this order: 501 for a method that is not GET, LIST, POST, PUT or DELETE; 400 for
+/// X-Vault-Token that stands twice or is not UTF-8; 404 for a target that does not begin with `/v1/`;
+/// 400 for a target with `?` or `%`, or whose rest is no path; 413 for a body of more than 1,048,576
+/// bytes, which a front that is whole never has. Other fields are ignored. A fault is want of memory
+/// alone.
 #[tactic(auto, unfolding(crate::specs::Asked::asked))]
 pub fn ask_of<'b>(alloc: Global, head: &Head<'b>, body: &'b [u8]) -> Result<Ask<'b>, AskError>
     ensures { Tells (asked head.now body.now) result }

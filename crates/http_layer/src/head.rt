@@ -12,7 +12,7 @@ use httparse::spans::{EMPTY_HEADER_SPAN, HeaderSpan, RequestSpans, parse_request
 use std::marker::Model;
 use std::str;
 
-/// A request head over the bytes that it was read from.
+/// A request head over the bytes that it was read from (RFC 9112, sections 3 and 5).
 #[derive(Drop)]
 pub struct Head<'b> {
     text: &'b [u8],

@@ -9,6 +9,7 @@ use thiserror::Error;
 /// Why a request is refused before the broker is asked.
 #[derive(Clone, Copy, Debug)]
 pub struct HttpRefusal {
+    /// The status of the reply.
     pub status: Status,
     /// The text; none on 404 and 501.
     pub text: Option<&'static str>,
@@ -19,6 +20,7 @@ pub struct HttpRefusal {
 /// Why there is no ask.
 #[derive(Debug, Drop, Error)]
 pub enum AskError {
+    /// The request is refused.
     #[error("the request is refused")]
     Refused(HttpRefusal),
     /// Memory ran out.
@@ -99,8 +101,8 @@ impl HttpRefusal {
         }
     }
 
-    /// What is answered: `{"errors":["text"]}` or `{"errors":[]}` and a line feed, and on 501 no
-    /// body. It fails for want of memory alone.
+    /// What is answered (Vault's documentation, "HTTP API", error response): `{"errors":["text"]}` or
+    /// `{"errors":[]}` and a line feed, and on 501 no body. It fails for want of memory alone.
     pub fn answer(&self, alloc: Global) -> Result<Answer, AllocError>
         ensures response { IfOk result (λ a. response_of a ≡ ask_refused (parts_of_refusal self.now)) }
         ensures room { IfOk result HasRoom }
@@ -109,8 +111,9 @@ impl HttpRefusal {
     }
 }
 
-/// What is answered to a front that is refused with the status: the errors with the text `malformed
-/// request`, on 413 `request body too large`, on 431 `request head too large`, and on 501 no body.
+/// What is answered to a front that is refused with the status (Vault's documentation, "HTTP API",
+/// error response): on 400 the errors with the text `malformed request`, on 413 `request body too
+/// large`, on 431 `request head too large`, on 501 no body, on any other status errors without a text.
 /// It fails for want of memory alone.
 pub fn front_refusal(alloc: Global, status: Status) -> Result<Answer, AllocError>
     ensures response { IfOk result (λ a. response_of a ≡ front_refused status) }

@@ -13,8 +13,8 @@ use itoa::Buffer;
 use std::alloc::AllocError;
 use std::marker::Model;
 
-/// The bytes of a reply, seen as their list: its head, and the text of the answer where the reply
-/// has a body.
+/// The bytes of a reply (RFC 9112, sections 2.1 and 4), seen as their list: its head, and the text of
+/// the answer where the reply has a body.
 #[derive(Drop)]
 pub struct ReplyBytes<'a> {
     head: Lines,
@@ -43,7 +43,8 @@ impl<'a> ReplyBytes<'a> {
     }
 }
 
-/// The bytes of the reply to an answer, whose connection closes or stays open. It takes no memory.
+/// The bytes of the reply to an answer, whose connection closes or stays open, with the date of the
+/// moment (RFC 9110, section 6.6.1). It takes no memory.
 pub fn reply_bytes<'a>(answer: &'a Answer, moment: Moment, close: bool) -> ReplyBytes<'a>
     ensures reply { IsReply (response_of answer.now) moment close result }
     ensures fits { length result ≤ length answer.now.text + 1024 }

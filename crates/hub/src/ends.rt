@@ -19,7 +19,8 @@ pub trait Source {
     ghost has_failed: { Self → Bool };
 
     /// Puts the next bytes at the beginning of the buffer, and answers how many they are. Where the
-    /// buffer has room, 0 says that the input has ended.
+    /// buffer has room, 0 says that the input has ended. It fails where no bytes can be had; what is left
+    /// is then as before, where it is known.
     fn pull(&mut self, buffer: &mut [u8]) -> Result<usize, Failed>
         ensures bound { IfOk result (λ count. count ≤ length buffer.new) }
         ensures bytes { ReadConsumes (left self.old) (left self.new) result buffer.new }

@@ -40,8 +40,10 @@ impl<S: Store> Hub<S> {
 
     /// Takes a piece that comes on a connection, and answers at most one request. A connection that
     /// was not seen is opened; a closed one gives no bytes. The result is the bytes of the reply, or
-    /// none. After a fault the broker and the other connections are as before, and this one is
-    /// closed; it stays not seen where opening it found no memory.
+    /// none. After a fault the other connections are as before, and this one is closed; it stays not
+    /// seen where opening it found no memory. The broker is as before then, as long as the storage
+    /// returns what was written and can still be asked. On rows that stand for a broker it fails with
+    /// `Memory` or `Storage` alone, else with any fault of the store.
     pub fn feed(
         &mut self,
         conn: u64,
@@ -69,7 +71,7 @@ impl<S: Store> Hub<S> {
             → (history_at w conn).closed ≡ true
             → IfOk result (λ bytes. bytes.items ≡ []) × (self.new ≡ self.old) }
 
-        // No memory is taken on a closed connection, or where nothing comes and more bytes are wanted.
+        // No fault comes on a closed connection, or where nothing comes and more bytes are wanted.
         ensures free_closed { (w : World) → HasConnections self.old w
             → (history_at w conn).closed ≡ true → IsOk result }
         ensures free_need { piece.now ≡ [] → (w : World) → HasConnections self.old w
@@ -77,8 +79,8 @@ impl<S: Store> Hub<S> {
             → (rest : List ℕ) → FollowsRequests h.stream h.answered rest → IsFront rest need
             → IsOk result }
 
-        // Over the rows of a sound broker memory or storage is wanting, and storage only where the
-        // store failed.
+        // Over the rows of a broker that stands memory or storage is wanting, and storage only where
+        // the store failed.
         ensures wants { IsHonest (shown S.seen self.new) → (w : World) → StandsFor S.seen self.old w
             → IfErr result IsWant }
         ensures storage { result ≡ Err Fault.Storage → IsTrue (shown S.seen self.new).has_failed }

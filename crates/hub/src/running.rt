@@ -21,8 +21,8 @@ use std::alloc::Global;
 /// **Each connection receives exactly the reply bytes of the broker**, asked by the complete requests
 /// in the order in which their events answered them: for each world that the hub stands for, the
 /// replies are those of a run from this world, no other replies are a run's, and the hub then stands
-/// for the world after it. From a new hub this is the world of the store's broker with no connection
-/// seen.
+/// for the world after it, as long as the storage returns what was written and no fault ends the run.
+/// From a new hub this is the world of the store's broker with no connection seen.
 pub fn run<S: Store>(
     alloc: Global,
     hub: &mut Hub<S>,
@@ -49,8 +49,8 @@ pub fn run<S: Store>(
         → StopsAt S.seen w events.now stop.0 (bytes_of stop.1.items) stop.2 hub.new
         ⊎ ((stop.0 ≡ 0) × (stop.1.items ≡ []) × (stop.2 ≡ Fault.Memory) × (hub.new ≡ hub.old))) }
 
-    // Over the rows of a sound broker memory or storage is wanting, and storage only where the store
-    // failed.
+    // Over the rows of a broker that stands memory or storage is wanting, and storage only where the
+    // store failed.
     ensures wants { IsHonest (shown S.seen hub.new) → IfErr result (λ stop.
         (w : World) → StandsFor S.seen hub.old w → IsWant stop.2) }
     ensures storage { IfErr result (λ stop.

@@ -41,7 +41,7 @@ fn lone_row(alloc: Global, body: Vec<u8>) -> Row
     }
 }
 
-/// The row of the clock.
+/// The row of the clock. It fails for want of memory alone.
 pub fn write_clock(alloc: Global, clock: Moment) -> Result<Row, AllocError>
     ensures { IfOk result (λ kept. kept ≡ clock_row clock) }
 {
@@ -50,7 +50,7 @@ pub fn write_clock(alloc: Global, clock: Moment) -> Result<Row, AllocError>
     Ok(lone_row(alloc, body))
 }
 
-/// The row of an identifier that was given out.
+/// The row of an identifier that was given out. It fails for want of memory alone.
 pub fn write_used(alloc: Global) -> Result<Row, AllocError>
     ensures { IfOk result (λ kept. kept ≡ used_row) }
 {
@@ -67,7 +67,7 @@ fn number_of(holder: Holder) -> u64
     }
 }
 
-/// The row of the accessor of a token.
+/// The row of the accessor of a token. It fails for want of memory alone.
 pub fn write_accessor(alloc: Global, token: &str, holder: Holder) -> Result<Row, AllocError>
     ensures { IfOk result (λ kept. kept ≡ accessor_row token.now holder) }
 {
@@ -80,7 +80,8 @@ pub fn write_accessor(alloc: Global, token: &str, holder: Holder) -> Result<Row,
     })
 }
 
-/// The row of what a token keeps at a path of its cubbyhole: the compact text of an object.
+/// The row of what a token keeps at a path of its cubbyhole: the compact text of an object. It fails
+/// for want of memory alone.
 pub fn write_cubby(alloc: Global, token: &str, object: &str) -> Result<Row, AllocError>
     requires { length object.now < 2 ^ 32 }
     ensures { IfOk result (λ kept. kept ≡ cubby_row token.now object.now) }
@@ -104,7 +105,7 @@ fn name_of(engine: Engine) -> &'static str
     }
 }
 
-/// The row of a mount.
+/// The row of a mount. It fails for want of memory alone.
 pub fn write_mount(alloc: Global, mount: &MountRecord) -> Result<Row, AllocError>
     ensures { IfOk result (λ kept. kept ≡ mount_row mount.now) }
 {
@@ -115,7 +116,7 @@ pub fn write_mount(alloc: Global, mount: &MountRecord) -> Result<Row, AllocError
     Ok(lone_row(alloc, body))
 }
 
-/// The row of a policy, as it was handed in.
+/// The row of a policy, as it was handed in. It fails for want of memory alone.
 pub fn write_policy(alloc: Global, policy: &str) -> Result<Row, AllocError>
     requires { length policy.now < 2 ^ 32 }
     ensures { IfOk result (λ kept. kept ≡ policy_row policy.now) }
@@ -148,7 +149,8 @@ fn owner_of(alloc: Global, parent: &Option<TextBuf>) -> Result<TextBuf, AllocErr
     }
 }
 
-/// The row of a token; its cubbyhole and its leases have rows of their own.
+/// The row of a token; its cubbyhole and its leases have rows of their own. It fails for want of
+/// memory alone.
 pub fn write_token(alloc: Global, token: &TokenRecord) -> Result<Row, AllocError>
     requires { IsTold token.now }
     ensures { IfOk result (λ kept. kept ≡ entry_row token.now) }
