@@ -1,5 +1,5 @@
 -- How a replay ends.
-use Rattle.std.specs.Prelude.{◌≡◌, ◌⊎◌, Bool, IsTrue, ⊤}
+use Rattle.std.specs.Prelude.{◌≡◌, ◌⊎◌, ℕ, Bool, IsTrue, ⊤}
 use Rattle.brokerd.specs.declared.replay.Exit.{Exit}
 use Rattle.brokerd.specs.declared.replay.Exit.TheVariants.{Done, Faulted, BadLine}
 
@@ -15,3 +15,9 @@ EndsByRead ReadFailed write_failed Done = ⊤
 EndsByRead ReadFailed write_failed (BadLine line) = ⊤
 EndsByRead ReadFailed write_failed (Faulted number) =
     (number ≡ 1) ⊎ (number ≡ 4) ⊎ ((number ≡ 5) × ReadFailed) ⊎ ((number ≡ 6) × IsTrue write_failed)
+
+-- the status that the program ends with after a replay
+abbrev pub status_after : Exit → ℕ
+status_after Done = 0
+status_after (Faulted number) = 1
+status_after (BadLine line) = 2

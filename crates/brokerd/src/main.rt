@@ -1,6 +1,11 @@
 //! The program `brokerd`: a broker for secrets.
 #![tactic(auto)]
 
+ghost use Rattle.std.specs.Prelude.{◌≡◌, ◌≢◌, ◌⊎◌, IfOk};
+ghost use Rattle.std.specs.Process.{exit_status};
+ghost use Rattle.clap.specs.Words.{kind_of};
+ghost use Rattle.brokerd.specs.Exits.{status_after};
+
 mod command;
 mod input;
 mod lines;
@@ -35,7 +40,9 @@ fn main(rt: HostRuntime) -> anyhow::Result<ExitCode> {
 
 /// Says on standard error how a replay ended, unless all lines were run, and answers the status: 0, or
 /// 1 after a fault, or 2 at a bad line.
-fn tell<R: Eprint>(rt: &R, exit: Exit) -> anyhow::Result<ExitCode> {
+fn tell<R: Eprint>(rt: &R, exit: Exit) -> anyhow::Result<ExitCode>
+    ensures { IfOk result (λ code. exit_status code ≡ status_after exit) }
+{
     match exit {
         Exit::Done => Ok(ExitCode::SUCCESS),
         Exit::Faulted(number) => {
@@ -51,7 +58,9 @@ fn tell<R: Eprint>(rt: &R, exit: Exit) -> anyhow::Result<ExitCode> {
 
 /// Says why the words of the command line cannot be had: want of memory is a fault, and a word that is
 /// not UTF-8 makes a bad command line.
-fn refuse_words<R: Eprint>(rt: &R, error: &io::Error) -> anyhow::Result<ExitCode> {
+fn refuse_words<R: Eprint>(rt: &R, error: &io::Error) -> anyhow::Result<ExitCode>
+    ensures { IfOk result (λ code. (exit_status code ≡ 1) ⊎ (exit_status code ≡ 2)) }
+{
     if error.kind() == io::ErrorKind::OutOfMemory {
         return tell(rt, Exit::Faulted(1));
     }
@@ -61,7 +70,16 @@ fn refuse_words<R: Eprint>(rt: &R, error: &io::Error) -> anyhow::Result<ExitCode
 
 /// Prints the text of a command line that names no command: on standard error with status 2, or, where
 /// help was asked for, on standard output with status 0. Want of memory is a fault.
-fn refuse<R: Eprint + Print>(rt: &R, error: &Error) -> anyhow::Result<ExitCode> {
+fn refuse<R: Eprint + Print>(rt: &R, error: &Error) -> anyhow::Result<ExitCode>
+    ensures memory { kind_of error.now ≡ ErrorKind.OutOfMemory
+        → IfOk result (λ code. exit_status code ≡ 1) }
+    ensures help { kind_of error.now ≡ ErrorKind.DisplayHelp
+        → IfOk result (λ code. exit_status code ≡ 0) }
+    ensures mistake { kind_of error.now ≢ ErrorKind.OutOfMemory
+        → kind_of error.now ≢ ErrorKind.DisplayHelp
+        → kind_of error.now ≢ ErrorKind.DisplayVersion
+        → IfOk result (λ code. exit_status code ≡ 2) }
+{
     if error.kind() == ErrorKind::OutOfMemory {
         return tell(rt, Exit::Faulted(1));
     }
