@@ -175,56 +175,62 @@ fn paths(rt: HostRuntime) -> Result<(), Fail> {
     Ok(())
 }
 
-/// The bodies of refusals, word for word.
+/// The refusal has this code and this body, word for word.
+fn expect_refusal<R: Abort>(
+    rt: &R,
+    alloc: Global,
+    refusal: Refusal,
+    code: u16,
+    body: &str,
+) -> Result<(), Fault> {
+    let answer = Answer::refused(alloc, refusal)?;
+    assert_eq!(rt; answer.status.code(), code);
+    assert_eq!(rt; answer.methods, refusal.methods());
+    assert_eq!(rt; answer.text.as_str(), body);
+    Ok(())
+}
+
+#[test]
+fn bad_requests(rt: HostRuntime) -> Result<(), Fail> {
+    let table = [
+        (
+            Reason::MalformedRequest,
+            "{\"errors\":[\"malformed request\"]}\n",
+        ),
+        (
+            Reason::InvalidField(Field::TypeName),
+            "{\"errors\":[\"invalid field: type\"]}\n",
+        ),
+        (
+            Reason::MissingField(Field::LeaseId),
+            "{\"errors\":[\"missing field: lease_id\"]}\n",
+        ),
+    ];
+    for (reason, body) in table {
+        expect_refusal(&rt, rt.alloc(), Refusal::BadRequest(reason), 400, body)?;
+    }
+    Ok(())
+}
+
 #[test]
 fn refusals(rt: HostRuntime) -> Result<(), Fail> {
     let methods = Methods {
         get: true,
         ..Methods::none()
     };
+    let denied = "{\"errors\":[\"permission denied\"]}\n";
+    let bad_token = "{\"errors\":[\"bad token\"]}\n";
+    let unsupported = "{\"errors\":[\"unsupported operation\"]}\n";
+    let used = "{\"errors\":[\"identifier already used\"]}\n";
     let table = [
-        (
-            Refusal::BadRequest(Reason::MalformedRequest),
-            400,
-            "{\"errors\":[\"malformed request\"]}\n",
-        ),
-        (
-            Refusal::BadRequest(Reason::InvalidField(Field::TypeName)),
-            400,
-            "{\"errors\":[\"invalid field: type\"]}\n",
-        ),
-        (
-            Refusal::BadRequest(Reason::MissingField(Field::LeaseId)),
-            400,
-            "{\"errors\":[\"missing field: lease_id\"]}\n",
-        ),
-        (
-            Refusal::Forbidden(Denial::PermissionDenied),
-            403,
-            "{\"errors\":[\"permission denied\"]}\n",
-        ),
-        (
-            Refusal::Forbidden(Denial::BadToken),
-            403,
-            "{\"errors\":[\"bad token\"]}\n",
-        ),
+        (Refusal::Forbidden(Denial::PermissionDenied), 403, denied),
+        (Refusal::Forbidden(Denial::BadToken), 403, bad_token),
         (Refusal::NotFound, 404, "{\"errors\":[]}\n"),
-        (
-            Refusal::MethodNotAllowed(methods),
-            405,
-            "{\"errors\":[\"unsupported operation\"]}\n",
-        ),
-        (
-            Refusal::IdentifierUsed,
-            500,
-            "{\"errors\":[\"identifier already used\"]}\n",
-        ),
+        (Refusal::MethodNotAllowed(methods), 405, unsupported),
+        (Refusal::IdentifierUsed, 500, used),
     ];
-    for (refusal, code, text) in table {
-        let answer = Answer::refused(rt.alloc(), refusal)?;
-        assert_eq!(rt; answer.status.code(), code);
-        assert_eq!(rt; answer.methods, refusal.methods());
-        assert_eq!(rt; answer.text.as_str(), text);
+    for (refusal, code, body) in table {
+        expect_refusal(&rt, rt.alloc(), refusal, code, body)?;
     }
     assert_eq!(rt;
         errors_body(rt.alloc(), Some("a"))?.as_str(),
