@@ -7,8 +7,9 @@ use Rattle.broker.specs.Standing.{Holds}
 use Rattle.broker.specs.Transaction.{Rows}
 use Rattle.broker_types.specs.declared.fault.Fault.{Fault}
 use Rattle.hub.specs.World.{World, Next, Run}
+use Rattle.hub.specs.Serving.{IsLater}
 use Rattle.hub.specs.Standing.{StandsFor, AfterFault, HasConnections, shown}
-use Rattle.hub.specs.Runs.{Answers, StopsAt}
+use Rattle.hub.specs.Runs.{Answers, AnswersOne, StopsAt}
 use Rattle.hub.specs.declared.hub.Hub.{Hub}
 use Rattle.hub.specs.declared.event.Event.{Event}
 use Rattle.hub.proofs.RunLemmas.{Run-push, Run-unique}
@@ -23,19 +24,23 @@ take-more events i e lt is =
 abbrev pub with_piece : Event → List ℕ → Event
 with_piece e piece = record { conn = e.conn; piece = piece; moment = e.moment; words = e.words }
 
+-- a run has no other replies
+pub answers_of : {S : Type 0} (seen : S → Kept) (w : World) (events : List Event) (replies : List (List ℕ)) (hub : Hub S) (after : World)
+    → Run w events replies after → StandsFor seen hub after → Answers seen w events replies hub
+answers_of seen w events replies hub after run stands =
+    record { after = after; run = run; only = λ others other is. (Run-unique w events replies others after other run is).0; stands = stands }
+
 pub answers_more : {S : Type 0} (seen : S → Kept) (w : World) (events : List Event) (i : ℕ) (e : Event) (piece bytes : List ℕ) (replies : List (List ℕ)) (old new : Hub S)
     → i < length events → e ≡ get_or events i e → piece ≡ e.piece → Answers seen w (take i events) replies old
-    → ((v : World) → StandsFor seen old v → (next : World) × Next v (with_piece e piece) bytes next × StandsFor seen new next)
+    → ((v : World) → StandsFor seen old v → AnswersOne seen v (with_piece e piece) bytes new)
     → Answers seen w (take (i + 1) events) (replies ++ bytes ∷ []) new
 answers_more seen w events i e piece bytes replies old new lt is same a next =
     let n = next a.after a.stands in
-    let one : Next a.after e bytes n.0 = subst (λ (l : List ℕ). Next a.after (with_piece e l) bytes n.0) same n.1 in
-    record {
-      after = n.0;
-      run = subst (λ (es : List Event). Run w es (replies ++ bytes ∷ []) n.0) (sym (take-more events i e lt is))
-          (Run-push w (take i events) replies a.after e bytes n.0 a.run one);
-      stands = n.2;
-    }
+    let one : Next a.after e bytes n.after = subst (λ (l : List ℕ). Next a.after (with_piece e l) bytes n.after) same n.next in
+    answers_of seen w (take (i + 1) events) (replies ++ bytes ∷ []) new n.after
+    (subst (λ (es : List Event). Run w es (replies ++ bytes ∷ []) n.after) (sym (take-more events i e lt is))
+    (Run-push w (take i events) replies a.after e bytes n.after a.run one))
+    n.stands
 
 broker_stays : (fault : Fault) (w : World) (conn : ℕ) (after : World) → AfterFault fault w conn after → after.broker ≡ w.broker
 broker_stays fault w conn after (inl is) = ap (λ (x : World). x.broker) is
@@ -43,6 +48,11 @@ broker_stays fault w conn after (inr p) = ap (λ (x : World). x.broker) p.2
 
 pub honest_before : (a b : Kept) → a.doubt ≤ b.doubt → IsHonest b → IsHonest a
 honest_before a b le honest = omega (arith, le, honest)
+
+-- a store after two calls
+pub later_still : (a b c : Kept) → IsLater a b → IsLater b c → IsLater a c
+later_still a b c first second =
+    record { doubts = omega (arith, first.doubts, second.doubts); closes = λ open_. first.closes (second.closes open_) }
 
 pub stops_at : {S : Type 0} (seen : S → Kept) (w : World) (events : List Event) (i : ℕ) (e : Event) (replies : List (List ℕ)) (fault : Fault) (old new : Hub S)
     → i < length events → e ≡ get_or events i e → Answers seen w (take i events) replies old
@@ -59,7 +69,3 @@ stops_at seen w events i e replies fault old new lt is a kept left =
 pub answers_all : {S : Type 0} (seen : S → Kept) (w : World) (events : List Event) (i : ℕ) (replies : List (List ℕ)) (hub : Hub S)
     → length events ≤ i → Answers seen w (take i events) replies hub → Answers seen w events replies hub
 answers_all seen w events i replies hub le a = subst (λ (es : List Event). Answers seen w es replies hub) (take_all i events le) a
-
-pub answers_only : {S : Type 0} (seen : S → Kept) (w : World) (es : List Event) (replies others : List (List ℕ)) (hub : Hub S) (after : World)
-    → Answers seen w es replies hub → Run w es others after → replies ≡ others
-answers_only seen w es replies others hub after a other = (Run-unique w es replies others a.after after a.run other).0

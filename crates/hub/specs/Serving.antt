@@ -43,13 +43,18 @@ pub record TookTurn (h : History) (b : Broker) (piece : List ℕ) (moment : ℕ)
   pub tracks : Tracks c after
   pub holds : Holds rows next
 
--- what a call leaves of the store, whatever it was asked: doubt only grows, what is closed stays closed, and faults of storage come where it failed
+-- a store at a later time: doubt only grows, and what is closed stays closed
+pub record IsLater (old new : Kept) : Type 0 where
+  pub doubts : old.doubt ≤ new.doubt
+  pub closes : IsTrue new.is_open → IsTrue old.is_open
+
+-- What a call leaves of the store, whatever it was asked. After a fault the rows are as before. Over the rows
+-- of a broker that stands memory or storage is wanting, and storage only where the store failed.
 pub record Keeps {A : Type 0} (old new : Kept) (r : Result A Fault) : Type 0 where
   pub kept : IsHonest new → IsTrue new.is_open → OnErr r (new.rows ≡ old.rows)
   pub wants : IsHonest new → (b : Broker) → Holds old.rows b → IfErr r IsWant
-  pub doubts : old.doubt ≤ new.doubt
-  pub closes : IsTrue new.is_open → IsTrue old.is_open
   pub storage : r ≡ Err Storage → IsTrue new.has_failed
+  pub later : IsLater old new
 
 -- what one event on an open connection does: c is the connection before, and d after
 pub record Feeds (old new : Kept) (c d : Connection) (piece : List ℕ) (moment : ℕ) (words : Words) (r : Result (Vec ℕ Global) Fault) : Type 0 where

@@ -1,5 +1,5 @@
 use crate::connection::Connection;
-use crate::table::{feed_seen, is_closed, open};
+use crate::table::{is_closed, open};
 use broker::Store;
 use broker_types::{Fault, Moment, Words};
 use std::alloc::Global;
@@ -14,15 +14,17 @@ pub struct Hub<S: Store> {
 }
 
 impl<S: Store> Hub<S> {
-    ghost use Rattle.std.specs.Prelude.{◌≡◌, ◌≤◌, ℕ, List, [], Some, Err, IfOk, OnOk, IfErr, OnErr, IsOk, IsTrue, true};
+    ghost use Rattle.std.specs.Prelude.{◌≡◌, ◌≢◌, ℕ, List, [], Some, IfOk, IfErr, IsOk, true};
     ghost use Rattle.broker_types.specs.Broker.{Broker};
-    ghost use Rattle.broker_types.specs.Fault.{IsWant};
     ghost use Rattle.broker.specs.Kept.{IsHonest};
     ghost use Rattle.broker.specs.Standing.{Holds};
     ghost use Rattle.http_layer.specs.Front.{IsFront, need};
     ghost use Rattle.hub.specs.Listed.{IsListedReply};
-    ghost use Rattle.hub.specs.World.{World, History, FollowsRequests, Next, history_at, new_world};
-    ghost use Rattle.hub.specs.Standing.{StandsFor, HasConnections, shown, AfterFault};
+    ghost use Rattle.hub.specs.Runs.{AnswersOne};
+    ghost use Rattle.hub.specs.Serving.{Feeds, Keeps};
+    ghost use Rattle.hub.specs.World.{World, History, FollowsRequests, history_at, new_world};
+    ghost use Rattle.hub.specs.Standing.{StandsFor, HasConnections, kept_by, shown, AfterFault};
+    ghost use Rattle.hub.specs.declared.connection.Connection.{Connection as Seen};
 
     /// A hub over a store that was started. No connection is seen. It takes no memory.
     pub fn new(alloc: Global, store: S) -> Hub<S>
@@ -52,56 +54,51 @@ impl<S: Store> Hub<S> {
         words: &Words,
     ) -> Result<Vec<u8>, Fault>
         ensures ok { IsHonest (shown S.seen self.new) → (w : World) → StandsFor S.seen self.old w
-            → IfOk result (λ bytes. (after : World)
-            × Next w (record { conn = conn; piece = piece.now; moment = moment; words = words.now })
-            bytes.items after
-            × StandsFor S.seen self.new after) }
+            → IfOk result (λ bytes. AnswersOne S.seen w
+            (record { conn = conn; piece = piece.now; moment = moment; words = words.now })
+            bytes.items self.new) }
 
         // Whatever the rows are, a refusal is a listed one.
         ensures listed { IfOk result (λ bytes. IsListedReply bytes.items) }
 
         // After a fault the rows are as before, and so are the other connections.
-        ensures kept { IsHonest (shown S.seen self.new) → IsTrue (shown S.seen self.new).is_open
-            → OnErr result ((shown S.seen self.new).rows ≡ (shown S.seen self.old).rows) }
+        ensures keeps { Keeps (shown S.seen self.old) (shown S.seen self.new) result }
         ensures left { IfErr result (λ fault. (w : World) → HasConnections self.old w
             → (after : World) × AfterFault fault w conn after × HasConnections self.new after) }
 
-        // A closed connection gives no bytes, and nothing changes.
+        // A closed connection gives no bytes, no fault, and nothing changes. No fault comes either where
+        // nothing comes and more bytes are wanted.
         ensures closed { (w : World) → HasConnections self.old w
             → (history_at w conn).closed ≡ true
-            → IfOk result (λ bytes. bytes.items ≡ []) × (self.new ≡ self.old) }
-
-        // No fault comes on a closed connection, or where nothing comes and more bytes are wanted.
-        ensures free_closed { (w : World) → HasConnections self.old w
-            → (history_at w conn).closed ≡ true → IsOk result }
-        ensures free_need { piece.now ≡ [] → (w : World) → HasConnections self.old w
+            → IsOk result × IfOk result (λ bytes. bytes.items ≡ []) × (self.new ≡ self.old) }
+        ensures free { piece.now ≡ [] → (w : World) → HasConnections self.old w
             → (h : History) → w.connections conn ≡ Some h
             → (rest : List ℕ) → FollowsRequests h.stream h.answered rest → IsFront rest need
             → IsOk result }
-
-        // Over the rows of a broker that stands memory or storage is wanting, and storage only where
-        // the store failed.
-        ensures wants { IsHonest (shown S.seen self.new) → (w : World) → StandsFor S.seen self.old w
-            → IfErr result IsWant }
-        ensures storage { result ≡ Err Fault.Storage → IsTrue (shown S.seen self.new).has_failed }
-        ensures doubts { (shown S.seen self.old).doubt ≤ (shown S.seen self.new).doubt }
-        ensures stays_shut { IsTrue (shown S.seen self.new).is_open
-            → IsTrue (shown S.seen self.old).is_open }
     {
         if is_closed(&self.connections, conn) {
             return Ok(Vec::new(self.alloc));
         }
-        match open(&mut self.connections, self.alloc, conn) {
-            Ok(()) => feed_seen(
-                self.alloc,
-                &mut self.store,
-                &mut self.connections,
-                conn,
-                piece,
-                moment,
-                words,
-            ),
-            Err(_) => Err(Fault::Memory),
+        open(&mut self.connections, self.alloc, conn)?;
+        self.feed_seen(conn, piece, moment, words)
+    }
+
+    /// Takes a piece that comes on a connection that was seen.
+    fn feed_seen(
+        &mut self,
+        conn: u64,
+        piece: &[u8],
+        moment: Moment,
+        words: &Words,
+    ) -> Result<Vec<u8>, Fault>
+        ensures fed { (c : Seen) → kept_by self.old conn ≡ Some c
+            → (d : Seen) × (kept_by self.new conn ≡ Some d)
+            × Feeds (shown S.seen self.old) (shown S.seen self.new) c d piece.now moment words.now result }
+        ensures others { (k : ℕ) → k ≢ conn → kept_by self.new k ≡ kept_by self.old k }
+    {
+        match self.connections.get_mut(&conn) {
+            Some(connection) => connection.feed(self.alloc, &mut self.store, piece, moment, words),
+            None => Ok(Vec::new(self.alloc)),
         }
     }
 }

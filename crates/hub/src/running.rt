@@ -1,9 +1,10 @@
-ghost use Rattle.std.specs.Prelude.{◌≡◌, ◌≤◌, ◌⊎◌, IsTrue, ℕ, List, [], IfOk, IfErr, MatchResult};
+ghost use Rattle.std.specs.Prelude.{◌≡◌, ◌⊎◌, IsTrue, [], IfOk, IfErr, MatchResult};
 ghost use Rattle.std.specs.List.{All};
 ghost use Rattle.broker_types.specs.Fault.{IsWant};
 ghost use Rattle.broker.specs.Kept.{IsHonest};
 ghost use Rattle.hub.specs.Listed.{IsListedReply};
-ghost use Rattle.hub.specs.World.{World, Run};
+ghost use Rattle.hub.specs.Serving.{IsLater};
+ghost use Rattle.hub.specs.World.{World};
 ghost use Rattle.hub.specs.Standing.{StandsFor, shown};
 ghost use Rattle.hub.specs.Runs.{bytes_of, Answers, StopsAt};
 
@@ -32,12 +33,6 @@ pub fn run<S: Store>(
         (w : World) → StandsFor S.seen hub.old w
         → Answers S.seen w events.now (bytes_of replies.items) hub.new) }
 
-    // No other replies are those to the events.
-    ensures only { IsHonest (shown S.seen hub.new) → IfOk result (λ replies.
-        (w : World) → StandsFor S.seen hub.old w
-        → (others : List (List ℕ)) (after : World) → Run w events.now others after
-        → bytes_of replies.items ≡ others) }
-
     // Whatever the rows are, each refusal is a listed one.
     ensures listed { MatchResult result
         (λ replies. All IsListedReply (bytes_of replies.items))
@@ -49,32 +44,21 @@ pub fn run<S: Store>(
         → StopsAt S.seen w events.now stop.0 (bytes_of stop.1.items) stop.2 hub.new
         ⊎ ((stop.0 ≡ 0) × (stop.1.items ≡ []) × (stop.2 ≡ Fault.Memory) × (hub.new ≡ hub.old))) }
 
-    // Over the rows of a broker that stands memory or storage is wanting, and storage only where the
-    // store failed.
+    // On a broker's rows only memory or storage is wanting, and storage only where the store failed.
     ensures wants { IsHonest (shown S.seen hub.new) → IfErr result (λ stop.
         (w : World) → StandsFor S.seen hub.old w → IsWant stop.2) }
     ensures storage { IfErr result (λ stop.
         stop.2 ≡ Fault.Storage → IsTrue (shown S.seen hub.new).has_failed) }
-    ensures doubts { (shown S.seen hub.old).doubt ≤ (shown S.seen hub.new).doubt }
-    ensures stays_shut { IsTrue (shown S.seen hub.new).is_open
-        → IsTrue (shown S.seen hub.old).is_open }
+    ensures later { IsLater (shown S.seen hub.old) (shown S.seen hub.new) }
 {
     let mut replies = Vec::new(alloc);
     if let Err(_) = replies.reserve(events.len()) {
         return Err((0, replies, Fault::Memory));
     }
     for (i, event) in events.iter().enumerate() {
-        match hub.feed(
-            event.conn,
-            event.piece.as_slice(),
-            event.moment,
-            &event.words,
-        ) {
-            Ok(bytes) => {
-                if let Err(_) = replies.push(bytes) {
-                    unreachable!();
-                }
-            }
+        let piece = event.piece.as_slice();
+        match hub.feed(event.conn, piece, event.moment, &event.words) {
+            Ok(bytes) => replies.push(bytes).unwrap(),
             Err(fault) => return Err((i, replies, fault)),
         }
     }

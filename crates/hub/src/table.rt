@@ -2,12 +2,9 @@ ghost use Rattle.std.specs.Prelude.{◌≡◌, ◌≢◌, ℕ, Some, None, OnOk,
 ghost use Rattle.std.specs.Ordering.{nat_cmp};
 ghost use Rattle.std.specs.BTreeMap.{get};
 ghost use Rattle.hub.specs.Pending.{closed_at, OpenedAs};
-ghost use Rattle.hub.specs.Serving.{Feeds};
 ghost use Rattle.hub.specs.declared.connection.Connection.{Connection as Kept};
 
 use crate::connection::Connection;
-use broker::Store;
-use broker_types::{Fault, Moment, Words};
 use std::alloc::{AllocError, Global};
 use std::collections::BTreeMap;
 
@@ -39,26 +36,4 @@ pub(crate) fn open(
         connections.insert(conn, Connection::new(alloc))?;
     }
     Ok(())
-}
-
-/// One event on a connection that was seen.
-pub(crate) fn feed_seen<S: Store>(
-    alloc: Global,
-    store: &mut S,
-    connections: &mut BTreeMap<u64, Connection>,
-    conn: u64,
-    piece: &[u8],
-    moment: Moment,
-    words: &Words,
-) -> Result<Vec<u8>, Fault>
-    ensures fed { (c : Kept) → get nat_cmp connections.old conn ≡ Some c → (d : Kept)
-        × (get nat_cmp connections.new conn ≡ Some d)
-        × Feeds (S.seen store.old) (S.seen store.new) c d piece.now moment words.now result }
-    ensures others { (k : ℕ) → k ≢ conn
-        → get nat_cmp connections.new k ≡ get nat_cmp connections.old k }
-{
-    match connections.get_mut(&conn) {
-        Some(connection) => connection.feed(alloc, store, piece, moment, words),
-        None => Ok(Vec::new(alloc)),
-    }
 }

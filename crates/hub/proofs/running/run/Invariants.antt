@@ -1,6 +1,7 @@
 use Rattle.std.proofs.Common.{◌≡◌, ◌≤◌, IsTrue, length, take, vec_len, vec_capacity}
 use Rattle.std.specs.List.{All}
 use Rattle.hub.specs.Listed.{IsListedReply}
+use Rattle.hub.specs.Serving.{IsLater}
 use Rattle.hub.specs.World.{World}
 use Rattle.hub.specs.Standing.{StandsFor, shown}
 use Rattle.broker.specs.Kept.{IsHonest}
@@ -11,8 +12,7 @@ abbrev pub invariant-loop-i : goal.invariant-loop-i
 invariant-loop-i g l = record {
   count : vec_len l.replies ≡ l.i;
   room : length l.events ≤ vec_capacity l.replies;
-  doubts : (shown g.S.Store.seen l.fn.hub).doubt ≤ (shown g.S.Store.seen l.hub).doubt;
-  stays_shut : IsTrue (shown g.S.Store.seen l.hub).is_open → IsTrue (shown g.S.Store.seen l.fn.hub).is_open;
+  later : IsLater (shown g.S.Store.seen l.fn.hub) (shown g.S.Store.seen l.hub);
   listed : All IsListedReply (bytes_of l.replies.items);
   answers : IsHonest (shown g.S.Store.seen l.hub) → (w : World) → StandsFor g.S.Store.seen l.fn.hub w
       → Answers g.S.Store.seen w (take l.i l.events) (bytes_of l.replies.items) l.hub;

@@ -1,67 +1,48 @@
-use Rattle.std.proofs.Common.{◌∙◌, ℕ, List, sym, subst, nat_cmp}
+use Rattle.std.proofs.Common.{◌∙◌, ℕ, sym, nat_cmp}
 use Rattle.std.specs.BTreeMap.{get}
-use Rattle.hub.specs.Standing.{kept_by}
-use Rattle.hub.specs.World.{Next}
-use Rattle.hub.proofs.HubLemmas.{Feeding, closed_next, fed_next, fed_fault, fed_free, is_open_in, unopened}
+use Rattle.std.proofs.lemmas.Result.{err_from_is_err_and}
+use Rattle.hub.specs.Standing.{kept_by, shown}
+use Rattle.hub.proofs.HubLemmas.{closed_next, feeding, fed_next, fed_fault, fed_free, is_open_in, unopened}
 use Rattle.hub.proofs.hub.Hub.feed.Goals as goal
 
 pub returns-then-is_closed-clause-ok : goal.returns-then-is_closed-clause-ok
 returns-then-is_closed-clause-ok g c = λ honest w stands.
-    let seen = g.S.Store.seen c.args.self.now.store in
-    let found = closed_next seen.rows (kept_by c.args.self.now) c.args.conn c.args.piece.now c.args.moment c.args.words.now w stands
-    (sym c.is_closed.ensures ∙ c.if-is_closed.true) in
-    (found.0, subst (λ (bytes : List ℕ). Next w (record { conn = c.args.conn; piece = c.args.piece.now; moment = c.args.moment; words = c.args.words.now }) bytes found.0) (sym c.new.ensures.items) found.1, found.2)
+    closed_next g.S.Store.seen c.args.self.now c.args.conn c.args.piece.now c.new.result.items c.args.moment c.args.words.now w stands
+    (sym c.is_closed.ensures ∙ c.if-is_closed.true) c.new.ensures.items
 
-pub returns-in-Ok-clause-ok : goal.returns-in-Ok-clause-ok
-returns-in-Ok-clause-ok g c = λ honest w stands.
-    let before = g.S.Store.seen c.args.self.now.store in
-    let after = g.S.Store.seen c.feed_seen.new.store in
+pub returns-clause-ok : goal.returns-clause-ok
+returns-clause-ok g c = λ honest w stands.
+    let seen = g.S.Store.seen in
+    let before = shown seen c.args.self.now in
     let old = kept_by c.args.self.now in
-    let new = λ (k : ℕ). get nat_cmp c.feed_seen.new.connections k in
-    let opened = c.in-Ok.ensures.opened in
-    let fed = c.feed_seen.ensures.fed opened.0 opened.1 in
-    let f : Feeding before after old new c.args.conn opened.0 fed.0 c.args.piece.now c.args.moment c.args.words.now c.feed_seen.result =
-    record { opened = opened.2; here = fed.1; others = λ k ne. c.feed_seen.ensures.others k ne ∙ c.open.ensures.others k ne; feeds = fed.2 } in
-    fed_next before after old new c.args.conn opened.0 fed.0 c.args.piece.now c.args.moment c.args.words.now c.feed_seen.result w f honest stands
+    let hub = c.feed_seen.new.self in
+    let f = feeding before (shown seen hub) old (λ (k : ℕ). get nat_cmp c.open.new.connections k) (kept_by hub) c.args.conn c.args.piece.now c.args.moment c.args.words.now c.feed_seen.result
+    c.in_ok-open.ensures.opened c.open.ensures.others c.feed_seen.ensures.fed c.feed_seen.ensures.others in
+    fed_next seen before old hub c.args.conn c.args.piece.now c.args.moment c.args.words.now c.feed_seen.result w f honest stands
     (is_open_in old c.args.conn w stands.each (sym c.is_closed.ensures ∙ c.if-is_closed.false))
 
-pub returns-in-Ok-clause-left : goal.returns-in-Ok-clause-left
-returns-in-Ok-clause-left g c =
-    let before = g.S.Store.seen c.args.self.now.store in
-    let after = g.S.Store.seen c.feed_seen.new.store in
+pub returns-clause-left : goal.returns-clause-left
+returns-clause-left g c =
+    let seen = g.S.Store.seen in
+    let before = shown seen c.args.self.now in
     let old = kept_by c.args.self.now in
-    let new = λ (k : ℕ). get nat_cmp c.feed_seen.new.connections k in
-    let opened = c.in-Ok.ensures.opened in
-    let fed = c.feed_seen.ensures.fed opened.0 opened.1 in
-    let f : Feeding before after old new c.args.conn opened.0 fed.0 c.args.piece.now c.args.moment c.args.words.now c.feed_seen.result =
-    record { opened = opened.2; here = fed.1; others = λ k ne. c.feed_seen.ensures.others k ne ∙ c.open.ensures.others k ne; feeds = fed.2 } in
-    fed_fault before after old new c.args.conn opened.0 fed.0 c.args.piece.now c.args.moment c.args.words.now c.feed_seen.result f
+    let hub = c.feed_seen.new.self in
+    let f = feeding before (shown seen hub) old (λ (k : ℕ). get nat_cmp c.open.new.connections k) (kept_by hub) c.args.conn c.args.piece.now c.args.moment c.args.words.now c.feed_seen.result
+    c.in_ok-open.ensures.opened c.open.ensures.others c.feed_seen.ensures.fed c.feed_seen.ensures.others in
+    fed_fault before (shown seen hub) old (kept_by hub) c.args.conn c.args.piece.now c.args.moment c.args.words.now c.feed_seen.result f
 
-pub returns-in-Ok-clause-free_need : goal.returns-in-Ok-clause-free_need
-returns-in-Ok-clause-free_need g c = λ nothing w each h seen rest follows waits.
-    let before = g.S.Store.seen c.args.self.now.store in
-    let after = g.S.Store.seen c.feed_seen.new.store in
+pub returns-clause-free : goal.returns-clause-free
+returns-clause-free g c = λ nothing w each h is rest follows waits.
+    let seen = g.S.Store.seen in
+    let before = shown seen c.args.self.now in
     let old = kept_by c.args.self.now in
-    let new = λ (k : ℕ). get nat_cmp c.feed_seen.new.connections k in
-    let opened = c.in-Ok.ensures.opened in
-    let fed = c.feed_seen.ensures.fed opened.0 opened.1 in
-    let f : Feeding before after old new c.args.conn opened.0 fed.0 c.args.piece.now c.args.moment c.args.words.now c.feed_seen.result =
-    record { opened = opened.2; here = fed.1; others = λ k ne. c.feed_seen.ensures.others k ne ∙ c.open.ensures.others k ne; feeds = fed.2 } in
-    fed_free before after old new c.args.conn opened.0 fed.0 c.args.piece.now c.args.moment c.args.words.now c.feed_seen.result w h rest f each
-    (is_open_in old c.args.conn w each (sym c.is_closed.ensures ∙ c.if-is_closed.false)) nothing seen follows waits
+    let hub = c.feed_seen.new.self in
+    let f = feeding before (shown seen hub) old (λ (k : ℕ). get nat_cmp c.open.new.connections k) (kept_by hub) c.args.conn c.args.piece.now c.args.moment c.args.words.now c.feed_seen.result
+    c.in_ok-open.ensures.opened c.open.ensures.others c.feed_seen.ensures.fed c.feed_seen.ensures.others in
+    fed_free before (shown seen hub) old (kept_by hub) c.args.conn c.args.piece.now c.args.moment c.args.words.now c.feed_seen.result w h rest f each
+    (is_open_in old c.args.conn w each (sym c.is_closed.ensures ∙ c.if-is_closed.false)) nothing is follows waits
 
-pub returns-in-Ok-clause-wants : goal.returns-in-Ok-clause-wants
-returns-in-Ok-clause-wants g c = λ honest w stands.
-    let before = g.S.Store.seen c.args.self.now.store in
-    let after = g.S.Store.seen c.feed_seen.new.store in
-    let old = kept_by c.args.self.now in
-    let new = λ (k : ℕ). get nat_cmp c.feed_seen.new.connections k in
-    let opened = c.in-Ok.ensures.opened in
-    let fed = c.feed_seen.ensures.fed opened.0 opened.1 in
-    let f : Feeding before after old new c.args.conn opened.0 fed.0 c.args.piece.now c.args.moment c.args.words.now c.feed_seen.result =
-    record { opened = opened.2; here = fed.1; others = λ k ne. c.feed_seen.ensures.others k ne ∙ c.open.ensures.others k ne; feeds = fed.2 } in
-    f.feeds.keeps.wants honest w.broker stands.store
-
-pub returns-in-Err-clause-left : goal.returns-in-Err-clause-left
-returns-in-Err-clause-left g c = λ w each.
-    unopened (kept_by c.args.self.now) (λ (k : ℕ). get nat_cmp c.open.new.connections k) c.args.conn w c.in-Err.ensures.absent c.in-Err.ensures.err each
+pub returns-in_err-open-clause-left : goal.returns-in_err-open-clause-left
+returns-in_err-open-clause-left g c =
+    let p = err_from_is_err_and c.from_residual.result c.from_residual.ensures.1 in
+    rw p.1 (λ w each. unopened (kept_by c.args.self.now) (λ (k : ℕ). get nat_cmp c.open.new.connections k) c.args.conn w p.0 p.2 c.in_err-open.ensures.absent c.in_err-open.ensures.err each)
