@@ -3,6 +3,7 @@ pub mod Cases
 pub mod Counted
 pub mod Dates
 pub mod Evolution
+pub mod Examples
 pub mod Grammar
 pub mod Groups
 pub mod Identifiers
