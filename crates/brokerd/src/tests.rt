@@ -1,8 +1,12 @@
-//! Ends that fail: the rows of `tests/rows` compare what is replayed.
+//! Command lines, and ends that fail: the rows of `tests/rows` compare what is replayed.
 
+use crate::command::{Command, command_of};
 use crate::replay::{Exit, replay};
+use clap::error::ErrorKind;
 use hub::{Reading, Writing};
+use std::alloc::{AllocError, Global};
 use std::io;
+use std::test::Fail;
 
 /// A start, an event that has a reply, and a bad line.
 const LINES: &str = "{\"moment\":1000,\"words\":\"00000000000000000000000000000000\"}\n\
@@ -81,4 +85,34 @@ fn a_failed_write_goes_before_a_bad_line(rt: HostRuntime) {
         &mut Writing::new(Full),
     );
     assert_eq!(rt; exit, Exit::Faulted(6));
+}
+
+/// The words of a command line, of which the first is the name of the program.
+fn words(alloc: Global, line: &str) -> Result<Vec<String>, AllocError> {
+    let mut words = Vec::new(alloc);
+    for word in line.split(' ') {
+        words.push(String::from_str(alloc, word)?)?;
+    }
+    Ok(words)
+}
+
+#[test]
+fn command_lines(rt: HostRuntime) -> Result<(), Fail> {
+    let alloc = rt.alloc();
+    let line = words(alloc, "brokerd replay")?;
+    assert_eq!(rt; command_of(alloc, line.as_slice())?, Some(Command::Replay));
+    let refused = [
+        ("brokerd", ErrorKind::MissingSubcommand),
+        ("brokerd reply", ErrorKind::InvalidSubcommand),
+        ("brokerd replay twice", ErrorKind::UnknownArgument),
+        ("brokerd --help", ErrorKind::DisplayHelp),
+    ];
+    for (line, kind) in refused {
+        let line = words(alloc, line)?;
+        match command_of(alloc, line.as_slice()) {
+            Err(error) => assert_eq!(rt; error.kind(), kind),
+            Ok(_) => return Err(Fail::from("it is taken")),
+        }
+    }
+    Ok(())
 }
