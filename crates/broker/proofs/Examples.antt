@@ -14,7 +14,6 @@ use Rattle.broker_types.specs.declared.reply.Reply.{Reply}
 use Rattle.json.specs.Print.{escape_byte}
 use Rattle.broker_types.specs.Secret.{Key, Version}
 use Rattle.broker_types.specs.Token.{Token, Lease}
-use Rattle.broker.specs.declared.records.row.Row.{Row}
 use Rattle.broker.specs.Spelling.{number, count, text, long_text, optional}
 use Rattle.broker.specs.RowForms.{role_row, mount_row, lease_row, credential_row, key_row, version_row, waiting_row}
 use Rattle.broker.specs.Rows.{padded, rows_of}

@@ -1,5 +1,5 @@
 -- What was written before a fault.
-use Rattle.std.proofs.Common.{◌≡◌, ◌≢◌, ◌⊎◌, inl, inr, ℕ, List, [], Option, Some, None, Vec, Global, length, take, slice_index, refl, sym, subst}
+use Rattle.std.proofs.Common.{◌≡◌, ◌⊎◌, inl, inr, ℕ, List, [], Option, Some, None, Vec, Global, take, slice_index, refl, sym, subst}
 use Rattle.std.specs.Io.KnownBytes.{Appends}
 use Rattle.std.specs.List.{concat}
 use Rattle.broker_types.specs.First.{first_broker}
@@ -14,7 +14,6 @@ use Rattle.brokerd.specs.Lines.{Told}
 use Rattle.brokerd.specs.Replays.{IsUnfaulted, Replayed, WroteFirst, Stopped}
 use Rattle.brokerd.specs.declared.replay.Exit.{Exit}
 use Rattle.brokerd.specs.declared.replay.Exit.TheVariants.{Done, Faulted, BadLine}
-use Rattle.brokerd.specs.declared.script.Script.{Script}
 use Rattle.brokerd.proofs.WritingLemmas.{Appends-none}
 
 -- no event was run, and nothing was written

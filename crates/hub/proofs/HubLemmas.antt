@@ -13,7 +13,7 @@ use Rattle.broker.specs.Standing.{Holds}
 use Rattle.broker.specs.Transaction.{Rows}
 use Rattle.broker.specs.Kept.{Kept, IsHonest}
 use Rattle.http_layer.specs.Front.{need, IsFront}
-use Rattle.hub.specs.World.{History, new_history, World, Next, Turns, history_at, put_history, FollowsRequests}
+use Rattle.hub.specs.World.{History, new_history, World, Turns, history_at, put_history, FollowsRequests}
 use Rattle.hub.specs.Pending.{Tracks, TracksAt, OpenedAs, closed_at}
 use Rattle.hub.specs.Serving.{TookTurn, Feeds}
 use Rattle.hub.specs.Runs.{AnswersOne}

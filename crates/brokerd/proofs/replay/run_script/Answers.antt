@@ -1,9 +1,8 @@
-use Rattle.std.proofs.Common.{◌≡◌, ◌∙◌, ◌⊎◌, inl, inr, false, IsTrue, ℕ, List, Some, Vec, Global, slice_index, refl, ap, subst}
+use Rattle.std.proofs.Common.{◌≡◌, ◌⊎◌, inl, inr, false, IsTrue, ℕ, List, Some, Vec, Global, slice_index, refl, subst}
 use Rattle.std.specs.Io.KnownBytes.{Appends}
 use Rattle.std.specs.List.{concat}
 use Rattle.broker_types.specs.First.{first_broker}
 use Rattle.hub.specs.World.{new_world, Run}
-use Rattle.broker.specs.StoreRows.{store_rows}
 use Rattle.hub.specs.Runs.{bytes_of}
 use Rattle.hub.specs.declared.event.Event.{Event}
 use Rattle.brokerd.specs.Replays.{IsUnfaulted, told}
