@@ -1,7 +1,9 @@
 //! The program `brokerd`: a broker for secrets.
 #![tactic(auto)]
 
-ghost use Rattle.std.specs.Prelude.{◌≡◌, ◌≢◌, ◌⊎◌, IfOk};
+ghost use Rattle.std.specs.Prelude.{◌≡◌, ◌≢◌, IfOk};
+ghost use Rattle.std.specs.IoError.{error_kind};
+ghost use Rattle.std.specs.declared.io.ErrorKind.TheVariants.{OutOfMemory};
 ghost use Rattle.std.specs.Process.{exit_status};
 ghost use Rattle.clap.specs.Words.{kind_of};
 ghost use Rattle.brokerd.specs.Exits.{status_after};
@@ -59,7 +61,10 @@ fn tell<R: Eprint>(rt: &R, exit: Exit) -> anyhow::Result<ExitCode>
 /// Says why the words of the command line cannot be had: want of memory is a fault, and a word that is
 /// not UTF-8 makes a bad command line.
 fn refuse_words<R: Eprint>(rt: &R, error: &io::Error) -> anyhow::Result<ExitCode>
-    ensures { IfOk result (λ code. (exit_status code ≡ 1) ⊎ (exit_status code ≡ 2)) }
+    ensures memory { error_kind error.now ≡ OutOfMemory
+        → IfOk result (λ code. exit_status code ≡ 1) }
+    ensures mistake { error_kind error.now ≢ OutOfMemory
+        → IfOk result (λ code. exit_status code ≡ 2) }
 {
     if error.kind() == io::ErrorKind::OutOfMemory {
         return tell(rt, Exit::Faulted(1));
