@@ -195,13 +195,12 @@ module _ (forms : Forms) (moment v w : ℕ) (now : moment ≤ greatest_moment) (
     | inr a ↦ subst (λ z. IsUsed first z) (sym a.1) used_w
   ]
 
-  pub first_sound : v ≢ w → forms.is_policy default_policy ≡ true → Sound forms first
+  pub first_sound : v ≢ w → forms.is_policy default_policy ≡ true → Sound forms None first
   first_sound ne accepted = record {
     clock = now;
-    used = λ i u. elim (used_is i u) [ inl e ↦ (v, fits_v, e) | inr e ↦ (w, fits_w, e) ];
-    tokens = token_sound;
+    tokens = record { each = token_sound; parents_stand = λ t p x e f none. no_parent t p x e f; chains_end = chain_ends };
     secrets = λ q k e. absurd (no_entry q k e);
-    waiting = λ t x e. absurd (no_entry t x e);
+    waiting = record { each = λ t x e. absurd (no_entry t x e); one_origin = λ t u x y e f g. absurd (no_entry t x e) };
     mounts = λ name m e.
         let r = one_entry (codes "secret") name (record { engine = kv; cas_required = false; max_versions = 0 }) m e in
         subst (λ z. IsSoundMount z m) (sym r.0) (subst (λ y. IsSoundMount (codes "secret") y) (sym r.1) secret_sound);
@@ -210,11 +209,11 @@ module _ (forms : Forms) (moment v w : ℕ) (now : moment ≤ greatest_moment) (
         let r = one_entry (codes "default") name default_policy text e in
         let kept : IsSoundPolicy forms (codes "default") default_policy = record { policy_name = refl; not_root = not_root; policy = accepted; short = default_short } in
         subst (λ z. IsSoundPolicy forms z text) (sym r.0) (subst (λ y. IsSoundPolicy forms (codes "default") y) (sym r.1) kept);
-    none_spent = λ t x e zero. let r = one_entry root t (root_token moment (id w)) x e in no_some (ap (λ (z : Token). z.uses_left) (sym r.1) ∙ zero);
-    parents_stand = λ t p x e f none. no_parent t p x e f;
-    chains_end = chain_ends;
-    one_place = one_place ne;
-    all_used = all_used;
-    origins_used = λ t x e. absurd (no_entry t x e);
-    one_origin = λ t u x y e f g. absurd (no_entry t x e);
+    identifiers = record {
+      used = λ i u. elim (used_is i u) [ inl e ↦ (v, fits_v, e) | inr e ↦ (w, fits_w, e) ];
+      one_place = one_place ne;
+      all_used = all_used;
+      origins_used = λ t x e. absurd (no_entry t x e);
+    };
+    unspent = λ t x e zero. let r = one_entry root t (root_token moment (id w)) x e in no_some (ap (λ (z : Token). z.uses_left) (sym r.1) ∙ zero);
   }

@@ -1,7 +1,8 @@
 -- What goes leaves a sound broker sound.
-use Rattle.std.specs.Prelude.{◌≡◌, ◌≢◌, ◌≤◌, ℕ, max, Bool, nat_lt, false, not, Some, None, option_map, option_and_then}
+use Rattle.std.specs.Prelude.{◌≡◌, ◌≢◌, ◌≤◌, ◌==◌, ℕ, if◌then◌else◌, max, Bool, nat_lt, true, false, not, Option, Some, None, option_map, option_and_then}
 use Rattle.std.specs.Option.{option_map_or}
 use Rattle.std.proofs.Common.{refl, sym, ◌∙◌, ap, subst, inl, inr, arith}
+use Rattle.std.proofs.lemmas.Option.{same_Some}
 use Rattle.broker_types.specs.Text.{Text}
 use Rattle.broker_types.specs.Map.{Map, get, keep}
 use Rattle.broker_types.specs.Moment.{greatest_moment}
@@ -10,12 +11,13 @@ use Rattle.broker_types.specs.Lineage as lineage
 use Rattle.broker_types.specs.Lineage.{is_under, orphaned_by, with_live_leases}
 use Rattle.broker_types.specs.Broker.{Broker, Waiting, waiting_ends, at_moment, revoke, revoke_orphan}
 use Rattle.broker_types.specs.Places.{Place, token, accessor, lease, credential, wrapping_token, wrapping_accessor, identifier_at, lease_of, token_identifier, lease_identifier}
-use Rattle.broker_types.specs.Sound.{Forms, Sound, IsSoundToken}
+use Rattle.broker_types.specs.Sound.{Forms, SoundIdentifiers, Sound, Unspent, IsSoundToken}
+use Rattle.broker_types.specs.Spending.{is_spent, end_spent}
 use Rattle.broker_types.specs.Laws.{IsTree}
 use Rattle.broker_types.specs.Evolves.{Evolves, HasEnded}
-use Rattle.broker_types.proofs.Cases.{no_some, found_or_not}
+use Rattle.broker_types.proofs.Cases.{no, no_some, found_or_not}
 use Rattle.broker_types.proofs.Searches.{kept_get}
-use Rattle.broker_types.proofs.Trees.{orphaned_is, alive_is, revoke_tree, orphan_tree, alive_tree}
+use Rattle.broker_types.proofs.Trees.{under_self, orphaned_is, alive_is, revoke_tree, orphan_tree, alive_tree}
 
 -- y has the accessor of x, and no lease that x does not have
 record IsLess (x y : Token) : Type 0 where
@@ -112,35 +114,9 @@ module _ (b : Broker) where
       let now = max b.clock moment in
       fewer_evolves now (lineage.alive_at now b.tokens) (keep (still_waits now) b.waiting) (alive_fewer now) (wait_fewer now)
 
--- ---- soundness
+-- ---- what has ended
 
-module _ (forms : Forms) (b : Broker) (sound : Sound forms b) where
-  tree : IsTree b.tokens
-  tree = record { parents_stand = sound.parents_stand; chains_end = sound.chains_end }
-
-  fewer_sound : (now : ℕ) (ts : Tokens) (ws : Map Waiting) → now ≤ greatest_moment → IsTree ts → AreFewer b.tokens ts → WaitFewer b.waiting ws
-      → ((t : Text) (y : Token) → get ts t ≡ Some y → IsSoundToken forms t y) → ((t : Text) (y : Token) → get ts t ≡ Some y → y.uses_left ≢ Some 0)
-      → Sound forms (record b { clock = now; tokens = ts; waiting = ws })
-  fewer_sound now ts ws moment is_tree fewer wait each unspent =
-      let c : Broker = record b { clock = now; tokens = ts; waiting = ws } in
-      record {
-        clock = moment;
-        used = sound.used;
-        tokens = each;
-        secrets = sound.secrets;
-        waiting = λ t w e. sound.waiting t w (wait t w e);
-        mounts = sound.mounts;
-        roles = sound.roles;
-        policies = sound.policies;
-        none_spent = unspent;
-        parents_stand = is_tree.parents_stand;
-        chains_end = is_tree.chains_end;
-        one_place = λ p q i e f. sound.one_place p q i (fewer_places b c fewer wait p i e) (fewer_places b c fewer wait q i f);
-        all_used = λ p i e. sound.all_used p i (fewer_places b c fewer wait p i e);
-        origins_used = λ t w e. sound.origins_used t w (wait t w e);
-        one_origin = λ t u v w e f same. sound.one_origin t u v w (wait t v e) (wait u w f) same;
-      }
-
+module _ (b : Broker) (sound : SoundIdentifiers b) where
   -- a token that is gone has ended
   fewer_ended : (now : ℕ) (ts : Tokens) (ws : Map Waiting) (q : Text) → WaitFewer b.waiting ws → get b.tokens q ≢ None → get ts q ≡ None → HasEnded (record b { clock = now; tokens = ts; waiting = ws }) q
   fewer_ended now ts ws q wait stood gone = elim (found_or_not (get b.tokens q)) [
@@ -171,11 +147,43 @@ module _ (forms : Forms) (b : Broker) (sound : Sound forms b) where
       let now = max b.clock moment in
       fewer_ended now (lineage.alive_at now b.tokens) (keep (still_waits b now) b.waiting) q (wait_fewer b now) stood gone
 
-  pub revoke_sound : (t : Text) → Sound forms (revoke b t)
+
+-- ---- soundness
+
+module _ (forms : Forms) (who : Option Text) (b : Broker) (sound : Sound forms who b) where
+  tree : IsTree b.tokens
+  tree = record { parents_stand = sound.tokens.parents_stand; chains_end = sound.tokens.chains_end }
+
+  fewer_sound : (now : ℕ) (ts : Tokens) (ws : Map Waiting) → now ≤ greatest_moment → IsTree ts → AreFewer b.tokens ts → WaitFewer b.waiting ws
+      → ((t : Text) (y : Token) → get ts t ≡ Some y → IsSoundToken forms t y) → Unspent who ts
+      → Sound forms who (record b { clock = now; tokens = ts; waiting = ws })
+  fewer_sound now ts ws moment is_tree fewer wait each unspent =
+      let c : Broker = record b { clock = now; tokens = ts; waiting = ws } in
+      record {
+        clock = moment;
+        tokens = record { each = each; parents_stand = is_tree.parents_stand; chains_end = is_tree.chains_end };
+        secrets = sound.secrets;
+        waiting = record {
+          each = λ t w e. sound.waiting.each t w (wait t w e);
+          one_origin = λ t u v w e f same. sound.waiting.one_origin t u v w (wait t v e) (wait u w f) same;
+        };
+        mounts = sound.mounts;
+        roles = sound.roles;
+        policies = sound.policies;
+        identifiers = record {
+          used = sound.identifiers.used;
+          one_place = λ p q i e f. sound.identifiers.one_place p q i (fewer_places b c fewer wait p i e) (fewer_places b c fewer wait q i f);
+          all_used = λ p i e. sound.identifiers.all_used p i (fewer_places b c fewer wait p i e);
+          origins_used = λ t w e. sound.identifiers.origins_used t w (wait t w e);
+        };
+        unspent = unspent;
+      }
+
+  pub revoke_sound : (t : Text) → Sound forms who (revoke b t)
   revoke_sound t =
       fewer_sound b.clock (lineage.revoke b.tokens t) b.waiting sound.clock (revoke_tree b.tokens t tree) (revoke_fewer b t) (λ q w e. e)
-      (λ q y e. sound.tokens q y (kept_get (λ q. not (is_under b.tokens q t)) b.tokens q y e).0)
-      (λ q y e. sound.none_spent q y (kept_get (λ q. not (is_under b.tokens q t)) b.tokens q y e).0)
+      (λ q y e. sound.tokens.each q y (kept_get (λ q. not (is_under b.tokens q t)) b.tokens q y e).0)
+      (λ q y e. sound.unspent q y (kept_get (λ q. not (is_under b.tokens q t)) b.tokens q y e).0)
 
   orphaned_sound : (t q : Text) (x : Token) → IsSoundToken forms q x → IsSoundToken forms q (orphaned_by t x)
   orphaned_sound t q x s = record {
@@ -196,11 +204,11 @@ module _ (forms : Forms) (b : Broker) (sound : Sound forms b) where
     leases = s.leases;
   }
 
-  pub revoke_orphan_sound : (t : Text) → Sound forms (revoke_orphan b t)
+  pub revoke_orphan_sound : (t : Text) → Sound forms who (revoke_orphan b t)
   revoke_orphan_sound t =
       fewer_sound b.clock (lineage.revoke_orphan b.tokens t) b.waiting sound.clock (orphan_tree b.tokens t tree) (orphan_fewer b t) (λ q w e. e)
-      (λ q y e. let x = orphaned_is b.tokens t q y e in subst (IsSoundToken forms q) (sym x.2) (orphaned_sound t q x.0 (sound.tokens q x.0 x.1)))
-      (λ q y e zero. let x = orphaned_is b.tokens t q y e in sound.none_spent q x.0 x.1 (ap (λ (z : Token). z.uses_left) (sym x.2) ∙ zero))
+      (λ q y e. let x = orphaned_is b.tokens t q y e in subst (IsSoundToken forms q) (sym x.2) (orphaned_sound t q x.0 (sound.tokens.each q x.0 x.1)))
+      (λ q y e zero. let x = orphaned_is b.tokens t q y e in sound.unspent q x.0 x.1 (ap (λ (z : Token). z.uses_left) (sym x.2) ∙ zero))
 
   live_sound : (now : ℕ) (q : Text) (x : Token) → IsSoundToken forms q x → IsSoundToken forms q (with_live_leases now x)
   live_sound now q x s = record {
@@ -221,11 +229,50 @@ module _ (forms : Forms) (b : Broker) (sound : Sound forms b) where
     leases = λ lease_id l e. s.leases lease_id l (live_less b now x lease_id l e);
   }
 
-  pub at_moment_sound : (moment : ℕ) → moment ≤ greatest_moment → Sound forms (at_moment b moment)
+  pub at_moment_sound : (moment : ℕ) → moment ≤ greatest_moment → Sound forms who (at_moment b moment)
   at_moment_sound moment within =
       let now = max b.clock moment in
       let before : b.clock ≤ greatest_moment = sound.clock in
       let in_time : max b.clock moment ≤ greatest_moment = omega arith in
       fewer_sound now (lineage.alive_at now b.tokens) (keep (still_waits b now) b.waiting) in_time (alive_tree now b.tokens tree) (alive_fewer b now) (wait_fewer b now)
-      (λ q y e. let x = alive_is now b.tokens q y e in subst (IsSoundToken forms q) (sym x.3) (live_sound now q x.0 (sound.tokens q x.0 x.1)))
-      (λ q y e zero. let x = alive_is now b.tokens q y e in sound.none_spent q x.0 x.1 (ap (λ (z : Token). z.uses_left) (sym x.3) ∙ zero))
+      (λ q y e. let x = alive_is now b.tokens q y e in subst (IsSoundToken forms q) (sym x.3) (live_sound now q x.0 (sound.tokens.each q x.0 x.1)))
+      (λ q y e zero. let x = alive_is now b.tokens q y e in sound.unspent q x.0 x.1 (ap (λ (z : Token). z.uses_left) (sym x.3) ∙ zero))
+
+-- ---- a caller that has spent its last use ends
+
+module _ (forms : Forms) where
+  nobody_spent : (who : Option Text) (b : Broker) → Sound forms who b → Unspent None b.tokens → Sound forms None b
+  nobody_spent who b sound unspent = record {
+    clock = sound.clock;
+    tokens = sound.tokens;
+    secrets = sound.secrets;
+    waiting = sound.waiting;
+    mounts = sound.mounts;
+    roles = sound.roles;
+    policies = sound.policies;
+    identifiers = sound.identifiers;
+    unspent = unspent;
+  }
+
+  -- the revoked token does not stand
+  revoked_self : (ts : Tokens) (t : Text) (x : Token) → get (lineage.revoke ts t) t ≡ Some x → ⊥
+  revoked_self ts t x is =
+      let k = kept_get (λ q. not (is_under ts q t)) ts t x is in
+      let under : is_under ts t t ≡ true = under_self ts t (λ none. no_some (sym none ∙ k.0)) in
+      no (sym (ap not under) ∙ k.1)
+
+  pub end_spent_sound : (who : Option Text) (b : Broker) → Sound forms who b → Sound forms None (end_spent b who)
+  end_spent_sound None b sound = sound
+  end_spent_sound (Some c) b sound =
+      elim (option_map_or is_spent (get b.tokens c) false) as (λ v. option_map_or is_spent (get b.tokens c) false ≡ v → Sound forms None (if v then revoke b c else b)) [
+        | true ↦ λ _.
+            let left = revoke_sound forms (Some c) b sound c in
+            nobody_spent (Some c) (revoke b c) left (λ t x is zero.
+                let one : t ≡ c = sym (same_Some c t (left.unspent t x is zero)) in
+                absurd (revoked_self b.tokens c x (subst (λ q. get (lineage.revoke b.tokens c) q ≡ Some x) one is)))
+        | false ↦ λ unspent.
+            nobody_spent (Some c) b sound (λ t x is zero.
+                let one : t ≡ c = sym (same_Some c t (sound.unspent t x is zero)) in
+                let here : get b.tokens c ≡ Some x = subst (λ q. get b.tokens q ≡ Some x) one is in
+                no (sym unspent ∙ ap (λ o. option_map_or is_spent o false) here ∙ ap (λ o. option_map_or (λ n. n == 0) o false) zero))
+      ] refl

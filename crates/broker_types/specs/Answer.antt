@@ -1,9 +1,8 @@
 -- Answers of the broker.
-use Rattle.std.specs.Prelude.{◌≡◌, ◌⊎◌, ◌+◌, ◌≤◌, length}
+use Rattle.std.specs.Prelude.{◌≡◌, ◌+◌, ◌≤◌, length}
 use Rattle.broker_types.specs.Text.{Text}
 use Rattle.broker_types.specs.Refusal.{refusal_status, refusal_methods, refusal_text, errors_body}
 use Rattle.broker_types.specs.declared.status.Status.{Status}
-use Rattle.broker_types.specs.declared.status.Status.TheVariants as status
 use Rattle.broker_types.specs.declared.status.Methods.{Methods}
 use Rattle.broker_types.specs.declared.refusal.Refusal.{Refusal}
 use Rattle.broker_types.specs.declared.answer.Answer.{Answer}
@@ -25,6 +24,6 @@ HasRoom a = length a.text + 1024 ≤ a.room
 abbrev pub refused : Refusal → Response
 refused r = record { status = refusal_status r; methods = refusal_methods r; text = errors_body (refusal_text r) }
 
--- a success, or the answer to a refused request, whose text is then a listed one
-abbrev pub IsListed : Response → Type 0
-IsListed r = ((r.status ≡ status.Success) ⊎ (r.status ≡ status.NoContent)) ⊎ ((why : Refusal) × (r ≡ refused why))
+-- the answer to a refused request, whose text is a listed one
+abbrev pub IsRefused : Response → Type 0
+IsRefused r = (why : Refusal) × (r ≡ refused why)

@@ -1,5 +1,5 @@
 -- Laws of the tree of tokens, of the first broker and of runs, as statements.
-use Rattle.std.specs.Prelude.{◌≡◌, ◌≢◌, ◌<◌, ◌≤◌, ◌^◌, ℕ, [], ◌∷◌, true, false, Some, None}
+use Rattle.std.specs.Prelude.{◌≡◌, ◌≢◌, ◌<◌, ◌≤◌, ◌^◌, ℕ, [], ◌∷◌, true, false, Option, Some, None}
 use Rattle.broker_types.specs.Text.{Text}
 use Rattle.broker_types.specs.Map.{get}
 use Rattle.broker_types.specs.Moment.{greatest_moment}
@@ -8,7 +8,8 @@ use Rattle.broker_types.specs.Lineage.{lineage, is_under, ParentsStand, ChainsEn
 use Rattle.broker_types.specs.Broker as broker
 use Rattle.broker_types.specs.Broker.{Broker}
 use Rattle.broker_types.specs.Evolves.{Evolves, IsSpent, HasEnded, IsTakenOut}
-use Rattle.broker_types.specs.Sound.{Forms, Sound}
+use Rattle.broker_types.specs.Sound.{Forms, SoundIdentifiers, Sound}
+use Rattle.broker_types.specs.Spending.{end_spent}
 use Rattle.broker_types.specs.First.{default_policy, first_broker}
 
 -- ---- lineages
@@ -23,13 +24,17 @@ LineageOfOrphan = (ts : Tokens) (t : Text) (x : Token) → get ts t ≡ Some x �
 
 -- the lineage of another is the token and the lineage of its parent
 abbrev pub LineageOfChild : Type 0
-LineageOfChild = (ts : Tokens) (t p : Text) (x : Token) → ChainsEnd ts → get ts t ≡ Some x → x.parent ≡ Some p → lineage ts t ≡ t ∷ lineage ts p
+LineageOfChild =
+    (ts : Tokens) (t p : Text) (x : Token) → ChainsEnd ts → get ts t ≡ Some x → x.parent ≡ Some p
+    → lineage ts t ≡ t ∷ lineage ts p
 
 abbrev pub StandsUnderItself : Type 0
 StandsUnderItself = (ts : Tokens) (t : Text) → get ts t ≢ None → is_under ts t t ≡ true
 
 abbrev pub UnderIsTransitive : Type 0
-UnderIsTransitive = (ts : Tokens) (t a b : Text) → ChainsEnd ts → is_under ts t a ≡ true → is_under ts a b ≡ true → is_under ts t b ≡ true
+UnderIsTransitive =
+    (ts : Tokens) (t a b : Text) → ChainsEnd ts → is_under ts t a ≡ true → is_under ts a b ≡ true
+    → is_under ts t b ≡ true
 
 -- what is under another stands, and so does the other
 abbrev pub UnderOfStanding : Type 0
@@ -58,11 +63,15 @@ OrphanedIsGone = (ts : Tokens) (t : Text) → get (revoke_orphan ts t) t ≡ Non
 
 -- its children have no parent then
 abbrev pub ChildrenAreOrphans : Type 0
-ChildrenAreOrphans = (ts : Tokens) (t q : Text) (x : Token) → q ≢ t → get ts q ≡ Some x → x.parent ≡ Some t → get (revoke_orphan ts t) q ≡ Some (record x { parent = None })
+ChildrenAreOrphans =
+    (ts : Tokens) (t q : Text) (x : Token) → q ≢ t → get ts q ≡ Some x → x.parent ≡ Some t
+    → get (revoke_orphan ts t) q ≡ Some (record x { parent = None })
 
 -- a token of another parent, or of none, is as it was
 abbrev pub StrangersAreAsBefore : Type 0
-StrangersAreAsBefore = (ts : Tokens) (t q : Text) (x : Token) → q ≢ t → get ts q ≡ Some x → x.parent ≢ Some t → get (revoke_orphan ts t) q ≡ Some x
+StrangersAreAsBefore =
+    (ts : Tokens) (t q : Text) (x : Token) → q ≢ t → get ts q ≡ Some x → x.parent ≢ Some t
+    → get (revoke_orphan ts t) q ≡ Some x
 
 -- and no token is new
 abbrev pub NoneIsNew : Type 0
@@ -72,15 +81,19 @@ NoneIsNew = (ts : Tokens) (t q : Text) → get ts q ≡ None → get (revoke_orp
 
 -- the token and all above it have no end, or one after now
 abbrev pub OutlastsAbove : ℕ → Tokens → Text → Type 0
-OutlastsAbove now ts t = (a : Text) (y : Token) (m : ℕ) → is_under ts t a ≡ true → get ts a ≡ Some y → y.ends ≡ Some m → now < m
+OutlastsAbove now ts t =
+    (a : Text) (y : Token) (m : ℕ) → is_under ts t a ≡ true → get ts a ≡ Some y → y.ends ≡ Some m → now < m
 
 -- what stands outlasts now, as does all above it
 abbrev pub StandingOutlasts : Type 0
-StandingOutlasts = (now : ℕ) (ts : Tokens) (t : Text) → get (alive_at now ts) t ≢ None → OutlastsAbove now ts t
+StandingOutlasts =
+    (now : ℕ) (ts : Tokens) (t : Text) → get (alive_at now ts) t ≢ None → OutlastsAbove now ts t
 
 -- a token that outlasts now, as does all above it, stays, with its leases that do
 abbrev pub OutlastingStands : Type 0
-OutlastingStands = (now : ℕ) (ts : Tokens) (t : Text) (x : Token) → get ts t ≡ Some x → OutlastsAbove now ts t → get (alive_at now ts) t ≡ Some (with_live_leases now x)
+OutlastingStands =
+    (now : ℕ) (ts : Tokens) (t : Text) (x : Token) → get ts t ≡ Some x → OutlastsAbove now ts t
+    → get (alive_at now ts) t ≡ Some (with_live_leases now x)
 
 -- ---- trees stay trees
 
@@ -101,18 +114,30 @@ ExpiryKeepsTrees = (now : ℕ) (ts : Tokens) → IsTree ts → IsTree (alive_at 
 -- ---- the first broker
 
 abbrev pub FirstBrokerIsSound : Type 0
-FirstBrokerIsSound = (forms : Forms) (moment v w : ℕ) → moment ≤ greatest_moment → v < 2 ^ 128 → w < 2 ^ 128 → v ≢ w → forms.is_policy default_policy ≡ true → Sound forms (first_broker moment v w)
+FirstBrokerIsSound =
+    (forms : Forms) (moment v w : ℕ) → moment ≤ greatest_moment → v < 2 ^ 128 → w < 2 ^ 128 → v ≢ w
+    → forms.is_policy default_policy ≡ true → Sound forms None (first_broker moment v w)
 
--- ---- soundness is kept
+-- ---- soundness is kept, whoever may have spent its last use
 
 abbrev pub RevokeKeepsSoundness : Type 0
-RevokeKeepsSoundness = (forms : Forms) (b : Broker) (t : Text) → Sound forms b → Sound forms (broker.revoke b t)
+RevokeKeepsSoundness =
+    (forms : Forms) (who : Option Text) (b : Broker) (t : Text) → Sound forms who b → Sound forms who (broker.revoke b t)
 
 abbrev pub RevokeOrphanKeepsSoundness : Type 0
-RevokeOrphanKeepsSoundness = (forms : Forms) (b : Broker) (t : Text) → Sound forms b → Sound forms (broker.revoke_orphan b t)
+RevokeOrphanKeepsSoundness =
+    (forms : Forms) (who : Option Text) (b : Broker) (t : Text)
+    → Sound forms who b → Sound forms who (broker.revoke_orphan b t)
 
 abbrev pub ExpiryKeepsSoundness : Type 0
-ExpiryKeepsSoundness = (forms : Forms) (b : Broker) (moment : ℕ) → moment ≤ greatest_moment → Sound forms b → Sound forms (broker.at_moment b moment)
+ExpiryKeepsSoundness =
+    (forms : Forms) (who : Option Text) (b : Broker) (moment : ℕ) → moment ≤ greatest_moment
+    → Sound forms who b → Sound forms who (broker.at_moment b moment)
+
+-- where a caller that has spent its last use ends, nobody is left that has
+abbrev pub EndingTheSpentKeepsSoundness : Type 0
+EndingTheSpentKeepsSoundness =
+    (forms : Forms) (who : Option Text) (b : Broker) → Sound forms who b → Sound forms None (end_spent b who)
 
 -- ---- runs
 
@@ -145,15 +170,15 @@ RevokeOrphanEvolves = (b : Broker) (t : Text) → Evolves b (broker.revoke_orpha
 abbrev pub ExpiryEvolves : Type 0
 ExpiryEvolves = (b : Broker) (moment : ℕ) → Evolves b (broker.at_moment b moment)
 
--- a token that stood in a sound broker and was taken out of it has ended
-abbrev pub Ends : Broker → Broker → Type 0
-Ends b c = (q : Text) → get b.tokens q ≢ None → get c.tokens q ≡ None → HasEnded c q
+-- what stood and was taken out has ended, where each identifier has one place and was given out
+abbrev pub EndTokens : Broker → Broker → Type 0
+EndTokens b c = (q : Text) → get b.tokens q ≢ None → get c.tokens q ≡ None → HasEnded c q
 
 abbrev pub RevokeEnds : Type 0
-RevokeEnds = (forms : Forms) (b : Broker) (t : Text) → Sound forms b → Ends b (broker.revoke b t)
+RevokeEnds = (b : Broker) (t : Text) → SoundIdentifiers b → EndTokens b (broker.revoke b t)
 
 abbrev pub RevokeOrphanEnds : Type 0
-RevokeOrphanEnds = (forms : Forms) (b : Broker) (t : Text) → Sound forms b → Ends b (broker.revoke_orphan b t)
+RevokeOrphanEnds = (b : Broker) (t : Text) → SoundIdentifiers b → EndTokens b (broker.revoke_orphan b t)
 
 abbrev pub ExpiryEnds : Type 0
-ExpiryEnds = (forms : Forms) (b : Broker) (moment : ℕ) → Sound forms b → Ends b (broker.at_moment b moment)
+ExpiryEnds = (b : Broker) (moment : ℕ) → SoundIdentifiers b → EndTokens b (broker.at_moment b moment)

@@ -1,9 +1,10 @@
--- Sound brokers: what the start makes true and every request keeps true.
-use Rattle.std.specs.Prelude.{◌≡◌, ◌≢◌, ◌<◌, ◌≤◌, ◌^◌, ◌+◌, ◌++◌, ◌&&◌, ℕ, List, [], ◌∷◌, Bool, true, length, codes, IsUtf8, Some, All}
+-- Sound brokers: what the start makes true and every request keeps true (this project's definition).
+use Rattle.std.specs.Prelude.{◌≡◌, ◌≢◌, ◌<◌, ◌≤◌, ◌^◌, ◌+◌, ◌++◌, ◌&&◌, ℕ, List, [], ◌∷◌, Bool, true, false, length}
+use Rattle.std.specs.Prelude.{codes, IsUtf8, Option, Some, All}
 use Rattle.std.specs.Ordering.{is_lt}
 use Rattle.std.specs.FinMap as fin
 use Rattle.broker_types.specs.Text.{Text, text_cmp}
-use Rattle.broker_types.specs.Map.{get, len}
+use Rattle.broker_types.specs.Map.{Map, get, empty, len}
 use Rattle.broker_types.specs.Identifier.{id}
 use Rattle.broker_types.specs.TokenText.{token_text}
 use Rattle.broker_types.specs.Moment.{greatest_moment}
@@ -11,7 +12,7 @@ use Rattle.broker_types.specs.Duration.{most as longest_duration}
 use Rattle.broker_types.specs.Limits.{longest_ttl, greatest_version}
 use Rattle.broker_types.specs.Name.{is_name, is_mount_name}
 use Rattle.broker_types.specs.Path.{is_path}
-use Rattle.broker_types.specs.Token.{Token, Lease}
+use Rattle.broker_types.specs.Token.{Token, Tokens, Lease}
 use Rattle.broker_types.specs.Secret.{Key, Version}
 use Rattle.broker_types.specs.Lineage.{ParentsStand, ChainsEnd}
 use Rattle.broker_types.specs.Broker.{Broker, Waiting, Mount, Role}
@@ -106,14 +107,6 @@ pub record IsSoundVersion (forms : Forms) (k : Key) (n : ℕ) (v : Version) : Ty
   pub deleted : (m : ℕ) → v.deleted ≡ Some m → IsMoment m
   pub secret : (object : Text) → v.secret ≡ Some object → IsObjectText forms object
 
--- a member of custom metadata
-pub record IsSoundMetadata (name value : Text) : Type 0 where
-  pub name_utf8 : IsUtf8 name
-  pub name_nonempty : 0 < length name
-  pub name_short : length name ≤ 128
-  pub value_utf8 : IsUtf8 value
-  pub value_short : length value ≤ 512
-
 -- the mount, `/` and the path
 pub record IsSecretName (q : Text) : Type 0 where
   pub mount : Text
@@ -122,15 +115,19 @@ pub record IsSecretName (q : Text) : Type 0 where
   pub is_path_text : IsPathText path
   pub parts : q ≡ mount ++ codes "/" ++ path
 
+-- the key has no settings of its own, so far: those of its mount count
+pub record HasNoSettings (k : Key) : Type 0 where
+  pub cas_required : k.cas_required ≡ false
+  pub max_versions : k.max_versions ≡ 0
+  pub custom_metadata : k.custom_metadata ≡ empty
+
 pub record IsSoundKey (forms : Forms) (q : Text) (k : Key) : Type 0 where
   pub name : IsSecretName q
   pub created : IsMoment k.created
   pub updated : IsMoment k.updated
   pub current : k.current ≤ greatest_version
   pub versions : (n : ℕ) (v : Version) → fin.get k.versions n ≡ Some v → IsSoundVersion forms k n v
-  pub max_versions : k.max_versions < 2 ^ 64
-  pub few_metadata : len k.custom_metadata ≤ 64
-  pub metadata : (name value : Text) → get k.custom_metadata name ≡ Some value → IsSoundMetadata name value
+  pub no_settings : HasNoSettings k
 
 pub record IsSoundWaiting (t : Text) (w : Waiting) : Type 0 where
   pub name : IsTokenText t
@@ -164,23 +161,53 @@ pub record IsSoundPolicy (forms : Forms) (name text : Text) : Type 0 where
   pub policy : forms.is_policy text ≡ true
   pub short : IsShortText text
 
--- ---- the broker
+-- ---- the parts of a broker
 
-pub record Sound (forms : Forms) (b : Broker) : Type 0 where
-  pub clock : IsMoment b.clock
+-- each token is sound, its parent is a token, and every chain of parents ends
+pub record SoundTokens (forms : Forms) (ts : Tokens) : Type 0 where
+  pub each : (t : Text) (x : Token) → get ts t ≡ Some x → IsSoundToken forms t x
+  pub parents_stand : ParentsStand ts
+  pub chains_end : ChainsEnd ts
+
+abbrev pub SoundSecrets : Forms → Map Key → Type 0
+SoundSecrets forms keys = (q : Text) (k : Key) → get keys q ≡ Some k → IsSoundKey forms q k
+
+-- each response that waits is sound, and no two have one origin
+pub record SoundWaiting (ws : Map Waiting) : Type 0 where
+  pub each : (t : Text) (w : Waiting) → get ws t ≡ Some w → IsSoundWaiting t w
+  pub one_origin : (t u : Text) (v w : Waiting) → get ws t ≡ Some v → get ws u ≡ Some w → v.origin ≡ w.origin → t ≡ u
+
+abbrev pub SoundMounts : Map Mount → Type 0
+SoundMounts ms = (name : Text) (m : Mount) → get ms name ≡ Some m → IsSoundMount name m
+
+abbrev pub SoundRoles : Map Role → Type 0
+SoundRoles rs = (q : Text) (r : Role) → get rs q ≡ Some r → IsSoundRole q r
+
+abbrev pub SoundPolicies : Forms → Map Text → Type 0
+SoundPolicies forms ps = (name text : Text) → get ps name ≡ Some text → IsSoundPolicy forms name text
+
+-- Each identifier stands in one place, and those that stand, and the origins of what waits, were given out.
+pub record SoundIdentifiers (b : Broker) : Type 0 where
   pub used : (i : Text) → IsUsed b i → IsIdentifier i
-  pub tokens : (t : Text) (x : Token) → get b.tokens t ≡ Some x → IsSoundToken forms t x
-  pub secrets : (q : Text) (k : Key) → get b.secrets q ≡ Some k → IsSoundKey forms q k
-  pub waiting : (t : Text) (w : Waiting) → get b.waiting t ≡ Some w → IsSoundWaiting t w
-  pub mounts : (name : Text) (m : Mount) → get b.mounts name ≡ Some m → IsSoundMount name m
-  pub roles : (q : Text) (r : Role) → get b.roles q ≡ Some r → IsSoundRole q r
-  pub policies : (name text : Text) → get b.policies name ≡ Some text → IsSoundPolicy forms name text
-  -- between two requests no token has spent its last use
-  pub none_spent : (t : Text) (x : Token) → get b.tokens t ≡ Some x → x.uses_left ≢ Some 0
-  pub parents_stand : ParentsStand b.tokens
-  pub chains_end : ChainsEnd b.tokens
   pub one_place : OnePlaceEach b
   pub all_used : AllUsed b
   pub origins_used : (t : Text) (w : Waiting) → get b.waiting t ≡ Some w → IsUsed b w.origin
-  -- no two waiting responses have one origin
-  pub one_origin : (t u : Text) (v w : Waiting) → get b.waiting t ≡ Some v → get b.waiting u ≡ Some w → v.origin ≡ w.origin → t ≡ u
+
+-- no token has spent its last use, but who may have
+abbrev pub Unspent : Option Text → Tokens → Type 0
+Unspent who ts = (t : Text) (x : Token) → get ts t ≡ Some x → x.uses_left ≡ Some 0 → who ≡ Some t
+
+-- ---- the broker
+
+-- The broker is sound, but for the caller who may have spent its last use: between two requests nobody has, and who
+-- is none.
+pub record Sound (forms : Forms) (who : Option Text) (b : Broker) : Type 0 where
+  pub clock : IsMoment b.clock
+  pub tokens : SoundTokens forms b.tokens
+  pub secrets : SoundSecrets forms b.secrets
+  pub waiting : SoundWaiting b.waiting
+  pub mounts : SoundMounts b.mounts
+  pub roles : SoundRoles b.roles
+  pub policies : SoundPolicies forms b.policies
+  pub identifiers : SoundIdentifiers b
+  pub unspent : Unspent who b.tokens

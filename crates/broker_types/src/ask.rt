@@ -33,7 +33,7 @@ pub struct Ask<'b> {
     /// How long the reply is to be kept for unwrapping, in seconds; 0 if it is not to be wrapped.
     pub wrap_ttl: WrapTtl,
     /// The body, as it came.
-    pub body: Body<'b>,
+    pub body: BodyBytes<'b>,
 }
 
 /// How long a reply is kept for unwrapping (Vault's documentation, "Response wrapping"): at most
@@ -77,11 +77,11 @@ impl WrapTtl {
 
 /// The body of a request: at most 1,048,576 bytes, borrowed where they can be.
 #[derive(Drop)]
-pub struct Body<'b> {
+pub struct BodyBytes<'b> {
     bytes: CowSlice<'b, u8>,
 }
 
-impl<'b> Model for Body<'b> {
+impl<'b> Model for BodyBytes<'b> {
     ghost use Rattle.std.specs.Prelude.{ℕ, List, ◌≤◌, length};
     ghost use Rattle.std.specs.Cow.{cow_slice_items};
     ghost use Rattle.broker_types.specs.Limits.{longest_body};
@@ -93,13 +93,13 @@ impl<'b> Model for Body<'b> {
     ghost invariant = { λ b. length (cow_slice_items b.bytes) ≤ longest_body };
 }
 
-impl<'b> Body<'b> {
+impl<'b> BodyBytes<'b> {
     /// The body of these bytes; none if they are too many.
-    pub fn new(bytes: CowSlice<'b, u8>) -> Option<Body<'b>>
+    pub fn new(bytes: CowSlice<'b, u8>) -> Option<BodyBytes<'b>>
         ensures { SomeIff result (length (cow_slice_items bytes.entry) ≤ longest_body) (cow_slice_items bytes.entry) }
     {
         if bytes.as_slice().len() <= 1_048_576 {
-            Some(Body { bytes })
+            Some(BodyBytes { bytes })
         } else {
             None
         }

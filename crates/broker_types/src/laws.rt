@@ -1,11 +1,18 @@
 //! Laws of the definitions, each the contract of a function that does nothing.
 
-ghost use Rattle.broker_types.specs.Laws.{UnknownHasNoLineage, LineageOfOrphan, LineageOfChild, StandsUnderItself, UnderIsTransitive, UnderOfStanding};
-ghost use Rattle.broker_types.specs.Laws.{RevokedUnknown, RevokedIsGone, OthersAreAsBefore, OrphanedByUnknown, OrphanedIsGone, ChildrenAreOrphans, StrangersAreAsBefore, NoneIsNew};
-ghost use Rattle.broker_types.specs.Laws.{StandingOutlasts, OutlastingStands, RevokeKeepsTrees, RevokeOrphanKeepsTrees, ExpiryKeepsTrees};
-ghost use Rattle.broker_types.specs.Laws.{FirstBrokerIsSound, RevokeKeepsSoundness, RevokeOrphanKeepsSoundness, ExpiryKeepsSoundness};
-ghost use Rattle.broker_types.specs.Laws.{RevokeEvolves, RevokeOrphanEvolves, ExpiryEvolves, RevokeEnds, RevokeOrphanEnds, ExpiryEnds};
-ghost use Rattle.broker_types.specs.Laws.{EvolvesFromItself, EvolvingIsTransitive, SpentStaysSpent, EndedStaysEnded, TakenOutStaysOut};
+ghost use Rattle.broker_types.specs.Laws.{UnknownHasNoLineage, LineageOfOrphan, LineageOfChild};
+ghost use Rattle.broker_types.specs.Laws.{StandsUnderItself, UnderIsTransitive, UnderOfStanding};
+ghost use Rattle.broker_types.specs.Laws.{RevokedUnknown, RevokedIsGone, OthersAreAsBefore};
+ghost use Rattle.broker_types.specs.Laws.{OrphanedByUnknown, OrphanedIsGone, ChildrenAreOrphans};
+ghost use Rattle.broker_types.specs.Laws.{StrangersAreAsBefore, NoneIsNew};
+ghost use Rattle.broker_types.specs.Laws.{StandingOutlasts, OutlastingStands};
+ghost use Rattle.broker_types.specs.Laws.{RevokeKeepsTrees, RevokeOrphanKeepsTrees, ExpiryKeepsTrees};
+ghost use Rattle.broker_types.specs.Laws.{FirstBrokerIsSound, EndingTheSpentKeepsSoundness};
+ghost use Rattle.broker_types.specs.Laws.{RevokeKeepsSoundness, RevokeOrphanKeepsSoundness, ExpiryKeepsSoundness};
+ghost use Rattle.broker_types.specs.Laws.{RevokeEvolves, RevokeOrphanEvolves, ExpiryEvolves};
+ghost use Rattle.broker_types.specs.Laws.{RevokeEnds, RevokeOrphanEnds, ExpiryEnds};
+ghost use Rattle.broker_types.specs.Laws.{EvolvesFromItself, EvolvingIsTransitive};
+ghost use Rattle.broker_types.specs.Laws.{SpentStaysSpent, EndedStaysEnded, TakenOutStaysOut};
 
 /// A law: the lineage of a token is the token and the lineage of its parent; so a token stands under
 /// itself, and under is transitive (Vault's documentation, "Tokens", token hierarchies).
@@ -52,11 +59,17 @@ pub fn first_broker_is_sound()
     ensures { FirstBrokerIsSound }
 {}
 
-/// A law: revocation and expiry leave a sound broker sound.
+/// A law: revocation and expiry leave a sound broker sound, whoever may have spent its last use.
 pub fn removals_keep_soundness()
     ensures revoked { RevokeKeepsSoundness }
     ensures revoked_alone { RevokeOrphanKeepsSoundness }
     ensures expired { ExpiryKeepsSoundness }
+{}
+
+/// A law: where a caller that has spent its last use ends with its descendants, the broker is sound, and
+/// nobody is left that has spent its last use (Vault's documentation, "Tokens", use limits).
+pub fn ending_the_spent_keeps_soundness()
+    ensures { EndingTheSpentKeepsSoundness }
 {}
 
 /// A law: revocation and expiry let a broker evolve.
@@ -66,7 +79,8 @@ pub fn removals_evolve()
     ensures expired { ExpiryEvolves }
 {}
 
-/// A law: a token that revocation or expiry takes out of a sound broker has ended.
+/// A law: a token that revocation or expiry takes out has ended, where each identifier has one place and
+/// was given out.
 pub fn removals_end_tokens()
     ensures revoked { RevokeEnds }
     ensures revoked_alone { RevokeOrphanEnds }

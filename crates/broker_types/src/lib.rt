@@ -11,6 +11,7 @@ mod moment;
 mod path;
 mod refusal;
 mod reply;
+mod request_error;
 mod seconds;
 mod status;
 #[cfg(test)]
@@ -21,12 +22,12 @@ mod token;
 mod words;
 
 pub use answer::{Answer, Room, errors_body};
-pub use ask::{Ask, Body, Verb, WrapTtl};
+pub use ask::{Ask, BodyBytes, Verb, WrapTtl};
 pub use duration::read_duration;
 pub use fault::Fault;
 pub use identifier::{id_bytes, id_text, identifiers_differ};
 pub use laws::{
-    evolving_lasts, expiry_ends_descendants, first_broker_is_sound, lineages_climb,
+    ending_the_spent_keeps_soundness, evolving_lasts, expiry_ends_descendants, first_broker_is_sound, lineages_climb,
     removals_end_tokens, removals_evolve, removals_keep_soundness, revocation_ends_descendants,
     revocation_orphans_children,
 };
@@ -34,6 +35,7 @@ pub use moment::Moment;
 pub use path::Path;
 pub use refusal::{Denial, Field, Reason, Refusal, cutting_text};
 pub use reply::Reply;
+pub use request_error::RequestError;
 pub use seconds::Seconds;
 pub use status::{Methods, Status};
 pub use text::{Bytes, CowBytes, CowText, TextBuf};

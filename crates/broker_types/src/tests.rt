@@ -80,14 +80,14 @@ fn wrap_ttls(rt: HostRuntime) {
 #[test]
 fn bodies(rt: HostRuntime) -> Result<(), Fail> {
     let alloc = rt.alloc();
-    match Body::new(CowSlice::Borrowed(b"{}".as_slice())) {
+    match BodyBytes::new(CowSlice::Borrowed(b"{}".as_slice())) {
         Some(body) => assert!(rt; body.as_slice() == b"{}".as_slice()),
         None => assert!(rt; false, "a short body is refused"),
     }
     let longest = vec![in alloc; b' '; 1_048_576]?;
-    assert!(rt; Body::new(CowSlice::Borrowed(longest.as_slice())).is_some());
+    assert!(rt; BodyBytes::new(CowSlice::Borrowed(longest.as_slice())).is_some());
     let longer = vec![in alloc; b' '; 1_048_577]?;
-    assert!(rt; Body::new(CowSlice::Borrowed(longer.as_slice())).is_none());
+    assert!(rt; BodyBytes::new(CowSlice::Borrowed(longer.as_slice())).is_none());
     Ok(())
 }
 

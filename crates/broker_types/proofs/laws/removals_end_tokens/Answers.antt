@@ -2,10 +2,10 @@ use Rattle.broker_types.proofs.Removals.{revoke_ends, revoke_orphan_ends, at_mom
 use Rattle.broker_types.proofs.laws.removals_end_tokens.Goals as goal
 
 pub returns-clause-revoked : goal.returns-clause-revoked
-returns-clause-revoked c = λ forms b t sound. revoke_ends forms b sound t
+returns-clause-revoked c = λ b t sound. revoke_ends b sound t
 
 pub returns-clause-revoked_alone : goal.returns-clause-revoked_alone
-returns-clause-revoked_alone c = λ forms b t sound. revoke_orphan_ends forms b sound t
+returns-clause-revoked_alone c = λ b t sound. revoke_orphan_ends b sound t
 
 pub returns-clause-expired : goal.returns-clause-expired
-returns-clause-expired c = λ forms b moment sound. at_moment_ends forms b sound moment
+returns-clause-expired c = λ b moment sound. at_moment_ends b sound moment
