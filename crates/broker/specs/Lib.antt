@@ -8,8 +8,8 @@ pub mod Forms
 pub mod Json
 pub mod Kept
 pub mod Laws
+pub mod Listed
 pub mod Order
-pub mod Refuse
 pub mod Reply
 pub mod Request
 pub mod Serving
