@@ -12,6 +12,7 @@ pub mod Listed
 pub mod Order
 pub mod Reply
 pub mod Request
+pub mod Safely
 pub mod Serving
 pub mod Standing
 pub mod Step
