@@ -3,11 +3,13 @@ use Rattle.std.specs.Prelude.{◌≡◌, ◌≢◌, ◌<◌, ◌≤◌, ◌^◌,
 use Rattle.std.specs.List.{list_all}
 use Rattle.std.specs.Option.{option_map_or}
 use Rattle.std.specs.FinMap.{get-empty, len-empty}
-use Rattle.std.proofs.Common.{refl, sym, ◌∙◌, ap, subst, inl, inr, arith, lit<}
-use Rattle.std.proofs.lemmas.Bool.Decides.{nat_tests}
+use Rattle.std.proofs.Common.{refl, sym, ◌∙◌, ap, subst, inl, inr, lit<}
 use Rattle.std.proofs.lemmas.List.Elements.{All-cons, All-nil}
 use Rattle.std.proofs.lemmas.Str.{IsUtf8-from_ascii}
 use Rattle.std.proofs.lemmas.Str.Ascii.{IsAscii-from_all}
+use Rattle.std.proofs.lemmas.Bool.{ltb-true, false≢true}
+use Rattle.std.specs.Prelude.{◌==◌}
+use Rattle.std.proofs.Common.{zero-le}
 use Rattle.broker_types.specs.Text.{Text, text_cmp, same}
 use Rattle.broker_types.specs.Map.{Map, get, put, empty, len}
 use Rattle.broker_types.specs.Identifier.{id}
@@ -51,14 +53,14 @@ abbrev is_below : ℕ → Bool
 is_below b = nat_lt b 128
 
 small : (b : ℕ) → is_below b ≡ true → b < 128
-small b h = grind (arith, nat_tests)
+small b h = ltb-true b 128 h
 
 all_small : (t : Text) → list_all is_below t ≡ true → All (λ b. b < 128) t
 all_small [] h = All-nil (λ b. b < 128)
 all_small (b ∷ bs) h =
     elim (is_below b) as (λ v. is_below b ≡ v → (v && list_all is_below bs) ≡ true → All (λ b. b < 128) (b ∷ bs)) [
       | true ↦ λ e g. All-cons (λ b. b < 128) b bs (small b e) (all_small bs g)
-      | false ↦ λ _ g. absurd (cc)
+      | false ↦ λ _ g. absurd (false≢true g)
     ] refl h
 
 ascii : (t : Text) → list_all is_below t ≡ true → IsUtf8 t
@@ -73,7 +75,7 @@ unfolding same
 secret_sound = record { mount_name = refl; max_versions = lit< tt }
 
 not_root : codes "default" ≡ codes "root" → ⊥
-not_root e = let long : length (codes "default") ≡ length (codes "root") = ap length e in absurd (omega arith)
+not_root e = false≢true (ap (λ (t : Text). length t == 4) e)
 
 -- ---- the root token
 
@@ -93,9 +95,9 @@ module _ (forms : Forms) (moment v w : ℕ) (now : moment ≤ greatest_moment) (
     few_policies = lit< tt;
     issued = now;
     ends = λ m e. absurd (none-some _ e);
-    ttl = omega arith;
-    explicit_max_ttl = omega arith;
-    period = omega arith;
+    ttl = zero-le;
+    explicit_max_ttl = zero-le;
+    period = zero-le;
     uses_left = λ n e. absurd (none-some _ e);
     few_meta = subst (λ n. n < 2 ^ 32) (sym (len-empty text_cmp Text)) (lit< tt);
     meta = λ name value e. absurd (no_entry name value e);

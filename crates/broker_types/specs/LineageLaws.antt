@@ -2,10 +2,12 @@
 use Rattle.std.specs.Prelude.{◌≡◌, ◌≢◌, ℕ, zero, suc, List, [], ◌∷◌, true, false, not, cond, ◌||◌, Option, Some, None, is_none, length, ◌≤◌, IsSome}
 use Rattle.std.specs.List.{list_any, IsDistinct, AllByRecursion}
 use Rattle.std.specs.Option.{option_map_or}
-use Rattle.std.proofs.Common.{refl, sym, ◌∙◌, ap, subst, arith}
+use Rattle.std.proofs.Common.{refl, sym, ◌∙◌, ap, subst}
 use Rattle.std.specs.Map.{lookup}
 use Rattle.std.specs.FinMap.{len-entries}
 use Rattle.std.proofs.lemmas.Map.Steps.{length-le_from_keys}
+use Rattle.std.proofs.Math.Nat.{le_refl, le_trans, le-suc, not-suc-le_self, not-suc-le-zero, le_of_suc-le-suc}
+use Rattle.std.proofs.lemmas.Option.{none-some}
 use Rattle.broker_types.specs.Text.{Text, same}
 use Rattle.broker_types.specs.Map.{get, len, entries}
 use Rattle.broker_types.specs.Token.{Token, Tokens}
@@ -42,7 +44,7 @@ stands_in_climb (suc n) ts t a h =
     elim (get ts t) as (λ o. get ts t ≡ o → list_any (same a) (option_map_or (λ (x : Token). t ∷ option_map_or (climb n ts) x.parent []) o []) ≡ true → get ts a ≢ None) [
       | None ↦ λ _ e. absurd (false≢true e)
       | Some x ↦ λ is. elim (same a t) as (λ b. same a t ≡ b → (b || list_any (same a) (option_map_or (climb n ts) x.parent [])) ≡ true → get ts a ≢ None) [
-        | true ↦ λ s _ none. let e : a ≡ t = same_true a t s in cc
+        | true ↦ λ s _ none. none-some x (sym none ∙ ap (get ts) (same_true a t s) ∙ is)
         | false ↦ λ s. elim (x.parent) as (λ p. list_any (same a) (option_map_or (climb n ts) p []) ≡ true → get ts a ≢ None) [
           | None ↦ λ e. absurd (false≢true e)
           | Some p ↦ λ e. stands_in_climb n ts p a e
@@ -75,12 +77,12 @@ part_of zero ts q a h u = absurd (false≢true u)
 part_of (suc n) ts q a h u =
     elim (same a q) as (λ b. same a q ≡ b → (m : ℕ) × (ends_within m ts a ≡ true) × (length (climb m ts a) ≤ length (climb (suc n) ts q))) [
       | true ↦ λ s. let e : q ≡ a = sym (same_true a q s) in
-          (suc n, subst (λ z. ends_within (suc n) ts z ≡ true) e h, subst (λ z. length (climb (suc n) ts z) ≤ length (climb (suc n) ts q)) e (omega arith))
+          (suc n, subst (λ z. ends_within (suc n) ts z ≡ true) e h, subst (λ z. length (climb (suc n) ts z) ≤ length (climb (suc n) ts q)) e (le_refl _))
       | false ↦ λ s. elim (get ts q) as (λ o. option_map_or (λ (x : Token). option_map_or (ends_within n ts) x.parent true) o true ≡ true → list_any (same a) (option_map_or (λ (x : Token). q ∷ option_map_or (climb n ts) x.parent []) o []) ≡ true → (m : ℕ) × (ends_within m ts a ≡ true) × (length (climb m ts a) ≤ length (option_map_or (λ (x : Token). q ∷ option_map_or (climb n ts) x.parent []) o []))) [
         | None ↦ λ _ e. absurd (false≢true e)
         | Some x ↦ λ f e. elim (x.parent) as (λ p. option_map_or (ends_within n ts) p true ≡ true → list_any (same a) (option_map_or (climb n ts) p []) ≡ true → (m : ℕ) × (ends_within m ts a ≡ true) × (length (climb m ts a) ≤ suc (length (option_map_or (climb n ts) p [])))) [
           | None ↦ λ _ z. absurd (false≢true z)
-          | Some p ↦ λ g z. let r = part_of n ts p a g z in (r.0, r.1, let h : length (climb r.0 ts a) ≤ length (climb n ts p) = r.2 in omega (arith, h))
+          | Some p ↦ λ g z. let r = part_of n ts p a g z in (r.0, r.1, le_trans r.2 (le-suc _))
         ] f (subst (λ b. (b || list_any (same a) (option_map_or (climb n ts) x.parent [])) ≡ true) s e)
       ] h u
     ] refl
@@ -109,7 +111,7 @@ climb_distinct (suc n) ts q h =
               let one : climb (suc n) ts q ≡ climb r.0 ts q = climb_enough (suc n) r.0 ts q h r.1 in
               let whole : climb (suc n) ts q ≡ q ∷ climb n ts p = ap (λ o. option_map_or (λ (y : Token). q ∷ option_map_or (climb n ts) y.parent []) o []) is ∙ ap (λ o. q ∷ option_map_or (climb n ts) o []) ip in
               let long : length (climb r.0 ts q) ≡ suc (length (climb n ts p)) = ap length (sym one ∙ whole) in
-              absurd (omega (arith, long, len_part)))),
+              not-suc-le_self _ (subst (λ k. k ≤ length (climb n ts p)) long len_part))),
           climb_distinct n ts p g,
         )
       ] refl
@@ -133,13 +135,13 @@ ends_more : (n m : ℕ) (ts : Tokens) (q : Text) → n ≤ m → ends_within n t
 ends_more zero zero ts q le h = h
 ends_more zero (suc m) ts q le h =
     elim (get ts q) as (λ o. is_none o ≡ true → option_map_or (λ (x : Token). option_map_or (ends_within m ts) x.parent true) o true ≡ true) [ None ↦ λ _. refl | Some x ↦ λ e. absurd (false≢true e) ] h
-ends_more (suc n) zero ts q le h = absurd (omega arith)
+ends_more (suc n) zero ts q le h = absurd (not-suc-le-zero le)
 ends_more (suc n) (suc m) ts q le h =
     elim (get ts q) as (λ o. option_map_or (λ (x : Token). option_map_or (ends_within n ts) x.parent true) o true ≡ true → option_map_or (λ (x : Token). option_map_or (ends_within m ts) x.parent true) o true ≡ true) [
       | None ↦ λ _. refl
       | Some x ↦ elim (x.parent) as (λ p. option_map_or (ends_within n ts) p true ≡ true → option_map_or (ends_within m ts) p true ≡ true) [
         | None ↦ λ _. refl
-        | Some p ↦ λ g. ends_more n m ts p (omega arith) g
+        | Some p ↦ λ g. ends_more n m ts p (le_of_suc-le-suc le) g
       ]
     ] h
 

@@ -1,8 +1,9 @@
 -- What goes leaves a sound broker sound.
 use Rattle.std.specs.Prelude.{◌≡◌, ◌≢◌, ◌≤◌, ◌==◌, ℕ, if◌then◌else◌, max, Bool, nat_lt, true, false, not, Option, Some, None, option_map, option_and_then}
 use Rattle.std.specs.Option.{option_map_or}
-use Rattle.std.proofs.Common.{refl, sym, ◌∙◌, ap, subst, inl, inr, arith}
+use Rattle.std.proofs.Common.{refl, sym, ◌∙◌, ap, subst, inl, inr}
 use Rattle.std.proofs.lemmas.Option.{same_Some}
+use Rattle.std.proofs.Math.Nat.{max-le}
 use Rattle.broker_types.specs.Text.{Text}
 use Rattle.broker_types.specs.Map.{Map, get, keep}
 use Rattle.broker_types.specs.Moment.{greatest_moment}
@@ -118,6 +119,10 @@ module _ (b : Broker) where
 
 -- ---- what has ended
 
+abbrev is_wrapping : Place → Bool
+is_wrapping (wrapping_token t) = true
+is_wrapping _ = false
+
 module _ (b : Broker) (sound : SoundIdentifiers b) where
   -- a token that is gone has ended
   fewer_ended : (now : ℕ) (ts : Tokens) (ws : Map Waiting) (q : Text) → WaitFewer b.waiting ws → get b.tokens q ≢ None → get ts q ≡ None → HasEnded (record b { clock = now; tokens = ts; waiting = ws }) q
@@ -133,7 +138,7 @@ module _ (b : Broker) (sound : SoundIdentifiers b) where
             | inr w ↦
                 let there : identifier_at b (wrapping_token q) ≡ Some (token_identifier q) = ap (option_map (λ _. token_identifier q)) (wait q w.0 w.1) in
                 let one : token q ≡ wrapping_token q = sound.one_place (token q) (wrapping_token q) (token_identifier q) here there in
-                absurd (cc)
+                absurd (false≢true (ap is_wrapping one))
           ];
         }
   ]
@@ -234,8 +239,7 @@ module _ (forms : Forms) (who : Option Text) (b : Broker) (sound : Sound forms w
   pub at_moment_sound : (moment : ℕ) → moment ≤ greatest_moment → Sound forms who (at_moment b moment)
   at_moment_sound moment within =
       let now = max b.clock moment in
-      let before : b.clock ≤ greatest_moment = sound.clock in
-      let in_time : max b.clock moment ≤ greatest_moment = omega arith in
+      let in_time : max b.clock moment ≤ greatest_moment = max-le sound.clock within in
       fewer_sound now (lineage.alive_at now b.tokens) (keep (still_waits b now) b.waiting) in_time (alive_tree now b.tokens tree) (alive_fewer b now) (wait_fewer b now)
       (λ q y e. let x = alive_is now b.tokens q y e in subst (IsSoundToken forms q) (sym x.3) (live_sound now q x.0 (sound.tokens.each q x.0 x.1)))
       (λ q y e zero. let x = alive_is now b.tokens q y e in sound.unspent q x.0 x.1 (ap (λ (z : Token). z.uses_left) (sym x.3) ∙ zero))

@@ -4,8 +4,8 @@ use Rattle.std.specs.List.{list_any, list_all}
 use Rattle.std.specs.Map.{lookup}
 use Rattle.std.specs.FinMap.{len-entries}
 use Rattle.std.specs.Option.{option_map_or}
-use Rattle.std.proofs.Common.{refl, sym, ◌∙◌, ap, subst, inl, inr, arith}
-use Rattle.std.proofs.lemmas.Bool.Decides.{nat_tests}
+use Rattle.std.proofs.Common.{refl, sym, ◌∙◌, ap, subst, inl, inr}
+use Rattle.std.proofs.lemmas.Bool.{ltb-true, lt-ltb}
 use Rattle.broker_types.specs.Text.{Text, same}
 use Rattle.broker_types.specs.Map.{get, len, entries}
 use Rattle.broker_types.specs.Token.{Token, Tokens}
@@ -218,10 +218,10 @@ abbrev outlasts_end : ℕ → Tokens → Text → Bool
 outlasts_end now ts a = outlasts now (option_and_then (λ (x : Token). x.ends) (get ts a))
 
 later : (now m : ℕ) → nat_lt now m ≡ true → now < m
-later now m h = grind (arith, nat_tests)
+later now m h = ltb-true now m h
 
 is_later : (now m : ℕ) → now < m → nat_lt now m ≡ true
-is_later now m h = grind (arith, nat_tests)
+is_later now m h = lt-ltb now m h
 
 pub standing_outlasts : (now : ℕ) (ts : Tokens) (t : Text) → get (alive_at now ts) t ≢ None → OutlastsAbove now ts t
 standing_outlasts now ts t ne a y m u is ends = elim (found_or_not (get (alive_at now ts) t)) [
