@@ -258,7 +258,7 @@ clock_moves_on = refl
 clock_stays : (at_moment broker 99).clock ≡ 100
 clock_stays = refl
 
--- ---- where identifiers stand
+-- ---- where identifiers are
 
 of_token : token_identifier wrapping ≡ codes "00000000-0000-0000-0000-000000000025"
 of_token = refl

@@ -10,7 +10,7 @@ use Rattle.std.proofs.lemmas.List.Sums.{sum_by-cons}
 use Rattle.std.proofs.lemmas.List.Elements.{All-nil, All-cons, All-head, All-tail}
 use Rattle.std.proofs.lemmas.Str.{digit_value_digit}
 use Rattle.std.proofs.lemmas.Str.Parse.{digit_from_value}
-use Rattle.broker_types.specs.Duration.{unit_of, group_end, groups, with_unit, at_most, most, duration_of, TimeUnit, hours, minutes, seconds, unit_byte, unit_seconds, Group, IsGroup, group_text, group_seconds, IsCount, IsSum, IsDuration}
+use Rattle.broker_types.specs.Duration.{unit_of, group_end, groups, with_unit, at_most, longest_duration, duration_of, TimeUnit, hours, minutes, seconds, unit_byte, unit_seconds, Group, IsGroup, group_text, group_seconds, IsCount, IsSum, IsDuration}
 use Rattle.broker_types.proofs.Groups.{in_range}
 use Rattle.std.proofs.lemmas.Bool.{false≢true}
 use Rattle.std.proofs.lemmas.Option.{none-some, same_Some}
@@ -197,7 +197,7 @@ reads (c ∷ cs) sum begun n e =
 
 -- ---- durations
 
-at_most_is : (o : Option ℕ) (n : ℕ) → at_most o ≡ Some n → (o ≡ Some n) × (n ≤ most)
+at_most_is : (o : Option ℕ) (n : ℕ) → at_most o ≡ Some n → (o ≡ Some n) × (n ≤ longest_duration)
 at_most_is None n e = absurd (none-some _ e)
 at_most_is (Some m) n e =
     elim (nat_le m 4294967295) as (λ b. nat_le m 4294967295 ≡ b → cond b (Some m) None ≡ Some n → (Some m ≡ Some n) × (n ≤ 4294967295)) [

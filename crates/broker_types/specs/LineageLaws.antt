@@ -37,17 +37,17 @@ climb_enough (suc n) (suc m) ts t h k =
       ] e f)
     ] h k
 
--- each token of a lineage stands
-pub stands_in_climb : (n : ℕ) (ts : Tokens) (t a : Text) → list_any (same a) (climb n ts t) ≡ true → get ts a ≢ None
-stands_in_climb zero ts t a h = absurd (false≢true h)
-stands_in_climb (suc n) ts t a h =
+-- each member of a lineage is a token
+pub in_climb : (n : ℕ) (ts : Tokens) (t a : Text) → list_any (same a) (climb n ts t) ≡ true → get ts a ≢ None
+in_climb zero ts t a h = absurd (false≢true h)
+in_climb (suc n) ts t a h =
     elim (get ts t) as (λ o. get ts t ≡ o → list_any (same a) (option_map_or (λ (x : Token). t ∷ option_map_or (climb n ts) x.parent []) o []) ≡ true → get ts a ≢ None) [
       | None ↦ λ _ e. absurd (false≢true e)
       | Some x ↦ λ is. elim (same a t) as (λ b. same a t ≡ b → (b || list_any (same a) (option_map_or (climb n ts) x.parent [])) ≡ true → get ts a ≢ None) [
         | true ↦ λ s _ none. none-some x (sym none ∙ ap (get ts) (same_true a t s) ∙ is)
         | false ↦ λ s. elim (x.parent) as (λ p. list_any (same a) (option_map_or (climb n ts) p []) ≡ true → get ts a ≢ None) [
           | None ↦ λ e. absurd (false≢true e)
-          | Some p ↦ λ e. stands_in_climb n ts p a e
+          | Some p ↦ λ e. in_climb n ts p a e
         ]
       ] refl
     ] refl h
@@ -95,7 +95,7 @@ all_apart q (x ∷ xs) e =
       | false ↦ λ s z. (s, all_apart q xs z)
     ] refl e
 
--- no token stands twice in a chain that ends
+-- no token is twice in a chain that ends
 pub climb_distinct : (n : ℕ) (ts : Tokens) (q : Text) → ends_within n ts q ≡ true → IsDistinct same (climb n ts q)
 unfolding IsDistinct
 climb_distinct zero ts q h = tt
@@ -150,7 +150,7 @@ pub ends_in_time : (ts : Tokens) (q : Text) (n : ℕ) → ends_within n ts q ≡
 ends_in_time ts q n h =
     ends_more _ (len ts) ts q
     (subst (λ z. length (climb n ts q) ≤ z) (sym (len-entries ts))
-    (length-le_from_keys same_equiv (climb n ts q) (entries ts) (climb_distinct n ts q h) (λ a u. found a (stands_in_climb n ts q a u))))
+    (length-le_from_keys same_equiv (climb n ts q) (entries ts) (climb_distinct n ts q h) (λ a u. found a (in_climb n ts q a u))))
     (ends_own n ts q h)
   where
     some_of : {X : Type 0} (o : Option X) → (o ≢ None) → IsSome o
@@ -174,4 +174,4 @@ revoke_under ts t q h = get-revoke ts t q ∙ ap (λ b. cond (not b) (get ts q) 
 
 -- to revoke an unknown token changes nothing
 pub revoke_unknown : (ts : Tokens) (t : Text) → get ts t ≡ None → revoke ts t ≡ ts
-revoke_unknown ts t none = same_map (revoke ts t) ts (λ q. revoke_other ts t q (false_from_ne_true _ (λ e. stands_in_climb (len ts) ts q t e none)))
+revoke_unknown ts t none = same_map (revoke ts t) ts (λ q. revoke_other ts t q (false_from_ne_true _ (λ e. in_climb (len ts) ts q t e none)))

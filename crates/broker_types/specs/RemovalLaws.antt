@@ -159,7 +159,7 @@ module _ (b : Broker) (sound : SoundIdentifiers b) where
 
 module _ (forms : Forms) (who : Option Text) (b : Broker) (sound : Sound forms who b) where
   tree : IsTree b.tokens
-  tree = record { parents_stand = sound.tokens.parents_stand; chains_end = sound.tokens.chains_end }
+  tree = record { parents_exist = sound.tokens.parents_exist; chains_end = sound.tokens.chains_end }
 
   fewer_sound : (now : ℕ) (ts : Tokens) (ws : Map Waiting) → now ≤ greatest_moment → IsTree ts → AreFewer b.tokens ts → WaitFewer b.waiting ws
       → ((t : Text) (y : Token) → get ts t ≡ Some y → IsSoundToken forms t y) → Unspent who ts
@@ -168,7 +168,7 @@ module _ (forms : Forms) (who : Option Text) (b : Broker) (sound : Sound forms w
       let c : Broker = record b { clock = now; tokens = ts; waiting = ws } in
       record {
         clock = moment;
-        tokens = record { each = each; parents_stand = is_tree.parents_stand; chains_end = is_tree.chains_end };
+        tokens = record { each = each; parents_exist = is_tree.parents_exist; chains_end = is_tree.chains_end };
         secrets = sound.secrets;
         waiting = record {
           each = λ t w e. sound.waiting.each t w (wait t w e);
@@ -260,7 +260,7 @@ module _ (forms : Forms) where
     unspent = unspent;
   }
 
-  -- the revoked token does not stand
+  -- the revoked token is gone
   revoked_self : (ts : Tokens) (t : Text) (x : Token) → get (lineage.revoke ts t) t ≡ Some x → ⊥
   revoked_self ts t x is =
       let k = kept_get (λ q. not (is_under ts q t)) ts t x is in

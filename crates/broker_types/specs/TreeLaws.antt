@@ -9,11 +9,11 @@ use Rattle.std.proofs.lemmas.Bool.{ltb-true, lt-ltb}
 use Rattle.broker_types.specs.Text.{Text, same}
 use Rattle.broker_types.specs.Map.{get, len, entries}
 use Rattle.broker_types.specs.Token.{Token, Tokens}
-use Rattle.broker_types.specs.Lineage.{climb, lineage, is_under, ends_within, ParentsStand, ChainsEnd, outlasts, is_alive, with_live_leases, alive_at, revoke, orphaned_by, revoke_orphan}
+use Rattle.broker_types.specs.Lineage.{climb, lineage, is_under, ends_within, ParentsExist, ChainsEnd, outlasts, is_alive, with_live_leases, alive_at, revoke, orphaned_by, revoke_orphan}
 use Rattle.broker_types.specs.Laws.{IsTree, OutlastsAbove}
 use Rattle.broker_types.specs.TextLaws.{same_self, same_true}
 use Rattle.broker_types.specs.MapLaws.{get-lookup, get-keep, get-without, get-map_values, same_map}
-use Rattle.broker_types.specs.LineageLaws.{climb_none, climb_enough, stands_in_climb, ends_in_time, revoke_other}
+use Rattle.broker_types.specs.LineageLaws.{climb_none, climb_enough, in_climb, ends_in_time, revoke_other}
 use Rattle.broker_types.specs.SearchLaws.{kept_get}
 use Rattle.std.proofs.lemmas.Bool.{and_parts, and_from, or_right, false_from_ne_true, false≢true}
 use Rattle.std.proofs.lemmas.Option.{none-some, same_Some}
@@ -61,10 +61,10 @@ under_self ts t ne = elim (found_or_not (get ts t)) [
       ap (list_any (same t)) r.2 ∙ ap (λ b. b || list_any (same t) (option_map_or (climb r.0 ts) x.0.parent [])) (same_self t)
 ]
 
-pub under_standing : (ts : Tokens) (t a : Text) → is_under ts t a ≡ true → (get ts t ≢ None) × (get ts a ≢ None)
-under_standing ts t a h = (
+pub under_tokens : (ts : Tokens) (t a : Text) → is_under ts t a ≡ true → (get ts t ≢ None) × (get ts a ≢ None)
+under_tokens ts t a h = (
   λ none. absurd (false≢true (sym (ap (list_any (same a)) (lineage_none ts t none)) ∙ h)),
-  stands_in_climb (len ts) ts t a h,
+  in_climb (len ts) ts t a h,
 )
 
 under_child : (ts : Tokens) (t p a : Text) (x : Token) → ChainsEnd ts → get ts t ≡ Some x → x.parent ≡ Some p → is_under ts p a ≡ true → is_under ts t a ≡ true
@@ -72,7 +72,7 @@ under_child ts t p a x chains is parent h = ap (list_any (same a)) (lineage_chil
 
 -- ---- fewer tokens
 
--- each token of us stands in ts, with the same parent unless it has none
+-- each token of us is one of ts, with the same parent unless it has none
 abbrev IsPruned : Tokens → Tokens → Type 0
 IsPruned ts us = (t : Text) (y : Token) → get us t ≡ Some y → (x : Token) × (get ts t ≡ Some x) × ((y.parent ≡ x.parent) ⊎ (y.parent ≡ None))
 
@@ -101,11 +101,11 @@ pruned_chains ts us pruned chains t = ends_in_time us t (len ts) (pruned_ends (l
 
 pub revoke_tree : (ts : Tokens) (t : Text) → IsTree ts → IsTree (revoke ts t)
 revoke_tree ts t tree = record {
-  parents_stand = λ q p x is parent none.
+  parents_exist = λ q p x is parent none.
       let k = kept_get (λ q. not (is_under ts q t)) ts q x is in
       elim (is_under ts p t) as (λ b. is_under ts p t ≡ b → ⊥) [
         | true ↦ λ u. absurd (false≢true (sym (ap not (under_child ts q p t x tree.chains_end k.0 parent u)) ∙ k.1))
-        | false ↦ λ u. tree.parents_stand q p x k.0 parent (sym (revoke_other ts t p u) ∙ none)
+        | false ↦ λ u. tree.parents_exist q p x k.0 parent (sym (revoke_other ts t p u) ∙ none)
       ] refl;
   chains_end = pruned_chains ts (revoke ts t) (λ q y is. (y, (kept_get (λ q. not (is_under ts q t)) ts q y is).0, inl refl)) tree.chains_end;
 }
@@ -127,8 +127,8 @@ orphan_child ts t q x ne is parent =
     ∙ ap (λ o. Some (record x { parent = option_and_then (λ p. if same p t then None else Some p) o })) parent
     ∙ ap (λ b. Some (record x { parent = if b then None else Some t })) (same_self t)
 
-pub orphan_stranger : (ts : Tokens) (t q : Text) (x : Token) → q ≢ t → get ts q ≡ Some x → x.parent ≢ Some t → get (revoke_orphan ts t) q ≡ Some x
-orphan_stranger ts t q x ne is parent =
+pub orphan_unrelated : (ts : Tokens) (t q : Text) (x : Token) → q ≢ t → get ts q ≡ Some x → x.parent ≢ Some t → get (revoke_orphan ts t) q ≡ Some x
+orphan_unrelated ts t q x ne is parent =
     orphan_other ts t q ne ∙ ap (option_map (orphaned_by t)) is ∙ ap (λ o. Some (record x { parent = o })) (by x.parent parent)
   where
     by : (o : Option Text) → o ≢ Some t → option_and_then (λ p. if same p t then None else Some p) o ≡ o
@@ -140,10 +140,10 @@ orphan_none ts t q none =
     get-revoke_orphan ts t q ∙ ap (λ o. option_map (orphaned_by t) (cond (same q t) None o)) none
     ∙ elim (same q t) as (λ b. option_map (orphaned_by t) (cond b None None) ≡ None) [ true ↦ refl | false ↦ refl ]
 
-pub orphan_unknown : (ts : Tokens) (t : Text) → ParentsStand ts → get ts t ≡ None → revoke_orphan ts t ≡ ts
+pub orphan_unknown : (ts : Tokens) (t : Text) → ParentsExist ts → get ts t ≡ None → revoke_orphan ts t ≡ ts
 orphan_unknown ts t stand none = same_map (revoke_orphan ts t) ts (λ q. elim (found_or_not (get ts q)) [
   | inl nothing ↦ orphan_none ts t q nothing ∙ sym nothing
-  | inr x ↦ orphan_stranger ts t q x.0 (λ e. absurd (none-some _ (sym none ∙ ap (get ts) (sym e) ∙ x.1))) x.1 (λ parent. stand q t x.0 x.1 parent none) ∙ sym x.1
+  | inr x ↦ orphan_unrelated ts t q x.0 (λ e. absurd (none-some _ (sym none ∙ ap (get ts) (sym e) ∙ x.1))) x.1 (λ parent. stand q t x.0 x.1 parent none) ∙ sym x.1
 ])
 
 pub orphaned_is : (ts : Tokens) (t q : Text) (y : Token) → get (revoke_orphan ts t) q ≡ Some y → (x : Token) × (get ts q ≡ Some x) × (y ≡ orphaned_by t x)
@@ -168,12 +168,12 @@ parent_kept t (Some r) = elim (same r t) as (λ b. ((if b then None else Some r)
 
 pub orphan_tree : (ts : Tokens) (t : Text) → IsTree ts → IsTree (revoke_orphan ts t)
 orphan_tree ts t tree = record {
-  parents_stand = λ q p y is parent none.
+  parents_exist = λ q p y is parent none.
       let x = orphaned_is ts t q y is in
       let left = parent_left t p x.0.parent (ap (λ (z : Token). z.parent) (sym x.2) ∙ parent) in
       let there : get (revoke_orphan ts t) p ≡ option_map (orphaned_by t) (get ts p) = get-revoke_orphan ts t p ∙ ap (λ b. option_map (orphaned_by t) (cond b None (get ts p))) left.1 in
       elim (found_or_not (get ts p)) [
-        | inl nothing ↦ tree.parents_stand q p x.0 x.1 left.0 nothing
+        | inl nothing ↦ tree.parents_exist q p x.0 x.1 left.0 nothing
         | inr z ↦ absurd (none-some _ (sym none ∙ there ∙ ap (option_map (orphaned_by t)) z.1))
       ];
   chains_end = pruned_chains ts (revoke_orphan ts t)
@@ -223,8 +223,8 @@ later now m h = ltb-true now m h
 is_later : (now m : ℕ) → now < m → nat_lt now m ≡ true
 is_later now m h = lt-ltb now m h
 
-pub standing_outlasts : (now : ℕ) (ts : Tokens) (t : Text) → get (alive_at now ts) t ≢ None → OutlastsAbove now ts t
-standing_outlasts now ts t ne a y m u is ends = elim (found_or_not (get (alive_at now ts) t)) [
+pub left_outlasts : (now : ℕ) (ts : Tokens) (t : Text) → get (alive_at now ts) t ≢ None → OutlastsAbove now ts t
+left_outlasts now ts t ne a y m u is ends = elim (found_or_not (get (alive_at now ts) t)) [
   | inl none ↦ absurd (ne none)
   | inr z ↦
       let alive = (alive_is now ts t z.0 z.1).2 in
@@ -232,8 +232,8 @@ standing_outlasts now ts t ne a y m u is ends = elim (found_or_not (get (alive_a
       later now m (sym (ap (λ o. outlasts now (option_and_then (λ (x : Token). x.ends) o)) is ∙ ap (outlasts now) ends) ∙ at)
 ]
 
-pub outlasting_stands : (now : ℕ) (ts : Tokens) (t : Text) (x : Token) → get ts t ≡ Some x → OutlastsAbove now ts t → get (alive_at now ts) t ≡ Some (with_live_leases now x)
-outlasting_stands now ts t x is above =
+pub outlasting_is_left : (now : ℕ) (ts : Tokens) (t : Text) (x : Token) → get ts t ≡ Some x → OutlastsAbove now ts t → get (alive_at now ts) t ≡ Some (with_live_leases now x)
+outlasting_is_left now ts t x is above =
     get-alive_at now ts t ∙ ap (λ b. option_map (with_live_leases now) (cond b (get ts t) None)) alive ∙ ap (option_map (with_live_leases now)) is
   where
     by_end : (a : Text) (y : Token) → is_under ts t a ≡ true → get ts a ≡ Some y → (o : Option ℕ) → y.ends ≡ o → outlasts now o ≡ true
@@ -251,13 +251,13 @@ outlasting_stands now ts t x is above =
 
 pub alive_tree : (now : ℕ) (ts : Tokens) → IsTree ts → IsTree (alive_at now ts)
 alive_tree now ts tree = record {
-  parents_stand = λ q p y is parent none.
+  parents_exist = λ q p y is parent none.
       let x = alive_is now ts q y is in
       let above : x.0.parent ≡ Some p = ap (λ (z : Token). z.parent) (sym x.3) ∙ parent in
       let line : list_all (outlasts_end now ts) (q ∷ lineage ts p) ≡ true = ap (list_all (outlasts_end now ts)) (sym (lineage_child ts q p x.0 tree.chains_end x.1 above)) ∙ x.2 in
       let alive : is_alive now ts p ≡ true = (and_parts (outlasts_end now ts q) (is_alive now ts p) line).1 in
       elim (found_or_not (get ts p)) [
-        | inl nothing ↦ tree.parents_stand q p x.0 x.1 above nothing
+        | inl nothing ↦ tree.parents_exist q p x.0 x.1 above nothing
         | inr z ↦ absurd (none-some _ (sym none ∙ get-alive_at now ts p ∙ ap (λ b. option_map (with_live_leases now) (cond b (get ts p) None)) alive ∙ ap (option_map (with_live_leases now)) z.1))
       ];
   chains_end = pruned_chains ts (alive_at now ts) (λ q y is. let x = alive_is now ts q y is in (x.0, x.1, inl (ap (λ (z : Token). z.parent) x.3))) tree.chains_end;
