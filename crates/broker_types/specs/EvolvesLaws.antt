@@ -15,6 +15,7 @@ new_before b c i e h = elim (found_or_not (get b.used i)) [
   | inr some ↦ absurd (e.used i (λ n. absurd (none-some _ (sym n ∙ some.1))) h)
 ]
 
+-- to evolve is transitive
 pub evolves_trans : (b c d : Broker) → Evolves b c → Evolves c d → Evolves b d
 evolves_trans b c d e f = record {
   used = λ i u. f.used i (e.used i u);

@@ -213,6 +213,7 @@ module _ (forms : Forms) (moment v w : ℕ) (now : moment ≤ greatest_moment) (
     | inr a ↦ subst (λ z. IsUsed first z) (sym a.1) used_w
   ]
 
+  -- the first broker is sound
   pub first_sound : v ≢ w → forms.is_policy default_policy ≡ true → Sound forms None first
   first_sound ne accepted = record {
     clock = now;

@@ -39,5 +39,6 @@ id-same v w fits_v fits_w e =
         (reads_back w) in
     sym (from_be_bytes-to_be_bytes_16 v fits_v) ∙ ap (from_be_bytes w128) bytes ∙ from_be_bytes-to_be_bytes_16 w fits_w
 
+-- an identifier has 36 bytes
 pub id-length : (w : ℕ) → length (id w) ≡ 36
 id-length w = by_index_length 36 _

@@ -14,14 +14,17 @@ use Rattle.broker_types.specs.Map.{Map, get, entries, put, without, keep, with_v
 use Rattle.broker_types.specs.TextLaws.{same-text_cmp, same_true}
 
 module _ {X : Type 0} where
+  -- the value at each key of a map with x at k
   pub get-put : (m : Map X) (k : Text) (x : X) (q : Text) → get (put m k x) q ≡ cond (same q k) (Some x) (get m q)
   get-put m k x q =
       fin.get-insert nat_list_cmp_total m k x q ∙ ap (λ b. cond b (Some x) (get m q)) (sym (same-text_cmp q k))
 
+  -- of a map without k
   pub get-without : (m : Map X) (k q : Text) → get (without m k) q ≡ cond (same q k) None (get m q)
   get-without m k q =
       fin.get-remove nat_list_cmp_total m k q ∙ ap (λ b. cond b None (get m q)) (sym (same-text_cmp q k))
 
+  -- of the entries that pass
   pub get-keep : (p : Text → Bool) (m : Map X) (q : Text) → get (keep p m) q ≡ cond (p q) (get m q) None
   get-keep p m q =
       fin.get-retain_keys m p q (λ x e. ap p (sym (slice_cmp-IsAntisymmetric nat_cmp-IsAntisymmetric q x e)))
@@ -36,6 +39,7 @@ module _ {X : Type 0} where
       ap (λ b. cond b (Some e.1) (find text_cmp q es)) (sym (same-text_cmp q e.0))
           ∙ ap (cond (same q e.0) (Some e.1)) (find-lookup q es)
 
+  -- the value at a key is the first in the list of entries
   pub get-lookup : (m : Map X) (q : Text) → get m q ≡ lookup (same q) (entries m)
   get-lookup m q = fin.get-entries m q ∙ find-lookup q (entries m)
 
@@ -53,6 +57,7 @@ module _ {X Y : Type 0} where
   still_sorted : (f : Text → X → Y) (m : Map X) → T (is_sorted text_cmp (with_values f (entries m)))
   still_sorted f m = subst T (sym (sorted-with_values f (entries m))) (fin.entries_sorted m)
 
+  -- the entries of a map of changed values
   pub entries-map_values : (f : Text → X → Y) (m : Map X) → entries (map_values f m) ≡ with_values f (entries m)
   unfolding map_values
   entries-map_values f m = fin.entries-from_sorted text_cmp (with_values f (entries m)) (still_sorted f m)
@@ -69,6 +74,7 @@ module _ {X Y : Type 0} where
         | false ↦ λ h. lookup-with_values f q es
       ] refl
 
+  -- the value at each key of a map of changed values
   pub get-map_values : (f : Text → X → Y) (m : Map X) (q : Text) → get (map_values f m) q ≡ option_map (f q) (get m q)
   get-map_values f m q =
       get-lookup (map_values f m) q ∙ ap (lookup (same q)) (entries-map_values f m) ∙ lookup-with_values f q (entries m)
@@ -95,6 +101,7 @@ module _ {X Y : Type 0} where
       ap (first (λ e. p e.0 e.1)) (entries-map_values f m) ∙ found-with_values f p p' h (entries m)
 
 module _ {X : Type 0} where
+  -- of a map changed at k
   pub get-change : (m : Map X) (k : Text) (f : X → X) (q : Text)
       → get (change m k f) q ≡ option_map (λ x. if same q k then f x else x) (get m q)
   get-change m k f q = get-map_values (λ q x. if same q k then f x else x) m q

@@ -117,13 +117,16 @@ module _ (b : Broker) where
   wait_fewer : (now : ℕ) → WaitFewer b.waiting (keep (still_waits now) b.waiting)
   wait_fewer now q w e = (kept_get (still_waits now) b.waiting q w e).0
 
+  -- revocation lets a broker evolve
   pub revoke_evolves : (t : Text) → Evolves b (revoke b t)
   revoke_evolves t = fewer_evolves b.clock (lineage.revoke b.tokens t) b.waiting (revoke_fewer t) (λ q w e. e)
 
+  -- so does revocation of one token
   pub revoke_orphan_evolves : (t : Text) → Evolves b (revoke_orphan b t)
   revoke_orphan_evolves t =
       fewer_evolves b.clock (lineage.revoke_orphan b.tokens t) b.waiting (orphan_fewer t) (λ q w e. e)
 
+  -- and expiry
   pub at_moment_evolves : (moment : ℕ) → Evolves b (at_moment b moment)
   at_moment_evolves moment =
       let now = max b.clock moment in
@@ -160,14 +163,17 @@ module _ (b : Broker) (sound : SoundIdentifiers b) where
         }
   ]
 
+  -- a token that revocation takes out has ended
   pub revoke_ends : (t q : Text) → get b.tokens q ≢ None → get (revoke b t).tokens q ≡ None → HasEnded (revoke b t) q
   revoke_ends t q stood gone = fewer_ended b.clock (lineage.revoke b.tokens t) b.waiting q (λ q w e. e) stood gone
 
+  -- so has one that is revoked alone
   pub revoke_orphan_ends : (t q : Text) → get b.tokens q ≢ None → get (revoke_orphan b t).tokens q ≡ None
       → HasEnded (revoke_orphan b t) q
   revoke_orphan_ends t q stood gone =
       fewer_ended b.clock (lineage.revoke_orphan b.tokens t) b.waiting q (λ q w e. e) stood gone
 
+  -- and one that expired
   pub at_moment_ends : (moment : ℕ) (q : Text) → get b.tokens q ≢ None → get (at_moment b moment).tokens q ≡ None
       → HasEnded (at_moment b moment) q
   at_moment_ends moment q stood gone =
@@ -209,6 +215,7 @@ module _ (forms : Forms) (who : Option Text) (b : Broker) (sound : Sound forms w
         unspent = unspent;
       }
 
+  -- revocation leaves a sound broker sound
   pub revoke_sound : (t : Text) → Sound forms who (revoke b t)
   revoke_sound t =
       fewer_sound b.clock (lineage.revoke b.tokens t) b.waiting sound.clock (revoke_tree b.tokens t tree)
@@ -235,6 +242,7 @@ module _ (forms : Forms) (who : Option Text) (b : Broker) (sound : Sound forms w
     leases = s.leases;
   }
 
+  -- so does revocation of one token
   pub revoke_orphan_sound : (t : Text) → Sound forms who (revoke_orphan b t)
   revoke_orphan_sound t =
       fewer_sound b.clock (lineage.revoke_orphan b.tokens t) b.waiting sound.clock (orphan_tree b.tokens t tree)
@@ -263,6 +271,7 @@ module _ (forms : Forms) (who : Option Text) (b : Broker) (sound : Sound forms w
     leases = λ lease_id l e. s.leases lease_id l (live_less b now x lease_id l e);
   }
 
+  -- and expiry
   pub at_moment_sound : (moment : ℕ) → moment ≤ greatest_moment → Sound forms who (at_moment b moment)
   at_moment_sound moment within =
       let now = max b.clock moment in
@@ -297,6 +306,7 @@ module _ (forms : Forms) where
       let under : is_under ts t t ≡ true = under_self ts t (λ none. absurd (none-some _ (sym none ∙ k.0))) in
       absurd (false≢true (sym (ap not under) ∙ k.1))
 
+  -- once a caller that has spent its last use is ended, no token has
   pub end_spent_sound : (who : Option Text) (b : Broker) → Sound forms who b → Sound forms None (end_spent b who)
   end_spent_sound None b sound = sound
   end_spent_sound (Some c) b sound =

@@ -99,11 +99,13 @@ module _ {X : Type 0} where
       → All P (entries m)
   each_entry P m h = each_found P (entries m) (fin.entries_sorted m) (λ t x is. h t x (get-lookup m t ∙ is))
 
+  -- the entry that a search finds is in the map, and passes
   pub first_where_is : (p : Text → X → Bool) (m : Map X) (e : Text × X) → first_where p m ≡ Some e
       → (get m e.0 ≡ Some e.1) × (p e.0 e.1 ≡ true)
   first_where_is p m e h = let r = found_is (λ e. p e.0 e.1) (entries m) e (fin.entries_sorted m) h in
       (get-lookup m e.0 ∙ r.0, r.1)
 
+  -- where a search finds none, no entry passes
   pub first_where_none : (p : Text → X → Bool) (m : Map X) (t : Text) (x : X) → first_where p m ≡ None
       → get m t ≡ Some x → p t x ≡ false
   first_where_none p m t x h g = none_passes (λ e. p e.0 e.1) (entries m) t x h (sym (get-lookup m t) ∙ g)
@@ -112,6 +114,7 @@ module _ {X : Type 0} where
   abbrev pub OnePasses : (Text → X → Bool) → Map X → Type 0
   OnePasses p m = (t u : Text) (x y : X) → get m t ≡ Some x → get m u ≡ Some y → p t x ≡ true → p u y ≡ true → t ≡ u
 
+  -- a search finds the only entry that passes
   pub first_where_only : (p : Text → X → Bool) (m : Map X) (t : Text) (x : X) → OnePasses p m → get m t ≡ Some x
       → p t x ≡ true → first_where p m ≡ Some (t, x)
   first_where_only p m t x one g h =
@@ -125,6 +128,7 @@ module _ {X : Type 0} where
             found.1 ∙ (λ i. Some (key i, value i))
       ]
 
+  -- what is kept was in the map, and passes
   pub kept_get : (r : Text → Bool) (m : Map X) (t : Text) (x : X) → get (keep r m) t ≡ Some x
       → (get m t ≡ Some x) × (r t ≡ true)
   kept_get r m t x h =

@@ -4,7 +4,6 @@ use Rattle.std.specs.Prelude.{nat_lt, if◌then◌else◌, Option, Some, None, i
 use Rattle.std.specs.List.{list_any, list_all}
 use Rattle.std.specs.Map.{lookup}
 use Rattle.std.specs.FinMap.{len-entries}
-use Rattle.std.specs.Option.{option_map_or}
 use Rattle.std.proofs.Common.{refl, sym, ◌∙◌, ap, subst, inl, inr}
 use Rattle.std.proofs.lemmas.Bool.{ltb-true, lt-ltb}
 use Rattle.broker_types.specs.Text.{Text, same}
@@ -15,7 +14,8 @@ use Rattle.broker_types.specs.Lineage.{is_alive, with_live_leases, alive_at, rev
 use Rattle.broker_types.specs.Laws.{IsTree, OutlastsAbove}
 use Rattle.broker_types.specs.TextLaws.{same_self, same_true}
 use Rattle.broker_types.specs.MapLaws.{get-lookup, get-keep, get-without, get-map_values, same_map}
-use Rattle.broker_types.specs.LineageLaws.{climb_none, climb_enough, in_climb, ends_in_time, revoke_other}
+use Rattle.broker_types.specs.LineageLaws.{ends_above, ends_at, climb_above, climb_at, climb_none, climb_enough}
+use Rattle.broker_types.specs.LineageLaws.{in_climb, ends_in_time, revoke_other}
 use Rattle.broker_types.specs.SearchLaws.{kept_get}
 use Rattle.std.proofs.lemmas.Bool.{and_parts, and_from, or_right, false_from_ne_true, false≢true}
 use Rattle.std.proofs.lemmas.Option.{none-some, same_Some}
@@ -35,43 +35,44 @@ len_some ts t x is = let r = by (entries ts) (sym (get-lookup ts t) ∙ is) in (
     by (e ∷ es) h = (length es, refl)
 
 climb_some : (n : ℕ) (ts : Tokens) (t : Text) (x : Token) → get ts t ≡ Some x
-    → climb (suc n) ts t ≡ t ∷ option_map_or (climb n ts) x.parent []
-climb_some n ts t x is = ap (λ o. option_map_or (λ (y : Token). t ∷ option_map_or (climb n ts) y.parent []) o []) is
+    → climb (suc n) ts t ≡ t ∷ climb_above n ts x.parent
+climb_some n ts t x is = ap (λ o. climb_at n ts t o) is
 
 ends_some : (n : ℕ) (ts : Tokens) (t : Text) (x : Token) → get ts t ≡ Some x
-    → ends_within (suc n) ts t ≡ option_map_or (ends_within n ts) x.parent true
-ends_some n ts t x is =
-    ap (λ o. option_map_or (λ (y : Token). option_map_or (ends_within n ts) y.parent true) o true) is
+    → ends_within (suc n) ts t ≡ ends_above n ts x.parent
+ends_some n ts t x is = ap (λ o. ends_at n ts o) is
 
+-- an unknown token has no lineage
 pub lineage_none : (ts : Tokens) (t : Text) → get ts t ≡ None → lineage ts t ≡ []
 lineage_none ts t none = climb_none (len ts) ts t (ap is_none none)
 
 lineage_some : (ts : Tokens) (t : Text) (x : Token) → get ts t ≡ Some x
-    → (n : ℕ) × (len ts ≡ suc n) × (lineage ts t ≡ t ∷ option_map_or (climb n ts) x.parent [])
+    → (n : ℕ) × (len ts ≡ suc n) × (lineage ts t ≡ t ∷ climb_above n ts x.parent)
 lineage_some ts t x is = let n = len_some ts t x is in (n.0, n.1, ap (λ k. climb k ts t) n.1 ∙ climb_some n.0 ts t x is)
 
+-- the lineage of a token without parent is the token
 pub lineage_orphan : (ts : Tokens) (t : Text) (x : Token) → get ts t ≡ Some x → x.parent ≡ None → lineage ts t ≡ t ∷ []
-lineage_orphan ts t x is none = let r = lineage_some ts t x is in
-    r.2 ∙ ap (λ o. t ∷ option_map_or (climb r.0 ts) o []) none
+lineage_orphan ts t x is none = let r = lineage_some ts t x is in r.2 ∙ ap (λ o. t ∷ climb_above r.0 ts o) none
 
+-- the lineage of another is the token and the lineage of its parent
 pub lineage_child : (ts : Tokens) (t p : Text) (x : Token) → ChainsEnd ts → get ts t ≡ Some x → x.parent ≡ Some p
     → lineage ts t ≡ t ∷ lineage ts p
 lineage_child ts t p x chains is parent =
     let r = lineage_some ts t x is in
     let here : ends_within (suc r.0) ts t ≡ true = subst (λ k. ends_within k ts t ≡ true) r.1 (chains t) in
     let above : ends_within r.0 ts p ≡ true =
-        sym (ends_some r.0 ts t x is ∙ ap (λ o. option_map_or (ends_within r.0 ts) o true) parent) ∙ here in
-    r.2 ∙ ap (λ o. t ∷ option_map_or (climb r.0 ts) o []) parent
-        ∙ ap (λ l. t ∷ l) (climb_enough r.0 (len ts) ts p above (chains p))
+        sym (ends_some r.0 ts t x is ∙ ap (λ o. ends_above r.0 ts o) parent) ∙ here in
+    r.2 ∙ ap (λ o. t ∷ climb_above r.0 ts o) parent ∙ ap (λ l. t ∷ l) (climb_enough r.0 (len ts) ts p above (chains p))
 
+-- a token is under itself
 pub under_self : (ts : Tokens) (t : Text) → get ts t ≢ None → is_under ts t t ≡ true
 under_self ts t ne = elim (found_or_not (get ts t)) [
   | inl none ↦ absurd (ne none)
   | inr x ↦ let r = lineage_some ts t x.0 x.1 in
-      ap (list_any (same t)) r.2
-          ∙ ap (λ b. b || list_any (same t) (option_map_or (climb r.0 ts) x.0.parent [])) (same_self t)
+      ap (list_any (same t)) r.2 ∙ ap (λ b. b || list_any (same t) (climb_above r.0 ts x.0.parent)) (same_self t)
 ]
 
+-- what is under another is a token, and so is the other
 pub under_tokens : (ts : Tokens) (t a : Text) → is_under ts t a ≡ true → (get ts t ≢ None) × (get ts a ≢ None)
 under_tokens ts t a h = (
   λ none. absurd (false≢true (sym (ap (list_any (same a)) (lineage_none ts t none)) ∙ h)),
@@ -98,14 +99,12 @@ pruned_ends zero ts us t pruned h = elim (found_or_not (get us t)) [
   | inr y ↦ absurd (false≢true (sym (ap is_none (pruned t y.0 y.1).1) ∙ h))
 ]
 pruned_ends (suc n) ts us t pruned h = elim (found_or_not (get us t)) [
-  | inl none ↦ ap (λ o. option_map_or (λ (y : Token). option_map_or (ends_within n us) y.parent true) o true) none
+  | inl none ↦ ap (λ o. ends_at n us o) none
   | inr y ↦ let x = pruned t y.0 y.1 in
       ends_some n us t y.0 y.1 ∙ elim x.2 [
-        | inr orphan ↦ ap (λ o. option_map_or (ends_within n us) o true) orphan
-        | inl parent ↦ ap (λ o. option_map_or (ends_within n us) o true) parent
-            ∙ elim (x.0.parent)
-                as (λ o. option_map_or (ends_within n ts) o true ≡ true
-                → option_map_or (ends_within n us) o true ≡ true) [
+        | inr orphan ↦ ap (λ o. ends_above n us o) orphan
+        | inl parent ↦ ap (λ o. ends_above n us o) parent
+            ∙ elim (x.0.parent) as (λ o. ends_above n ts o ≡ true → ends_above n us o ≡ true) [
               | None ↦ λ _. refl
               | Some p ↦ λ e. pruned_ends n ts us p pruned e
             ] (sym (ends_some n ts t x.0 x.1) ∙ h)
@@ -117,6 +116,7 @@ pruned_chains ts us pruned chains t = ends_in_time us t (len ts) (pruned_ends (l
 
 -- ---- revocation
 
+-- revocation leaves a tree
 pub revoke_tree : (ts : Tokens) (t : Text) → IsTree ts → IsTree (revoke ts t)
 revoke_tree ts t tree = record {
   parents_exist = λ q p x is parent none.
@@ -136,6 +136,7 @@ get-revoke_orphan : (ts : Tokens) (t q : Text)
     → get (revoke_orphan ts t) q ≡ option_map (orphaned_by t) (cond (same q t) None (get ts q))
 get-revoke_orphan ts t q = get-map_values _ _ q ∙ ap (option_map (orphaned_by t)) (get-without ts t q)
 
+-- the revoked token is gone
 pub orphan_gone : (ts : Tokens) (t : Text) → get (revoke_orphan ts t) t ≡ None
 orphan_gone ts t =
     get-revoke_orphan ts t t ∙ ap (λ b. option_map (orphaned_by t) (cond b None (get ts t))) (same_self t)
@@ -144,6 +145,7 @@ orphan_other : (ts : Tokens) (t q : Text) → q ≢ t → get (revoke_orphan ts 
 orphan_other ts t q ne =
     get-revoke_orphan ts t q ∙ ap (λ b. option_map (orphaned_by t) (cond b None (get ts q))) (same_false q t ne)
 
+-- its children have no parent then
 pub orphan_child : (ts : Tokens) (t q : Text) (x : Token) → q ≢ t → get ts q ≡ Some x → x.parent ≡ Some t
     → get (revoke_orphan ts t) q ≡ Some (record x { parent = None })
 orphan_child ts t q x ne is parent =
@@ -151,6 +153,7 @@ orphan_child ts t q x ne is parent =
     ∙ ap (λ o. Some (record x { parent = option_and_then (λ p. if same p t then None else Some p) o })) parent
     ∙ ap (λ b. Some (record x { parent = if b then None else Some t })) (same_self t)
 
+-- a token of another parent, or of none, is as it was
 pub orphan_unrelated : (ts : Tokens) (t q : Text) (x : Token) → q ≢ t → get ts q ≡ Some x → x.parent ≢ Some t
     → get (revoke_orphan ts t) q ≡ Some x
 orphan_unrelated ts t q x ne is parent =
@@ -161,11 +164,13 @@ orphan_unrelated ts t q x ne is parent =
     by None h = refl
     by (Some p) h = ap (λ b. if b then None else Some p) (same_false p t (λ e. h (ap Some e)))
 
+-- no token is new
 pub orphan_none : (ts : Tokens) (t q : Text) → get ts q ≡ None → get (revoke_orphan ts t) q ≡ None
 orphan_none ts t q none =
     get-revoke_orphan ts t q ∙ ap (λ o. option_map (orphaned_by t) (cond (same q t) None o)) none
     ∙ elim (same q t) as (λ b. option_map (orphaned_by t) (cond b None None) ≡ None) [ true ↦ refl | false ↦ refl ]
 
+-- to revoke an unknown token changes nothing
 pub orphan_unknown : (ts : Tokens) (t : Text) → ParentsExist ts → get ts t ≡ None → revoke_orphan ts t ≡ ts
 orphan_unknown ts t stand none = same_map (revoke_orphan ts t) ts (λ q. elim (found_or_not (get ts q)) [
   | inl nothing ↦ orphan_none ts t q nothing ∙ sym nothing
@@ -173,6 +178,7 @@ orphan_unknown ts t stand none = same_map (revoke_orphan ts t) ts (λ q. elim (f
         (λ parent. stand q t x.0 x.1 parent none) ∙ sym x.1
 ])
 
+-- a token that is left was there, with its parent unless that was revoked
 pub orphaned_is : (ts : Tokens) (t q : Text) (y : Token) → get (revoke_orphan ts t) q ≡ Some y
     → (x : Token) × (get ts q ≡ Some x) × (y ≡ orphaned_by t x)
 orphaned_is ts t q y is = by (same q t) (get ts q) (sym (get-revoke_orphan ts t q) ∙ is)
@@ -202,6 +208,7 @@ parent_kept t (Some r) =
     as (λ b. ((if b then None else Some r) ≡ Some r) ⊎ ((if b then None else Some r) ≡ None)) [ true ↦
     inr refl | false ↦ inl refl ]
 
+-- revocation of one token leaves a tree
 pub orphan_tree : (ts : Tokens) (t : Text) → IsTree ts → IsTree (revoke_orphan ts t)
 orphan_tree ts t tree = record {
   parents_exist = λ q p y is parent none.
@@ -231,6 +238,7 @@ get-alive_at : (now : ℕ) (ts : Tokens) (t : Text)
     → get (alive_at now ts) t ≡ option_map (with_live_leases now) (cond (is_alive now ts t) (get ts t) None)
 get-alive_at now ts t = get-map_values _ _ t ∙ ap (option_map (with_live_leases now)) (get-keep (is_alive now ts) ts t)
 
+-- a token that is alive was there, with all its leases
 pub alive_is : (now : ℕ) (ts : Tokens) (t : Text) (y : Token) → get (alive_at now ts) t ≡ Some y
     → (x : Token) × (get ts t ≡ Some x) × (is_alive now ts t ≡ true) × (y ≡ with_live_leases now x)
 alive_is now ts t y is = by (is_alive now ts t) (get ts t) (sym (get-alive_at now ts t) ∙ is)
@@ -265,6 +273,7 @@ later now m h = ltb-true now m h
 is_later : (now m : ℕ) → now < m → nat_lt now m ≡ true
 is_later now m h = lt-ltb now m h
 
+-- what is left outlasts now, as does all above it
 pub left_outlasts : (now : ℕ) (ts : Tokens) (t : Text) → get (alive_at now ts) t ≢ None → OutlastsAbove now ts t
 left_outlasts now ts t ne a y m u is ends = elim (found_or_not (get (alive_at now ts) t)) [
   | inl none ↦ absurd (ne none)
@@ -275,6 +284,7 @@ left_outlasts now ts t ne a y m u is ends = elim (found_or_not (get (alive_at no
           ∙ at)
 ]
 
+-- a token that outlasts now, as does all above it, is left, with its leases that do
 pub outlasting_is_left : (now : ℕ) (ts : Tokens) (t : Text) (x : Token) → get ts t ≡ Some x → OutlastsAbove now ts t
     → get (alive_at now ts) t ≡ Some (with_live_leases now x)
 outlasting_is_left now ts t x is above =
@@ -296,6 +306,7 @@ outlasting_is_left now ts t x is above =
     alive : is_alive now ts t ≡ true
     alive = all_from (outlasts_end now ts) (lineage ts t) one
 
+-- expiry leaves a tree
 pub alive_tree : (now : ℕ) (ts : Tokens) → IsTree ts → IsTree (alive_at now ts)
 alive_tree now ts tree = record {
   parents_exist = λ q p y is parent none.
