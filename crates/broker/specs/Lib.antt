@@ -1,4 +1,3 @@
-pub use Rattle.records.specs.Transaction
 pub mod Act
 pub mod Command
 pub mod Cubbyhole
@@ -8,10 +7,11 @@ pub mod Kept
 pub mod Laws
 pub mod Listed
 pub mod Order
+pub mod Representing
 pub mod Request
 pub mod Responses
 pub mod Safely
 pub mod Serving
-pub mod Standing
 pub mod Step
 pub mod StoreRows
+pub use Rattle.records.specs.Transaction
