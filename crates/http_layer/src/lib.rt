@@ -1,5 +1,5 @@
-//! Requests cut from a stream of bytes, what they ask, and the bytes of replies
-//! (RFC 9110, RFC 9112).
+//! HTTP/1.1 without connections: cuts requests from a stream of bytes, reads what they ask, and makes
+//! the bytes of replies (RFC 9110, RFC 9112).
 #![tactic(auto)]
 
 mod asking;

@@ -20,6 +20,6 @@ returns-clause-reply c =
       date = c.date_of.result;
       at_moment = c.date_of.ensures;
       bytes_are =
-          ap (λ (l : List ℕ). l ++ c.body_of.result.now) head
-          ∙ ap (λ (l : List ℕ). reply_head (response_of a) date c.args.close ++ l) (c.body_of.ensures ∙ ap (reply_body a.status) text);
+          ap (λ (l : List ℕ). l ++ c.reply_body.result.now) head
+          ∙ ap (λ (l : List ℕ). reply_head (response_of a) date c.args.close ++ l) (c.reply_body.ensures ∙ ap (reply_body a.status) text);
     }
