@@ -39,6 +39,11 @@ ReplyIsUnique =
     (r : Response) (moment : ℕ) (close : Bool) (x y : List ℕ)
     → IsReply r moment close x → IsReply r moment close y → x ≡ y
 
+-- a reply has at least one byte
+abbrev pub ReplyIsNotEmpty : Type 0
+ReplyIsNotEmpty =
+    (r : Response) (moment : ℕ) (close : Bool) (bytes : List ℕ) → IsReply r moment close bytes → 0 < length bytes
+
 -- ---- refusals
 
 -- the status that refuses a front is listed

@@ -1,7 +1,7 @@
 //! Laws of the definitions. Each is the contract of a function that does nothing.
 
 ghost use Rattle.http_layer.specs.Laws.{FrontIsUnique, KnownFrontStays, WholeRequestIsWithin, WholeRequestHasShortBody};
-ghost use Rattle.http_layer.specs.Laws.{ReplyIsUnique, FrontRefusalIsListed, AskRefusalIsListed};
+ghost use Rattle.http_layer.specs.Laws.{ReplyIsUnique, ReplyIsNotEmpty, FrontRefusalIsListed, AskRefusalIsListed};
 
 /// A stream has at most one front, and more bytes do not change a front that is known. A whole request
 /// takes at least one byte and no more than there are, and its body at most 1,048,576 bytes.
@@ -12,9 +12,10 @@ pub fn front_laws()
     ensures short_body { WholeRequestHasShortBody }
 {}
 
-/// A response at a moment has one reply.
-pub fn reply_law()
+/// A response at a moment has one reply, which is not empty.
+pub fn reply_laws()
     ensures unique { ReplyIsUnique }
+    ensures not_empty { ReplyIsNotEmpty }
 {}
 
 /// The refusals of fronts, and of requests that ask nothing, are listed.

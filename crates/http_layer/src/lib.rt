@@ -19,7 +19,7 @@ pub use asking::ask_of;
 pub use cutting::cut;
 pub use front::Cut;
 pub use head::Head;
-pub use laws::{front_laws, refusal_laws, reply_law};
+pub use laws::{front_laws, refusal_laws, reply_laws};
 pub use refusal::{AskError, HttpRefusal, front_refusal};
 pub use reply::{ReplyBytes, reply_bytes};
 
