@@ -11,7 +11,7 @@ abbrev pub HeadField : Type 0
 HeadField = List ℕ × List ℕ
 
 -- The parts of a head: its method, its target, the minor version (1 for HTTP/1.1), its length in bytes with the empty
--- line, and its fields (RFC 9112, sections 2.3, 3 and 5).
+-- lines before and after it, and its fields (RFC 9112, sections 2.2, 2.3, 3 and 5).
 pub record HeadParts : Type 0 where
   pub method : List ℕ
   pub target : List ℕ

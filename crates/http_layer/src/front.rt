@@ -6,7 +6,7 @@ use broker_types::{Body, Status};
 pub enum Cut<'b> {
     /// More bytes are needed to know it.
     Need,
-    /// A whole request of `len` bytes.
+    /// A whole request. It takes `len` bytes, with the empty lines before it.
     Whole {
         len: usize,
         head: Head<'b>,
