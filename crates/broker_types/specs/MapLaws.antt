@@ -11,7 +11,9 @@ use Rattle.std.specs.Ordering.{is_lt}
 use Rattle.std.proofs.Common.{refl, sym, ◌∙◌, ap, subst}
 use Rattle.broker_types.specs.Text.{Text, text_cmp, same}
 use Rattle.broker_types.specs.Map.{Map, get, entries, put, without, keep, with_values, map_values, change, first_where}
-use Rattle.broker_types.specs.TextLaws.{same-text_cmp, same_true}
+use Rattle.std.proofs.lemmas.Option.{none-some}
+use Rattle.broker_types.specs.OptionLaws.{mapped, mapped_none}
+use Rattle.broker_types.specs.TextLaws.{same-text_cmp, same_self, same_true}
 
 module _ {X : Type 0} where
   -- the value at each key of a map with x at k
@@ -23,6 +25,20 @@ module _ {X : Type 0} where
   pub get-without : (m : Map X) (k q : Text) → get (without m k) q ≡ cond (same q k) None (get m q)
   get-without m k q =
       fin.get-remove nat_list_cmp_total m k q ∙ ap (λ b. cond b None (get m q)) (sym (same-text_cmp q k))
+
+  -- k has no value in a map without k
+  pub get-without_self : (m : Map X) (k : Text) → get (without m k) k ≡ None
+  get-without_self m k = get-without m k k ∙ ap (λ b. cond b None (get m k)) (same_self k)
+
+  -- what is in a map without k was there, under another key
+  pub without_is : (m : Map X) (k q : Text) (x : X)
+      → get (without m k) q ≡ Some x → (same q k ≡ false) × (get m q ≡ Some x)
+  without_is m k q x e =
+      elim (same q k)
+          as (λ b. same q k ≡ b → cond b None (get m q) ≡ Some x → (same q k ≡ false) × (get m q ≡ Some x)) [
+        | true ↦ λ _ none. absurd (none-some x none)
+        | false ↦ λ other is. (other, is)
+      ] refl (sym (get-without m k q) ∙ e)
 
   -- of the entries that pass
   pub get-keep : (p : Text → Bool) (m : Map X) (q : Text) → get (keep p m) q ≡ cond (p q) (get m q) None
@@ -79,6 +95,15 @@ module _ {X Y : Type 0} where
   get-map_values f m q =
       get-lookup (map_values f m) q ∙ ap (lookup (same q)) (entries-map_values f m) ∙ lookup-with_values f q (entries m)
           ∙ ap (option_map (f q)) (sym (get-lookup m q))
+
+  -- a value of a map of changed values
+  pub valued_is : (f : Text → X → Y) (m : Map X) (q : Text) (y : Y)
+      → get (map_values f m) q ≡ Some y → (x : X) × (get m q ≡ Some x) × (y ≡ f q x)
+  valued_is f m q y e = mapped (f q) (get m q) y (sym (get-map_values f m q) ∙ e)
+
+  -- where it has none, neither has the map
+  pub valued_none : (f : Text → X → Y) (m : Map X) (q : Text) → get (map_values f m) q ≡ None → get m q ≡ None
+  valued_none f m q e = mapped_none (f q) (get m q) (sym (get-map_values f m q) ∙ e)
 
   found-with_values : (f : Text → X → Y) (p : Text → Y → Bool) (p' : Text → X → Bool)
       → ((q : Text) (x : X) → p q (f q x) ≡ p' q x) → (es : List (Text × X))

@@ -13,7 +13,8 @@ use Rattle.broker_types.specs.Lineage.{climb, lineage, is_under, ends_within, Pa
 use Rattle.broker_types.specs.Lineage.{is_alive, with_live_leases, alive_at, revoke, orphaned_by, revoke_orphan}
 use Rattle.broker_types.specs.Laws.{IsTree, OutlastsAbove}
 use Rattle.broker_types.specs.TextLaws.{same_self, same_true}
-use Rattle.broker_types.specs.MapLaws.{get-lookup, get-keep, get-without, get-map_values, same_map}
+use Rattle.broker_types.specs.Map.{map_values}
+use Rattle.broker_types.specs.MapLaws.{valued_is, valued_none, get-lookup, get-keep, get-without, get-map_values, same_map}
 use Rattle.broker_types.specs.LineageLaws.{ends_above, ends_at, climb_above, climb_at, climb_none, climb_enough}
 use Rattle.broker_types.specs.LineageLaws.{in_climb, ends_in_time, revoke_other}
 use Rattle.broker_types.specs.SearchLaws.{kept_get}
@@ -113,6 +114,21 @@ pruned_ends (suc n) ts us t pruned h = elim (found_or_not (get us t)) [
 
 pruned_chains : (ts us : Tokens) → IsPruned ts us → ChainsEnd ts → ChainsEnd us
 pruned_chains ts us pruned chains t = ends_in_time us t (len ts) (pruned_ends (len ts) ts us t pruned (chains t))
+
+-- tokens that keep their parents, whatever else of them changes, stay a tree
+pub values_tree : (f : Text → Token → Token) (ts : Tokens) → ((q : Text) (x : Token) → (f q x).parent ≡ x.parent)
+    → IsTree ts → IsTree (map_values f ts)
+values_tree f ts same_parent tree = record {
+  parents_exist = λ q p y is parent none.
+      let x = valued_is f ts q y is in
+      tree.parents_exist q p x.0 x.1
+      (sym (same_parent q x.0) ∙ ap (λ (z : Token). z.parent) (sym x.2) ∙ parent) (valued_none f ts p none);
+  chains_end =
+      pruned_chains ts (map_values f ts)
+      (λ q y is. let x = valued_is f ts q y is in
+          (x.0, x.1, inl (ap (λ (z : Token). z.parent) x.2 ∙ same_parent q x.0)))
+      tree.chains_end;
+}
 
 -- ---- revocation
 
