@@ -44,7 +44,7 @@ too_large (c ∷ cs) sum begun h = by_digit (is_ascii_digit c) (λ t b k. too_la
 
     by_digit : (t : Bool) → ((t : ℕ) (b : Option ℕ) → 4294967295 < t + unwrap_or b 0 → at_most (groups t b cs) ≡ None)
         → at_most (option_and_then (λ p. groups p.0 p.1 cs) (cond t (Some (sum, Some (unwrap_or begun 0 * 10 + (c - 48)))) (group_end sum begun (unit_of c))))
-            ≡ None
+        ≡ None
     by_digit true later = later sum (Some (unwrap_or begun 0 * 10 + (c - 48))) (omega arith)
     by_digit false later = by_unit begun (unit_of c) h (λ v e. unit_least c v e) later
 

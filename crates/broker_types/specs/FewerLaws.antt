@@ -99,7 +99,7 @@ module _ (b : Broker) (sound : SoundIdentifiers b) where
     | inl none ↦ absurd (stood none)
     | inr x ↦
         let here : identifier_at b (token q) ≡ Some (token_identifier q) =
-            ap (option_map (λ _. token_identifier q)) x.1 in
+        ap (option_map (λ _. token_identifier q)) x.1 in
         record {
           used = sound.all_used (token q) (token_identifier q) here;
           gone = gone;
@@ -107,9 +107,9 @@ module _ (b : Broker) (sound : SoundIdentifiers b) where
             | inl none ↦ none
             | inr w ↦
                 let there : identifier_at b (wrapping_token q) ≡ Some (token_identifier q) =
-                    ap (option_map (λ _. token_identifier q)) (wait q w.0 w.1) in
+                ap (option_map (λ _. token_identifier q)) (wait q w.0 w.1) in
                 let one : token q ≡ wrapping_token q =
-                    sound.one_place (token q) (wrapping_token q) (token_identifier q) here there in
+                sound.one_place (token q) (wrapping_token q) (token_identifier q) here there in
                 absurd (false≢true (ap is_wrapping one))
           ];
         }

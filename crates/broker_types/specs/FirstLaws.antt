@@ -140,16 +140,16 @@ module _ (forms : Forms) (moment v w : ℕ) (now : moment ≤ greatest_moment) (
           | false ↦ λ r. absurd (u (
               get-put _ (id w) (tt {0}) i ∙ ap (λ b. cond b (Some (tt {0})) (get (put nothing (id v) (tt {0})) i)) s
               ∙ get-put nothing (id v) (tt {0}) i ∙ ap (λ b. cond b (Some (tt {0})) (get nothing i)) r
-                  ∙ get-empty text_cmp i))
+              ∙ get-empty text_cmp i))
         ] refl
       ] refl
 
   used_v : IsUsed first (id v)
   used_v none =
       elim (same (id v) (id w)) as (λ b. cond b (Some (tt {0})) (get (put nothing (id v) (tt {0})) (id v)) ≡ None → ⊥) [
-    | true ↦ λ e. absurd (none-some _ (sym e))
-    | false ↦ λ e. absurd (none-some _ (sym e ∙ there (id v) nothing (tt {0})))
-  ] (sym (get-put _ (id w) (tt {0}) (id v)) ∙ none)
+        | true ↦ λ e. absurd (none-some _ (sym e))
+        | false ↦ λ e. absurd (none-some _ (sym e ∙ there (id v) nothing (tt {0})))
+      ] (sym (get-put _ (id w) (tt {0}) (id v)) ∙ none)
 
   used_w : IsUsed first (id w)
   used_w none = absurd (none-some _ (sym none ∙ there (id w) _ (tt {0})))
@@ -227,9 +227,9 @@ module _ (forms : Forms) (moment v w : ℕ) (now : moment ≤ greatest_moment) (
     policies = λ name text e.
         let r = one_entry (codes "default") name default_policy text e in
         let kept : IsSoundPolicy forms (codes "default") default_policy =
-            record { policy_name = refl; not_root = not_root; policy = accepted; short = default_short } in
+        record { policy_name = refl; not_root = not_root; policy = accepted; short = default_short } in
         subst (λ z. IsSoundPolicy forms z text) (sym r.0)
-            (subst (λ y. IsSoundPolicy forms (codes "default") y) (sym r.1) kept);
+        (subst (λ y. IsSoundPolicy forms (codes "default") y) (sym r.1) kept);
     identifiers = record {
       used = λ i u. elim (used_is i u) [ inl e ↦ (v, fits_v, e) | inr e ↦ (w, fits_w, e) ];
       one_place = one_place ne;

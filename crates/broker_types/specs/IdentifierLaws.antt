@@ -36,7 +36,7 @@ same_bytes xs ys o e f = ap (λ (r : Option (List ℕ)). unwrap_or r []) (e ∙ 
 pub id-same : (v w : ℕ) → v < 2 ^ 128 → w < 2 ^ 128 → id v ≡ id w → v ≡ w
 id-same v w fits_v fits_w e =
     let bytes = same_bytes (to_be_bytes w128 v) (to_be_bytes w128 w) (parsed (id w)) (reads_back v ∙ ap parsed e)
-        (reads_back w) in
+    (reads_back w) in
     sym (from_be_bytes-to_be_bytes_16 v fits_v) ∙ ap (from_be_bytes w128) bytes ∙ from_be_bytes-to_be_bytes_16 w fits_w
 
 -- an identifier has 36 bytes

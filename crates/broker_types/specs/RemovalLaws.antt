@@ -23,9 +23,11 @@ use Rattle.broker_types.specs.TreeLaws.{orphaned_is, alive_is, revoke_tree, orph
 
 module _ (b : Broker) where
   revoke_fewer : (t : Text) → AreFewer b.tokens (lineage.revoke b.tokens t)
-  revoke_fewer t q y e =
-      (y, (kept_get (λ q. not (is_under b.tokens q t)) b.tokens q y e).0,
-      record { same_accessor = refl; fewer_leases = λ _ _ f. f })
+  revoke_fewer t q y e = (
+    y,
+    (kept_get (λ q. not (is_under b.tokens q t)) b.tokens q y e).0,
+    record { same_accessor = refl; fewer_leases = λ _ _ f. f },
+  )
 
   orphan_fewer : (t : Text) → AreFewer b.tokens (lineage.revoke_orphan b.tokens t)
   orphan_fewer t q y e = let x = orphaned_is b.tokens t q y e in
@@ -62,7 +64,7 @@ module _ (b : Broker) where
   at_moment_evolves moment =
       let now = max b.clock moment in
       fewer_evolves b now (lineage.alive_at now b.tokens) (keep (still_waits now) b.waiting) (alive_fewer now)
-          (wait_fewer now)
+      (wait_fewer now)
 
 -- ---- what has ended
 
@@ -83,7 +85,7 @@ module _ (b : Broker) (sound : SoundIdentifiers b) where
   at_moment_ends moment q stood gone =
       let now = max b.clock moment in
       fewer_ended b sound now (lineage.alive_at now b.tokens) (keep (still_waits b now) b.waiting) q
-          (wait_fewer b now) stood gone
+      (wait_fewer b now) stood gone
 
 -- ---- soundness
 
@@ -110,9 +112,9 @@ module _ (forms : Forms) (who : Option Text) (b : Broker) (sound : Sound forms w
       fewer_sound forms who who b sound b.clock (lineage.revoke_orphan b.tokens t) b.waiting
       sound.clock (orphan_tree b.tokens t tree) (orphan_fewer b t) (λ q w e. e)
       (λ q y e. let x = orphaned_is b.tokens t q y e in
-          subst (IsSoundToken forms q) (sym x.2) (orphaned_sound t q x.0 (sound.tokens.each q x.0 x.1)))
+      subst (IsSoundToken forms q) (sym x.2) (orphaned_sound t q x.0 (sound.tokens.each q x.0 x.1)))
       (λ q y e zero. let x = orphaned_is b.tokens t q y e in
-          sound.unspent q x.0 x.1 (ap (λ (z : Token). z.uses_left) (sym x.2) ∙ zero))
+      sound.unspent q x.0 x.1 (ap (λ (z : Token). z.uses_left) (sym x.2) ∙ zero))
 
   live_sound : (now : ℕ) (q : Text) (x : Token) → IsSoundToken forms q x → IsSoundToken forms q (with_live_leases now x)
   live_sound now q x s =
@@ -126,6 +128,6 @@ module _ (forms : Forms) (who : Option Text) (b : Broker) (sound : Sound forms w
       fewer_sound forms who who b sound now (lineage.alive_at now b.tokens) (keep (still_waits b now) b.waiting)
       (max-le sound.clock within) (alive_tree now b.tokens tree) (alive_fewer b now) (wait_fewer b now)
       (λ q y e. let x = alive_is now b.tokens q y e in
-          subst (IsSoundToken forms q) (sym x.3) (live_sound now q x.0 (sound.tokens.each q x.0 x.1)))
+      subst (IsSoundToken forms q) (sym x.3) (live_sound now q x.0 (sound.tokens.each q x.0 x.1)))
       (λ q y e zero. let x = alive_is now b.tokens q y e in
-          sound.unspent q x.0 x.1 (ap (λ (z : Token). z.uses_left) (sym x.3) ∙ zero))
+      sound.unspent q x.0 x.1 (ap (λ (z : Token). z.uses_left) (sym x.3) ∙ zero))

@@ -36,7 +36,6 @@ use Rattle.broker_types.specs.OptionLaws.{found_or_not}
 use Rattle.broker_types.specs.SearchLaws.{kept_get}
 use Rattle.broker_types.specs.TreeLaws.{under_self}
 
-
 -- ---- a use is spent
 
 -- the tokens, of which c has one use less
@@ -70,7 +69,7 @@ module _ (forms : Forms) (b : Broker) (c : Text) (sound : Sound forms None b) wh
   less_sound q x s =
       edited_sound forms q x s x.parent x.ends (one_less x).uses_left x.cubbyhole x.leases
       s.ends (λ n e. let m = mapped (λ n. n - 1) x.uses_left n e in
-          subst (λ k. k < 2 ^ 64) (sym m.2) (lt_of_le_of_lt (sub-le m.0 1) (s.uses_left m.0 m.1)))
+      subst (λ k. k < 2 ^ 64) (sym m.2) (lt_of_le_of_lt (sub-le m.0 1) (s.uses_left m.0 m.1)))
       s.cubbyhole s.leases
 
   spent_sound : (q : Text) (x : Token) → IsSoundToken forms q x → IsSoundToken forms q (spent_at c q x)
@@ -94,9 +93,9 @@ module _ (forms : Forms) (b : Broker) (c : Text) (sound : Sound forms None b) wh
       (values_tree (spent_at c) b.tokens (spent_parent c) (tree_of forms None None b sound))
       (spent_fewer b c) (λ q w e. e)
       (λ q y e. let x = valued_is (spent_at c) b.tokens q y e in
-          subst (IsSoundToken forms q) (sym x.2) (spent_sound q x.0 (sound.tokens.each q x.0 x.1)))
+      subst (IsSoundToken forms q) (sym x.2) (spent_sound q x.0 (sound.tokens.each q x.0 x.1)))
       (λ q y e zero. let x = valued_is (spent_at c) b.tokens q y e in
-          only_caller q x.0 x.1 (ap (λ (z : Token). z.uses_left) (sym x.2) ∙ zero))
+      only_caller q x.0 x.1 (ap (λ (z : Token). z.uses_left) (sym x.2) ∙ zero))
 
 -- ---- a caller that has spent its last use ends
 
@@ -106,7 +105,7 @@ module _ (b : Broker) where
   ended_or_same None = inr refl
   ended_or_same (Some c) =
       elim (option_map_or is_spent (get b.tokens c) false)
-          as (λ v. ((d : Text) × ((if v then revoke b c else b) ≡ revoke b d)) ⊎ ((if v then revoke b c else b) ≡ b)) [
+      as (λ v. ((d : Text) × ((if v then revoke b c else b) ≡ revoke b d)) ⊎ ((if v then revoke b c else b) ≡ b)) [
         | true ↦ inl (c, refl)
         | false ↦ inr refl
       ]
@@ -147,19 +146,19 @@ module _ (forms : Forms) where
   end_spent_sound None b sound = sound
   end_spent_sound (Some c) b sound =
       elim (option_map_or is_spent (get b.tokens c) false)
-          as (λ v. option_map_or is_spent (get b.tokens c) false ≡ v → Sound forms None (if v then revoke b c else b)) [
+      as (λ v. option_map_or is_spent (get b.tokens c) false ≡ v → Sound forms None (if v then revoke b c else b)) [
         | true ↦ λ _.
             let left = revoke_sound forms (Some c) b sound c in
             nobody_spent (Some c) (revoke b c) left (λ t x is zero.
-                let one : t ≡ c = sym (same_Some c t (left.unspent t x is zero)) in
-                absurd (revoked_self b.tokens c x (subst (λ q. get (lineage.revoke b.tokens c) q ≡ Some x) one is)))
+            let one : t ≡ c = sym (same_Some c t (left.unspent t x is zero)) in
+            absurd (revoked_self b.tokens c x (subst (λ q. get (lineage.revoke b.tokens c) q ≡ Some x) one is)))
         | false ↦ λ unspent.
             nobody_spent (Some c) b sound (λ t x is zero.
-                let one : t ≡ c = sym (same_Some c t (sound.unspent t x is zero)) in
-                let here : get b.tokens c ≡ Some x = subst (λ q. get b.tokens q ≡ Some x) one is in
-                absurd (false≢true
-                    (sym unspent ∙ ap (λ o. option_map_or is_spent o false) here
-                    ∙ ap (λ o. option_map_or (λ n. n == 0) o false) zero)))
+            let one : t ≡ c = sym (same_Some c t (sound.unspent t x is zero)) in
+            let here : get b.tokens c ≡ Some x = subst (λ q. get b.tokens q ≡ Some x) one is in
+            absurd (false≢true
+            (sym unspent ∙ ap (λ o. option_map_or is_spent o false) here
+            ∙ ap (λ o. option_map_or (λ n. n == 0) o false) zero)))
       ] refl
 
 -- ---- a waiting response is dropped

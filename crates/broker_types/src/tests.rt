@@ -48,7 +48,10 @@ fn times(rt: HostRuntime) -> Result<(), Fail> {
 #[test]
 fn limits(rt: HostRuntime) {
     let greatest = Moment::new(250_000_000_000);
-    assert_eq!(rt; greatest.map(|moment| moment.seconds()), Some(250_000_000_000));
+    assert_eq!(rt;
+        greatest.map(|moment| moment.seconds()),
+        Some(250_000_000_000)
+    );
     assert_eq!(rt; Moment::new(250_000_000_001), None);
     for (asked, want) in [(2_764_800, 2_764_800), (2_764_801, 2_764_800)] {
         assert_eq!(rt; WrapTtl::cut(Seconds::new(asked)).count(), want);
@@ -152,8 +155,16 @@ fn refusals(rt: HostRuntime) -> Result<(), Fail> {
         (missing, 400, "[\"missing field: lease_id\"]"),
         (Refusal::Forbidden(Denial::BadToken), 403, "[\"bad token\"]"),
         (Refusal::NotFound, 404, "[]"),
-        (Refusal::MethodNotAllowed(methods), 405, "[\"unsupported operation\"]"),
-        (Refusal::IdentifierUsed, 500, "[\"identifier already used\"]"),
+        (
+            Refusal::MethodNotAllowed(methods),
+            405,
+            "[\"unsupported operation\"]",
+        ),
+        (
+            Refusal::IdentifierUsed,
+            500,
+            "[\"identifier already used\"]",
+        ),
     ];
     for (refusal, code, errors) in table {
         let answer = Answer::refused(rt.alloc(), refusal)?;
