@@ -17,6 +17,10 @@ use Rattle.broker_types.specs.First.{root_token, first_broker}
 use Rattle.broker_types.specs.Sound.{is_ascending}
 use Rattle.broker_types.specs.Places as place
 use Rattle.broker_types.specs.Places.{token_identifier, lease_identifier, identifier_at, credential, wrapping_token, wrapping_accessor}
+use Rattle.broker_types.specs.Spending.{one_less, is_spent}
+use Rattle.broker_types.specs.Used.{are_new, use_up}
+use Rattle.std.specs.Prelude.{is_none, ◌&&◌}
+use Rattle.broker_types.specs.Map.{empty}
 use Rattle.broker_types.specs.MapLaws.{get-put, get-without, get-keep, get-map_values, entries-map_values}
 
 -- ---- texts
@@ -282,3 +286,22 @@ credential_stands = rw lessee_stands (rw leased refl)
 
 lease_stands : identifier_at broker (place.lease r lease_id) ≡ Some (codes "00000000-0000-0000-0000-000000000013")
 lease_stands = rw lessee_stands (rw leased refl)
+
+-- ---- uses and identifiers given out
+
+one_use_less : (one_less (record (root_token 0 r) { uses_left = Some 3 })).uses_left ≡ Some 2
+one_use_less = refl
+
+no_limit : (one_less (root_token 0 r)).uses_left ≡ None
+no_limit = refl
+
+last_use : is_spent (record (root_token 0 r) { uses_left = Some 0 }) ≡ true
+last_use = refl
+
+equal_ones_are_not_new : are_new empty (a ∷ a ∷ []) ≡ false
+unfolding same
+equal_ones_are_not_new = ap (λ o. is_none o && (false && (is_none o && true))) (fin.get-empty text_cmp a)
+
+given_out : are_new (use_up empty (a ∷ [])) (a ∷ []) ≡ false
+unfolding same
+given_out = ap (λ o. is_none o && true) (get-put empty a (tt {0}) a)

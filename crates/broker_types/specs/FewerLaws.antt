@@ -93,7 +93,8 @@ is_wrapping _ = false
 
 module _ (b : Broker) (sound : SoundIdentifiers b) where
   -- a token that is gone has ended
-  pub fewer_ended : (now : ℕ) (ts : Tokens) (ws : Map Waiting) (q : Text) → WaitFewer b.waiting ws → get b.tokens q ≢ None
+  pub fewer_ended : (now : ℕ) (ts : Tokens) (ws : Map Waiting) (q : Text) → WaitFewer b.waiting ws
+      → get b.tokens q ≢ None
       → get ts q ≡ None → HasEnded (record b { clock = now; tokens = ts; waiting = ws }) q
   fewer_ended now ts ws q wait stood gone = elim (found_or_not (get b.tokens q)) [
     | inl none ↦ absurd (stood none)

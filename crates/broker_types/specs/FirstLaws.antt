@@ -217,7 +217,8 @@ module _ (forms : Forms) (moment v w : ℕ) (now : moment ≤ greatest_moment) (
   pub first_sound : v ≢ w → forms.is_policy default_policy ≡ true → Sound forms None first
   first_sound ne accepted = record {
     clock = now;
-    tokens = record { each = token_sound; parents_exist = λ t p x e f none. no_parent t p x e f; chains_end = chain_ends };
+    tokens =
+        record { each = token_sound; parents_exist = λ t p x e f none. no_parent t p x e f; chains_end = chain_ends };
     secrets = λ q k e. absurd (no_entry q k e);
     waiting = record { each = λ t x e. absurd (no_entry t x e); one_origin = λ t u x y e f g. absurd (no_entry t x e) };
     mounts = λ name m e.

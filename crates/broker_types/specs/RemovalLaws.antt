@@ -4,7 +4,8 @@ use Rattle.std.specs.Prelude.{None}
 use Rattle.std.specs.Option.{option_map_or}
 use Rattle.std.proofs.Common.{refl, sym, ◌∙◌, ap, subst}
 use Rattle.std.proofs.Math.Nat.{max-le}
-use Rattle.broker_types.specs.FewerLaws.{IsLess, AreFewer, WaitFewer, fewer_evolves, fewer_ended, edited_sound, fewer_sound}
+use Rattle.broker_types.specs.FewerLaws.{IsLess, AreFewer, WaitFewer, fewer_evolves, fewer_ended, edited_sound}
+use Rattle.broker_types.specs.FewerLaws.{fewer_sound}
 use Rattle.broker_types.specs.FewerLaws.{tree_of}
 use Rattle.broker_types.specs.Text.{Text}
 use Rattle.broker_types.specs.Map.{get, keep}
@@ -71,7 +72,8 @@ module _ (b : Broker) where
 module _ (b : Broker) (sound : SoundIdentifiers b) where
   -- a token that revocation takes out has ended
   pub revoke_ends : (t q : Text) → get b.tokens q ≢ None → get (revoke b t).tokens q ≡ None → HasEnded (revoke b t) q
-  revoke_ends t q stood gone = fewer_ended b sound b.clock (lineage.revoke b.tokens t) b.waiting q (λ q w e. e) stood gone
+  revoke_ends t q stood gone =
+      fewer_ended b sound b.clock (lineage.revoke b.tokens t) b.waiting q (λ q w e. e) stood gone
 
   -- so has one that is revoked alone
   pub revoke_orphan_ends : (t q : Text) → get b.tokens q ≢ None → get (revoke_orphan b t).tokens q ≡ None

@@ -14,7 +14,8 @@ use Rattle.broker_types.specs.Lineage.{is_alive, with_live_leases, alive_at, rev
 use Rattle.broker_types.specs.Laws.{IsTree, OutlastsAbove}
 use Rattle.broker_types.specs.TextLaws.{same_self, same_true}
 use Rattle.broker_types.specs.Map.{map_values}
-use Rattle.broker_types.specs.MapLaws.{valued_is, valued_none, get-lookup, get-keep, get-without, get-map_values, same_map}
+use Rattle.broker_types.specs.MapLaws.{valued_is, valued_none, get-lookup, get-keep, get-without, get-map_values}
+use Rattle.broker_types.specs.MapLaws.{same_map}
 use Rattle.broker_types.specs.LineageLaws.{ends_above, ends_at, climb_above, climb_at, climb_none, climb_enough}
 use Rattle.broker_types.specs.LineageLaws.{in_climb, ends_in_time, revoke_other}
 use Rattle.broker_types.specs.SearchLaws.{kept_get}
