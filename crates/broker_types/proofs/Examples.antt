@@ -1,13 +1,13 @@
 -- Definitions computed on small inputs.
 use Rattle.std.specs.Prelude.{◌≡◌, ◌+◌, ℕ, List, [], ◌∷◌, true, false, not, cond, Option, Some, None, option_map, option_and_then, if◌then◌else◌, nat_lt}
-use Rattle.std.specs.Prelude.{length, replicate, codes}
+use Rattle.std.specs.Prelude.{length, replicate, codes, is_none, ◌&&◌}
 use Rattle.std.specs.declared.cmp.Ordering.TheVariants.{Less, Greater}
 use Rattle.std.specs.FinMap as fin
 use Rattle.std.specs.List.{find, list_any, list_all}
 use Rattle.std.specs.Option.{option_map_or}
 use Rattle.std.proofs.Common.{refl, ◌∙◌, ap}
 use Rattle.broker_types.specs.Text.{Text, text_cmp, same}
-use Rattle.broker_types.specs.Map.{Map, get, len, put, without, keep, with_values, map_values, change, first_where, entries}
+use Rattle.broker_types.specs.Map.{Map, get, len, put, without, keep, with_values, map_values, change, first_where, entries, empty}
 use Rattle.broker_types.specs.Name.{is_name, is_mount_name}
 use Rattle.broker_types.specs.Token.{Token, Tokens, Lease}
 use Rattle.broker_types.specs.Lineage.{climb, lineage, is_under, revoke, revoke_orphan, orphaned_by, outlasts, is_alive, alive_at, with_live_leases}
@@ -19,8 +19,6 @@ use Rattle.broker_types.specs.Places as place
 use Rattle.broker_types.specs.Places.{token_identifier, lease_identifier, identifier_at, credential, wrapping_token, wrapping_accessor}
 use Rattle.broker_types.specs.Spending.{one_less, is_spent}
 use Rattle.broker_types.specs.Used.{are_new, use_up}
-use Rattle.std.specs.Prelude.{is_none, ◌&&◌}
-use Rattle.broker_types.specs.Map.{empty}
 use Rattle.broker_types.specs.MapLaws.{get-put, get-without, get-keep, get-map_values, entries-map_values}
 
 -- ---- texts

@@ -1,10 +1,11 @@
 -- A broker that has no token, lease, wrapping token or waiting response but those of the one before it.
-use Rattle.std.specs.Prelude.{◌≡◌, ◌≢◌, ◌≤◌, ℕ, Bool, true, false, Option, Some}
-use Rattle.std.specs.Prelude.{None, option_map, option_and_then}
+use Rattle.std.specs.Prelude.{◌≡◌, ◌≢◌, ◌≤◌, ℕ, Bool, true, false, Option, Some, None, option_map, option_and_then, ◌<◌}
+use Rattle.std.specs.Prelude.{◌^◌}
 use Rattle.std.proofs.Common.{refl, sym, ◌∙◌, ap, inl, inr}
-use Rattle.std.specs.Prelude.{◌<◌, ◌^◌}
-use Rattle.broker_types.specs.Sound.{IsEnd, IsPathText, IsObjectText, IsSoundLease}
-use Rattle.broker_types.specs.OptionLaws.{mapped}
+use Rattle.std.proofs.lemmas.Bool.{false≢true}
+use Rattle.std.proofs.lemmas.Option.{none-some}
+use Rattle.broker_types.specs.Sound.{IsEnd, IsPathText, IsObjectText, IsSoundLease, Forms, SoundIdentifiers, Sound}
+use Rattle.broker_types.specs.Sound.{Unspent, IsSoundToken}
 use Rattle.broker_types.specs.Text.{Text}
 use Rattle.broker_types.specs.Map.{Map, get}
 use Rattle.broker_types.specs.Moment.{greatest_moment}
@@ -12,12 +13,9 @@ use Rattle.broker_types.specs.Token.{Token, Tokens, Lease}
 use Rattle.broker_types.specs.Broker.{Broker, Waiting}
 use Rattle.broker_types.specs.Places.{Place, token, accessor, lease, credential, wrapping_token, wrapping_accessor}
 use Rattle.broker_types.specs.Places.{identifier_at, lease_of, token_identifier, lease_identifier}
-use Rattle.broker_types.specs.Sound.{Forms, SoundIdentifiers, Sound, Unspent, IsSoundToken}
-use Rattle.broker_types.specs.Laws.{IsTree}
 use Rattle.broker_types.specs.Evolves.{Evolves, HasEnded}
-use Rattle.std.proofs.lemmas.Bool.{false≢true}
-use Rattle.std.proofs.lemmas.Option.{none-some}
-use Rattle.broker_types.specs.OptionLaws.{found_or_not}
+use Rattle.broker_types.specs.OptionLaws.{mapped, found_or_not}
+use Rattle.broker_types.specs.Laws.{IsTree}
 
 -- y has the accessor of x, and no lease that x does not have
 pub record IsLess (x y : Token) : Type 0 where

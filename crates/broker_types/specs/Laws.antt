@@ -5,8 +5,8 @@ use Rattle.broker_types.specs.Text.{Text}
 use Rattle.broker_types.specs.Map.{get}
 use Rattle.broker_types.specs.Moment.{greatest_moment}
 use Rattle.broker_types.specs.Token.{Token, Tokens}
-use Rattle.broker_types.specs.Lineage.{lineage, is_under, ParentsExist, ChainsEnd, alive_at, with_live_leases}
-use Rattle.broker_types.specs.Lineage.{revoke, revoke_orphan}
+use Rattle.broker_types.specs.Lineage.{lineage, is_under, ParentsExist, ChainsEnd, alive_at, with_live_leases, revoke}
+use Rattle.broker_types.specs.Lineage.{revoke_orphan}
 use Rattle.broker_types.specs.Broker as broker
 use Rattle.broker_types.specs.Broker.{Broker, Waiting}
 use Rattle.broker_types.specs.Evolves.{Evolves, IsHandedOut, HasEnded, IsTakenOut}

@@ -1,22 +1,21 @@
 -- Laws of the tree of tokens.
 use Rattle.std.specs.Prelude.{◌≡◌, ◌≢◌, ℕ, zero, suc, List, [], ◌∷◌, true, false, not, cond, ◌||◌, Option, Some, None}
-use Rattle.std.specs.Prelude.{is_none, length, ◌≤◌, IsSome}
+use Rattle.std.specs.Prelude.{is_none, length, ◌≤◌, IsSome, Bool}
 use Rattle.std.specs.List.{list_any, IsDistinct, AllByRecursion}
 use Rattle.std.specs.Option.{option_map_or}
-use Rattle.std.proofs.Common.{refl, sym, ◌∙◌, ap, subst}
 use Rattle.std.specs.Map.{lookup}
 use Rattle.std.specs.FinMap.{len-entries}
+use Rattle.std.proofs.Common.{refl, sym, ◌∙◌, ap, subst}
 use Rattle.std.proofs.lemmas.Map.Steps.{length-le_from_keys}
 use Rattle.std.proofs.Math.Nat.{le_refl, le_trans, le-suc, not-suc-le_self, not-suc-le-zero, le_of_suc-le-suc}
 use Rattle.std.proofs.lemmas.Option.{none-some}
-use Rattle.std.specs.Prelude.{Bool}
+use Rattle.std.proofs.lemmas.Bool.{or_right, false_from_ne_true, false≢true}
 use Rattle.broker_types.specs.Text.{Text, same}
 use Rattle.broker_types.specs.Map.{get, len, entries}
 use Rattle.broker_types.specs.Token.{Token, Tokens}
 use Rattle.broker_types.specs.Lineage.{climb, is_under, revoke, ends_within, ChainsEnd}
 use Rattle.broker_types.specs.TextLaws.{same_true, same_equiv}
 use Rattle.broker_types.specs.MapLaws.{get-lookup, get-keep, same_map}
-use Rattle.std.proofs.lemmas.Bool.{or_right, false_from_ne_true, false≢true}
 
 -- the steps of `ends_within` and of `climb`, at a token that may be there, and at a parent that it may have
 abbrev pub ends_above : ℕ → Tokens → Option Text → Bool

@@ -9,9 +9,9 @@ use Rattle.std.specs.List.{find as first}
 use Rattle.std.specs.Map.{lookup}
 use Rattle.std.specs.Ordering.{is_lt}
 use Rattle.std.proofs.Common.{refl, sym, ◌∙◌, ap, subst}
+use Rattle.std.proofs.lemmas.Option.{none-some}
 use Rattle.broker_types.specs.Text.{Text, text_cmp, same}
 use Rattle.broker_types.specs.Map.{Map, get, entries, put, without, keep, with_values, map_values, change, first_where}
-use Rattle.std.proofs.lemmas.Option.{none-some}
 use Rattle.broker_types.specs.OptionLaws.{mapped, mapped_none}
 use Rattle.broker_types.specs.TextLaws.{same-text_cmp, same_self, same_true}
 

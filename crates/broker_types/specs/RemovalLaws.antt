@@ -1,12 +1,8 @@
 -- What revocation and expiry leave: a broker that is sound where it was, and evolves.
-use Rattle.std.specs.Prelude.{◌≡◌, ◌≢◌, ◌≤◌, ℕ, max, Bool, nat_lt, false, not, Option, Some}
-use Rattle.std.specs.Prelude.{None}
+use Rattle.std.specs.Prelude.{◌≡◌, ◌≢◌, ◌≤◌, ℕ, max, Bool, nat_lt, false, not, Option, Some, None}
 use Rattle.std.specs.Option.{option_map_or}
 use Rattle.std.proofs.Common.{refl, sym, ◌∙◌, ap, subst}
 use Rattle.std.proofs.Math.Nat.{max-le}
-use Rattle.broker_types.specs.FewerLaws.{IsLess, AreFewer, WaitFewer, fewer_evolves, fewer_ended, edited_sound}
-use Rattle.broker_types.specs.FewerLaws.{fewer_sound}
-use Rattle.broker_types.specs.FewerLaws.{tree_of}
 use Rattle.broker_types.specs.Text.{Text}
 use Rattle.broker_types.specs.Map.{get, keep}
 use Rattle.broker_types.specs.Moment.{greatest_moment}
@@ -15,8 +11,10 @@ use Rattle.broker_types.specs.Lineage as lineage
 use Rattle.broker_types.specs.Lineage.{is_under, orphaned_by, with_live_leases}
 use Rattle.broker_types.specs.Broker.{Broker, waiting_ends, at_moment, revoke, revoke_orphan}
 use Rattle.broker_types.specs.Sound.{Forms, SoundIdentifiers, Sound, IsSoundToken}
-use Rattle.broker_types.specs.Laws.{IsTree}
 use Rattle.broker_types.specs.Evolves.{Evolves, HasEnded}
+use Rattle.broker_types.specs.FewerLaws.{IsLess, AreFewer, WaitFewer, fewer_evolves, fewer_ended, edited_sound}
+use Rattle.broker_types.specs.FewerLaws.{fewer_sound, tree_of}
+use Rattle.broker_types.specs.Laws.{IsTree}
 use Rattle.broker_types.specs.SearchLaws.{kept_get}
 use Rattle.broker_types.specs.TreeLaws.{orphaned_is, alive_is, revoke_tree, orphan_tree, alive_tree}
 

@@ -11,12 +11,12 @@ use Rattle.std.specs.Map.{lookup}
 use Rattle.std.specs.FinMap.Entries.{below_all}
 use Rattle.std.proofs.Common.{refl, sym, ◌∙◌, ap, subst, inl, inr}
 use Rattle.std.proofs.lemmas.List.Elements.{All-cons, All-nil}
+use Rattle.std.proofs.lemmas.Bool.{false≢true}
+use Rattle.std.proofs.lemmas.Option.{none-some, same_Some}
 use Rattle.broker_types.specs.Text.{Text, text_cmp, same}
 use Rattle.broker_types.specs.Map.{Map, get, entries, keep, first_where}
 use Rattle.broker_types.specs.TextLaws.{same-text_cmp, same_self, same_true}
 use Rattle.broker_types.specs.MapLaws.{get-keep, get-lookup}
-use Rattle.std.proofs.lemmas.Bool.{false≢true}
-use Rattle.std.proofs.lemmas.Option.{none-some, same_Some}
 use Rattle.broker_types.specs.OptionLaws.{found_or_not}
 
 left : (a b : Bool) → T (a && b) → T a

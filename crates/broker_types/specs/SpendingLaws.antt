@@ -1,40 +1,30 @@
 -- What spending a use, ending a spent caller and dropping a waiting response leave: a sound broker that evolves.
-use Rattle.std.specs.Prelude.{◌≡◌, ◌≢◌, ◌==◌, if◌then◌else◌, true, false, not, Option, Some}
-use Rattle.std.specs.Prelude.{None, option_map}
+use Rattle.std.specs.Prelude.{◌≡◌, ◌≢◌, ◌==◌, if◌then◌else◌, true, false, not, Option, Some, None, option_map, ◌⊎◌, ◌<◌}
+use Rattle.std.specs.Prelude.{◌^◌, ◌-◌}
 use Rattle.std.specs.Option.{option_map_or}
 use Rattle.std.proofs.Common.{refl, sym, ◌∙◌, ap, subst, inl, inr}
-use Rattle.std.proofs.lemmas.Option.{same_Some}
-use Rattle.std.specs.Prelude.{◌⊎◌, ◌<◌, ◌^◌, ◌-◌}
+use Rattle.std.proofs.lemmas.Option.{same_Some, none-some}
 use Rattle.std.proofs.Math.Nat.{sub-le, lt_of_le_of_lt}
-use Rattle.broker_types.specs.Text.{same}
-use Rattle.broker_types.specs.Map.{without}
-use Rattle.broker_types.specs.Sound.{SoundWaiting}
-use Rattle.broker_types.specs.Spending.{spend, one_less, drop_waiting}
-use Rattle.broker_types.specs.Evolves.{IsTakenOut, IsHandedOut}
-use Rattle.broker_types.specs.Laws.{EndTokens}
-use Rattle.broker_types.specs.TextLaws.{same_self, same_true}
-use Rattle.broker_types.specs.MapLaws.{valued_is, without_is, get-without_self}
-use Rattle.broker_types.specs.OptionLaws.{mapped}
-use Rattle.broker_types.specs.TreeLaws.{values_tree}
-use Rattle.broker_types.specs.FewerLaws.{IsLess, AreFewer, WaitFewer, fewer_evolves, edited_sound, fewer_sound}
-use Rattle.broker_types.specs.FewerLaws.{tree_of, same_fewer}
-use Rattle.broker_types.specs.RemovalLaws.{revoke_evolves, revoke_ends, revoke_sound}
-use Rattle.broker_types.specs.Text.{Text}
-use Rattle.broker_types.specs.Map.{get}
+use Rattle.std.proofs.lemmas.Bool.{false≢true}
+use Rattle.broker_types.specs.Text.{same, Text}
+use Rattle.broker_types.specs.Map.{without, get}
+use Rattle.broker_types.specs.Sound.{SoundWaiting, Forms, SoundIdentifiers, Sound, Unspent, IsSoundToken}
+use Rattle.broker_types.specs.Spending.{spend, one_less, drop_waiting, is_spent, end_spent}
+use Rattle.broker_types.specs.Evolves.{IsTakenOut, IsHandedOut, Evolves}
 use Rattle.broker_types.specs.Token.{Token, Tokens}
 use Rattle.broker_types.specs.Lineage as lineage
 use Rattle.broker_types.specs.Lineage.{is_under, orphaned_by, with_live_leases}
 use Rattle.broker_types.specs.Broker.{Broker, Waiting, revoke}
-use Rattle.broker_types.specs.Places.{wrapping_token}
-use Rattle.broker_types.specs.Places.{token_identifier}
-use Rattle.broker_types.specs.Sound.{Forms, SoundIdentifiers, Sound, Unspent, IsSoundToken}
-use Rattle.broker_types.specs.Spending.{is_spent, end_spent}
-use Rattle.broker_types.specs.Evolves.{Evolves}
-use Rattle.std.proofs.lemmas.Bool.{false≢true}
-use Rattle.std.proofs.lemmas.Option.{none-some, same_Some}
-use Rattle.broker_types.specs.OptionLaws.{found_or_not}
+use Rattle.broker_types.specs.Places.{wrapping_token, token_identifier}
+use Rattle.broker_types.specs.Laws.{EndTokens}
+use Rattle.broker_types.specs.TextLaws.{same_self, same_true}
+use Rattle.broker_types.specs.MapLaws.{valued_is, without_is, get-without_self}
+use Rattle.broker_types.specs.OptionLaws.{mapped, found_or_not}
+use Rattle.broker_types.specs.TreeLaws.{values_tree, under_self}
+use Rattle.broker_types.specs.FewerLaws.{IsLess, AreFewer, WaitFewer, fewer_evolves, edited_sound, fewer_sound, tree_of}
+use Rattle.broker_types.specs.FewerLaws.{same_fewer}
+use Rattle.broker_types.specs.RemovalLaws.{revoke_evolves, revoke_ends, revoke_sound}
 use Rattle.broker_types.specs.SearchLaws.{kept_get}
-use Rattle.broker_types.specs.TreeLaws.{under_self}
 
 -- ---- a use is spent
 

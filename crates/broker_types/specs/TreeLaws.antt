@@ -5,22 +5,21 @@ use Rattle.std.specs.List.{list_any, list_all}
 use Rattle.std.specs.Map.{lookup}
 use Rattle.std.specs.FinMap.{len-entries}
 use Rattle.std.proofs.Common.{refl, sym, ◌∙◌, ap, subst, inl, inr}
-use Rattle.std.proofs.lemmas.Bool.{ltb-true, lt-ltb}
+use Rattle.std.proofs.lemmas.Bool.{ltb-true, lt-ltb, and_parts, and_from, or_right, false_from_ne_true, false≢true}
+use Rattle.std.proofs.lemmas.Option.{none-some, same_Some}
 use Rattle.broker_types.specs.Text.{Text, same}
-use Rattle.broker_types.specs.Map.{get, len, entries}
+use Rattle.broker_types.specs.Map.{get, len, entries, map_values}
 use Rattle.broker_types.specs.Token.{Token, Tokens}
 use Rattle.broker_types.specs.Lineage.{climb, lineage, is_under, ends_within, ParentsExist, ChainsEnd, outlasts}
 use Rattle.broker_types.specs.Lineage.{is_alive, with_live_leases, alive_at, revoke, orphaned_by, revoke_orphan}
 use Rattle.broker_types.specs.Laws.{IsTree, OutlastsAbove}
 use Rattle.broker_types.specs.TextLaws.{same_self, same_true}
-use Rattle.broker_types.specs.Map.{map_values}
-use Rattle.broker_types.specs.MapLaws.{valued_is, valued_none, get-lookup, get-keep, get-without, get-map_values}
+use Rattle.broker_types.specs.Map.{without, keep}
+use Rattle.broker_types.specs.MapLaws.{without_is, valued_is, valued_none, get-lookup, get-keep, get-without, get-map_values}
 use Rattle.broker_types.specs.MapLaws.{same_map}
 use Rattle.broker_types.specs.LineageLaws.{ends_above, ends_at, climb_above, climb_at, climb_none, climb_enough}
 use Rattle.broker_types.specs.LineageLaws.{in_climb, ends_in_time, revoke_other}
 use Rattle.broker_types.specs.SearchLaws.{kept_get}
-use Rattle.std.proofs.lemmas.Bool.{and_parts, and_from, or_right, false_from_ne_true, false≢true}
-use Rattle.std.proofs.lemmas.Option.{none-some, same_Some}
 use Rattle.broker_types.specs.OptionLaws.{found_or_not}
 
 same_false : (a b : Text) → a ≢ b → same a b ≡ false
@@ -198,13 +197,8 @@ orphan_unknown ts t stand none = same_map (revoke_orphan ts t) ts (λ q. elim (f
 -- a token that is left was there, with its parent unless that was revoked
 pub orphaned_is : (ts : Tokens) (t q : Text) (y : Token) → get (revoke_orphan ts t) q ≡ Some y
     → (x : Token) × (get ts q ≡ Some x) × (y ≡ orphaned_by t x)
-orphaned_is ts t q y is = by (same q t) (get ts q) (sym (get-revoke_orphan ts t q) ∙ is)
-  where
-    by : (b : Bool) (o : Option Token) → option_map (orphaned_by t) (cond b None o) ≡ Some y
-        → (x : Token) × (o ≡ Some x) × (y ≡ orphaned_by t x)
-    by true o e = absurd (none-some _ e)
-    by false None e = absurd (none-some _ e)
-    by false (Some x) e = (x, refl, sym (same_Some _ _ e))
+orphaned_is ts t q y is =
+    let x = valued_is (λ q. orphaned_by t) (without ts t) q y is in (x.0, (without_is ts t q x.0 x.1).1, x.2)
 
 parent_left : (t p : Text) (o : Option Text) → option_and_then (λ p. if same p t then None else Some p) o ≡ Some p
     → (o ≡ Some p) × (same p t ≡ false)
@@ -261,13 +255,10 @@ get-alive_at now ts t = get-map_values _ _ t ∙ ap (option_map (with_live_lease
 -- a token that is alive was there, with all its leases
 pub alive_is : (now : ℕ) (ts : Tokens) (t : Text) (y : Token) → get (alive_at now ts) t ≡ Some y
     → (x : Token) × (get ts t ≡ Some x) × (is_alive now ts t ≡ true) × (y ≡ with_live_leases now x)
-alive_is now ts t y is = by (is_alive now ts t) (get ts t) (sym (get-alive_at now ts t) ∙ is)
-  where
-    by : (b : Bool) (o : Option Token) → option_map (with_live_leases now) (cond b o None) ≡ Some y
-        → (x : Token) × (o ≡ Some x) × (b ≡ true) × (y ≡ with_live_leases now x)
-    by false o e = absurd (none-some _ e)
-    by true None e = absurd (none-some _ e)
-    by true (Some x) e = (x, refl, refl, sym (same_Some _ _ e))
+alive_is now ts t y is =
+    let x = valued_is (λ t. with_live_leases now) (keep (is_alive now ts) ts) t y is in
+    let kept = kept_get (is_alive now ts) ts t x.0 x.1 in
+    (x.0, kept.0, kept.1, x.2)
 
 all_at : (f : Text → Bool) (xs : List Text) (a : Text) → list_all f xs ≡ true → list_any (same a) xs ≡ true → f a ≡ true
 all_at f [] a h u = absurd (false≢true u)
