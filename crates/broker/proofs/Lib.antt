@@ -1,6 +1,5 @@
 pub mod ClockCalls
 pub mod Clocks
-pub mod Determined
 pub mod DroppedRows
 pub mod Examples
 pub mod FirstRows
