@@ -10,7 +10,7 @@ use Rattle.serde_json.specs.Written.{has_float, members_have_float, compact_text
 use Rattle.serde_json.proofs.Nesting.{depth-read}
 use Rattle.broker_types.specs.Text.{Text, same}
 use Rattle.broker_types.specs.Limits.{longest_body}
-use Rattle.broker_types.proofs.Texts.{same_self}
+use Rattle.broker_types.specs.TextLaws.{same_self}
 use Rattle.broker_types.specs.Refuse.{some_or}
 use Rattle.api_json.specs.Json.{tree, members_in, without_floats, read_body, body_members, no_object}
 use Rattle.api_json.specs.Kinds.{object_text}

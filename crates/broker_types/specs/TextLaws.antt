@@ -1,0 +1,30 @@
+-- Whether two texts are one.
+use Rattle.std.specs.Prelude.{◌≡◌, true}
+use Rattle.std.specs.Cmp.{IsEquivalence, eq_by_cmp_equiv}
+use Rattle.std.specs.Cmp.Lexicographic.{nat_list_cmp_total}
+use Rattle.std.specs.Ordering.{eq_by_cmp}
+use Rattle.std.proofs.Common.{refl, sym, subst}
+use Rattle.std.proofs.lemmas.Slice.Eq.{bytes_eq-Decides}
+use Rattle.std.proofs.lemmas.Map.Text.{is_eq-slice_cmp}
+use Rattle.broker_types.specs.Text.{Text, text_cmp, same}
+
+-- by the order of texts
+pub same-text_cmp : (a b : Text) → same a b ≡ eq_by_cmp text_cmp a b
+unfolding same
+same-text_cmp a b = sym (is_eq-slice_cmp a b)
+
+-- a text is the same as itself
+pub same_self : (a : Text) → same a a ≡ true
+unfolding same
+same_self a = (bytes_eq-Decides a a).1 refl
+
+-- texts that are the same are equal
+pub same_true : (a b : Text) → same a b ≡ true → a ≡ b
+unfolding same
+same_true a b e = (bytes_eq-Decides a b).0 e
+
+-- to be the same is an equivalence
+pub same_equiv : IsEquivalence same
+same_equiv =
+    let by_order : eq_by_cmp text_cmp ≡ same = λ i a b. sym (same-text_cmp a b) i in
+    subst IsEquivalence by_order (eq_by_cmp_equiv nat_list_cmp_total)
