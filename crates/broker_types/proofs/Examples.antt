@@ -15,7 +15,7 @@ use Rattle.broker_types.specs.First.{root_token, first_broker}
 use Rattle.broker_types.specs.Sound.{is_ascending}
 use Rattle.broker_types.specs.Places as place
 use Rattle.broker_types.specs.Places.{token_identifier, lease_identifier, identifier_at, credential, wrapping_token, wrapping_accessor}
-use Rattle.broker_types.proofs.Maps.{get-put, get-without, get-keep, get-map_values, entries-map_values}
+use Rattle.broker_types.specs.MapLaws.{get-put, get-without, get-keep, get-map_values, entries-map_values}
 
 -- ---- texts
 

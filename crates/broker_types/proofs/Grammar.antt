@@ -12,7 +12,9 @@ use Rattle.std.proofs.lemmas.Str.{digit_value_digit}
 use Rattle.std.proofs.lemmas.Str.Parse.{digit_from_value}
 use Rattle.broker_types.specs.Duration.{unit_of, group_end, groups, with_unit, at_most, most, duration_of, TimeUnit, hours, minutes, seconds, unit_byte, unit_seconds, Group, IsGroup, group_text, group_seconds, IsCount, IsSum, IsDuration}
 use Rattle.broker_types.proofs.Groups.{in_range}
-use Rattle.broker_types.proofs.Cases.{no, no_some, some_inj, and_false}
+use Rattle.std.proofs.lemmas.Bool.{false≢true}
+use Rattle.std.proofs.lemmas.Option.{none-some, same_Some}
+use Rattle.std.proofs.Math.Bool.{and-false}
 
 -- ---- digits
 
@@ -33,7 +35,7 @@ all_digits [] h = tt
 all_digits (c ∷ cs) h =
     elim (is_ascii_digit c) as (λ b. is_ascii_digit c ≡ b → (b && list_all is_ascii_digit cs) ≡ true → (digit_value c < 10) × AllDigits 10 cs) [
       | true ↦ λ e g. (digit_small c e, all_digits cs g)
-      | false ↦ λ _ g. no g
+      | false ↦ λ _ g. absurd (false≢true g)
     ] refl h
 
 digits_all : (s : List ℕ) → AllDigits 10 s → list_all is_ascii_digit s ≡ true
@@ -47,7 +49,7 @@ not_empty : (n : ℕ) → not (suc n == 0) ≡ true
 not_empty n = grind (arith, nat_tests)
 
 count_numeral : (s : List ℕ) → is_count s ≡ true → IsNumeral 10 s
-count_numeral [] h = no h
+count_numeral [] h = absurd (false≢true h)
 count_numeral (c ∷ cs) h =
     (omega arith, all_digits (c ∷ cs) (sym (ap (λ b. b && list_all is_ascii_digit (c ∷ cs)) (not_empty (length cs))) ∙ h))
 
@@ -66,12 +68,12 @@ IsUnitByte c u = (x : TimeUnit) × (c ≡ unit_byte x) × (u ≡ unit_seconds x)
 unit_known : (c u : ℕ) → unit_of c ≡ Some u → IsUnitByte c u
 unit_known c u h =
     elim (c == 104) as (λ b. (c == 104) ≡ b → cond b (Some 3600) (cond (c == 109) (Some 60) (cond (c == 115) (Some 1) None)) ≡ Some u → IsUnitByte c u) [
-      | true ↦ λ e g. (hours, named c 104 e, sym (some_inj g))
+      | true ↦ λ e g. (hours, named c 104 e, sym (same_Some _ _ g))
       | false ↦ λ _ g. elim (c == 109) as (λ b. (c == 109) ≡ b → cond b (Some 60) (cond (c == 115) (Some 1) None) ≡ Some u → IsUnitByte c u) [
-        | true ↦ λ e f. (minutes, named c 109 e, sym (some_inj f))
+        | true ↦ λ e f. (minutes, named c 109 e, sym (same_Some _ _ f))
         | false ↦ λ _ f. elim (c == 115) as (λ b. (c == 115) ≡ b → cond b (Some 1) None ≡ Some u → IsUnitByte c u) [
-          | true ↦ λ e k. (seconds, named c 115 e, sym (some_inj k))
-          | false ↦ λ _ k. no_some k
+          | true ↦ λ e k. (seconds, named c 115 e, sym (same_Some _ _ k))
+          | false ↦ λ _ k. absurd (none-some _ k)
         ] refl f
       ] refl g
     ] refl h
@@ -179,15 +181,15 @@ one_unit sum d c u cs n h r =
     }
 
 reads : (cs : List ℕ) (sum : ℕ) (begun : Option ℕ) (n : ℕ) → groups sum begun cs ≡ Some n → Reads sum begun cs n
-reads [] sum None n e = record { parts = []; each = All-nil IsGroup; joined = refl; total = let f = some_inj e in omega (arith, f) }
-reads [] sum (Some d) n e = no_some e
+reads [] sum None n e = record { parts = []; each = All-nil IsGroup; joined = refl; total = let f = same_Some _ _ e in omega (arith, f) }
+reads [] sum (Some d) n e = absurd (none-some _ e)
 reads (c ∷ cs) sum begun n e =
     elim (is_ascii_digit c) as (λ b. is_ascii_digit c ≡ b → option_and_then (λ p. groups p.0 p.1 cs) (if b then Some (sum, Some (unwrap_or begun 0 * 10 + (c - 48))) else group_end sum begun (unit_of c)) ≡ Some n → Reads sum begun (c ∷ cs) n) [
       | true ↦ λ digit f. one_digit sum begun c cs n digit (reads cs sum (Some (unwrap_or begun 0 * 10 + (c - 48))) n f)
       | false ↦ λ _ f. elim begun as (λ o. option_and_then (λ p. groups p.0 p.1 cs) (group_end sum o (unit_of c)) ≡ Some n → Reads sum o (c ∷ cs) n) [
-        | None ↦ λ g. no_some g
+        | None ↦ λ g. absurd (none-some _ g)
         | Some d ↦ λ g. elim (unit_of c) as (λ o. unit_of c ≡ o → option_and_then (λ p. groups p.0 p.1 cs) (group_end sum (Some d) o) ≡ Some n → AreGroupsAfter sum d (c ∷ cs) n) [
-          | None ↦ λ _ k. no_some k
+          | None ↦ λ _ k. absurd (none-some _ k)
           | Some u ↦ λ is k. one_unit sum d c u cs n is (reads cs (sum + d * u) None n k)
         ] refl g
       ] f
@@ -196,11 +198,11 @@ reads (c ∷ cs) sum begun n e =
 -- ---- durations
 
 at_most_is : (o : Option ℕ) (n : ℕ) → at_most o ≡ Some n → (o ≡ Some n) × (n ≤ most)
-at_most_is None n e = no_some e
+at_most_is None n e = absurd (none-some _ e)
 at_most_is (Some m) n e =
     elim (nat_le m 4294967295) as (λ b. nat_le m 4294967295 ≡ b → cond b (Some m) None ≡ Some n → (Some m ≡ Some n) × (n ≤ 4294967295)) [
-      | true ↦ λ t f. (f, let fits : m ≤ 4294967295 = grind (arith, nat_tests) in subst (λ k. k ≤ 4294967295) (some_inj f) fits)
-      | false ↦ λ _ f. no_some f
+      | true ↦ λ t f. (f, let fits : m ≤ 4294967295 = grind (arith, nat_tests) in subst (λ k. k ≤ 4294967295) (same_Some _ _ f) fits)
+      | false ↦ λ _ f. absurd (none-some _ f)
     ] refl e
 
 count_read : (s : List ℕ) → IsNumeral 10 s → groups 0 None (with_unit s) ≡ Some (digits_value 10 s)
@@ -217,7 +219,7 @@ of_duration s n e =
       | true ↦ λ t.
           let h = count_numeral s t in
           let r = at_most_is (Some (digits_value 10 s)) n (sym (ap at_most (count_read s h)) ∙ e) in
-          record { form = inl (inr (record { numeral = h; value = sym (some_inj r.0) })); fits = r.1 }
+          record { form = inl (inr (record { numeral = h; value = sym (same_Some _ _ r.0) })); fits = r.1 }
       | false ↦ λ t.
           let r = at_most_is (groups 0 None s) n (sym (ap (λ b. at_most (groups 0 None (if b then s ++ 115 ∷ [] else s))) t) ∙ e) in
           let whole = reads s 0 None n r.0 in
@@ -230,13 +232,13 @@ of_duration s n e =
 
 no_count : (ds : List ℕ) (x : TimeUnit) (rest : List ℕ) → list_all is_ascii_digit ((ds ++ unit_byte x ∷ []) ++ rest) ≡ false
 no_count [] x rest = ap (λ b. b && list_all is_ascii_digit rest) (no_digit x)
-no_count (d ∷ ds) x rest = ap (λ b. is_ascii_digit d && b) (no_count ds x rest) ∙ and_false (is_ascii_digit d)
+no_count (d ∷ ds) x rest = ap (λ b. is_ascii_digit d && b) (no_count ds x rest) ∙ and-false (is_ascii_digit d)
 
 sum_read : (gs : List Group) → gs ≢ [] → All IsGroup gs → groups 0 None (with_unit (flat_map group_text gs)) ≡ Some (0 + sum_by group_seconds gs)
 sum_read [] some each = absurd (some refl)
 sum_read (g ∷ gs) some each =
     let s : List ℕ = flat_map group_text (g ∷ gs) in
-    let fails : is_count s ≡ false = ap (λ b. not (length s == 0) && b) (no_count g.digits g.unit (flat_map group_text gs)) ∙ and_false (not (length s == 0)) in
+    let fails : is_count s ≡ false = ap (λ b. not (length s == 0) && b) (no_count g.digits g.unit (flat_map group_text gs)) ∙ and-false (not (length s == 0)) in
     ap (λ b. groups 0 None (if b then s ++ 115 ∷ [] else s)) fails ∙ through_groups (g ∷ gs) 0 each
 
 pub to_duration : (s : List ℕ) (n : ℕ) → IsDuration s n → duration_of s ≡ Some n
@@ -252,4 +254,4 @@ to_duration s n d = elim d.form [
 ]
 
 pub none_of_duration : (s : List ℕ) → duration_of s ≡ None → (n : ℕ) → IsDuration s n → ⊥
-none_of_duration s none n d = no_some (sym none ∙ to_duration s n d)
+none_of_duration s none n d = absurd (none-some _ (sym none ∙ to_duration s n d))

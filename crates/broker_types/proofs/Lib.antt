@@ -1,16 +1,6 @@
-pub mod Beginning
-pub mod Cases
 pub mod Counted
 pub mod Dates
-pub mod Evolution
 pub mod Examples
 pub mod Grammar
 pub mod Groups
-pub mod Identifiers
-pub mod Lineages
-pub mod Maps
 pub mod Parts
-pub mod Removals
-pub mod Searches
-pub mod Texts
-pub mod Trees

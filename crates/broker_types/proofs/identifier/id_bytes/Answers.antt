@@ -1,6 +1,6 @@
 use Rattle.std.proofs.Common.{◌≡◌, ◌∙◌, length, sym, ap}
 use Rattle.broker_types.specs.Identifier.{id}
-use Rattle.broker_types.proofs.Identifiers.{id-length}
+use Rattle.broker_types.specs.IdentifierLaws.{id-length}
 use Rattle.broker_types.proofs.identifier.id_bytes.Goals as goal
 
 pub copy_from_slice-requires : goal.copy_from_slice-requires

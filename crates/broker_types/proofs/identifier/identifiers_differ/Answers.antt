@@ -1,4 +1,4 @@
-use Rattle.broker_types.proofs.Identifiers.{id-same, id-length}
+use Rattle.broker_types.specs.IdentifierLaws.{id-same, id-length}
 use Rattle.broker_types.proofs.identifier.identifiers_differ.Goals as goal
 
 pub returns-clause-differ : goal.returns-clause-differ

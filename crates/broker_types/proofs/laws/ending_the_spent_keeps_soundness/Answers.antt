@@ -1,4 +1,4 @@
-use Rattle.broker_types.proofs.Removals.{end_spent_sound}
+use Rattle.broker_types.specs.RemovalLaws.{end_spent_sound}
 use Rattle.broker_types.proofs.laws.ending_the_spent_keeps_soundness.Goals as goal
 
 pub returns : goal.returns

@@ -1,4 +1,4 @@
-use Rattle.broker_types.proofs.Trees.{standing_outlasts, outlasting_stands, alive_tree}
+use Rattle.broker_types.specs.TreeLaws.{standing_outlasts, outlasting_stands, alive_tree}
 use Rattle.broker_types.proofs.laws.expiry_ends_descendants.Goals as goal
 
 pub returns-clause-standing : goal.returns-clause-standing

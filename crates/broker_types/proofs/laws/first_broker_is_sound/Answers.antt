@@ -1,4 +1,4 @@
-use Rattle.broker_types.proofs.Beginning.{first_sound}
+use Rattle.broker_types.specs.FirstLaws.{first_sound}
 use Rattle.broker_types.proofs.laws.first_broker_is_sound.Goals as goal
 
 pub returns : goal.returns

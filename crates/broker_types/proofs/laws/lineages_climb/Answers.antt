@@ -1,5 +1,5 @@
-use Rattle.broker_types.proofs.Lineages.{is_under_trans}
-use Rattle.broker_types.proofs.Trees.{lineage_none, lineage_orphan, lineage_child, under_self, under_standing}
+use Rattle.broker_types.specs.LineageLaws.{is_under_trans}
+use Rattle.broker_types.specs.TreeLaws.{lineage_none, lineage_orphan, lineage_child, under_self, under_standing}
 use Rattle.broker_types.proofs.laws.lineages_climb.Goals as goal
 
 pub returns-clause-unknown : goal.returns-clause-unknown

@@ -1,4 +1,4 @@
-use Rattle.broker_types.proofs.Removals.{revoke_ends, revoke_orphan_ends, at_moment_ends}
+use Rattle.broker_types.specs.RemovalLaws.{revoke_ends, revoke_orphan_ends, at_moment_ends}
 use Rattle.broker_types.proofs.laws.removals_end_tokens.Goals as goal
 
 pub returns-clause-revoked : goal.returns-clause-revoked

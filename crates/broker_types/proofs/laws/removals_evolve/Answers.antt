@@ -1,4 +1,4 @@
-use Rattle.broker_types.proofs.Removals.{revoke_evolves, revoke_orphan_evolves, at_moment_evolves}
+use Rattle.broker_types.specs.RemovalLaws.{revoke_evolves, revoke_orphan_evolves, at_moment_evolves}
 use Rattle.broker_types.proofs.laws.removals_evolve.Goals as goal
 
 pub returns-clause-revoked : goal.returns-clause-revoked

@@ -1,4 +1,4 @@
-use Rattle.broker_types.proofs.Removals.{revoke_sound, revoke_orphan_sound, at_moment_sound}
+use Rattle.broker_types.specs.RemovalLaws.{revoke_sound, revoke_orphan_sound, at_moment_sound}
 use Rattle.broker_types.proofs.laws.removals_keep_soundness.Goals as goal
 
 pub returns-clause-revoked : goal.returns-clause-revoked

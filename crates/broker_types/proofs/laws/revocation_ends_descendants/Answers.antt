@@ -1,5 +1,5 @@
-use Rattle.broker_types.proofs.Lineages.{revoke_unknown, revoke_under, revoke_other}
-use Rattle.broker_types.proofs.Trees.{revoke_tree}
+use Rattle.broker_types.specs.LineageLaws.{revoke_unknown, revoke_under, revoke_other}
+use Rattle.broker_types.specs.TreeLaws.{revoke_tree}
 use Rattle.broker_types.proofs.laws.revocation_ends_descendants.Goals as goal
 
 pub returns-clause-unknown : goal.returns-clause-unknown

@@ -1,4 +1,4 @@
-use Rattle.broker_types.proofs.Trees.{orphan_unknown, orphan_gone, orphan_child, orphan_stranger, orphan_none, orphan_tree}
+use Rattle.broker_types.specs.TreeLaws.{orphan_unknown, orphan_gone, orphan_child, orphan_stranger, orphan_none, orphan_tree}
 use Rattle.broker_types.proofs.laws.revocation_orphans_children.Goals as goal
 
 pub returns-clause-unknown : goal.returns-clause-unknown

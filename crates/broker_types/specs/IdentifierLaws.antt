@@ -1,19 +1,21 @@
 -- Identifiers are as many as words.
-use Rattle.std.proofs.Common.{◌≡◌, ℕ, zero, suc, ◌<◌, ◌^◌, List, [], length, get_or, Option, Some, unwrap_or, arith, refl, sym, ap, ◌∙◌, inl}
+use Rattle.std.proofs.Common.{◌≡◌, ℕ, zero, suc, ◌<◌, ◌^◌, List, [], length, get_or, Option, Some, unwrap_or, refl, sym, ap, ◌∙◌, inl}
 use Rattle.std.proofs.lemmas.List.Elements.{All-from_get_or}
 use Rattle.std.specs.Int.{byte_at, bytes_high_first, to_be_bytes, from_be_bytes, w128}
 use Rattle.uuid.specs.Text.{lower, parsed}
 use Rattle.uuid.proofs.TextLemmas.{by_index_length}
 use Rattle.uuid.proofs.RoundTrips.{parses_hyphenated}
 use Rattle.uuid.proofs.OrderLemmas.{from_be_bytes-to_be_bytes_16}
+use Rattle.std.proofs.lemmas.Nat.{mod_below}
+use Rattle.std.proofs.Common.{lit<, ◌/◌}
 use Rattle.broker_types.specs.Identifier.{id}
 
 byte_small : (k n : ℕ) → byte_at k n < 256
-byte_small zero n = omega arith
-byte_small (suc k) n = omega arith
+byte_small zero n = mod_below n 256 (lit< tt)
+byte_small (suc k) n = mod_below (n / 256 ^ suc k) 256 (lit< tt)
 
 small_at : (k n i : ℕ) → get_or (bytes_high_first k n) i 0 < 256
-small_at zero n i = omega arith
+small_at zero n i = lit< tt
 small_at (suc k) n zero = byte_small k n
 small_at (suc k) n (suc i) = small_at k n i
 

@@ -5,13 +5,14 @@ use Rattle.broker_types.specs.Map.{get}
 use Rattle.broker_types.specs.Broker.{Broker}
 use Rattle.broker_types.specs.Places.{token_identifier, lease_identifier}
 use Rattle.broker_types.specs.Evolves.{Evolves, IsNew}
-use Rattle.broker_types.proofs.Cases.{no_some, found_or_not}
+use Rattle.std.proofs.lemmas.Option.{none-some}
+use Rattle.broker_types.specs.OptionLaws.{found_or_not}
 
 -- what is new later was new before
 new_before : (b c : Broker) (i : Text) → Evolves b c → IsNew c i → IsNew b i
 new_before b c i e h = elim (found_or_not (get b.used i)) [
   | inl none ↦ none
-  | inr some ↦ absurd (e.used i (λ n. no_some (sym n ∙ some.1)) h)
+  | inr some ↦ absurd (e.used i (λ n. absurd (none-some _ (sym n ∙ some.1))) h)
 ]
 
 pub evolves_trans : (b c d : Broker) → Evolves b c → Evolves c d → Evolves b d

@@ -12,9 +12,11 @@ use Rattle.std.proofs.Common.{refl, sym, ◌∙◌, ap, subst, inl, inr}
 use Rattle.std.proofs.lemmas.List.Elements.{All-cons, All-nil}
 use Rattle.broker_types.specs.Text.{Text, text_cmp, same}
 use Rattle.broker_types.specs.Map.{Map, get, entries, keep, first_where}
-use Rattle.broker_types.proofs.Texts.{same-text_cmp, same_self, same_true}
-use Rattle.broker_types.proofs.Maps.{get-keep, get-lookup}
-use Rattle.broker_types.proofs.Cases.{some_inj, no_some, no, found_or_not}
+use Rattle.broker_types.specs.TextLaws.{same-text_cmp, same_self, same_true}
+use Rattle.broker_types.specs.MapLaws.{get-keep, get-lookup}
+use Rattle.std.proofs.lemmas.Bool.{false≢true}
+use Rattle.std.proofs.lemmas.Option.{none-some, same_Some}
+use Rattle.broker_types.specs.OptionLaws.{found_or_not}
 
 left : (a b : Bool) → T (a && b) → T a
 left true b h = tt
@@ -37,15 +39,15 @@ module _ {X : Type 0} where
       ap (λ b. cond b (Some e.1) (lookup (same k) es)) (same-text_cmp k e.0 ∙ less_apart (text_cmp k e.0) (left _ _ h)) ∙ below_none k es (right _ _ h)
 
   found_is : (p : Text × X → Bool) (es : List (Text × X)) (e : Text × X) → T (is_sorted text_cmp es) → first p es ≡ Some e → (lookup (same e.0) es ≡ Some e.1) × (p e ≡ true)
-  found_is p [] e s h = no_some h
+  found_is p [] e s h = absurd (none-some _ h)
   found_is p (f ∷ es) e s h =
       elim (p f) as (λ b. p f ≡ b → cond b (Some f) (first p es) ≡ Some e → (lookup (same e.0) (f ∷ es) ≡ Some e.1) × (p e ≡ true)) [
-        | true ↦ λ passes is. let one : f ≡ e = some_inj is in
+        | true ↦ λ passes is. let one : f ≡ e = same_Some _ _ is in
             subst (λ z. (lookup (same z.0) (f ∷ es) ≡ Some z.1) × (p z ≡ true)) one (ap (λ b. cond b (Some f.1) (lookup (same f.0) es)) (same_self f.0), passes)
         | false ↦ λ fails is.
             let rest = found_is p es e (right _ _ s) is in (
               elim (same e.0 f.0) as (λ b. same e.0 f.0 ≡ b → cond b (Some f.1) (lookup (same e.0) es) ≡ Some e.1) [
-                | true ↦ λ at. no_some (sym (subst (λ z. lookup (same z) es ≡ None) (sym (same_true e.0 f.0 at)) (below_none f.0 es (left _ _ s))) ∙ rest.0)
+                | true ↦ λ at. absurd (none-some _ (sym (subst (λ z. lookup (same z) es ≡ None) (sym (same_true e.0 f.0 at)) (below_none f.0 es (left _ _ s))) ∙ rest.0))
                 | false ↦ λ _. rest.0
               ] refl,
               rest.1,
@@ -53,12 +55,12 @@ module _ {X : Type 0} where
       ] refl h
 
   none_passes : (p : Text × X → Bool) (es : List (Text × X)) (t : Text) (x : X) → first p es ≡ None → lookup (same t) es ≡ Some x → p (t, x) ≡ false
-  none_passes p [] t x h f = no_some f
+  none_passes p [] t x h f = absurd (none-some _ f)
   none_passes p (e ∷ es) t x h f =
       elim (p e) as (λ b. p e ≡ b → cond b (Some e) (first p es) ≡ None → p (t, x) ≡ false) [
-        | true ↦ λ _ is. no_some (sym is)
+        | true ↦ λ _ is. absurd (none-some _ (sym is))
         | false ↦ λ fails is. elim (same t e.0) as (λ b. same t e.0 ≡ b → cond b (Some e.1) (lookup (same t) es) ≡ Some x → p (t, x) ≡ false) [
-          | true ↦ λ at g. (λ i. p (same_true t e.0 at i, some_inj (sym g) i)) ∙ fails
+          | true ↦ λ at g. (λ i. p (same_true t e.0 at i, same_Some _ _ (sym g) i)) ∙ fails
           | false ↦ λ _ g. none_passes p es t x is g
         ] refl f
       ] refl h
@@ -71,7 +73,7 @@ module _ {X : Type 0} where
       still : (t : Text) (x : X) → lookup (same t) es ≡ Some x → cond (same t e.0) (Some e.1) (lookup (same t) es) ≡ Some x
       still t x is =
           elim (same t e.0) as (λ b. same t e.0 ≡ b → cond b (Some e.1) (lookup (same t) es) ≡ Some x) [
-            | true ↦ λ at. no_some (sym (subst (λ z. lookup (same z) es ≡ None) (sym (same_true t e.0 at)) (below_none e.0 es (left _ _ s))) ∙ is)
+            | true ↦ λ at. absurd (none-some _ (sym (subst (λ z. lookup (same z) es ≡ None) (sym (same_true t e.0 at)) (below_none e.0 es (left _ _ s))) ∙ is))
             | false ↦ λ _. is
           ] refl
 
@@ -92,12 +94,12 @@ module _ {X : Type 0} where
   pub first_where_only : (p : Text → X → Bool) (m : Map X) (t : Text) (x : X) → OnePasses p m → get m t ≡ Some x → p t x ≡ true → first_where p m ≡ Some (t, x)
   first_where_only p m t x one g h =
       elim (found_or_not (first_where p m)) [
-        | inl none ↦ no (sym (first_where_none p m t x none g) ∙ h)
+        | inl none ↦ absurd (false≢true (sym (first_where_none p m t x none g) ∙ h))
         | inr found ↦
             let e = found.0 in
             let is = first_where_is p m e found.1 in
             let key : e.0 ≡ t = one e.0 t e.1 x is.0 g is.1 h in
-            let value : e.1 ≡ x = some_inj (sym is.0 ∙ ap (get m) key ∙ g) in
+            let value : e.1 ≡ x = same_Some _ _ (sym is.0 ∙ ap (get m) key ∙ g) in
             found.1 ∙ (λ i. Some (key i, value i))
       ]
 
@@ -105,7 +107,7 @@ module _ {X : Type 0} where
   kept_get r m t x h =
       elim (r t) as (λ b. r t ≡ b → cond b (get m t) None ≡ Some x → (get m t ≡ Some x) × (r t ≡ true)) [
         | true ↦ λ is g. (g, is)
-        | false ↦ λ _ g. no_some g
+        | false ↦ λ _ g. absurd (none-some _ g)
       ] refl (sym (get-keep r m t) ∙ h)
 
   abbrev pub if_kept : (Text → Bool) → Option (Text × X) → Option (Text × X)
@@ -126,7 +128,7 @@ module _ {X : Type 0} where
               let e = found.0 in
               let is = first_where_is p m e found.1 in
               ap (if_kept r) found.1 ∙ elim (r e.0) as (λ b. r e.0 ≡ b → (if b then Some e else None) ≡ None) [
-                | true ↦ λ passes. no (sym (first_where_none p (keep r m) e.0 e.1 none (get-keep r m e.0 ∙ ap (λ b. cond b (get m e.0) None) passes ∙ is.0)) ∙ is.1)
+                | true ↦ λ passes. absurd (false≢true (sym (first_where_none p (keep r m) e.0 e.1 none (get-keep r m e.0 ∙ ap (λ b. cond b (get m e.0) None) passes ∙ is.0)) ∙ is.1))
                 | false ↦ λ _. refl
               ] refl
         ])

@@ -10,7 +10,7 @@ use Rattle.std.specs.Ordering.{is_lt}
 use Rattle.std.proofs.Common.{refl, sym, ◌∙◌, ap, subst}
 use Rattle.broker_types.specs.Text.{Text, text_cmp, same}
 use Rattle.broker_types.specs.Map.{Map, get, entries, put, without, keep, with_values, map_values, change, first_where}
-use Rattle.broker_types.proofs.Texts.{same-text_cmp, same_true}
+use Rattle.broker_types.specs.TextLaws.{same-text_cmp, same_true}
 
 module _ {X : Type 0} where
   pub get-put : (m : Map X) (k : Text) (x : X) (q : Text) → get (put m k x) q ≡ cond (same q k) (Some x) (get m q)

@@ -4,21 +4,23 @@ use Rattle.std.specs.List.{list_any, list_all}
 use Rattle.std.specs.Map.{lookup}
 use Rattle.std.specs.FinMap.{len-entries}
 use Rattle.std.specs.Option.{option_map_or}
-use Rattle.std.proofs.Common.{refl, sym, ◌∙◌, ap, subst, inl, inr, arith}
-use Rattle.std.proofs.lemmas.Bool.Decides.{nat_tests}
+use Rattle.std.proofs.Common.{refl, sym, ◌∙◌, ap, subst, inl, inr}
+use Rattle.std.proofs.lemmas.Bool.{ltb-true, lt-ltb}
 use Rattle.broker_types.specs.Text.{Text, same}
 use Rattle.broker_types.specs.Map.{get, len, entries}
 use Rattle.broker_types.specs.Token.{Token, Tokens}
 use Rattle.broker_types.specs.Lineage.{climb, lineage, is_under, ends_within, ParentsStand, ChainsEnd, outlasts, is_alive, with_live_leases, alive_at, revoke, orphaned_by, revoke_orphan}
 use Rattle.broker_types.specs.Laws.{IsTree, OutlastsAbove}
-use Rattle.broker_types.proofs.Texts.{same_self, same_true}
-use Rattle.broker_types.proofs.Maps.{get-lookup, get-keep, get-without, get-map_values, same_map}
-use Rattle.broker_types.proofs.Lineages.{climb_none, climb_enough, stands_in_climb, ends_in_time, revoke_other}
-use Rattle.broker_types.proofs.Searches.{kept_get}
-use Rattle.broker_types.proofs.Cases.{is_false, no, no_some, some_inj, found_or_not, or_right, both, join}
+use Rattle.broker_types.specs.TextLaws.{same_self, same_true}
+use Rattle.broker_types.specs.MapLaws.{get-lookup, get-keep, get-without, get-map_values, same_map}
+use Rattle.broker_types.specs.LineageLaws.{climb_none, climb_enough, stands_in_climb, ends_in_time, revoke_other}
+use Rattle.broker_types.specs.SearchLaws.{kept_get}
+use Rattle.std.proofs.lemmas.Bool.{and_parts, and_from, or_right, false_from_ne_true, false≢true}
+use Rattle.std.proofs.lemmas.Option.{none-some, same_Some}
+use Rattle.broker_types.specs.OptionLaws.{found_or_not}
 
 same_false : (a b : Text) → a ≢ b → same a b ≡ false
-same_false a b ne = is_false (same a b) (λ e. ne (same_true a b e))
+same_false a b ne = false_from_ne_true (same a b) (λ e. ne (same_true a b e))
 
 -- ---- lineages
 
@@ -27,7 +29,7 @@ len_some : (ts : Tokens) (t : Text) (x : Token) → get ts t ≡ Some x → (n :
 len_some ts t x is = let r = by (entries ts) (sym (get-lookup ts t) ∙ is) in (r.0, len-entries ts ∙ r.1)
   where
     by : (es : List (Text × Token)) → lookup (same t) es ≡ Some x → (n : ℕ) × (length es ≡ suc n)
-    by [] e = no_some e
+    by [] e = absurd (none-some _ e)
     by (e ∷ es) h = (length es, refl)
 
 climb_some : (n : ℕ) (ts : Tokens) (t : Text) (x : Token) → get ts t ≡ Some x → climb (suc n) ts t ≡ t ∷ option_map_or (climb n ts) x.parent []
@@ -61,7 +63,7 @@ under_self ts t ne = elim (found_or_not (get ts t)) [
 
 pub under_standing : (ts : Tokens) (t a : Text) → is_under ts t a ≡ true → (get ts t ≢ None) × (get ts a ≢ None)
 under_standing ts t a h = (
-  λ none. no (sym (ap (list_any (same a)) (lineage_none ts t none)) ∙ h),
+  λ none. absurd (false≢true (sym (ap (list_any (same a)) (lineage_none ts t none)) ∙ h)),
   stands_in_climb (len ts) ts t a h,
 )
 
@@ -77,7 +79,7 @@ IsPruned ts us = (t : Text) (y : Token) → get us t ≡ Some y → (x : Token) 
 pruned_ends : (n : ℕ) (ts us : Tokens) (t : Text) → IsPruned ts us → ends_within n ts t ≡ true → ends_within n us t ≡ true
 pruned_ends zero ts us t pruned h = elim (found_or_not (get us t)) [
   | inl none ↦ ap is_none none
-  | inr y ↦ no (sym (ap is_none (pruned t y.0 y.1).1) ∙ h)
+  | inr y ↦ absurd (false≢true (sym (ap is_none (pruned t y.0 y.1).1) ∙ h))
 ]
 pruned_ends (suc n) ts us t pruned h = elim (found_or_not (get us t)) [
   | inl none ↦ ap (λ o. option_map_or (λ (y : Token). option_map_or (ends_within n us) y.parent true) o true) none
@@ -102,7 +104,7 @@ revoke_tree ts t tree = record {
   parents_stand = λ q p x is parent none.
       let k = kept_get (λ q. not (is_under ts q t)) ts q x is in
       elim (is_under ts p t) as (λ b. is_under ts p t ≡ b → ⊥) [
-        | true ↦ λ u. no (sym (ap not (under_child ts q p t x tree.chains_end k.0 parent u)) ∙ k.1)
+        | true ↦ λ u. absurd (false≢true (sym (ap not (under_child ts q p t x tree.chains_end k.0 parent u)) ∙ k.1))
         | false ↦ λ u. tree.parents_stand q p x k.0 parent (sym (revoke_other ts t p u) ∙ none)
       ] refl;
   chains_end = pruned_chains ts (revoke ts t) (λ q y is. (y, (kept_get (λ q. not (is_under ts q t)) ts q y is).0, inl refl)) tree.chains_end;
@@ -141,23 +143,23 @@ orphan_none ts t q none =
 pub orphan_unknown : (ts : Tokens) (t : Text) → ParentsStand ts → get ts t ≡ None → revoke_orphan ts t ≡ ts
 orphan_unknown ts t stand none = same_map (revoke_orphan ts t) ts (λ q. elim (found_or_not (get ts q)) [
   | inl nothing ↦ orphan_none ts t q nothing ∙ sym nothing
-  | inr x ↦ orphan_stranger ts t q x.0 (λ e. no_some (sym none ∙ ap (get ts) (sym e) ∙ x.1)) x.1 (λ parent. stand q t x.0 x.1 parent none) ∙ sym x.1
+  | inr x ↦ orphan_stranger ts t q x.0 (λ e. absurd (none-some _ (sym none ∙ ap (get ts) (sym e) ∙ x.1))) x.1 (λ parent. stand q t x.0 x.1 parent none) ∙ sym x.1
 ])
 
 pub orphaned_is : (ts : Tokens) (t q : Text) (y : Token) → get (revoke_orphan ts t) q ≡ Some y → (x : Token) × (get ts q ≡ Some x) × (y ≡ orphaned_by t x)
 orphaned_is ts t q y is = by (same q t) (get ts q) (sym (get-revoke_orphan ts t q) ∙ is)
   where
     by : (b : Bool) (o : Option Token) → option_map (orphaned_by t) (cond b None o) ≡ Some y → (x : Token) × (o ≡ Some x) × (y ≡ orphaned_by t x)
-    by true o e = no_some e
-    by false None e = no_some e
-    by false (Some x) e = (x, refl, sym (some_inj e))
+    by true o e = absurd (none-some _ e)
+    by false None e = absurd (none-some _ e)
+    by false (Some x) e = (x, refl, sym (same_Some _ _ e))
 
 parent_left : (t p : Text) (o : Option Text) → option_and_then (λ p. if same p t then None else Some p) o ≡ Some p → (o ≡ Some p) × (same p t ≡ false)
-parent_left t p None e = no_some e
+parent_left t p None e = absurd (none-some _ e)
 parent_left t p (Some r) e =
     elim (same r t) as (λ b. same r t ≡ b → (if b then None else Some r) ≡ Some p → (Some r ≡ Some p) × (same p t ≡ false)) [
-      | true ↦ λ _ g. no_some g
-      | false ↦ λ h g. (g, subst (λ z. same z t ≡ false) (some_inj g) h)
+      | true ↦ λ _ g. absurd (none-some _ g)
+      | false ↦ λ h g. (g, subst (λ z. same z t ≡ false) (same_Some _ _ g) h)
     ] refl e
 
 parent_kept : (t : Text) (o : Option Text) → (option_and_then (λ p. if same p t then None else Some p) o ≡ o) ⊎ (option_and_then (λ p. if same p t then None else Some p) o ≡ None)
@@ -172,7 +174,7 @@ orphan_tree ts t tree = record {
       let there : get (revoke_orphan ts t) p ≡ option_map (orphaned_by t) (get ts p) = get-revoke_orphan ts t p ∙ ap (λ b. option_map (orphaned_by t) (cond b None (get ts p))) left.1 in
       elim (found_or_not (get ts p)) [
         | inl nothing ↦ tree.parents_stand q p x.0 x.1 left.0 nothing
-        | inr z ↦ no_some (sym none ∙ there ∙ ap (option_map (orphaned_by t)) z.1)
+        | inr z ↦ absurd (none-some _ (sym none ∙ there ∙ ap (option_map (orphaned_by t)) z.1))
       ];
   chains_end = pruned_chains ts (revoke_orphan ts t)
       (λ q y is. let x = orphaned_is ts t q y is in (
@@ -195,31 +197,31 @@ pub alive_is : (now : ℕ) (ts : Tokens) (t : Text) (y : Token) → get (alive_a
 alive_is now ts t y is = by (is_alive now ts t) (get ts t) (sym (get-alive_at now ts t) ∙ is)
   where
     by : (b : Bool) (o : Option Token) → option_map (with_live_leases now) (cond b o None) ≡ Some y → (x : Token) × (o ≡ Some x) × (b ≡ true) × (y ≡ with_live_leases now x)
-    by false o e = no_some e
-    by true None e = no_some e
-    by true (Some x) e = (x, refl, refl, sym (some_inj e))
+    by false o e = absurd (none-some _ e)
+    by true None e = absurd (none-some _ e)
+    by true (Some x) e = (x, refl, refl, sym (same_Some _ _ e))
 
 all_at : (f : Text → Bool) (xs : List Text) (a : Text) → list_all f xs ≡ true → list_any (same a) xs ≡ true → f a ≡ true
-all_at f [] a h u = no u
+all_at f [] a h u = absurd (false≢true u)
 all_at f (x ∷ xs) a h u =
     elim (same a x) as (λ b. same a x ≡ b → (b || list_any (same a) xs) ≡ true → f a ≡ true) [
-      | true ↦ λ e _. ap f (same_true a x e) ∙ (both (f x) (list_all f xs) h).0
-      | false ↦ λ _ v. all_at f xs a (both (f x) (list_all f xs) h).1 v
+      | true ↦ λ e _. ap f (same_true a x e) ∙ (and_parts (f x) (list_all f xs) h).0
+      | false ↦ λ _ v. all_at f xs a (and_parts (f x) (list_all f xs) h).1 v
     ] refl u
 
 all_from : (f : Text → Bool) (xs : List Text) → ((a : Text) → list_any (same a) xs ≡ true → f a ≡ true) → list_all f xs ≡ true
 all_from f [] h = refl
 all_from f (x ∷ xs) h =
-    join (f x) (list_all f xs) (h x (ap (λ b. b || list_any (same x) xs) (same_self x))) (all_from f xs (λ a u. h a (or_right (same a x) _ u)))
+    and_from (f x) (list_all f xs) (h x (ap (λ b. b || list_any (same x) xs) (same_self x))) (all_from f xs (λ a u. h a (or_right (same a x) _ u)))
 
 abbrev outlasts_end : ℕ → Tokens → Text → Bool
 outlasts_end now ts a = outlasts now (option_and_then (λ (x : Token). x.ends) (get ts a))
 
 later : (now m : ℕ) → nat_lt now m ≡ true → now < m
-later now m h = grind (arith, nat_tests)
+later now m h = ltb-true now m h
 
 is_later : (now m : ℕ) → now < m → nat_lt now m ≡ true
-is_later now m h = grind (arith, nat_tests)
+is_later now m h = lt-ltb now m h
 
 pub standing_outlasts : (now : ℕ) (ts : Tokens) (t : Text) → get (alive_at now ts) t ≢ None → OutlastsAbove now ts t
 standing_outlasts now ts t ne a y m u is ends = elim (found_or_not (get (alive_at now ts) t)) [
@@ -253,10 +255,10 @@ alive_tree now ts tree = record {
       let x = alive_is now ts q y is in
       let above : x.0.parent ≡ Some p = ap (λ (z : Token). z.parent) (sym x.3) ∙ parent in
       let line : list_all (outlasts_end now ts) (q ∷ lineage ts p) ≡ true = ap (list_all (outlasts_end now ts)) (sym (lineage_child ts q p x.0 tree.chains_end x.1 above)) ∙ x.2 in
-      let alive : is_alive now ts p ≡ true = (both (outlasts_end now ts q) (is_alive now ts p) line).1 in
+      let alive : is_alive now ts p ≡ true = (and_parts (outlasts_end now ts q) (is_alive now ts p) line).1 in
       elim (found_or_not (get ts p)) [
         | inl nothing ↦ tree.parents_stand q p x.0 x.1 above nothing
-        | inr z ↦ no_some (sym none ∙ get-alive_at now ts p ∙ ap (λ b. option_map (with_live_leases now) (cond b (get ts p) None)) alive ∙ ap (option_map (with_live_leases now)) z.1)
+        | inr z ↦ absurd (none-some _ (sym none ∙ get-alive_at now ts p ∙ ap (λ b. option_map (with_live_leases now) (cond b (get ts p) None)) alive ∙ ap (option_map (with_live_leases now)) z.1))
       ];
   chains_end = pruned_chains ts (alive_at now ts) (λ q y is. let x = alive_is now ts q y is in (x.0, x.1, inl (ap (λ (z : Token). z.parent) x.3))) tree.chains_end;
 }

@@ -1,8 +1,9 @@
 -- What goes leaves a sound broker sound.
 use Rattle.std.specs.Prelude.{◌≡◌, ◌≢◌, ◌≤◌, ◌==◌, ℕ, if◌then◌else◌, max, Bool, nat_lt, true, false, not, Option, Some, None, option_map, option_and_then}
 use Rattle.std.specs.Option.{option_map_or}
-use Rattle.std.proofs.Common.{refl, sym, ◌∙◌, ap, subst, inl, inr, arith}
+use Rattle.std.proofs.Common.{refl, sym, ◌∙◌, ap, subst, inl, inr}
 use Rattle.std.proofs.lemmas.Option.{same_Some}
+use Rattle.std.proofs.Math.Nat.{max-le}
 use Rattle.broker_types.specs.Text.{Text}
 use Rattle.broker_types.specs.Map.{Map, get, keep}
 use Rattle.broker_types.specs.Moment.{greatest_moment}
@@ -15,9 +16,11 @@ use Rattle.broker_types.specs.Sound.{Forms, SoundIdentifiers, Sound, Unspent, Is
 use Rattle.broker_types.specs.Spending.{is_spent, end_spent}
 use Rattle.broker_types.specs.Laws.{IsTree}
 use Rattle.broker_types.specs.Evolves.{Evolves, HasEnded}
-use Rattle.broker_types.proofs.Cases.{no, no_some, found_or_not}
-use Rattle.broker_types.proofs.Searches.{kept_get}
-use Rattle.broker_types.proofs.Trees.{under_self, orphaned_is, alive_is, revoke_tree, orphan_tree, alive_tree}
+use Rattle.std.proofs.lemmas.Bool.{false≢true}
+use Rattle.std.proofs.lemmas.Option.{none-some, same_Some}
+use Rattle.broker_types.specs.OptionLaws.{found_or_not}
+use Rattle.broker_types.specs.SearchLaws.{kept_get}
+use Rattle.broker_types.specs.TreeLaws.{under_self, orphaned_is, alive_is, revoke_tree, orphan_tree, alive_tree}
 
 -- y has the accessor of x, and no lease that x does not have
 record IsLess (x y : Token) : Type 0 where
@@ -35,7 +38,7 @@ WaitFewer ws vs = (t : Text) (w : Waiting) → get vs t ≡ Some w → get ws t 
 module _ (b c : Broker) (fewer : AreFewer b.tokens c.tokens) (wait : WaitFewer b.waiting c.waiting) where
   lease_before : (t lease_id : Text) (l : Lease) → lease_of c t lease_id ≡ Some l → lease_of b t lease_id ≡ Some l
   lease_before t lease_id l e = elim (found_or_not (get c.tokens t)) [
-    | inl none ↦ no_some (sym (ap (option_and_then (λ (x : Token). get x.leases lease_id)) none) ∙ e)
+    | inl none ↦ absurd (none-some _ (sym (ap (option_and_then (λ (x : Token). get x.leases lease_id)) none) ∙ e))
     | inr y ↦ let x = fewer t y.0 y.1 in
         ap (option_and_then (λ (x : Token). get x.leases lease_id)) x.1
         ∙ x.2.fewer_leases lease_id l (sym (ap (option_and_then (λ (x : Token). get x.leases lease_id)) y.1) ∙ e)
@@ -43,19 +46,19 @@ module _ (b c : Broker) (fewer : AreFewer b.tokens c.tokens) (wait : WaitFewer b
 
   at_lease : {Y : Type 0} (f : Lease → Y) (t lease_id : Text) (i : Y) → option_map f (lease_of c t lease_id) ≡ Some i → option_map f (lease_of b t lease_id) ≡ Some i
   at_lease f t lease_id i e = elim (found_or_not (lease_of c t lease_id)) [
-    | inl none ↦ no_some (sym (ap (option_map f) none) ∙ e)
+    | inl none ↦ absurd (none-some _ (sym (ap (option_map f) none) ∙ e))
     | inr l ↦ ap (option_map f) (lease_before t lease_id l.0 l.1) ∙ sym (ap (option_map f) l.1) ∙ e
   ]
 
   at_waiting : {Y : Type 0} (f : Waiting → Y) (t : Text) (i : Y) → option_map f (get c.waiting t) ≡ Some i → option_map f (get b.waiting t) ≡ Some i
   at_waiting f t i e = elim (found_or_not (get c.waiting t)) [
-    | inl none ↦ no_some (sym (ap (option_map f) none) ∙ e)
+    | inl none ↦ absurd (none-some _ (sym (ap (option_map f) none) ∙ e))
     | inr w ↦ ap (option_map f) (wait t w.0 w.1) ∙ sym (ap (option_map f) w.1) ∙ e
   ]
 
   at_token : {Y : Type 0} (f : Token → Y) → ((x y : Token) → IsLess x y → f y ≡ f x) → (t : Text) (i : Y) → option_map f (get c.tokens t) ≡ Some i → option_map f (get b.tokens t) ≡ Some i
   at_token f like t i e = elim (found_or_not (get c.tokens t)) [
-    | inl none ↦ no_some (sym (ap (option_map f) none) ∙ e)
+    | inl none ↦ absurd (none-some _ (sym (ap (option_map f) none) ∙ e))
     | inr y ↦ let x = fewer t y.0 y.1 in
         ap (option_map f) x.1 ∙ ap Some (sym (like x.0 y.0 x.2)) ∙ sym (ap (option_map f) y.1) ∙ e
   ]
@@ -76,9 +79,9 @@ module _ (b : Broker) where
       let c : Broker = record b { clock = now; tokens = ts; waiting = ws } in
       record {
         used = λ i u. u;
-        tokens = λ t y e. inl (λ none. no_some (sym none ∙ (fewer t y e).1));
+        tokens = λ t y e. inl (λ none. absurd (none-some _ (sym none ∙ (fewer t y e).1)));
         leases = λ t lease_id l e. inl (l, lease_before b c fewer wait t lease_id l e, refl);
-        wrapping_tokens = λ t w e. inl (λ none. no_some (sym none ∙ wait t w e));
+        wrapping_tokens = λ t w e. inl (λ none. absurd (none-some _ (sym none ∙ wait t w e)));
         waiting = λ t w e. inl (t, w, wait t w e, refl, refl);
       }
 
@@ -116,6 +119,10 @@ module _ (b : Broker) where
 
 -- ---- what has ended
 
+abbrev is_wrapping : Place → Bool
+is_wrapping (wrapping_token t) = true
+is_wrapping _ = false
+
 module _ (b : Broker) (sound : SoundIdentifiers b) where
   -- a token that is gone has ended
   fewer_ended : (now : ℕ) (ts : Tokens) (ws : Map Waiting) (q : Text) → WaitFewer b.waiting ws → get b.tokens q ≢ None → get ts q ≡ None → HasEnded (record b { clock = now; tokens = ts; waiting = ws }) q
@@ -131,7 +138,7 @@ module _ (b : Broker) (sound : SoundIdentifiers b) where
             | inr w ↦
                 let there : identifier_at b (wrapping_token q) ≡ Some (token_identifier q) = ap (option_map (λ _. token_identifier q)) (wait q w.0 w.1) in
                 let one : token q ≡ wrapping_token q = sound.one_place (token q) (wrapping_token q) (token_identifier q) here there in
-                absurd (cc)
+                absurd (false≢true (ap is_wrapping one))
           ];
         }
   ]
@@ -232,8 +239,7 @@ module _ (forms : Forms) (who : Option Text) (b : Broker) (sound : Sound forms w
   pub at_moment_sound : (moment : ℕ) → moment ≤ greatest_moment → Sound forms who (at_moment b moment)
   at_moment_sound moment within =
       let now = max b.clock moment in
-      let before : b.clock ≤ greatest_moment = sound.clock in
-      let in_time : max b.clock moment ≤ greatest_moment = omega arith in
+      let in_time : max b.clock moment ≤ greatest_moment = max-le sound.clock within in
       fewer_sound now (lineage.alive_at now b.tokens) (keep (still_waits b now) b.waiting) in_time (alive_tree now b.tokens tree) (alive_fewer b now) (wait_fewer b now)
       (λ q y e. let x = alive_is now b.tokens q y e in subst (IsSoundToken forms q) (sym x.3) (live_sound now q x.0 (sound.tokens.each q x.0 x.1)))
       (λ q y e zero. let x = alive_is now b.tokens q y e in sound.unspent q x.0 x.1 (ap (λ (z : Token). z.uses_left) (sym x.3) ∙ zero))
@@ -258,8 +264,8 @@ module _ (forms : Forms) where
   revoked_self : (ts : Tokens) (t : Text) (x : Token) → get (lineage.revoke ts t) t ≡ Some x → ⊥
   revoked_self ts t x is =
       let k = kept_get (λ q. not (is_under ts q t)) ts t x is in
-      let under : is_under ts t t ≡ true = under_self ts t (λ none. no_some (sym none ∙ k.0)) in
-      no (sym (ap not under) ∙ k.1)
+      let under : is_under ts t t ≡ true = under_self ts t (λ none. absurd (none-some _ (sym none ∙ k.0))) in
+      absurd (false≢true (sym (ap not under) ∙ k.1))
 
   pub end_spent_sound : (who : Option Text) (b : Broker) → Sound forms who b → Sound forms None (end_spent b who)
   end_spent_sound None b sound = sound
@@ -274,5 +280,5 @@ module _ (forms : Forms) where
             nobody_spent (Some c) b sound (λ t x is zero.
                 let one : t ≡ c = sym (same_Some c t (sound.unspent t x is zero)) in
                 let here : get b.tokens c ≡ Some x = subst (λ q. get b.tokens q ≡ Some x) one is in
-                no (sym unspent ∙ ap (λ o. option_map_or is_spent o false) here ∙ ap (λ o. option_map_or (λ n. n == 0) o false) zero))
+                absurd (false≢true (sym unspent ∙ ap (λ o. option_map_or is_spent o false) here ∙ ap (λ o. option_map_or (λ n. n == 0) o false) zero)))
       ] refl

@@ -2,24 +2,26 @@
 use Rattle.std.specs.Prelude.{◌≡◌, ◌≢◌, ℕ, zero, suc, List, [], ◌∷◌, true, false, not, cond, ◌||◌, Option, Some, None, is_none, length, ◌≤◌, IsSome}
 use Rattle.std.specs.List.{list_any, IsDistinct, AllByRecursion}
 use Rattle.std.specs.Option.{option_map_or}
-use Rattle.std.proofs.Common.{refl, sym, ◌∙◌, ap, subst, arith}
+use Rattle.std.proofs.Common.{refl, sym, ◌∙◌, ap, subst}
 use Rattle.std.specs.Map.{lookup}
 use Rattle.std.specs.FinMap.{len-entries}
 use Rattle.std.proofs.lemmas.Map.Steps.{length-le_from_keys}
+use Rattle.std.proofs.Math.Nat.{le_refl, le_trans, le-suc, not-suc-le_self, not-suc-le-zero, le_of_suc-le-suc}
+use Rattle.std.proofs.lemmas.Option.{none-some}
 use Rattle.broker_types.specs.Text.{Text, same}
 use Rattle.broker_types.specs.Map.{get, len, entries}
 use Rattle.broker_types.specs.Token.{Token, Tokens}
 use Rattle.broker_types.specs.Lineage.{climb, is_under, revoke, ends_within, ChainsEnd}
-use Rattle.broker_types.proofs.Texts.{same_true, same_equiv}
-use Rattle.broker_types.proofs.Maps.{get-lookup, get-keep, same_map}
-use Rattle.broker_types.proofs.Cases.{no, is_false, or_right}
+use Rattle.broker_types.specs.TextLaws.{same_true, same_equiv}
+use Rattle.broker_types.specs.MapLaws.{get-lookup, get-keep, same_map}
+use Rattle.std.proofs.lemmas.Bool.{or_right, false_from_ne_true, false≢true}
 
 pub climb_none : (n : ℕ) (ts : Tokens) (t : Text) → is_none (get ts t) ≡ true → climb n ts t ≡ []
 climb_none zero ts t h = refl
 climb_none (suc n) ts t h =
     elim (get ts t) as (λ o. is_none o ≡ true → option_map_or (λ (x : Token). t ∷ option_map_or (climb n ts) x.parent []) o [] ≡ []) [
       | None ↦ λ _. refl
-      | Some x ↦ λ e. no e
+      | Some x ↦ λ e. absurd (false≢true e)
     ] h
 
 -- chains that end are one, whatever the number of steps allowed
@@ -37,14 +39,14 @@ climb_enough (suc n) (suc m) ts t h k =
 
 -- each token of a lineage stands
 pub stands_in_climb : (n : ℕ) (ts : Tokens) (t a : Text) → list_any (same a) (climb n ts t) ≡ true → get ts a ≢ None
-stands_in_climb zero ts t a h = no h
+stands_in_climb zero ts t a h = absurd (false≢true h)
 stands_in_climb (suc n) ts t a h =
     elim (get ts t) as (λ o. get ts t ≡ o → list_any (same a) (option_map_or (λ (x : Token). t ∷ option_map_or (climb n ts) x.parent []) o []) ≡ true → get ts a ≢ None) [
-      | None ↦ λ _ e. no e
+      | None ↦ λ _ e. absurd (false≢true e)
       | Some x ↦ λ is. elim (same a t) as (λ b. same a t ≡ b → (b || list_any (same a) (option_map_or (climb n ts) x.parent [])) ≡ true → get ts a ≢ None) [
-        | true ↦ λ s _ none. let e : a ≡ t = same_true a t s in cc
+        | true ↦ λ s _ none. none-some x (sym none ∙ ap (get ts) (same_true a t s) ∙ is)
         | false ↦ λ s. elim (x.parent) as (λ p. list_any (same a) (option_map_or (climb n ts) p []) ≡ true → get ts a ≢ None) [
-          | None ↦ λ e. no e
+          | None ↦ λ e. absurd (false≢true e)
           | Some p ↦ λ e. stands_in_climb n ts p a e
         ]
       ] refl
@@ -53,16 +55,16 @@ stands_in_climb (suc n) ts t a h =
 -- under is transitive where chains end
 pub under_climb : (n m : ℕ) (ts : Tokens) (q a t : Text) → ends_within n ts q ≡ true → ends_within m ts a ≡ true
     → list_any (same a) (climb n ts q) ≡ true → list_any (same t) (climb m ts a) ≡ true → list_any (same t) (climb n ts q) ≡ true
-under_climb zero m ts q a t h k u v = no u
+under_climb zero m ts q a t h k u v = absurd (false≢true u)
 under_climb (suc n) m ts q a t h k u v =
     elim (same a q) as (λ b. same a q ≡ b → list_any (same t) (climb (suc n) ts q) ≡ true) [
       | true ↦ λ s. let e : a ≡ q = same_true a q s in
           let hm : ends_within m ts q ≡ true = subst (λ z. ends_within m ts z ≡ true) e k in
           subst (λ (l : List Text). list_any (same t) l ≡ true) (sym (climb_enough (suc n) m ts q h hm)) (subst (λ z. list_any (same t) (climb m ts z) ≡ true) e v)
       | false ↦ λ s. elim (get ts q) as (λ o. option_map_or (λ (x : Token). option_map_or (ends_within n ts) x.parent true) o true ≡ true → list_any (same a) (option_map_or (λ (x : Token). q ∷ option_map_or (climb n ts) x.parent []) o []) ≡ true → list_any (same t) (option_map_or (λ (x : Token). q ∷ option_map_or (climb n ts) x.parent []) o []) ≡ true) [
-        | None ↦ λ _ e. no e
+        | None ↦ λ _ e. absurd (false≢true e)
         | Some x ↦ λ f e. elim (x.parent) as (λ p. option_map_or (ends_within n ts) p true ≡ true → list_any (same a) (option_map_or (climb n ts) p []) ≡ true → (same t q || list_any (same t) (option_map_or (climb n ts) p [])) ≡ true) [
-          | None ↦ λ _ z. no z
+          | None ↦ λ _ z. absurd (false≢true z)
           | Some p ↦ λ g z. or_right (same t q) _ (under_climb n m ts p a t g k z v)
         ] f (subst (λ b. (b || list_any (same a) (option_map_or (climb n ts) x.parent [])) ≡ true) s e)
       ] h u
@@ -71,16 +73,16 @@ under_climb (suc n) m ts q a t h k u v =
 -- what a token of a chain has above it is no longer than the chain
 part_of : (n : ℕ) (ts : Tokens) (q a : Text) → ends_within n ts q ≡ true → list_any (same a) (climb n ts q) ≡ true
     → (m : ℕ) × (ends_within m ts a ≡ true) × (length (climb m ts a) ≤ length (climb n ts q))
-part_of zero ts q a h u = no u
+part_of zero ts q a h u = absurd (false≢true u)
 part_of (suc n) ts q a h u =
     elim (same a q) as (λ b. same a q ≡ b → (m : ℕ) × (ends_within m ts a ≡ true) × (length (climb m ts a) ≤ length (climb (suc n) ts q))) [
       | true ↦ λ s. let e : q ≡ a = sym (same_true a q s) in
-          (suc n, subst (λ z. ends_within (suc n) ts z ≡ true) e h, subst (λ z. length (climb (suc n) ts z) ≤ length (climb (suc n) ts q)) e (omega arith))
+          (suc n, subst (λ z. ends_within (suc n) ts z ≡ true) e h, subst (λ z. length (climb (suc n) ts z) ≤ length (climb (suc n) ts q)) e (le_refl _))
       | false ↦ λ s. elim (get ts q) as (λ o. option_map_or (λ (x : Token). option_map_or (ends_within n ts) x.parent true) o true ≡ true → list_any (same a) (option_map_or (λ (x : Token). q ∷ option_map_or (climb n ts) x.parent []) o []) ≡ true → (m : ℕ) × (ends_within m ts a ≡ true) × (length (climb m ts a) ≤ length (option_map_or (λ (x : Token). q ∷ option_map_or (climb n ts) x.parent []) o []))) [
-        | None ↦ λ _ e. no e
+        | None ↦ λ _ e. absurd (false≢true e)
         | Some x ↦ λ f e. elim (x.parent) as (λ p. option_map_or (ends_within n ts) p true ≡ true → list_any (same a) (option_map_or (climb n ts) p []) ≡ true → (m : ℕ) × (ends_within m ts a ≡ true) × (length (climb m ts a) ≤ suc (length (option_map_or (climb n ts) p [])))) [
-          | None ↦ λ _ z. no z
-          | Some p ↦ λ g z. let r = part_of n ts p a g z in (r.0, r.1, let h : length (climb r.0 ts a) ≤ length (climb n ts p) = r.2 in omega (arith, h))
+          | None ↦ λ _ z. absurd (false≢true z)
+          | Some p ↦ λ g z. let r = part_of n ts p a g z in (r.0, r.1, le_trans r.2 (le-suc _))
         ] f (subst (λ b. (b || list_any (same a) (option_map_or (climb n ts) x.parent [])) ≡ true) s e)
       ] h u
     ] refl
@@ -89,7 +91,7 @@ all_apart : (q : Text) (xs : List Text) → list_any (same q) xs ≡ false → A
 all_apart q [] e = tt
 all_apart q (x ∷ xs) e =
     elim (same q x) as (λ b. same q x ≡ b → (b || list_any (same q) xs) ≡ false → (same q x ≡ false) × AllByRecursion (λ y. same q y ≡ false) xs) [
-      | true ↦ λ _ z. no (sym z)
+      | true ↦ λ _ z. absurd (false≢true (sym z))
       | false ↦ λ s z. (s, all_apart q xs z)
     ] refl e
 
@@ -103,13 +105,13 @@ climb_distinct (suc n) ts q h =
       | Some x ↦ λ is. elim (x.parent) as (λ p. x.parent ≡ p → option_map_or (ends_within n ts) p true ≡ true → IsDistinct same (q ∷ option_map_or (climb n ts) p [])) [
         | None ↦ λ _ _. (tt, tt)
         | Some p ↦ λ ip g. (
-          all_apart q _ (is_false _ (λ u.
+          all_apart q _ (false_from_ne_true _ (λ u.
               let r = part_of n ts p q g u in
               let len_part : length (climb r.0 ts q) ≤ length (climb n ts p) = r.2 in
               let one : climb (suc n) ts q ≡ climb r.0 ts q = climb_enough (suc n) r.0 ts q h r.1 in
               let whole : climb (suc n) ts q ≡ q ∷ climb n ts p = ap (λ o. option_map_or (λ (y : Token). q ∷ option_map_or (climb n ts) y.parent []) o []) is ∙ ap (λ o. q ∷ option_map_or (climb n ts) o []) ip in
               let long : length (climb r.0 ts q) ≡ suc (length (climb n ts p)) = ap length (sym one ∙ whole) in
-              absurd (omega (arith, long, len_part)))),
+              not-suc-le_self _ (subst (λ k. k ≤ length (climb n ts p)) long len_part))),
           climb_distinct n ts p g,
         )
       ] refl
@@ -132,14 +134,14 @@ ends_own (suc n) ts q h =
 ends_more : (n m : ℕ) (ts : Tokens) (q : Text) → n ≤ m → ends_within n ts q ≡ true → ends_within m ts q ≡ true
 ends_more zero zero ts q le h = h
 ends_more zero (suc m) ts q le h =
-    elim (get ts q) as (λ o. is_none o ≡ true → option_map_or (λ (x : Token). option_map_or (ends_within m ts) x.parent true) o true ≡ true) [ None ↦ λ _. refl | Some x ↦ λ e. no e ] h
-ends_more (suc n) zero ts q le h = absurd (omega arith)
+    elim (get ts q) as (λ o. is_none o ≡ true → option_map_or (λ (x : Token). option_map_or (ends_within m ts) x.parent true) o true ≡ true) [ None ↦ λ _. refl | Some x ↦ λ e. absurd (false≢true e) ] h
+ends_more (suc n) zero ts q le h = absurd (not-suc-le-zero le)
 ends_more (suc n) (suc m) ts q le h =
     elim (get ts q) as (λ o. option_map_or (λ (x : Token). option_map_or (ends_within n ts) x.parent true) o true ≡ true → option_map_or (λ (x : Token). option_map_or (ends_within m ts) x.parent true) o true ≡ true) [
       | None ↦ λ _. refl
       | Some x ↦ elim (x.parent) as (λ p. option_map_or (ends_within n ts) p true ≡ true → option_map_or (ends_within m ts) p true ≡ true) [
         | None ↦ λ _. refl
-        | Some p ↦ λ g. ends_more n m ts p (omega arith) g
+        | Some p ↦ λ g. ends_more n m ts p (le_of_suc-le-suc le) g
       ]
     ] h
 
@@ -172,4 +174,4 @@ revoke_under ts t q h = get-revoke ts t q ∙ ap (λ b. cond (not b) (get ts q) 
 
 -- to revoke an unknown token changes nothing
 pub revoke_unknown : (ts : Tokens) (t : Text) → get ts t ≡ None → revoke ts t ≡ ts
-revoke_unknown ts t none = same_map (revoke ts t) ts (λ q. revoke_other ts t q (is_false _ (λ e. stands_in_climb (len ts) ts q t e none)))
+revoke_unknown ts t none = same_map (revoke ts t) ts (λ q. revoke_other ts t q (false_from_ne_true _ (λ e. stands_in_climb (len ts) ts q t e none)))

@@ -3,11 +3,13 @@ use Rattle.std.specs.Prelude.{◌≡◌, ◌≢◌, ◌<◌, ◌≤◌, ◌^◌,
 use Rattle.std.specs.List.{list_all}
 use Rattle.std.specs.Option.{option_map_or}
 use Rattle.std.specs.FinMap.{get-empty, len-empty}
-use Rattle.std.proofs.Common.{refl, sym, ◌∙◌, ap, subst, inl, inr, arith, lit<}
-use Rattle.std.proofs.lemmas.Bool.Decides.{nat_tests}
+use Rattle.std.proofs.Common.{refl, sym, ◌∙◌, ap, subst, inl, inr, lit<}
 use Rattle.std.proofs.lemmas.List.Elements.{All-cons, All-nil}
 use Rattle.std.proofs.lemmas.Str.{IsUtf8-from_ascii}
 use Rattle.std.proofs.lemmas.Str.Ascii.{IsAscii-from_all}
+use Rattle.std.proofs.lemmas.Bool.{ltb-true, false≢true}
+use Rattle.std.specs.Prelude.{◌==◌}
+use Rattle.std.proofs.Common.{zero-le}
 use Rattle.broker_types.specs.Text.{Text, text_cmp, same}
 use Rattle.broker_types.specs.Map.{Map, get, put, empty, len}
 use Rattle.broker_types.specs.Identifier.{id}
@@ -20,11 +22,11 @@ use Rattle.broker_types.specs.Broker.{Broker, Waiting, kv}
 use Rattle.broker_types.specs.Places.{Place, token, accessor, lease, credential, wrapping_token, wrapping_accessor, identifier_at, lease_of, IsUsed}
 use Rattle.broker_types.specs.Sound.{Forms, Sound, IsSoundToken, IsSoundMount, IsSoundPolicy, IsShortText}
 use Rattle.broker_types.specs.First.{default_policy, root_token, first_broker}
-use Rattle.broker_types.proofs.Texts.{same_self, same_true}
-use Rattle.broker_types.proofs.Maps.{get-put}
-use Rattle.broker_types.proofs.Lineages.{ends_in_time}
-use Rattle.broker_types.proofs.Identifiers.{id-same}
-use Rattle.broker_types.proofs.Cases.{no_some, some_inj}
+use Rattle.broker_types.specs.TextLaws.{same_self, same_true}
+use Rattle.broker_types.specs.MapLaws.{get-put}
+use Rattle.broker_types.specs.LineageLaws.{ends_in_time}
+use Rattle.broker_types.specs.IdentifierLaws.{id-same}
+use Rattle.std.proofs.lemmas.Option.{none-some, same_Some}
 
 -- ---- maps of one entry
 
@@ -33,12 +35,12 @@ module _ {X : Type 0} where
   nothing = empty
 
   no_entry : (q : Text) (x : X) → get nothing q ≡ Some x → ⊥
-  no_entry q x e = no_some (sym (get-empty text_cmp q) ∙ e)
+  no_entry q x e = absurd (none-some _ (sym (get-empty text_cmp q) ∙ e))
 
   one_entry : (k q : Text) (x y : X) → get (put nothing k x) q ≡ Some y → (q ≡ k) × (y ≡ x)
   one_entry k q x y e =
       elim (same q k) as (λ b. same q k ≡ b → cond b (Some x) (get nothing q) ≡ Some y → (q ≡ k) × (y ≡ x)) [
-        | true ↦ λ s g. (same_true q k s, sym (some_inj g))
+        | true ↦ λ s g. (same_true q k s, sym (same_Some _ _ g))
         | false ↦ λ _ g. absurd (no_entry q y g)
       ] refl (sym (get-put nothing k x q) ∙ e)
 
@@ -51,14 +53,14 @@ abbrev is_below : ℕ → Bool
 is_below b = nat_lt b 128
 
 small : (b : ℕ) → is_below b ≡ true → b < 128
-small b h = grind (arith, nat_tests)
+small b h = ltb-true b 128 h
 
 all_small : (t : Text) → list_all is_below t ≡ true → All (λ b. b < 128) t
 all_small [] h = All-nil (λ b. b < 128)
 all_small (b ∷ bs) h =
     elim (is_below b) as (λ v. is_below b ≡ v → (v && list_all is_below bs) ≡ true → All (λ b. b < 128) (b ∷ bs)) [
       | true ↦ λ e g. All-cons (λ b. b < 128) b bs (small b e) (all_small bs g)
-      | false ↦ λ _ g. absurd (cc)
+      | false ↦ λ _ g. absurd (false≢true g)
     ] refl h
 
 ascii : (t : Text) → list_all is_below t ≡ true → IsUtf8 t
@@ -73,7 +75,7 @@ unfolding same
 secret_sound = record { mount_name = refl; max_versions = lit< tt }
 
 not_root : codes "default" ≡ codes "root" → ⊥
-not_root e = let long : length (codes "default") ≡ length (codes "root") = ap length e in absurd (omega arith)
+not_root e = false≢true (ap (λ (t : Text). length t == 4) e)
 
 -- ---- the root token
 
@@ -92,11 +94,11 @@ module _ (forms : Forms) (moment v w : ℕ) (now : moment ≤ greatest_moment) (
     policies_ascend = refl;
     few_policies = lit< tt;
     issued = now;
-    ends = λ m e. no_some e;
-    ttl = omega arith;
-    explicit_max_ttl = omega arith;
-    period = omega arith;
-    uses_left = λ n e. no_some e;
+    ends = λ m e. absurd (none-some _ e);
+    ttl = zero-le;
+    explicit_max_ttl = zero-le;
+    period = zero-le;
+    uses_left = λ n e. absurd (none-some _ e);
     few_meta = subst (λ n. n < 2 ^ 32) (sym (len-empty text_cmp Text)) (lit< tt);
     meta = λ name value e. absurd (no_entry name value e);
     cubbyhole = λ path object e. absurd (no_entry path object e);
@@ -112,7 +114,7 @@ module _ (forms : Forms) (moment v w : ℕ) (now : moment ≤ greatest_moment) (
       subst (λ z. IsSoundToken forms z x) (sym r.0) (subst (λ y. IsSoundToken forms root y) (sym r.1) root_sound)
 
   no_parent : (t p : Text) (x : Token) → get first.tokens t ≡ Some x → x.parent ≡ Some p → ⊥
-  no_parent t p x e f = no_some (ap (λ (y : Token). y.parent) (sym (token_is t x e).1) ∙ f)
+  no_parent t p x e f = absurd (none-some _ (ap (λ (y : Token). y.parent) (sym (token_is t x e).1) ∙ f))
 
   chain_ends : (t : Text) → ends_within (len first.tokens) first.tokens t ≡ true
   chain_ends t = ends_in_time first.tokens t 1 (by (get first.tokens t) (λ x e. e))
@@ -137,12 +139,12 @@ module _ (forms : Forms) (moment v w : ℕ) (now : moment ≤ greatest_moment) (
 
   used_v : IsUsed first (id v)
   used_v none = elim (same (id v) (id w)) as (λ b. cond b (Some (tt {0})) (get (put nothing (id v) (tt {0})) (id v)) ≡ None → ⊥) [
-    | true ↦ λ e. no_some (sym e)
-    | false ↦ λ e. no_some (sym e ∙ there (id v) nothing (tt {0}))
+    | true ↦ λ e. absurd (none-some _ (sym e))
+    | false ↦ λ e. absurd (none-some _ (sym e ∙ there (id v) nothing (tt {0})))
   ] (sym (get-put _ (id w) (tt {0}) (id v)) ∙ none)
 
   used_w : IsUsed first (id w)
-  used_w none = no_some (sym none ∙ there (id w) _ (tt {0}))
+  used_w none = absurd (none-some _ (sym none ∙ there (id w) _ (tt {0})))
 
   -- the two places that have an identifier
   abbrev IsFilled : Place → Text → Type 0
@@ -159,23 +161,23 @@ module _ (forms : Forms) (moment v w : ℕ) (now : moment ≤ greatest_moment) (
   at_token t i e = by (get first.tokens t) (λ x e. e) e
     where
       by : (o : Option Token) → ((x : Token) → o ≡ Some x → get first.tokens t ≡ Some x) → option_map (λ _. drop 4 t) o ≡ Some i → IsFilled (token t) i
-      by None h f = no_some f
-      by (Some x) h f = let r = token_is t x (h x refl) in inl (ap token r.0, sym (some_inj f) ∙ ap (drop 4) r.0)
+      by None h f = absurd (none-some _ f)
+      by (Some x) h f = let r = token_is t x (h x refl) in inl (ap token r.0, sym (same_Some _ _ f) ∙ ap (drop 4) r.0)
 
   at_accessor : (t i : Text) → identifier_at first (accessor t) ≡ Some i → IsFilled (accessor t) i
   at_accessor t i e = by (get first.tokens t) (λ x e. e) e
     where
       by : (o : Option Token) → ((x : Token) → o ≡ Some x → get first.tokens t ≡ Some x) → option_map (λ (x : Token). x.accessor) o ≡ Some i → IsFilled (accessor t) i
-      by None h f = no_some f
-      by (Some x) h f = let r = token_is t x (h x refl) in inr (ap accessor r.0, sym (some_inj f) ∙ ap (λ (y : Token). y.accessor) r.1)
+      by None h f = absurd (none-some _ f)
+      by (Some x) h f = let r = token_is t x (h x refl) in inr (ap accessor r.0, sym (same_Some _ _ f) ∙ ap (λ (y : Token). y.accessor) r.1)
 
   filled : (p : Place) (i : Text) → identifier_at first p ≡ Some i → IsFilled p i
   filled (token t) i e = at_token t i e
   filled (accessor t) i e = at_accessor t i e
-  filled (lease t lease_id) i e = no_some (sym (ap (option_map (λ _. _)) (no_lease t lease_id)) ∙ e)
-  filled (credential t lease_id) i e = no_some (sym (ap (option_map (λ (l : Lease). l.credential)) (no_lease t lease_id)) ∙ e)
-  filled (wrapping_token t) i e = no_some (sym (ap (option_map (λ _. drop 4 t)) (get-empty text_cmp t)) ∙ e)
-  filled (wrapping_accessor t) i e = no_some (sym (ap (option_map (λ (x : Waiting). x.accessor)) (get-empty text_cmp t)) ∙ e)
+  filled (lease t lease_id) i e = absurd (none-some _ (sym (ap (option_map (λ _. _)) (no_lease t lease_id)) ∙ e))
+  filled (credential t lease_id) i e = absurd (none-some _ (sym (ap (option_map (λ (l : Lease). l.credential)) (no_lease t lease_id)) ∙ e))
+  filled (wrapping_token t) i e = absurd (none-some _ (sym (ap (option_map (λ _. drop 4 t)) (get-empty text_cmp t)) ∙ e))
+  filled (wrapping_accessor t) i e = absurd (none-some _ (sym (ap (option_map (λ (x : Waiting). x.accessor)) (get-empty text_cmp t)) ∙ e))
 
   one_place : v ≢ w → (p q : Place) (i : Text) → identifier_at first p ≡ Some i → identifier_at first q ≡ Some i → p ≡ q
   one_place ne p q i e f = elim (filled p i e) [
@@ -215,5 +217,5 @@ module _ (forms : Forms) (moment v w : ℕ) (now : moment ≤ greatest_moment) (
       all_used = all_used;
       origins_used = λ t x e. absurd (no_entry t x e);
     };
-    unspent = λ t x e zero. let r = one_entry root t (root_token moment (id w)) x e in no_some (ap (λ (z : Token). z.uses_left) (sym r.1) ∙ zero);
+    unspent = λ t x e zero. let r = one_entry root t (root_token moment (id w)) x e in absurd (none-some _ (ap (λ (z : Token). z.uses_left) (sym r.1) ∙ zero));
   }
