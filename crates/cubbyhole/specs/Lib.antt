@@ -1,0 +1,2 @@
+pub mod Cubbyhole
+pub mod Objects

@@ -1,0 +1,9 @@
+//! Cubbyholes: what each token keeps for itself, as rows.
+#![tactic(auto)]
+
+mod keys;
+mod reading;
+mod writing;
+
+pub use reading::read;
+pub use writing::{delete, drop_owner, write};

@@ -1,0 +1,52 @@
+//! Cubbyholes, read.
+
+ghost use Rattle.std.specs.Prelude.{◌≡◌, length, IfOk, IfErr, OnOk};
+ghost use Rattle.broker_types.specs.Broker.{Broker};
+ghost use Rattle.broker_types.specs.Fault.{IsWant};
+ghost use Rattle.broker_types.specs.Sound.{Forms, SoundTokens, IsShortText};
+ghost use Rattle.records.specs.Parts.{of_cubbyholes, Tells};
+ghost use Rattle.records.specs.Reading.{Reads, shown};
+ghost use Rattle.records.specs.RowForms.{cubby_row};
+ghost use Rattle.records.specs.Rows.{token_len};
+ghost use Rattle.records.specs.Transaction.{IsHonest, GoesOn, is_storage};
+ghost use Rattle.cubbyhole.specs.Cubbyhole as cubbyhole;
+ghost use Rattle.cubbyhole.specs.Objects.{table, IsObjectAt, IsDamagedAt, IsWantOr};
+
+use crate::keys::object_key;
+use broker_types::{Fault, TextBuf};
+use records::{Kind, RecordsTx, Row, read_cubby};
+use std::alloc::Global;
+
+/// The compact text of the object that a row of the token's cubbyhole keeps. It fails as `Damaged` where
+/// the row is none of the token's cubbyhole.
+fn object_of<'r>(kept: &'r Row, token: &str) -> Result<&'r str, Fault>
+    ensures { Reads IsShortText (cubby_row token.now) kept.now (shown result (λ s. s.now)) }
+{
+    let owner = kept.owner.as_str();
+    if owner != token {
+        return Err(Fault::Damaged);
+    }
+    read_cubby(kept)
+}
+
+/// The compact text of the object at a path of a token's cubbyhole, if there is one. It fails as
+/// `Damaged` where the row at the path is none of the token's cubbyhole, for want of memory, or where the
+/// storage fails (Vault's documentation, "Cubbyhole secrets engine", read secret).
+pub fn read<T: RecordsTx>(alloc: Global, tx: &mut T, token: &str, path: &str) -> Result<Option<TextBuf>, Fault>
+    ensures found { IsHonest (T.seen tx.new) → IfOk result (IsObjectAt (table (T.seen tx.old)) token.now path.now) }
+    ensures told { IsHonest (T.seen tx.new) → (b : Broker) → Tells of_cubbyholes (table (T.seen tx.old)) b
+        → length token.now ≡ token_len → IfOk result (λ object. object ≡ cubbyhole.object_at b token.now path.now) }
+    ensures same { IsHonest (T.seen tx.new) → OnOk result ((T.seen tx.new).rows ≡ (T.seen tx.old).rows) }
+    ensures damaged { IfErr result
+        (IsWantOr (IsHonest (T.seen tx.new) → IsDamagedAt (table (T.seen tx.old)) token.now path.now)) }
+    ensures wants { IsHonest (T.seen tx.new) → (forms : Forms) (b : Broker) → SoundTokens forms b.tokens
+        → Tells of_cubbyholes (table (T.seen tx.old)) b → length token.now ≡ token_len → IfErr result IsWant }
+    ensures goes_on { GoesOn (T.seen tx.old) (T.seen tx.new) (is_storage result) }
+{
+    let key = object_key(alloc, token, path)?;
+    let Some(kept) = tx.get(Kind::Cubby, key.as_str())? else {
+        return Ok(None);
+    };
+    let object = object_of(&kept, token)?;
+    Ok(Some(TextBuf::copied(alloc, object)?))
+}
