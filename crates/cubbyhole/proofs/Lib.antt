@@ -1,1 +1,4 @@
+pub mod Edits
+pub mod Filed
 pub mod ObjectKeys
+pub mod ObjectRows

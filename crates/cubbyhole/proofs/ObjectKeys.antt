@@ -49,13 +49,17 @@ key_met t path q len is =
     ] refl
 
 -- a text that goes on after the token and a slash begins with them, and the other way round
-pub begins : (t path : Text) → starts_with nat_eq (object_key t path) (object_key t []) ≡ true
+begins : (t path : Text) → starts_with nat_eq (object_key t path) (object_key t []) ≡ true
 unfolding same
 begins t path =
     let prefix = object_key t [] in
     ap (λ q. same prefix (take (length prefix) q)) (sym (append_assoc t (slash ∷ []) path))
     ∙ ap (same prefix) (take-append_seam prefix path)
     ∙ same_self prefix
+
+-- the key of a path is among the token's
+pub key_under : (t path q : Text) → same q (object_key t path) ≡ true → starts_with nat_eq q (object_key t []) ≡ true
+key_under t path q is = ap (λ z. starts_with nat_eq z (object_key t [])) (same_true q (object_key t path) is) ∙ begins t path
 
 follows : (t q : Text) → starts_with nat_eq q (object_key t []) ≡ true → q ≡ object_key t (drop (length (object_key t [])) q)
 unfolding same

@@ -1,2 +1,3 @@
 pub mod Cubbyhole
+pub mod CubbyholeLaws
 pub mod Objects
