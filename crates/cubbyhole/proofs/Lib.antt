@@ -2,3 +2,4 @@ pub mod Edits
 pub mod Filed
 pub mod ObjectKeys
 pub mod ObjectRows
+pub mod ObjectsTold
