@@ -8,10 +8,11 @@ pub mod Forms
 pub mod Json
 pub mod Kept
 pub mod Laws
+pub mod Listed
 pub mod Order
-pub mod Refuse
 pub mod Reply
 pub mod Request
+pub mod Safely
 pub mod Serving
 pub mod Standing
 pub mod Step

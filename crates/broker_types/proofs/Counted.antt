@@ -80,7 +80,8 @@ month_here : (k y p n : ℕ) → n < days_in_month (pos y) (suc p) → day_from_
 unfolding day_from_month
 month_here k y p n h = rw (day_from_month, is_true n (days_in_month (pos y) (suc p)) h) refl
 
-month_later : (k y p n : ℕ) → days_in_month (pos y) (suc p) ≤ n → day_from_month (suc k) y (suc p) n ≡ day_from_month k y (suc (suc p)) (n - days_in_month (pos y) (suc p))
+month_later : (k y p n : ℕ) → days_in_month (pos y) (suc p) ≤ n
+    → day_from_month (suc k) y (suc p) n ≡ day_from_month k y (suc (suc p)) (n - days_in_month (pos y) (suc p))
 unfolding day_from_month
 month_later k y p n h = rw (day_from_month, is_false n (days_in_month (pos y) (suc p)) h) refl
 

@@ -1,5 +1,6 @@
 -- Definitions computed on small inputs.
-use Rattle.std.specs.Prelude.{◌≡◌, ◌+◌, ℕ, List, [], ◌∷◌, true, false, not, cond, Option, Some, None, option_map, option_and_then, if◌then◌else◌, nat_lt, length, replicate, codes}
+use Rattle.std.specs.Prelude.{◌≡◌, ◌+◌, ℕ, List, [], ◌∷◌, true, false, not, cond, Option, Some, None, option_map, option_and_then, if◌then◌else◌, nat_lt}
+use Rattle.std.specs.Prelude.{length, replicate, codes}
 use Rattle.std.specs.declared.cmp.Ordering.TheVariants.{Less, Greater}
 use Rattle.std.specs.FinMap as fin
 use Rattle.std.specs.List.{find, list_any, list_all}
@@ -9,7 +10,8 @@ use Rattle.broker_types.specs.Text.{Text, text_cmp, same}
 use Rattle.broker_types.specs.Map.{Map, get, len, put, without, keep, with_values, map_values, change, first_where, entries}
 use Rattle.broker_types.specs.Name.{is_name, is_mount_name}
 use Rattle.broker_types.specs.Token.{Token, Tokens, Lease}
-use Rattle.broker_types.specs.Lineage.{climb, lineage, is_under, revoke, revoke_orphan, orphaned_by, outlasts, is_alive, alive_at, with_live_leases, ends_within}
+use Rattle.broker_types.specs.Lineage.{climb, lineage, is_under, revoke, revoke_orphan, orphaned_by, outlasts, is_alive, alive_at, with_live_leases}
+use Rattle.broker_types.specs.Lineage.{ends_within}
 use Rattle.broker_types.specs.Broker.{Broker, Waiting, waiting_ends, at_moment}
 use Rattle.broker_types.specs.First.{root_token, first_broker}
 use Rattle.broker_types.specs.Sound.{is_ascending}
@@ -258,7 +260,7 @@ clock_moves_on = refl
 clock_stays : (at_moment broker 99).clock ≡ 100
 clock_stays = refl
 
--- ---- where identifiers stand
+-- ---- where identifiers are
 
 of_token : token_identifier wrapping ≡ codes "00000000-0000-0000-0000-000000000025"
 of_token = refl

@@ -1,5 +1,6 @@
 -- The texts that have seconds are those of the grammar.
-use Rattle.std.specs.Prelude.{◌≡◌, ◌≢◌, ◌≤◌, ◌<◌, ◌⊎◌, ℕ, suc, ◌+◌, ◌-◌, ◌*◌, ◌==◌, ◌&&◌, nat_le, List, [], ◌∷◌, ◌++◌, length, Bool, true, false, not, cond, if◌then◌else◌, Option, Some, None, option_and_then, unwrap_or, All, sum_by}
+use Rattle.std.specs.Prelude.{◌≡◌, ◌≢◌, ◌≤◌, ◌<◌, ◌⊎◌, ℕ, suc, ◌+◌, ◌-◌, ◌*◌, ◌==◌, ◌&&◌, nat_le, List, [], ◌∷◌, ◌++◌, length, Bool, true, false, not, cond}
+use Rattle.std.specs.Prelude.{if◌then◌else◌, Option, Some, None, option_and_then, unwrap_or, All, sum_by}
 use Rattle.std.specs.List.{list_all, flat_map}
 use Rattle.std.specs.Char.{is_ascii_digit, digit_value}
 use Rattle.std.specs.Int.{IsInRange}
@@ -10,7 +11,8 @@ use Rattle.std.proofs.lemmas.List.Sums.{sum_by-cons}
 use Rattle.std.proofs.lemmas.List.Elements.{All-nil, All-cons, All-head, All-tail}
 use Rattle.std.proofs.lemmas.Str.{digit_value_digit}
 use Rattle.std.proofs.lemmas.Str.Parse.{digit_from_value}
-use Rattle.broker_types.specs.Duration.{unit_of, group_end, groups, with_unit, at_most, most, duration_of, TimeUnit, hours, minutes, seconds, unit_byte, unit_seconds, Group, IsGroup, group_text, group_seconds, IsCount, IsSum, IsDuration}
+use Rattle.broker_types.specs.Duration.{unit_of, group_end, groups, with_unit, at_most, longest_duration, duration_of, TimeUnit, hours, minutes, seconds}
+use Rattle.broker_types.specs.Duration.{unit_byte, unit_seconds, Group, IsGroup, group_text, group_seconds, IsCount, IsSum, IsDuration}
 use Rattle.broker_types.proofs.Groups.{in_range}
 use Rattle.std.proofs.lemmas.Bool.{false≢true}
 use Rattle.std.proofs.lemmas.Option.{none-some, same_Some}
@@ -90,7 +92,8 @@ at_unit seconds sum v rest = refl
 
 -- ---- what the grammar has is read
 
-through_digits : (ds : List ℕ) (sum d : ℕ) (rest : List ℕ) → AllDigits 10 ds → groups sum (Some d) (ds ++ rest) ≡ groups sum (Some (digits_value_after 10 d ds)) rest
+through_digits : (ds : List ℕ) (sum d : ℕ) (rest : List ℕ) → AllDigits 10 ds
+    → groups sum (Some d) (ds ++ rest) ≡ groups sum (Some (digits_value_after 10 d ds)) rest
 through_digits [] sum d rest h = refl
 through_digits (c ∷ ds) sum d rest h =
     let digit = is_digit c h.0 in
@@ -146,16 +149,20 @@ abbrev Reads : ℕ → Option ℕ → List ℕ → ℕ → Type 0
 Reads sum None text n = AreGroups sum text n
 Reads sum (Some d) text n = AreGroupsAfter sum d text n
 
-one_digit : (sum : ℕ) (begun : Option ℕ) (c : ℕ) (cs : List ℕ) (n : ℕ) → is_ascii_digit c ≡ true → AreGroupsAfter sum (unwrap_or begun 0 * 10 + (c - 48)) cs n → Reads sum begun (c ∷ cs) n
+one_digit : (sum : ℕ) (begun : Option ℕ) (c : ℕ) (cs : List ℕ) (n : ℕ) → is_ascii_digit c ≡ true → AreGroupsAfter sum (unwrap_or begun 0 * 10 + (c - 48)) cs n
+    → Reads sum begun (c ∷ cs) n
 one_digit sum None c cs n digit r =
     let g : Group = record { digits = c ∷ r.digits; unit = r.unit } in
-    let value : digits_value_after 10 (0 * 10 + (c - 48)) r.digits ≡ digits_value 10 (c ∷ r.digits) = ap (λ k. digits_value_after 10 (0 * 10 + k) r.digits) (digit_is c digit) in
+    let value : digits_value_after 10 (0 * 10 + (c - 48)) r.digits ≡ digits_value 10 (c ∷ r.digits) =
+        ap (λ k. digits_value_after 10 (0 * 10 + k) r.digits) (digit_is c digit) in
     let scaled : digits_value_after 10 (0 * 10 + (c - 48)) r.digits * unit_seconds r.unit ≡ group_seconds g = ap (λ k. k * unit_seconds r.unit) value in
     record {
       parts = g ∷ r.parts;
       each = All-cons IsGroup g r.parts (omega arith, (digit_small c digit, r.are_digits)) r.each;
       joined = ap (λ t. c ∷ t) r.joined ∙ sym (append_assoc (c ∷ r.digits) (unit_byte r.unit ∷ []) (flat_map group_text r.parts));
-      total = r.total ∙ (let e : sum + digits_value_after 10 (0 * 10 + (c - 48)) r.digits * unit_seconds r.unit + sum_by group_seconds r.parts ≡ sum + sum_by group_seconds (g ∷ r.parts) = omega (arith, total_cons g r.parts, scaled) in e);
+      total = r.total
+          ∙ (let e : sum + digits_value_after 10 (0 * 10 + (c - 48)) r.digits * unit_seconds r.unit + sum_by group_seconds r.parts
+          ≡ sum + sum_by group_seconds (g ∷ r.parts) = omega (arith, total_cons g r.parts, scaled) in e);
     }
 one_digit sum (Some d) c cs n digit r = record {
   digits = c ∷ r.digits;
@@ -184,11 +191,15 @@ reads : (cs : List ℕ) (sum : ℕ) (begun : Option ℕ) (n : ℕ) → groups su
 reads [] sum None n e = record { parts = []; each = All-nil IsGroup; joined = refl; total = let f = same_Some _ _ e in omega (arith, f) }
 reads [] sum (Some d) n e = absurd (none-some _ e)
 reads (c ∷ cs) sum begun n e =
-    elim (is_ascii_digit c) as (λ b. is_ascii_digit c ≡ b → option_and_then (λ p. groups p.0 p.1 cs) (if b then Some (sum, Some (unwrap_or begun 0 * 10 + (c - 48))) else group_end sum begun (unit_of c)) ≡ Some n → Reads sum begun (c ∷ cs) n) [
+    elim (is_ascii_digit c)
+        as (λ b. is_ascii_digit c ≡ b
+        → option_and_then (λ p. groups p.0 p.1 cs) (if b then Some (sum, Some (unwrap_or begun 0 * 10 + (c - 48))) else group_end sum begun (unit_of c))
+        ≡ Some n → Reads sum begun (c ∷ cs) n) [
       | true ↦ λ digit f. one_digit sum begun c cs n digit (reads cs sum (Some (unwrap_or begun 0 * 10 + (c - 48))) n f)
       | false ↦ λ _ f. elim begun as (λ o. option_and_then (λ p. groups p.0 p.1 cs) (group_end sum o (unit_of c)) ≡ Some n → Reads sum o (c ∷ cs) n) [
         | None ↦ λ g. absurd (none-some _ g)
-        | Some d ↦ λ g. elim (unit_of c) as (λ o. unit_of c ≡ o → option_and_then (λ p. groups p.0 p.1 cs) (group_end sum (Some d) o) ≡ Some n → AreGroupsAfter sum d (c ∷ cs) n) [
+        | Some d ↦ λ g. elim (unit_of c)
+              as (λ o. unit_of c ≡ o → option_and_then (λ p. groups p.0 p.1 cs) (group_end sum (Some d) o) ≡ Some n → AreGroupsAfter sum d (c ∷ cs) n) [
           | None ↦ λ _ k. absurd (none-some _ k)
           | Some u ↦ λ is k. one_unit sum d c u cs n is (reads cs (sum + d * u) None n k)
         ] refl g
@@ -197,7 +208,7 @@ reads (c ∷ cs) sum begun n e =
 
 -- ---- durations
 
-at_most_is : (o : Option ℕ) (n : ℕ) → at_most o ≡ Some n → (o ≡ Some n) × (n ≤ most)
+at_most_is : (o : Option ℕ) (n : ℕ) → at_most o ≡ Some n → (o ≡ Some n) × (n ≤ longest_duration)
 at_most_is None n e = absurd (none-some _ e)
 at_most_is (Some m) n e =
     elim (nat_le m 4294967295) as (λ b. nat_le m 4294967295 ≡ b → cond b (Some m) None ≡ Some n → (Some m ≡ Some n) × (n ≤ 4294967295)) [
@@ -226,7 +237,8 @@ of_duration s n e =
           record { form = by whole.parts whole.each whole.joined whole.total; fits = r.1 }
     ] refl
   where
-    by : (parts : List Group) → All IsGroup parts → s ≡ flat_map group_text parts → n ≡ 0 + sum_by group_seconds parts → (((s ≡ []) × (n ≡ 0)) ⊎ IsCount s n) ⊎ IsSum s n
+    by : (parts : List Group) → All IsGroup parts → s ≡ flat_map group_text parts → n ≡ 0 + sum_by group_seconds parts
+        → (((s ≡ []) × (n ≡ 0)) ⊎ IsCount s n) ⊎ IsSum s n
     by [] each joined total = inl (inl (joined, let f : n ≡ 0 = omega (arith, total) in f))
     by (g ∷ gs) each joined total = inr (record { parts = g ∷ gs; some = λ f. absurd (cc); each = each; joined = joined; total = omega (arith, total) })
 

@@ -1,5 +1,6 @@
 -- What the groups of a text come to.
-use Rattle.std.proofs.Common.{◌≡◌, ℕ, ◌+◌, ◌-◌, ◌*◌, ◌<◌, ◌≤◌, ◌==◌, ◌&&◌, nat_le, List, [], ◌∷◌, ◌++◌, length, get_or, drop, Bool, true, false, not, cond, Option, Some, None, option_and_then, unwrap_or, refl, sym, ap, ◌∙◌, arith, add-one}
+use Rattle.std.proofs.Common.{◌≡◌, ℕ, ◌+◌, ◌-◌, ◌*◌, ◌<◌, ◌≤◌, ◌==◌, ◌&&◌, nat_le, List, [], ◌∷◌, ◌++◌, length, get_or, drop, Bool, true, false, not, cond}
+use Rattle.std.proofs.Common.{Option, Some, None, option_and_then, unwrap_or, refl, sym, ap, ◌∙◌, arith, add-one}
 use Rattle.std.proofs.Math.Nat.{mul-le-mul_left}
 use Rattle.std.proofs.Math.ListN.{drop_of_length-le}
 use Rattle.std.proofs.Math.Seq.{drop-cons}
@@ -31,7 +32,8 @@ too_large [] sum None h = past sum (omega arith)
 too_large [] sum (Some n) h = refl
 too_large (c ∷ cs) sum begun h = by_digit (is_ascii_digit c) (λ t b k. too_large cs t b k)
   where
-    by_unit : (b : Option ℕ) (u : Option ℕ) → 4294967295 < sum + unwrap_or b 0 → ((v : ℕ) → u ≡ Some v → 1 ≤ v) → ((t : ℕ) (b : Option ℕ) → 4294967295 < t + unwrap_or b 0 → at_most (groups t b cs) ≡ None)
+    by_unit : (b : Option ℕ) (u : Option ℕ) → 4294967295 < sum + unwrap_or b 0 → ((v : ℕ) → u ≡ Some v → 1 ≤ v)
+        → ((t : ℕ) (b : Option ℕ) → 4294967295 < t + unwrap_or b 0 → at_most (groups t b cs) ≡ None)
         → at_most (option_and_then (λ p. groups p.0 p.1 cs) (group_end sum b u)) ≡ None
     by_unit None u k least later = refl
     by_unit (Some n) None k least later = refl
@@ -41,7 +43,8 @@ too_large (c ∷ cs) sum begun h = by_digit (is_ascii_digit c) (λ t b k. too_la
         later (sum + n * v) None (omega arith)
 
     by_digit : (t : Bool) → ((t : ℕ) (b : Option ℕ) → 4294967295 < t + unwrap_or b 0 → at_most (groups t b cs) ≡ None)
-        → at_most (option_and_then (λ p. groups p.0 p.1 cs) (cond t (Some (sum, Some (unwrap_or begun 0 * 10 + (c - 48)))) (group_end sum begun (unit_of c)))) ≡ None
+        → at_most (option_and_then (λ p. groups p.0 p.1 cs) (cond t (Some (sum, Some (unwrap_or begun 0 * 10 + (c - 48)))) (group_end sum begun (unit_of c))))
+            ≡ None
     by_digit true later = later sum (Some (unwrap_or begun 0 * 10 + (c - 48))) (omega arith)
     by_digit false later = by_unit begun (unit_of c) h (λ v e. unit_least c v e) later
 

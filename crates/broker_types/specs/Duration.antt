@@ -1,5 +1,7 @@
 -- Texts of durations: groups of digits and a unit, or digits alone.
-use Rattle.std.specs.Prelude.{◌≡◌, ◌≢◌, ◌≤◌, ◌⊎◌, ℕ, ◌+◌, ◌-◌, ◌*◌, ◌==◌, ◌&&◌, nat_le, List, [], ◌∷◌, ◌++◌, length, not, if◌then◌else◌, Option, Some, None, option_and_then, unwrap_or, All, sum_by}
+use Rattle.std.specs.Prelude.{◌≡◌, ◌≢◌, ◌≤◌, ◌⊎◌, ℕ, ◌+◌, ◌-◌, ◌*◌, ◌==◌, ◌&&◌, nat_le, List, [], ◌∷◌, ◌++◌, length}
+use Rattle.std.specs.Prelude.{not}
+use Rattle.std.specs.Prelude.{if◌then◌else◌, Option, Some, None, option_and_then, unwrap_or, All, sum_by}
 use Rattle.std.specs.List.{list_all, flat_map}
 use Rattle.std.specs.Char.{is_ascii_digit}
 use Rattle.std.specs.Str.Parse.{IsNumeral, digits_value}
@@ -16,13 +18,15 @@ group_end sum (Some n) (Some u) = Some (sum + n * u, None)
 
 -- one byte: the sum of the groups so far, and the digits of the one begun
 abbrev pub group_step : ℕ → Option ℕ → ℕ → Option (ℕ × Option ℕ)
-group_step sum begun c = if is_ascii_digit c then Some (sum, Some (unwrap_or begun 0 * 10 + (c - 48))) else group_end sum begun (unit_of c)
+group_step sum begun c =
+    if is_ascii_digit c then Some (sum, Some (unwrap_or begun 0 * 10 + (c - 48))) else group_end sum begun (unit_of c)
 
 -- only whole groups have a sum
 abbrev pub whole_groups : ℕ → Option ℕ → Option ℕ
 whole_groups sum None = Some sum
 whole_groups sum (Some n) = None
 
+-- the sum of the groups, from the bytes to come
 abbrev pub groups : ℕ → Option ℕ → List ℕ → Option ℕ
 groups sum begun [] = whole_groups sum begun
 groups sum begun (c ∷ cs) = option_and_then (λ p. groups p.0 p.1 cs) (group_step sum begun c)
@@ -31,12 +35,14 @@ groups sum begun (c ∷ cs) = option_and_then (λ p. groups p.0 p.1 cs) (group_s
 abbrev pub with_unit : List ℕ → List ℕ
 with_unit s = if not (length s == 0) && list_all is_ascii_digit s then s ++ 115 ∷ [] else s
 
-abbrev pub most : ℕ
-most = 4294967295
+-- the longest duration, in seconds: 2^32 - 1 (this project's limit)
+abbrev pub longest_duration : ℕ
+longest_duration = 4294967295
 
+-- none for a longer duration
 abbrev pub at_most : Option ℕ → Option ℕ
 at_most None = None
-at_most (Some n) = if nat_le n most then Some n else None
+at_most (Some n) = if nat_le n longest_duration then Some n else None
 
 -- the seconds of a text
 abbrev pub duration_of : List ℕ → Option ℕ
@@ -90,4 +96,4 @@ IsEmptyText text n = (text ≡ []) × (n ≡ 0)
 -- the text is a duration of n seconds
 pub record IsDuration (text : List ℕ) (n : ℕ) : Type 0 where
   pub form : (IsEmptyText text n ⊎ IsCount text n) ⊎ IsSum text n
-  pub fits : n ≤ most
+  pub fits : n ≤ longest_duration

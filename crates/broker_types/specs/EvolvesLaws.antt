@@ -15,6 +15,7 @@ new_before b c i e h = elim (found_or_not (get b.used i)) [
   | inr some ↦ absurd (e.used i (λ n. absurd (none-some _ (sym n ∙ some.1))) h)
 ]
 
+-- to evolve is transitive
 pub evolves_trans : (b c d : Broker) → Evolves b c → Evolves c d → Evolves b d
 evolves_trans b c d e f = record {
   used = λ i u. f.used i (e.used i u);
@@ -30,7 +31,9 @@ evolves_trans b c d e f = record {
     | inr fresh ↦ inr (new_before b c (lease_identifier lease_id) e fresh.0, new_before b c l.credential e fresh.1)
   ];
   wrapping_tokens = λ t w is. elim (f.wrapping_tokens t w is) [
-    | inl before ↦ elim (found_or_not (get c.waiting t)) [ inl none ↦ absurd (before none) | inr v ↦ e.wrapping_tokens t v.0 v.1 ]
+    | inl before ↦
+          elim (found_or_not (get c.waiting t)) [ inl none ↦ absurd (before none) | inr v ↦
+          e.wrapping_tokens t v.0 v.1 ]
     | inr fresh ↦ inr (new_before b c (token_identifier t) e fresh)
   ];
   waiting = λ t w is. elim (f.waiting t w is) [

@@ -1,4 +1,4 @@
--- Faults: why a call gave up.
+-- Faults: why a call ended without an answer (this project's definition).
 use Rattle.std.specs.Prelude.{ℕ, ⊤, codes}
 use Rattle.broker_types.specs.Text.{Text}
 use Rattle.broker_types.specs.declared.fault.Fault.{Fault}
@@ -11,12 +11,12 @@ fault_number fault.Storage = 2
 fault_number fault.Damaged = 3
 fault_number fault.BadStart = 4
 
--- a want of memory or of storage
-abbrev pub IsWant : Fault → Type 0
-IsWant fault.Memory = ⊤
-IsWant fault.Storage = ⊤
-IsWant fault.Damaged = ⊥
-IsWant fault.BadStart = ⊥
+-- memory ran out, or the storage failed
+abbrev pub IsMemoryOrStorage : Fault → Type 0
+IsMemoryOrStorage fault.Memory = ⊤
+IsMemoryOrStorage fault.Storage = ⊤
+IsMemoryOrStorage fault.Damaged = ⊥
+IsMemoryOrStorage fault.BadStart = ⊥
 
 -- what a fault prints
 abbrev pub fault_text : Fault → Text

@@ -1,5 +1,5 @@
 -- The broker that a start makes (Vault's documentation, "Tokens", root tokens; "Policies", default policy).
-use Rattle.std.specs.Prelude.{ℕ, [], ◌∷◌, false, None, codes}
+use Rattle.std.specs.Prelude.{ℕ, [], ◌∷◌, ◌++◌, false, None, codes}
 use Rattle.broker_types.specs.Text.{Text}
 use Rattle.broker_types.specs.Map.{empty, put}
 use Rattle.broker_types.specs.Identifier.{id}
@@ -7,10 +7,20 @@ use Rattle.broker_types.specs.TokenText.{token_text}
 use Rattle.broker_types.specs.Token.{Token}
 use Rattle.broker_types.specs.Broker.{Broker, Mount, kv}
 
--- the policy `default`
+-- the policy `default`, on one line
 unfoldable pub default_policy : Text
 default_policy =
-    codes "{\"path\":{\"auth/token/lookup-self\":{\"capabilities\":[\"read\"]},\"auth/token/renew-self\":{\"capabilities\":[\"update\"]},\"auth/token/revoke-self\":{\"capabilities\":[\"update\"]},\"cubbyhole/*\":{\"capabilities\":[\"create\",\"read\",\"update\",\"delete\",\"list\"]},\"sys/leases/lookup\":{\"capabilities\":[\"update\"]},\"sys/leases/renew\":{\"capabilities\":[\"update\"]},\"sys/wrapping/lookup\":{\"capabilities\":[\"update\"]},\"sys/wrapping/unwrap\":{\"capabilities\":[\"update\"]},\"sys/wrapping/wrap\":{\"capabilities\":[\"update\"]}}}"
+    codes "{\"path\":{"
+    ++ codes "\"auth/token/lookup-self\":{\"capabilities\":[\"read\"]},"
+    ++ codes "\"auth/token/renew-self\":{\"capabilities\":[\"update\"]},"
+    ++ codes "\"auth/token/revoke-self\":{\"capabilities\":[\"update\"]},"
+    ++ codes "\"cubbyhole/*\":{\"capabilities\":[\"create\",\"read\",\"update\",\"delete\",\"list\"]},"
+    ++ codes "\"sys/leases/lookup\":{\"capabilities\":[\"update\"]},"
+    ++ codes "\"sys/leases/renew\":{\"capabilities\":[\"update\"]},"
+    ++ codes "\"sys/wrapping/lookup\":{\"capabilities\":[\"update\"]},"
+    ++ codes "\"sys/wrapping/unwrap\":{\"capabilities\":[\"update\"]},"
+    ++ codes "\"sys/wrapping/wrap\":{\"capabilities\":[\"update\"]}"
+    ++ codes "}}"
 
 -- a token with the policy `root`, without parent and end
 abbrev pub root_token : ℕ → Text → Token
@@ -34,7 +44,8 @@ root_token now accessor =
 abbrev pub secret_mount : Mount
 secret_mount = record { engine = kv; cas_required = false; max_versions = 0 }
 
--- the broker started at a moment: the root token of one word, with the accessor of another, the mount `secret` and the policy `default`
+-- the broker started at a moment: the root token of one word, with the accessor of another, the mount `secret` and the
+-- policy `default`
 abbrev pub first_broker : ℕ → ℕ → ℕ → Broker
 first_broker moment token_word accessor_word =
     record {

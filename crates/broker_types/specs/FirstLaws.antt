@@ -1,5 +1,6 @@
 -- The first broker is sound.
-use Rattle.std.specs.Prelude.{◌≡◌, ◌≢◌, ◌<◌, ◌≤◌, ◌^◌, ◌&&◌, ◌⊎◌, ℕ, [], ◌∷◌, Bool, true, false, cond, nat_lt, length, drop, codes, Option, Some, None, option_map, option_and_then, is_none, IsUtf8, All}
+use Rattle.std.specs.Prelude.{◌≡◌, ◌≢◌, ◌<◌, ◌≤◌, ◌^◌, ◌&&◌, ◌⊎◌, ℕ, [], ◌∷◌, Bool, true, false, cond, nat_lt, length}
+use Rattle.std.specs.Prelude.{drop, codes, Option, Some, None, option_map, option_and_then, is_none, IsUtf8, All}
 use Rattle.std.specs.List.{list_all}
 use Rattle.std.specs.Option.{option_map_or}
 use Rattle.std.specs.FinMap.{get-empty, len-empty}
@@ -19,7 +20,8 @@ use Rattle.broker_types.specs.Name.{is_name}
 use Rattle.broker_types.specs.Token.{Token, Lease}
 use Rattle.broker_types.specs.Lineage.{ends_within}
 use Rattle.broker_types.specs.Broker.{Broker, Waiting, kv}
-use Rattle.broker_types.specs.Places.{Place, token, accessor, lease, credential, wrapping_token, wrapping_accessor, identifier_at, lease_of, IsUsed}
+use Rattle.broker_types.specs.Places.{Place, token, accessor, lease, credential, wrapping_token, wrapping_accessor}
+use Rattle.broker_types.specs.Places.{identifier_at, lease_of, IsUsed}
 use Rattle.broker_types.specs.Sound.{Forms, Sound, IsSoundToken, IsSoundMount, IsSoundPolicy, IsShortText}
 use Rattle.broker_types.specs.First.{default_policy, root_token, first_broker}
 use Rattle.broker_types.specs.TextLaws.{same_self, same_true}
@@ -79,7 +81,8 @@ not_root e = false≢true (ap (λ (t : Text). length t == 4) e)
 
 -- ---- the root token
 
-module _ (forms : Forms) (moment v w : ℕ) (now : moment ≤ greatest_moment) (fits_v : v < 2 ^ 128) (fits_w : w < 2 ^ 128) where
+module _ (forms : Forms) (moment v w : ℕ) (now : moment ≤ greatest_moment) (fits_v : v < 2 ^ 128)
+    (fits_w : w < 2 ^ 128) where
   abbrev root : Text
   root = token_text (id v)
 
@@ -119,9 +122,12 @@ module _ (forms : Forms) (moment v w : ℕ) (now : moment ≤ greatest_moment) (
   chain_ends : (t : Text) → ends_within (len first.tokens) first.tokens t ≡ true
   chain_ends t = ends_in_time first.tokens t 1 (by (get first.tokens t) (λ x e. e))
     where
-      by : (o : Option Token) → ((x : Token) → o ≡ Some x → get first.tokens t ≡ Some x) → option_map_or (λ (x : Token). option_map_or (λ p. is_none (get first.tokens p)) x.parent true) o true ≡ true
+      by : (o : Option Token) → ((x : Token) → o ≡ Some x → get first.tokens t ≡ Some x)
+          → option_map_or (λ (x : Token). option_map_or (λ p. is_none (get first.tokens p)) x.parent true) o true ≡ true
       by None h = refl
-      by (Some x) h = ap (λ (y : Token). option_map_or (λ p. is_none (get first.tokens p)) y.parent true) (token_is t x (h x refl)).1
+      by (Some x) h =
+          ap (λ (y : Token). option_map_or (λ p. is_none (get first.tokens p)) y.parent true)
+          (token_is t x (h x refl)).1
 
   -- ---- identifiers
 
@@ -133,12 +139,14 @@ module _ (forms : Forms) (moment v w : ℕ) (now : moment ≤ greatest_moment) (
           | true ↦ λ r. inl (same_true i (id v) r)
           | false ↦ λ r. absurd (u (
               get-put _ (id w) (tt {0}) i ∙ ap (λ b. cond b (Some (tt {0})) (get (put nothing (id v) (tt {0})) i)) s
-              ∙ get-put nothing (id v) (tt {0}) i ∙ ap (λ b. cond b (Some (tt {0})) (get nothing i)) r ∙ get-empty text_cmp i))
+              ∙ get-put nothing (id v) (tt {0}) i ∙ ap (λ b. cond b (Some (tt {0})) (get nothing i)) r
+                  ∙ get-empty text_cmp i))
         ] refl
       ] refl
 
   used_v : IsUsed first (id v)
-  used_v none = elim (same (id v) (id w)) as (λ b. cond b (Some (tt {0})) (get (put nothing (id v) (tt {0})) (id v)) ≡ None → ⊥) [
+  used_v none =
+      elim (same (id v) (id w)) as (λ b. cond b (Some (tt {0})) (get (put nothing (id v) (tt {0})) (id v)) ≡ None → ⊥) [
     | true ↦ λ e. absurd (none-some _ (sym e))
     | false ↦ λ e. absurd (none-some _ (sym e ∙ there (id v) nothing (tt {0})))
   ] (sym (get-put _ (id w) (tt {0}) (id v)) ∙ none)
@@ -153,31 +161,39 @@ module _ (forms : Forms) (moment v w : ℕ) (now : moment ≤ greatest_moment) (
   no_lease : (t lease_id : Text) → lease_of first t lease_id ≡ None
   no_lease t lease_id = by (get first.tokens t) (λ x e. e)
     where
-      by : (o : Option Token) → ((x : Token) → o ≡ Some x → get first.tokens t ≡ Some x) → option_and_then (λ (x : Token). get x.leases lease_id) o ≡ None
+      by : (o : Option Token) → ((x : Token) → o ≡ Some x → get first.tokens t ≡ Some x)
+          → option_and_then (λ (x : Token). get x.leases lease_id) o ≡ None
       by None h = refl
-      by (Some x) h = ap (λ (y : Token). get y.leases lease_id) (token_is t x (h x refl)).1 ∙ get-empty text_cmp lease_id
+      by (Some x) h =
+          ap (λ (y : Token). get y.leases lease_id) (token_is t x (h x refl)).1 ∙ get-empty text_cmp lease_id
 
   at_token : (t i : Text) → identifier_at first (token t) ≡ Some i → IsFilled (token t) i
   at_token t i e = by (get first.tokens t) (λ x e. e) e
     where
-      by : (o : Option Token) → ((x : Token) → o ≡ Some x → get first.tokens t ≡ Some x) → option_map (λ _. drop 4 t) o ≡ Some i → IsFilled (token t) i
+      by : (o : Option Token) → ((x : Token) → o ≡ Some x → get first.tokens t ≡ Some x)
+          → option_map (λ _. drop 4 t) o ≡ Some i → IsFilled (token t) i
       by None h f = absurd (none-some _ f)
       by (Some x) h f = let r = token_is t x (h x refl) in inl (ap token r.0, sym (same_Some _ _ f) ∙ ap (drop 4) r.0)
 
   at_accessor : (t i : Text) → identifier_at first (accessor t) ≡ Some i → IsFilled (accessor t) i
   at_accessor t i e = by (get first.tokens t) (λ x e. e) e
     where
-      by : (o : Option Token) → ((x : Token) → o ≡ Some x → get first.tokens t ≡ Some x) → option_map (λ (x : Token). x.accessor) o ≡ Some i → IsFilled (accessor t) i
+      by : (o : Option Token) → ((x : Token) → o ≡ Some x → get first.tokens t ≡ Some x)
+          → option_map (λ (x : Token). x.accessor) o ≡ Some i → IsFilled (accessor t) i
       by None h f = absurd (none-some _ f)
-      by (Some x) h f = let r = token_is t x (h x refl) in inr (ap accessor r.0, sym (same_Some _ _ f) ∙ ap (λ (y : Token). y.accessor) r.1)
+      by (Some x) h f = let r = token_is t x (h x refl) in
+          inr (ap accessor r.0, sym (same_Some _ _ f) ∙ ap (λ (y : Token). y.accessor) r.1)
 
   filled : (p : Place) (i : Text) → identifier_at first p ≡ Some i → IsFilled p i
   filled (token t) i e = at_token t i e
   filled (accessor t) i e = at_accessor t i e
   filled (lease t lease_id) i e = absurd (none-some _ (sym (ap (option_map (λ _. _)) (no_lease t lease_id)) ∙ e))
-  filled (credential t lease_id) i e = absurd (none-some _ (sym (ap (option_map (λ (l : Lease). l.credential)) (no_lease t lease_id)) ∙ e))
-  filled (wrapping_token t) i e = absurd (none-some _ (sym (ap (option_map (λ _. drop 4 t)) (get-empty text_cmp t)) ∙ e))
-  filled (wrapping_accessor t) i e = absurd (none-some _ (sym (ap (option_map (λ (x : Waiting). x.accessor)) (get-empty text_cmp t)) ∙ e))
+  filled (credential t lease_id) i e =
+      absurd (none-some _ (sym (ap (option_map (λ (l : Lease). l.credential)) (no_lease t lease_id)) ∙ e))
+  filled (wrapping_token t) i e =
+      absurd (none-some _ (sym (ap (option_map (λ _. drop 4 t)) (get-empty text_cmp t)) ∙ e))
+  filled (wrapping_accessor t) i e =
+      absurd (none-some _ (sym (ap (option_map (λ (x : Waiting). x.accessor)) (get-empty text_cmp t)) ∙ e))
 
   one_place : v ≢ w → (p q : Place) (i : Text) → identifier_at first p ≡ Some i → identifier_at first q ≡ Some i → p ≡ q
   one_place ne p q i e f = elim (filled p i e) [
@@ -197,10 +213,11 @@ module _ (forms : Forms) (moment v w : ℕ) (now : moment ≤ greatest_moment) (
     | inr a ↦ subst (λ z. IsUsed first z) (sym a.1) used_w
   ]
 
+  -- the first broker is sound
   pub first_sound : v ≢ w → forms.is_policy default_policy ≡ true → Sound forms None first
   first_sound ne accepted = record {
     clock = now;
-    tokens = record { each = token_sound; parents_stand = λ t p x e f none. no_parent t p x e f; chains_end = chain_ends };
+    tokens = record { each = token_sound; parents_exist = λ t p x e f none. no_parent t p x e f; chains_end = chain_ends };
     secrets = λ q k e. absurd (no_entry q k e);
     waiting = record { each = λ t x e. absurd (no_entry t x e); one_origin = λ t u x y e f g. absurd (no_entry t x e) };
     mounts = λ name m e.
@@ -209,13 +226,16 @@ module _ (forms : Forms) (moment v w : ℕ) (now : moment ≤ greatest_moment) (
     roles = λ q r e. absurd (no_entry q r e);
     policies = λ name text e.
         let r = one_entry (codes "default") name default_policy text e in
-        let kept : IsSoundPolicy forms (codes "default") default_policy = record { policy_name = refl; not_root = not_root; policy = accepted; short = default_short } in
-        subst (λ z. IsSoundPolicy forms z text) (sym r.0) (subst (λ y. IsSoundPolicy forms (codes "default") y) (sym r.1) kept);
+        let kept : IsSoundPolicy forms (codes "default") default_policy =
+            record { policy_name = refl; not_root = not_root; policy = accepted; short = default_short } in
+        subst (λ z. IsSoundPolicy forms z text) (sym r.0)
+            (subst (λ y. IsSoundPolicy forms (codes "default") y) (sym r.1) kept);
     identifiers = record {
       used = λ i u. elim (used_is i u) [ inl e ↦ (v, fits_v, e) | inr e ↦ (w, fits_w, e) ];
       one_place = one_place ne;
       all_used = all_used;
       origins_used = λ t x e. absurd (no_entry t x e);
     };
-    unspent = λ t x e zero. let r = one_entry root t (root_token moment (id w)) x e in absurd (none-some _ (ap (λ (z : Token). z.uses_left) (sym r.1) ∙ zero));
+    unspent = λ t x e zero. let r = one_entry root t (root_token moment (id w)) x e in
+        absurd (none-some _ (ap (λ (z : Token). z.uses_left) (sym r.1) ∙ zero));
   }

@@ -1,5 +1,6 @@
 -- Identifiers are as many as words.
-use Rattle.std.proofs.Common.{◌≡◌, ℕ, zero, suc, ◌<◌, ◌^◌, List, [], length, get_or, Option, Some, unwrap_or, refl, sym, ap, ◌∙◌, inl}
+use Rattle.std.proofs.Common.{◌≡◌, ℕ, zero, suc, ◌<◌, ◌^◌, List, [], length, get_or, Option, Some, unwrap_or, refl, sym}
+use Rattle.std.proofs.Common.{ap, ◌∙◌, inl}
 use Rattle.std.proofs.lemmas.List.Elements.{All-from_get_or}
 use Rattle.std.specs.Int.{byte_at, bytes_high_first, to_be_bytes, from_be_bytes, w128}
 use Rattle.uuid.specs.Text.{lower, parsed}
@@ -34,8 +35,10 @@ same_bytes xs ys o e f = ap (λ (r : Option (List ℕ)). unwrap_or r []) (e ∙ 
 -- a text is the identifier of one word
 pub id-same : (v w : ℕ) → v < 2 ^ 128 → w < 2 ^ 128 → id v ≡ id w → v ≡ w
 id-same v w fits_v fits_w e =
-    let bytes = same_bytes (to_be_bytes w128 v) (to_be_bytes w128 w) (parsed (id w)) (reads_back v ∙ ap parsed e) (reads_back w) in
+    let bytes = same_bytes (to_be_bytes w128 v) (to_be_bytes w128 w) (parsed (id w)) (reads_back v ∙ ap parsed e)
+        (reads_back w) in
     sym (from_be_bytes-to_be_bytes_16 v fits_v) ∙ ap (from_be_bytes w128) bytes ∙ from_be_bytes-to_be_bytes_16 w fits_w
 
+-- an identifier has 36 bytes
 pub id-length : (w : ℕ) → length (id w) ≡ 36
 id-length w = by_index_length 36 _

@@ -1,13 +1,15 @@
--- Laws of the tree of tokens, of the first broker and of runs, as statements.
+-- Laws of the tree of tokens, of the first broker and of how a broker evolves, as statements (this project's; the
+-- files of laws beside this one prove them).
 use Rattle.std.specs.Prelude.{◌≡◌, ◌≢◌, ◌<◌, ◌≤◌, ◌^◌, ℕ, [], ◌∷◌, true, false, Option, Some, None}
 use Rattle.broker_types.specs.Text.{Text}
 use Rattle.broker_types.specs.Map.{get}
 use Rattle.broker_types.specs.Moment.{greatest_moment}
 use Rattle.broker_types.specs.Token.{Token, Tokens}
-use Rattle.broker_types.specs.Lineage.{lineage, is_under, ParentsStand, ChainsEnd, alive_at, with_live_leases, revoke, revoke_orphan}
+use Rattle.broker_types.specs.Lineage.{lineage, is_under, ParentsExist, ChainsEnd, alive_at, with_live_leases}
+use Rattle.broker_types.specs.Lineage.{revoke, revoke_orphan}
 use Rattle.broker_types.specs.Broker as broker
 use Rattle.broker_types.specs.Broker.{Broker}
-use Rattle.broker_types.specs.Evolves.{Evolves, IsSpent, HasEnded, IsTakenOut}
+use Rattle.broker_types.specs.Evolves.{Evolves, IsHandedOut, HasEnded, IsTakenOut}
 use Rattle.broker_types.specs.Sound.{Forms, SoundIdentifiers, Sound}
 use Rattle.broker_types.specs.Spending.{end_spent}
 use Rattle.broker_types.specs.First.{default_policy, first_broker}
@@ -28,24 +30,24 @@ LineageOfChild =
     (ts : Tokens) (t p : Text) (x : Token) → ChainsEnd ts → get ts t ≡ Some x → x.parent ≡ Some p
     → lineage ts t ≡ t ∷ lineage ts p
 
-abbrev pub StandsUnderItself : Type 0
-StandsUnderItself = (ts : Tokens) (t : Text) → get ts t ≢ None → is_under ts t t ≡ true
+abbrev pub IsUnderItself : Type 0
+IsUnderItself = (ts : Tokens) (t : Text) → get ts t ≢ None → is_under ts t t ≡ true
 
 abbrev pub UnderIsTransitive : Type 0
 UnderIsTransitive =
     (ts : Tokens) (t a b : Text) → ChainsEnd ts → is_under ts t a ≡ true → is_under ts a b ≡ true
     → is_under ts t b ≡ true
 
--- what is under another stands, and so does the other
-abbrev pub UnderOfStanding : Type 0
-UnderOfStanding = (ts : Tokens) (t a : Text) → is_under ts t a ≡ true → (get ts t ≢ None) × (get ts a ≢ None)
+-- what is under another is a token, and so is the other
+abbrev pub UnderOfTokens : Type 0
+UnderOfTokens = (ts : Tokens) (t a : Text) → is_under ts t a ≡ true → (get ts t ≢ None) × (get ts a ≢ None)
 
 -- ---- revocation
 
 abbrev pub RevokedUnknown : Type 0
 RevokedUnknown = (ts : Tokens) (t : Text) → get ts t ≡ None → revoke ts t ≡ ts
 
--- nothing under the revoked token stands
+-- nothing under the revoked token is left
 abbrev pub RevokedIsGone : Type 0
 RevokedIsGone = (ts : Tokens) (t q : Text) → is_under ts q t ≡ true → get (revoke ts t) q ≡ None
 
@@ -56,7 +58,7 @@ OthersAreAsBefore = (ts : Tokens) (t q : Text) → is_under ts q t ≡ false →
 -- ---- revocation of one token
 
 abbrev pub OrphanedByUnknown : Type 0
-OrphanedByUnknown = (ts : Tokens) (t : Text) → ParentsStand ts → get ts t ≡ None → revoke_orphan ts t ≡ ts
+OrphanedByUnknown = (ts : Tokens) (t : Text) → ParentsExist ts → get ts t ≡ None → revoke_orphan ts t ≡ ts
 
 abbrev pub OrphanedIsGone : Type 0
 OrphanedIsGone = (ts : Tokens) (t : Text) → get (revoke_orphan ts t) t ≡ None
@@ -68,8 +70,8 @@ ChildrenAreOrphans =
     → get (revoke_orphan ts t) q ≡ Some (record x { parent = None })
 
 -- a token of another parent, or of none, is as it was
-abbrev pub StrangersAreAsBefore : Type 0
-StrangersAreAsBefore =
+abbrev pub UnrelatedAreAsBefore : Type 0
+UnrelatedAreAsBefore =
     (ts : Tokens) (t q : Text) (x : Token) → q ≢ t → get ts q ≡ Some x → x.parent ≢ Some t
     → get (revoke_orphan ts t) q ≡ Some x
 
@@ -84,22 +86,22 @@ abbrev pub OutlastsAbove : ℕ → Tokens → Text → Type 0
 OutlastsAbove now ts t =
     (a : Text) (y : Token) (m : ℕ) → is_under ts t a ≡ true → get ts a ≡ Some y → y.ends ≡ Some m → now < m
 
--- what stands outlasts now, as does all above it
-abbrev pub StandingOutlasts : Type 0
-StandingOutlasts =
+-- what is left outlasts now, as does all above it
+abbrev pub LeftOutlasts : Type 0
+LeftOutlasts =
     (now : ℕ) (ts : Tokens) (t : Text) → get (alive_at now ts) t ≢ None → OutlastsAbove now ts t
 
 -- a token that outlasts now, as does all above it, stays, with its leases that do
-abbrev pub OutlastingStands : Type 0
-OutlastingStands =
+abbrev pub OutlastingIsLeft : Type 0
+OutlastingIsLeft =
     (now : ℕ) (ts : Tokens) (t : Text) (x : Token) → get ts t ≡ Some x → OutlastsAbove now ts t
     → get (alive_at now ts) t ≡ Some (with_live_leases now x)
 
 -- ---- trees stay trees
 
--- parents stand, and chains end
+-- parents are tokens, and chains end
 pub record IsTree (ts : Tokens) : Type 0 where
-  pub parents_stand : ParentsStand ts
+  pub parents_exist : ParentsExist ts
   pub chains_end : ChainsEnd ts
 
 abbrev pub RevokeKeepsTrees : Type 0
@@ -122,7 +124,8 @@ FirstBrokerIsSound =
 
 abbrev pub RevokeKeepsSoundness : Type 0
 RevokeKeepsSoundness =
-    (forms : Forms) (who : Option Text) (b : Broker) (t : Text) → Sound forms who b → Sound forms who (broker.revoke b t)
+    (forms : Forms) (who : Option Text) (b : Broker) (t : Text)
+    → Sound forms who b → Sound forms who (broker.revoke b t)
 
 abbrev pub RevokeOrphanKeepsSoundness : Type 0
 RevokeOrphanKeepsSoundness =
@@ -134,7 +137,7 @@ ExpiryKeepsSoundness =
     (forms : Forms) (who : Option Text) (b : Broker) (moment : ℕ) → moment ≤ greatest_moment
     → Sound forms who b → Sound forms who (broker.at_moment b moment)
 
--- where a caller that has spent its last use ends, nobody is left that has
+-- once a caller that has spent its last use is ended, no token has
 abbrev pub EndingTheSpentKeepsSoundness : Type 0
 EndingTheSpentKeepsSoundness =
     (forms : Forms) (who : Option Text) (b : Broker) → Sound forms who b → Sound forms None (end_spent b who)
@@ -148,10 +151,10 @@ abbrev pub EvolvesFromItself : Type 0
 EvolvesFromItself = (b : Broker) → Evolves b b
 
 -- an origin whose response was handed out stays so
-abbrev pub SpentStaysSpent : Type 0
-SpentStaysSpent = (b c : Broker) (origin : Text) → Evolves b c → IsSpent b origin → IsSpent c origin
+abbrev pub HandedOutStaysSo : Type 0
+HandedOutStaysSo = (b c : Broker) (origin : Text) → Evolves b c → IsHandedOut b origin → IsHandedOut c origin
 
--- a token that ended never stands again
+-- a token that ended is never a token again
 abbrev pub EndedStaysEnded : Type 0
 EndedStaysEnded = (b c : Broker) (t : Text) → Evolves b c → HasEnded b t → HasEnded c t
 
@@ -170,7 +173,7 @@ RevokeOrphanEvolves = (b : Broker) (t : Text) → Evolves b (broker.revoke_orpha
 abbrev pub ExpiryEvolves : Type 0
 ExpiryEvolves = (b : Broker) (moment : ℕ) → Evolves b (broker.at_moment b moment)
 
--- what stood and was taken out has ended, where each identifier has one place and was given out
+-- each token that is gone has ended
 abbrev pub EndTokens : Broker → Broker → Type 0
 EndTokens b c = (q : Text) → get b.tokens q ≢ None → get c.tokens q ≡ None → HasEnded c q
 

@@ -1,14 +1,15 @@
 -- The limits of this broker's numbers.
 use Rattle.std.specs.Prelude.{ℕ}
 
--- the furthest that an end is set ahead, of a token, a lease or a waiting response, in seconds: 32 days (Vault's longest lease at its start)
+-- the furthest that the end of a token, a lease or a waiting response is set ahead, in seconds: 32 days (Vault's
+-- documentation, "Lease, renew, and revoke", default maximum TTL)
 abbrev pub longest_ttl : ℕ
 longest_ttl = 2764800
 
--- the greatest version of a secret: every version can be asked for in 18 digits
+-- the greatest version of a secret: each can be asked for in 18 digits (this project's limit)
 abbrev pub greatest_version : ℕ
 greatest_version = 999999999999999999
 
--- the longest body of a request, in bytes
+-- the longest body of a request, in bytes (this project's limit)
 abbrev pub longest_body : ℕ
 longest_body = 1048576

@@ -1,5 +1,6 @@
 -- What finite maps from texts have at each key.
-use Rattle.std.specs.Prelude.{◌≡◌, ◌&&◌, T, List, [], ◌∷◌, Bool, true, false, cond, if◌then◌else◌, Some, None, option_map}
+use Rattle.std.specs.Prelude.{◌≡◌, ◌&&◌, T, List, [], ◌∷◌, Bool, true, false, cond, if◌then◌else◌, Some, None}
+use Rattle.std.specs.Prelude.{option_map}
 use Rattle.std.specs.Cmp.Lexicographic.{nat_list_cmp_total}
 use Rattle.std.specs.FinMap as fin
 use Rattle.std.specs.FinMap.{find, is_sorted, slice_cmp-IsAntisymmetric, nat_cmp-IsAntisymmetric}
@@ -13,14 +14,20 @@ use Rattle.broker_types.specs.Map.{Map, get, entries, put, without, keep, with_v
 use Rattle.broker_types.specs.TextLaws.{same-text_cmp, same_true}
 
 module _ {X : Type 0} where
+  -- the value at each key of a map with x at k
   pub get-put : (m : Map X) (k : Text) (x : X) (q : Text) → get (put m k x) q ≡ cond (same q k) (Some x) (get m q)
-  get-put m k x q = fin.get-insert nat_list_cmp_total m k x q ∙ ap (λ b. cond b (Some x) (get m q)) (sym (same-text_cmp q k))
+  get-put m k x q =
+      fin.get-insert nat_list_cmp_total m k x q ∙ ap (λ b. cond b (Some x) (get m q)) (sym (same-text_cmp q k))
 
+  -- of a map without k
   pub get-without : (m : Map X) (k q : Text) → get (without m k) q ≡ cond (same q k) None (get m q)
-  get-without m k q = fin.get-remove nat_list_cmp_total m k q ∙ ap (λ b. cond b None (get m q)) (sym (same-text_cmp q k))
+  get-without m k q =
+      fin.get-remove nat_list_cmp_total m k q ∙ ap (λ b. cond b None (get m q)) (sym (same-text_cmp q k))
 
+  -- of the entries that pass
   pub get-keep : (p : Text → Bool) (m : Map X) (q : Text) → get (keep p m) q ≡ cond (p q) (get m q) None
-  get-keep p m q = fin.get-retain_keys m p q (λ x e. ap p (sym (slice_cmp-IsAntisymmetric nat_cmp-IsAntisymmetric q x e)))
+  get-keep p m q =
+      fin.get-retain_keys m p q (λ x e. ap p (sym (slice_cmp-IsAntisymmetric nat_cmp-IsAntisymmetric q x e)))
 
   -- maps that have the same at each key are equal
   pub same_map : (m n : Map X) → ((q : Text) → get m q ≡ get n q) → m ≡ n
@@ -29,56 +36,74 @@ module _ {X : Type 0} where
   find-lookup : (q : Text) (es : List (Text × X)) → find text_cmp q es ≡ lookup (same q) es
   find-lookup q [] = refl
   find-lookup q (e ∷ es) =
-      ap (λ b. cond b (Some e.1) (find text_cmp q es)) (sym (same-text_cmp q e.0)) ∙ ap (cond (same q e.0) (Some e.1)) (find-lookup q es)
+      ap (λ b. cond b (Some e.1) (find text_cmp q es)) (sym (same-text_cmp q e.0))
+          ∙ ap (cond (same q e.0) (Some e.1)) (find-lookup q es)
 
+  -- the value at a key is the first in the list of entries
   pub get-lookup : (m : Map X) (q : Text) → get m q ≡ lookup (same q) (entries m)
   get-lookup m q = fin.get-entries m q ∙ find-lookup q (entries m)
 
 module _ {X Y : Type 0} where
-  below-with_values : (f : Text → X → Y) (k : Text) (es : List (Text × X)) → below_all text_cmp k (with_values f es) ≡ below_all text_cmp k es
+  below-with_values : (f : Text → X → Y) (k : Text) (es : List (Text × X))
+      → below_all text_cmp k (with_values f es) ≡ below_all text_cmp k es
   below-with_values f k [] = refl
   below-with_values f k (e ∷ es) = ap (λ b. is_lt (text_cmp k e.0) && b) (below-with_values f k es)
 
-  sorted-with_values : (f : Text → X → Y) (es : List (Text × X)) → is_sorted text_cmp (with_values f es) ≡ is_sorted text_cmp es
+  sorted-with_values : (f : Text → X → Y) (es : List (Text × X))
+      → is_sorted text_cmp (with_values f es) ≡ is_sorted text_cmp es
   sorted-with_values f [] = refl
   sorted-with_values f (e ∷ es) = λ i. below-with_values f e.0 es i && sorted-with_values f es i
 
   still_sorted : (f : Text → X → Y) (m : Map X) → T (is_sorted text_cmp (with_values f (entries m)))
   still_sorted f m = subst T (sym (sorted-with_values f (entries m))) (fin.entries_sorted m)
 
+  -- the entries of a map of changed values
   pub entries-map_values : (f : Text → X → Y) (m : Map X) → entries (map_values f m) ≡ with_values f (entries m)
   unfolding map_values
   entries-map_values f m = fin.entries-from_sorted text_cmp (with_values f (entries m)) (still_sorted f m)
 
-  lookup-with_values : (f : Text → X → Y) (q : Text) (es : List (Text × X)) → lookup (same q) (with_values f es) ≡ option_map (f q) (lookup (same q) es)
+  lookup-with_values : (f : Text → X → Y) (q : Text) (es : List (Text × X))
+      → lookup (same q) (with_values f es) ≡ option_map (f q) (lookup (same q) es)
   lookup-with_values f q [] = refl
   lookup-with_values f q (e ∷ es) =
-      elim (same q e.0) as (λ b. same q e.0 ≡ b → cond b (Some (f e.0 e.1)) (lookup (same q) (with_values f es)) ≡ option_map (f q) (cond b (Some e.1) (lookup (same q) es))) [
+      elim (same q e.0)
+          as (λ b. same q e.0 ≡ b
+          → cond b (Some (f e.0 e.1)) (lookup (same q) (with_values f es))
+          ≡ option_map (f q) (cond b (Some e.1) (lookup (same q) es))) [
         | true ↦ λ h. ap (λ k. Some (f k e.1)) (sym (same_true q e.0 h))
         | false ↦ λ h. lookup-with_values f q es
       ] refl
 
+  -- the value at each key of a map of changed values
   pub get-map_values : (f : Text → X → Y) (m : Map X) (q : Text) → get (map_values f m) q ≡ option_map (f q) (get m q)
   get-map_values f m q =
-      get-lookup (map_values f m) q ∙ ap (lookup (same q)) (entries-map_values f m) ∙ lookup-with_values f q (entries m) ∙ ap (option_map (f q)) (sym (get-lookup m q))
+      get-lookup (map_values f m) q ∙ ap (lookup (same q)) (entries-map_values f m) ∙ lookup-with_values f q (entries m)
+          ∙ ap (option_map (f q)) (sym (get-lookup m q))
 
-  found-with_values : (f : Text → X → Y) (p : Text → Y → Bool) (p' : Text → X → Bool) → ((q : Text) (x : X) → p q (f q x) ≡ p' q x) → (es : List (Text × X))
+  found-with_values : (f : Text → X → Y) (p : Text → Y → Bool) (p' : Text → X → Bool)
+      → ((q : Text) (x : X) → p q (f q x) ≡ p' q x) → (es : List (Text × X))
       → first (λ e. p e.0 e.1) (with_values f es) ≡ option_map (λ e. (e.0, f e.0 e.1)) (first (λ e. p' e.0 e.1) es)
   found-with_values f p p' h [] = refl
   found-with_values f p p' h (e ∷ es) =
       ap (λ b. cond b (Some (e.0, f e.0 e.1)) (first (λ e. p e.0 e.1) (with_values f es))) (h e.0 e.1)
-      ∙ elim (p' e.0 e.1) as (λ b. cond b (Some (e.0, f e.0 e.1)) (first (λ e. p e.0 e.1) (with_values f es)) ≡ option_map (λ e. (e.0, f e.0 e.1)) (cond b (Some e) (first (λ e. p' e.0 e.1) es))) [
+      ∙ elim (p' e.0 e.1)
+          as (λ b. cond b (Some (e.0, f e.0 e.1)) (first (λ e. p e.0 e.1) (with_values f es))
+          ≡ option_map (λ e. (e.0, f e.0 e.1)) (cond b (Some e) (first (λ e. p' e.0 e.1) es))) [
         | true ↦ refl
         | false ↦ found-with_values f p p' h es
       ]
 
   -- a search among changed values
-  pub first_where-map_values : (f : Text → X → Y) (p : Text → Y → Bool) (p' : Text → X → Bool) (m : Map X) → ((q : Text) (x : X) → p q (f q x) ≡ p' q x)
+  pub first_where-map_values : (f : Text → X → Y) (p : Text → Y → Bool) (p' : Text → X → Bool) (m : Map X)
+      → ((q : Text) (x : X) → p q (f q x) ≡ p' q x)
       → first_where p (map_values f m) ≡ option_map (λ e. (e.0, f e.0 e.1)) (first_where p' m)
-  first_where-map_values f p p' m h = ap (first (λ e. p e.0 e.1)) (entries-map_values f m) ∙ found-with_values f p p' h (entries m)
+  first_where-map_values f p p' m h =
+      ap (first (λ e. p e.0 e.1)) (entries-map_values f m) ∙ found-with_values f p p' h (entries m)
 
 module _ {X : Type 0} where
-  pub get-change : (m : Map X) (k : Text) (f : X → X) (q : Text) → get (change m k f) q ≡ option_map (λ x. if same q k then f x else x) (get m q)
+  -- of a map changed at k
+  pub get-change : (m : Map X) (k : Text) (f : X → X) (q : Text)
+      → get (change m k f) q ≡ option_map (λ x. if same q k then f x else x) (get m q)
   get-change m k f q = get-map_values (λ q x. if same q k then f x else x) m q
 
 module _ {X Y : Type 0} where
@@ -86,5 +111,7 @@ module _ {X Y : Type 0} where
   pub listing_is : (f : Text → X → Y) (m : Map X) (xs : List (Text × Y)) → T (is_sorted text_cmp xs)
       → ((q : Text) → find text_cmp q xs ≡ option_map (f q) (get m q)) → xs ≡ with_values f (entries m)
   listing_is f m xs sorted finds =
-      let same_one = same_map (fin.from_sorted xs) (map_values f m) (λ q. fin.get-from_sorted text_cmp xs q sorted ∙ finds q ∙ sym (get-map_values f m q)) in
+      let same_one =
+          same_map (fin.from_sorted xs) (map_values f m)
+          (λ q. fin.get-from_sorted text_cmp xs q sorted ∙ finds q ∙ sym (get-map_values f m q)) in
       sym (fin.entries-from_sorted text_cmp xs sorted) ∙ ap entries same_one ∙ entries-map_values f m

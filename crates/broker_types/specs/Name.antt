@@ -1,4 +1,4 @@
--- Names of mounts, policies and roles.
+-- Names of mounts, policies and roles (this project's definition).
 use Rattle.std.specs.Prelude.{ℕ, ◌∷◌, [], List, Bool, ◌&&◌, ◌||◌, ◌==◌, nat_lt, nat_le, not, length, codes}
 use Rattle.std.specs.List.{list_all, list_any}
 use Rattle.broker_types.specs.Text.{Text, same}
@@ -6,7 +6,9 @@ use Rattle.broker_types.specs.Text.{Text, same}
 -- an ASCII letter or digit, `-`, `_` or `.`
 abbrev pub is_name_byte : ℕ → Bool
 is_name_byte b =
-    (nat_le 48 b && nat_le b 57) || ((nat_le 65 b && nat_le b 90) || ((nat_le 97 b && nat_le b 122) || ((b == 45) || ((b == 95) || (b == 46)))))
+    (nat_le 48 b && nat_le b 57)
+    || ((nat_le 65 b && nat_le b 90)
+    || ((nat_le 97 b && nat_le b 122) || ((b == 45) || ((b == 95) || (b == 46)))))
 
 -- 1 to 128 such bytes
 abbrev pub is_name : Text → Bool

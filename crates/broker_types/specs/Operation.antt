@@ -4,8 +4,8 @@ use Rattle.broker_types.specs.Text.{Text}
 use Rattle.broker_types.specs.Broker.{Broker}
 use Rattle.broker_types.specs.declared.reply.Reply.{Reply}
 
--- What it answers: 204, a reply with the accessor of the token that it made, the kept text of an unwrapped reply, or
--- a 404 with a reply.
+-- What it answers: 204; 200 with a reply, and the accessor of the token that it made; 200 with the kept text of an
+-- unwrapped reply; or 404 with a reply.
 pub data Answered : Type 0 where
   nothing : Answered
   reply : Reply → Option Text → Answered

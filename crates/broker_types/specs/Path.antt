@@ -1,5 +1,6 @@
--- Paths of requests.
-use Rattle.std.specs.Prelude.{ℕ, ◌-◌, ◌&&◌, ◌==◌, nat_le, nat_lt, List, [], ◌∷◌, ◌++◌, take, length, slice_index, Bool, not, if◌then◌else◌, bytes_eq, codes}
+-- Paths of requests (RFC 3986, section 3.3; the limits are this project's).
+use Rattle.std.specs.Prelude.{ℕ, ◌-◌, ◌&&◌, ◌==◌, nat_le, nat_lt, List, [], ◌∷◌, ◌++◌, take, length, slice_index}
+use Rattle.std.specs.Prelude.{Bool, not, if◌then◌else◌, bytes_eq, codes}
 use Rattle.std.specs.List.{list_all}
 
 -- the parts between slashes, of which the first has begun
@@ -17,7 +18,8 @@ is_path_byte b = nat_le 32 b && not (b == 127)
 
 -- 1 to 512 bytes, none of them below 0x20 or 0x7F, and no segment empty, `.` or `..`
 abbrev pub is_path : List ℕ → Bool
-is_path s = nat_lt 0 (length s) && nat_le (length s) 512 && list_all is_path_byte s && list_all is_segment (segments [] s)
+is_path s =
+    nat_lt 0 (length s) && nat_le (length s) 512 && list_all is_path_byte s && list_all is_segment (segments [] s)
 
 -- the text without one `/` at its end
 abbrev pub without_slash : List ℕ → List ℕ

@@ -1,11 +1,12 @@
--- Where identifiers stand.
+-- Where identifiers are (this project's definition).
 use Rattle.std.specs.Prelude.{◌≡◌, ◌≢◌, ◌-◌, drop, length, Option, Some, None, option_map, option_and_then}
 use Rattle.broker_types.specs.Text.{Text}
 use Rattle.broker_types.specs.Map.{get}
 use Rattle.broker_types.specs.Token.{Token, Lease}
 use Rattle.broker_types.specs.Broker.{Broker, Waiting}
 
--- a place for an identifier: that of a token, its accessor, a lease of a token by its id, the lease's credential, a wrapping token, its accessor
+-- a place for an identifier: that of a token, its accessor, a lease of a token by its id, the lease's credential, a
+-- wrapping token, its accessor
 pub data Place : Type 0 where
   token : Text → Place
   accessor : Text → Place
@@ -14,7 +15,7 @@ pub data Place : Type 0 where
   wrapping_token : Text → Place
   wrapping_accessor : Text → Place
 
--- the identifier of a token: what stands after `hvs.`
+-- the identifier of a token: what follows `hvs.`
 abbrev pub token_identifier : Text → Text
 token_identifier t = drop 4 t
 
@@ -26,7 +27,7 @@ lease_identifier lease_id = drop (length lease_id - 36) lease_id
 abbrev pub lease_of : Broker → Text → Text → Option Lease
 lease_of b t lease_id = option_and_then (λ (x : Token). get x.leases lease_id) (get b.tokens t)
 
--- the identifier that stands in the place
+-- the identifier in the place
 abbrev pub identifier_at : Broker → Place → Option Text
 identifier_at b (token t) = option_map (λ _. token_identifier t) (get b.tokens t)
 identifier_at b (accessor t) = option_map (λ (x : Token). x.accessor) (get b.tokens t)
@@ -39,10 +40,10 @@ identifier_at b (wrapping_accessor t) = option_map (λ (w : Waiting). w.accessor
 abbrev pub IsUsed : Broker → Text → Type 0
 IsUsed b i = get b.used i ≢ None
 
--- each identifier stands in one place
+-- each identifier is in one place
 abbrev pub OnePlaceEach : Broker → Type 0
 OnePlaceEach b = (p q : Place) (i : Text) → identifier_at b p ≡ Some i → identifier_at b q ≡ Some i → p ≡ q
 
--- each identifier that stands was given out
+-- each identifier in a place was given out
 abbrev pub AllUsed : Broker → Type 0
 AllUsed b = (p : Place) (i : Text) → identifier_at b p ≡ Some i → IsUsed b i

@@ -1,4 +1,4 @@
--- Refusals: their statuses, and their texts word for word.
+-- Refusals: their statuses, and their texts word for word (Vault's, where Vault has such a text; else this project's).
 use Rattle.std.specs.Prelude.{[], ◌++◌, codes, Option, Some, None}
 use Rattle.std.specs.Option.{option_map_or}
 use Rattle.broker_types.specs.Text.{Text}
@@ -89,6 +89,7 @@ abbrev pub denial_text : Denial → Text
 denial_text denial.PermissionDenied = codes "permission denied"
 denial_text denial.BadToken = codes "bad token"
 
+-- the status of a refusal
 abbrev pub refusal_status : Refusal → Status
 refusal_status (refusal.BadRequest r) = status.BadRequest
 refusal_status (refusal.Forbidden d) = status.Forbidden
@@ -109,14 +110,15 @@ refusal_text refusal.NotFound = None
 refusal_text (refusal.MethodNotAllowed ms) = Some (codes "unsupported operation")
 refusal_text refusal.IdentifierUsed = Some (codes "identifier already used")
 
--- the text of a refusal of bytes that are no request, by its status
+-- the text with which bytes that are not a request are refused, by the status
 abbrev pub cutting_text : Status → Option Text
 cutting_text status.BadRequest = Some (codes "malformed request")
 cutting_text status.PayloadTooLarge = Some (codes "request body too large")
 cutting_text status.HeaderFieldsTooLarge = Some (codes "request head too large")
 cutting_text _ = None
 
--- the body of a refusal: `{"errors":["text"]}` or `{"errors":[]}`, and a line feed (Vault's documentation, "HTTP API", error response)
+-- the body of a refusal: `{"errors":["text"]}` or `{"errors":[]}`, and a line feed (Vault's documentation, "HTTP API",
+-- error response)
 unfoldable pub errors_body : Option Text → Text
 errors_body None = codes "{\"errors\":[]}\n"
 errors_body (Some text) = codes "{\"errors\":[\"" ++ text ++ codes "\"]}\n"

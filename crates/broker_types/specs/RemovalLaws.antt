@@ -1,5 +1,6 @@
 -- What goes leaves a sound broker sound.
-use Rattle.std.specs.Prelude.{◌≡◌, ◌≢◌, ◌≤◌, ◌==◌, ℕ, if◌then◌else◌, max, Bool, nat_lt, true, false, not, Option, Some, None, option_map, option_and_then}
+use Rattle.std.specs.Prelude.{◌≡◌, ◌≢◌, ◌≤◌, ◌==◌, ℕ, if◌then◌else◌, max, Bool, nat_lt, true, false, not, Option, Some}
+use Rattle.std.specs.Prelude.{None, option_map, option_and_then}
 use Rattle.std.specs.Option.{option_map_or}
 use Rattle.std.proofs.Common.{refl, sym, ◌∙◌, ap, subst, inl, inr}
 use Rattle.std.proofs.lemmas.Option.{same_Some}
@@ -11,7 +12,8 @@ use Rattle.broker_types.specs.Token.{Token, Tokens, Lease}
 use Rattle.broker_types.specs.Lineage as lineage
 use Rattle.broker_types.specs.Lineage.{is_under, orphaned_by, with_live_leases}
 use Rattle.broker_types.specs.Broker.{Broker, Waiting, waiting_ends, at_moment, revoke, revoke_orphan}
-use Rattle.broker_types.specs.Places.{Place, token, accessor, lease, credential, wrapping_token, wrapping_accessor, identifier_at, lease_of, token_identifier, lease_identifier}
+use Rattle.broker_types.specs.Places.{Place, token, accessor, lease, credential, wrapping_token, wrapping_accessor}
+use Rattle.broker_types.specs.Places.{identifier_at, lease_of, token_identifier, lease_identifier}
 use Rattle.broker_types.specs.Sound.{Forms, SoundIdentifiers, Sound, Unspent, IsSoundToken}
 use Rattle.broker_types.specs.Spending.{is_spent, end_spent}
 use Rattle.broker_types.specs.Laws.{IsTree}
@@ -44,19 +46,22 @@ module _ (b c : Broker) (fewer : AreFewer b.tokens c.tokens) (wait : WaitFewer b
         ∙ x.2.fewer_leases lease_id l (sym (ap (option_and_then (λ (x : Token). get x.leases lease_id)) y.1) ∙ e)
   ]
 
-  at_lease : {Y : Type 0} (f : Lease → Y) (t lease_id : Text) (i : Y) → option_map f (lease_of c t lease_id) ≡ Some i → option_map f (lease_of b t lease_id) ≡ Some i
+  at_lease : {Y : Type 0} (f : Lease → Y) (t lease_id : Text) (i : Y) → option_map f (lease_of c t lease_id) ≡ Some i
+      → option_map f (lease_of b t lease_id) ≡ Some i
   at_lease f t lease_id i e = elim (found_or_not (lease_of c t lease_id)) [
     | inl none ↦ absurd (none-some _ (sym (ap (option_map f) none) ∙ e))
     | inr l ↦ ap (option_map f) (lease_before t lease_id l.0 l.1) ∙ sym (ap (option_map f) l.1) ∙ e
   ]
 
-  at_waiting : {Y : Type 0} (f : Waiting → Y) (t : Text) (i : Y) → option_map f (get c.waiting t) ≡ Some i → option_map f (get b.waiting t) ≡ Some i
+  at_waiting : {Y : Type 0} (f : Waiting → Y) (t : Text) (i : Y) → option_map f (get c.waiting t) ≡ Some i
+      → option_map f (get b.waiting t) ≡ Some i
   at_waiting f t i e = elim (found_or_not (get c.waiting t)) [
     | inl none ↦ absurd (none-some _ (sym (ap (option_map f) none) ∙ e))
     | inr w ↦ ap (option_map f) (wait t w.0 w.1) ∙ sym (ap (option_map f) w.1) ∙ e
   ]
 
-  at_token : {Y : Type 0} (f : Token → Y) → ((x y : Token) → IsLess x y → f y ≡ f x) → (t : Text) (i : Y) → option_map f (get c.tokens t) ≡ Some i → option_map f (get b.tokens t) ≡ Some i
+  at_token : {Y : Type 0} (f : Token → Y) → ((x y : Token) → IsLess x y → f y ≡ f x) → (t : Text) (i : Y)
+      → option_map f (get c.tokens t) ≡ Some i → option_map f (get b.tokens t) ≡ Some i
   at_token f like t i e = elim (found_or_not (get c.tokens t)) [
     | inl none ↦ absurd (none-some _ (sym (ap (option_map f) none) ∙ e))
     | inr y ↦ let x = fewer t y.0 y.1 in
@@ -74,7 +79,8 @@ module _ (b c : Broker) (fewer : AreFewer b.tokens c.tokens) (wait : WaitFewer b
 -- ---- what each removal leaves
 
 module _ (b : Broker) where
-  fewer_evolves : (now : ℕ) (ts : Tokens) (ws : Map Waiting) → AreFewer b.tokens ts → WaitFewer b.waiting ws → Evolves b (record b { clock = now; tokens = ts; waiting = ws })
+  fewer_evolves : (now : ℕ) (ts : Tokens) (ws : Map Waiting) → AreFewer b.tokens ts → WaitFewer b.waiting ws
+      → Evolves b (record b { clock = now; tokens = ts; waiting = ws })
   fewer_evolves now ts ws fewer wait =
       let c : Broker = record b { clock = now; tokens = ts; waiting = ws } in
       record {
@@ -86,19 +92,24 @@ module _ (b : Broker) where
       }
 
   revoke_fewer : (t : Text) → AreFewer b.tokens (lineage.revoke b.tokens t)
-  revoke_fewer t q y e = (y, (kept_get (λ q. not (is_under b.tokens q t)) b.tokens q y e).0, record { same_accessor = refl; fewer_leases = λ _ _ f. f })
+  revoke_fewer t q y e =
+      (y, (kept_get (λ q. not (is_under b.tokens q t)) b.tokens q y e).0,
+      record { same_accessor = refl; fewer_leases = λ _ _ f. f })
 
   orphan_fewer : (t : Text) → AreFewer b.tokens (lineage.revoke_orphan b.tokens t)
-  orphan_fewer t q y e = let x = orphaned_is b.tokens t q y e in (x.0, x.1, subst (IsLess x.0) (sym x.2) (record { same_accessor = refl; fewer_leases = λ _ _ f. f }))
+  orphan_fewer t q y e = let x = orphaned_is b.tokens t q y e in
+      (x.0, x.1, subst (IsLess x.0) (sym x.2) (record { same_accessor = refl; fewer_leases = λ _ _ f. f }))
 
   abbrev is_live : ℕ → Token → Text → Bool
   is_live now x lease_id = option_map_or (λ (l : Lease). nat_lt now l.ends) (get x.leases lease_id) false
 
-  live_less : (now : ℕ) (x : Token) (lease_id : Text) (l : Lease) → get (with_live_leases now x).leases lease_id ≡ Some l → get x.leases lease_id ≡ Some l
+  live_less : (now : ℕ) (x : Token) (lease_id : Text) (l : Lease)
+      → get (with_live_leases now x).leases lease_id ≡ Some l → get x.leases lease_id ≡ Some l
   live_less now x lease_id l e = (kept_get (is_live now x) x.leases lease_id l e).0
 
   alive_fewer : (now : ℕ) → AreFewer b.tokens (lineage.alive_at now b.tokens)
-  alive_fewer now q y e = let x = alive_is now b.tokens q y e in (x.0, x.1, subst (IsLess x.0) (sym x.3) (record { same_accessor = refl; fewer_leases = live_less now x.0 }))
+  alive_fewer now q y e = let x = alive_is now b.tokens q y e in
+      (x.0, x.1, subst (IsLess x.0) (sym x.3) (record { same_accessor = refl; fewer_leases = live_less now x.0 }))
 
   abbrev still_waits : ℕ → Text → Bool
   still_waits now t = option_map_or (λ w. nat_lt now (waiting_ends w)) (get b.waiting t) false
@@ -106,16 +117,21 @@ module _ (b : Broker) where
   wait_fewer : (now : ℕ) → WaitFewer b.waiting (keep (still_waits now) b.waiting)
   wait_fewer now q w e = (kept_get (still_waits now) b.waiting q w e).0
 
+  -- revocation lets a broker evolve
   pub revoke_evolves : (t : Text) → Evolves b (revoke b t)
   revoke_evolves t = fewer_evolves b.clock (lineage.revoke b.tokens t) b.waiting (revoke_fewer t) (λ q w e. e)
 
+  -- so does revocation of one token
   pub revoke_orphan_evolves : (t : Text) → Evolves b (revoke_orphan b t)
-  revoke_orphan_evolves t = fewer_evolves b.clock (lineage.revoke_orphan b.tokens t) b.waiting (orphan_fewer t) (λ q w e. e)
+  revoke_orphan_evolves t =
+      fewer_evolves b.clock (lineage.revoke_orphan b.tokens t) b.waiting (orphan_fewer t) (λ q w e. e)
 
+  -- and expiry
   pub at_moment_evolves : (moment : ℕ) → Evolves b (at_moment b moment)
   at_moment_evolves moment =
       let now = max b.clock moment in
-      fewer_evolves now (lineage.alive_at now b.tokens) (keep (still_waits now) b.waiting) (alive_fewer now) (wait_fewer now)
+      fewer_evolves now (lineage.alive_at now b.tokens) (keep (still_waits now) b.waiting) (alive_fewer now)
+          (wait_fewer now)
 
 -- ---- what has ended
 
@@ -125,50 +141,62 @@ is_wrapping _ = false
 
 module _ (b : Broker) (sound : SoundIdentifiers b) where
   -- a token that is gone has ended
-  fewer_ended : (now : ℕ) (ts : Tokens) (ws : Map Waiting) (q : Text) → WaitFewer b.waiting ws → get b.tokens q ≢ None → get ts q ≡ None → HasEnded (record b { clock = now; tokens = ts; waiting = ws }) q
+  fewer_ended : (now : ℕ) (ts : Tokens) (ws : Map Waiting) (q : Text) → WaitFewer b.waiting ws → get b.tokens q ≢ None
+      → get ts q ≡ None → HasEnded (record b { clock = now; tokens = ts; waiting = ws }) q
   fewer_ended now ts ws q wait stood gone = elim (found_or_not (get b.tokens q)) [
     | inl none ↦ absurd (stood none)
     | inr x ↦
-        let here : identifier_at b (token q) ≡ Some (token_identifier q) = ap (option_map (λ _. token_identifier q)) x.1 in
+        let here : identifier_at b (token q) ≡ Some (token_identifier q) =
+            ap (option_map (λ _. token_identifier q)) x.1 in
         record {
           used = sound.all_used (token q) (token_identifier q) here;
           gone = gone;
           not_waiting = elim (found_or_not (get ws q)) [
             | inl none ↦ none
             | inr w ↦
-                let there : identifier_at b (wrapping_token q) ≡ Some (token_identifier q) = ap (option_map (λ _. token_identifier q)) (wait q w.0 w.1) in
-                let one : token q ≡ wrapping_token q = sound.one_place (token q) (wrapping_token q) (token_identifier q) here there in
+                let there : identifier_at b (wrapping_token q) ≡ Some (token_identifier q) =
+                    ap (option_map (λ _. token_identifier q)) (wait q w.0 w.1) in
+                let one : token q ≡ wrapping_token q =
+                    sound.one_place (token q) (wrapping_token q) (token_identifier q) here there in
                 absurd (false≢true (ap is_wrapping one))
           ];
         }
   ]
 
+  -- a token that revocation takes out has ended
   pub revoke_ends : (t q : Text) → get b.tokens q ≢ None → get (revoke b t).tokens q ≡ None → HasEnded (revoke b t) q
   revoke_ends t q stood gone = fewer_ended b.clock (lineage.revoke b.tokens t) b.waiting q (λ q w e. e) stood gone
 
-  pub revoke_orphan_ends : (t q : Text) → get b.tokens q ≢ None → get (revoke_orphan b t).tokens q ≡ None → HasEnded (revoke_orphan b t) q
-  revoke_orphan_ends t q stood gone = fewer_ended b.clock (lineage.revoke_orphan b.tokens t) b.waiting q (λ q w e. e) stood gone
+  -- so has one that is revoked alone
+  pub revoke_orphan_ends : (t q : Text) → get b.tokens q ≢ None → get (revoke_orphan b t).tokens q ≡ None
+      → HasEnded (revoke_orphan b t) q
+  revoke_orphan_ends t q stood gone =
+      fewer_ended b.clock (lineage.revoke_orphan b.tokens t) b.waiting q (λ q w e. e) stood gone
 
-  pub at_moment_ends : (moment : ℕ) (q : Text) → get b.tokens q ≢ None → get (at_moment b moment).tokens q ≡ None → HasEnded (at_moment b moment) q
+  -- and one that expired
+  pub at_moment_ends : (moment : ℕ) (q : Text) → get b.tokens q ≢ None → get (at_moment b moment).tokens q ≡ None
+      → HasEnded (at_moment b moment) q
   at_moment_ends moment q stood gone =
       let now = max b.clock moment in
-      fewer_ended now (lineage.alive_at now b.tokens) (keep (still_waits b now) b.waiting) q (wait_fewer b now) stood gone
+      fewer_ended now (lineage.alive_at now b.tokens) (keep (still_waits b now) b.waiting) q
+          (wait_fewer b now) stood gone
 
 
 -- ---- soundness
 
 module _ (forms : Forms) (who : Option Text) (b : Broker) (sound : Sound forms who b) where
   tree : IsTree b.tokens
-  tree = record { parents_stand = sound.tokens.parents_stand; chains_end = sound.tokens.chains_end }
+  tree = record { parents_exist = sound.tokens.parents_exist; chains_end = sound.tokens.chains_end }
 
-  fewer_sound : (now : ℕ) (ts : Tokens) (ws : Map Waiting) → now ≤ greatest_moment → IsTree ts → AreFewer b.tokens ts → WaitFewer b.waiting ws
+  fewer_sound : (now : ℕ) (ts : Tokens) (ws : Map Waiting) → now ≤ greatest_moment → IsTree ts → AreFewer b.tokens ts
+      → WaitFewer b.waiting ws
       → ((t : Text) (y : Token) → get ts t ≡ Some y → IsSoundToken forms t y) → Unspent who ts
       → Sound forms who (record b { clock = now; tokens = ts; waiting = ws })
   fewer_sound now ts ws moment is_tree fewer wait each unspent =
       let c : Broker = record b { clock = now; tokens = ts; waiting = ws } in
       record {
         clock = moment;
-        tokens = record { each = each; parents_stand = is_tree.parents_stand; chains_end = is_tree.chains_end };
+        tokens = record { each = each; parents_exist = is_tree.parents_exist; chains_end = is_tree.chains_end };
         secrets = sound.secrets;
         waiting = record {
           each = λ t w e. sound.waiting.each t w (wait t w e);
@@ -179,16 +207,19 @@ module _ (forms : Forms) (who : Option Text) (b : Broker) (sound : Sound forms w
         policies = sound.policies;
         identifiers = record {
           used = sound.identifiers.used;
-          one_place = λ p q i e f. sound.identifiers.one_place p q i (fewer_places b c fewer wait p i e) (fewer_places b c fewer wait q i f);
+          one_place = λ p q i e f. sound.identifiers.one_place p q i (fewer_places b c fewer wait p i e)
+              (fewer_places b c fewer wait q i f);
           all_used = λ p i e. sound.identifiers.all_used p i (fewer_places b c fewer wait p i e);
           origins_used = λ t w e. sound.identifiers.origins_used t w (wait t w e);
         };
         unspent = unspent;
       }
 
+  -- revocation leaves a sound broker sound
   pub revoke_sound : (t : Text) → Sound forms who (revoke b t)
   revoke_sound t =
-      fewer_sound b.clock (lineage.revoke b.tokens t) b.waiting sound.clock (revoke_tree b.tokens t tree) (revoke_fewer b t) (λ q w e. e)
+      fewer_sound b.clock (lineage.revoke b.tokens t) b.waiting sound.clock (revoke_tree b.tokens t tree)
+          (revoke_fewer b t) (λ q w e. e)
       (λ q y e. sound.tokens.each q y (kept_get (λ q. not (is_under b.tokens q t)) b.tokens q y e).0)
       (λ q y e. sound.unspent q y (kept_get (λ q. not (is_under b.tokens q t)) b.tokens q y e).0)
 
@@ -211,11 +242,15 @@ module _ (forms : Forms) (who : Option Text) (b : Broker) (sound : Sound forms w
     leases = s.leases;
   }
 
+  -- so does revocation of one token
   pub revoke_orphan_sound : (t : Text) → Sound forms who (revoke_orphan b t)
   revoke_orphan_sound t =
-      fewer_sound b.clock (lineage.revoke_orphan b.tokens t) b.waiting sound.clock (orphan_tree b.tokens t tree) (orphan_fewer b t) (λ q w e. e)
-      (λ q y e. let x = orphaned_is b.tokens t q y e in subst (IsSoundToken forms q) (sym x.2) (orphaned_sound t q x.0 (sound.tokens.each q x.0 x.1)))
-      (λ q y e zero. let x = orphaned_is b.tokens t q y e in sound.unspent q x.0 x.1 (ap (λ (z : Token). z.uses_left) (sym x.2) ∙ zero))
+      fewer_sound b.clock (lineage.revoke_orphan b.tokens t) b.waiting sound.clock (orphan_tree b.tokens t tree)
+          (orphan_fewer b t) (λ q w e. e)
+      (λ q y e. let x = orphaned_is b.tokens t q y e in
+          subst (IsSoundToken forms q) (sym x.2) (orphaned_sound t q x.0 (sound.tokens.each q x.0 x.1)))
+      (λ q y e zero. let x = orphaned_is b.tokens t q y e in
+          sound.unspent q x.0 x.1 (ap (λ (z : Token). z.uses_left) (sym x.2) ∙ zero))
 
   live_sound : (now : ℕ) (q : Text) (x : Token) → IsSoundToken forms q x → IsSoundToken forms q (with_live_leases now x)
   live_sound now q x s = record {
@@ -236,13 +271,17 @@ module _ (forms : Forms) (who : Option Text) (b : Broker) (sound : Sound forms w
     leases = λ lease_id l e. s.leases lease_id l (live_less b now x lease_id l e);
   }
 
+  -- and expiry
   pub at_moment_sound : (moment : ℕ) → moment ≤ greatest_moment → Sound forms who (at_moment b moment)
   at_moment_sound moment within =
       let now = max b.clock moment in
       let in_time : max b.clock moment ≤ greatest_moment = max-le sound.clock within in
-      fewer_sound now (lineage.alive_at now b.tokens) (keep (still_waits b now) b.waiting) in_time (alive_tree now b.tokens tree) (alive_fewer b now) (wait_fewer b now)
-      (λ q y e. let x = alive_is now b.tokens q y e in subst (IsSoundToken forms q) (sym x.3) (live_sound now q x.0 (sound.tokens.each q x.0 x.1)))
-      (λ q y e zero. let x = alive_is now b.tokens q y e in sound.unspent q x.0 x.1 (ap (λ (z : Token). z.uses_left) (sym x.3) ∙ zero))
+      fewer_sound now (lineage.alive_at now b.tokens) (keep (still_waits b now) b.waiting) in_time
+          (alive_tree now b.tokens tree) (alive_fewer b now) (wait_fewer b now)
+      (λ q y e. let x = alive_is now b.tokens q y e in
+          subst (IsSoundToken forms q) (sym x.3) (live_sound now q x.0 (sound.tokens.each q x.0 x.1)))
+      (λ q y e zero. let x = alive_is now b.tokens q y e in
+          sound.unspent q x.0 x.1 (ap (λ (z : Token). z.uses_left) (sym x.3) ∙ zero))
 
 -- ---- a caller that has spent its last use ends
 
@@ -260,17 +299,19 @@ module _ (forms : Forms) where
     unspent = unspent;
   }
 
-  -- the revoked token does not stand
+  -- the revoked token is gone
   revoked_self : (ts : Tokens) (t : Text) (x : Token) → get (lineage.revoke ts t) t ≡ Some x → ⊥
   revoked_self ts t x is =
       let k = kept_get (λ q. not (is_under ts q t)) ts t x is in
       let under : is_under ts t t ≡ true = under_self ts t (λ none. absurd (none-some _ (sym none ∙ k.0))) in
       absurd (false≢true (sym (ap not under) ∙ k.1))
 
+  -- once a caller that has spent its last use is ended, no token has
   pub end_spent_sound : (who : Option Text) (b : Broker) → Sound forms who b → Sound forms None (end_spent b who)
   end_spent_sound None b sound = sound
   end_spent_sound (Some c) b sound =
-      elim (option_map_or is_spent (get b.tokens c) false) as (λ v. option_map_or is_spent (get b.tokens c) false ≡ v → Sound forms None (if v then revoke b c else b)) [
+      elim (option_map_or is_spent (get b.tokens c) false)
+          as (λ v. option_map_or is_spent (get b.tokens c) false ≡ v → Sound forms None (if v then revoke b c else b)) [
         | true ↦ λ _.
             let left = revoke_sound forms (Some c) b sound c in
             nobody_spent (Some c) (revoke b c) left (λ t x is zero.
@@ -280,5 +321,7 @@ module _ (forms : Forms) where
             nobody_spent (Some c) b sound (λ t x is zero.
                 let one : t ≡ c = sym (same_Some c t (sound.unspent t x is zero)) in
                 let here : get b.tokens c ≡ Some x = subst (λ q. get b.tokens q ≡ Some x) one is in
-                absurd (false≢true (sym unspent ∙ ap (λ o. option_map_or is_spent o false) here ∙ ap (λ o. option_map_or (λ n. n == 0) o false) zero)))
+                absurd (false≢true
+                    (sym unspent ∙ ap (λ o. option_map_or is_spent o false) here
+                    ∙ ap (λ o. option_map_or (λ n. n == 0) o false) zero)))
       ] refl

@@ -1,6 +1,6 @@
--- Steps of a request that may be refused, and how they end beside their definition.
+-- Steps of a request that may be refused: how the code ends beside its definition (this project's definition).
 use Rattle.std.specs.Prelude.{◌≡◌, Bool, true, false, Result, Ok, Err}
-use Rattle.broker_types.specs.Fault.{IsWant}
+use Rattle.broker_types.specs.Fault.{IsMemoryOrStorage}
 use Rattle.broker_types.specs.declared.fault.Fault.{Fault}
 use Rattle.broker_types.specs.declared.fault.Fault.TheVariants.{Memory, Storage, Damaged, BadStart}
 use Rattle.broker_types.specs.declared.refusal.Refusal.{Refusal}
@@ -17,24 +17,25 @@ abbrev pub EndsRefused : {Y : Type 0} → Type 0 → Refusal → Result Y Refusa
 EndsRefused Q r (Ok y) = ⊥
 EndsRefused Q r (Err e) = (r ≡ e) × Q
 
+-- the code gives an error: a refusal as above, or memory ran out, or the storage failed
 abbrev pub EndsErr : {Y : Type 0} → Type 0 → RequestError → Result Y Refusal → Type 0
 EndsErr Q (Refused r) m = EndsRefused Q r m
-EndsErr Q (Given f) m = IsWant f
+EndsErr Q (Given f) m = IsMemoryOrStorage f
 
--- The step ends as its definition does: with P of both answers, or with the same refusal and Q; or it ran out of
--- memory, or the storage failed.
+-- The code ends as its definition does: with P of both answers, or with the same refusal and Q; or memory ran out, or
+-- the storage failed.
 abbrev pub Ends : {X Y : Type 0} → (X → Y → Type 0) → Type 0 → Result X RequestError → Result Y Refusal → Type 0
 Ends P Q (Ok x) m = EndsOk P x m
 Ends P Q (Err e) m = EndsErr Q e m
 
--- whether the storage failed
+-- whether the fault is that the storage failed
 abbrev pub fault_fails : Fault → Bool
 fault_fails Memory = false
 fault_fails Storage = true
 fault_fails Damaged = false
 fault_fails BadStart = false
 
--- whether the step ended since the storage failed
+-- whether the code ended because the storage failed
 abbrev pub step_fails : {X : Type 0} → Result X RequestError → Bool
 step_fails (Ok x) = false
 step_fails (Err (Refused r)) = false

@@ -8,17 +8,17 @@ use Rattle.broker_types.specs.Map.{Map, get, empty, len}
 use Rattle.broker_types.specs.Identifier.{id}
 use Rattle.broker_types.specs.TokenText.{token_text}
 use Rattle.broker_types.specs.Moment.{greatest_moment}
-use Rattle.broker_types.specs.Duration.{most as longest_duration}
+use Rattle.broker_types.specs.Duration.{longest_duration}
 use Rattle.broker_types.specs.Limits.{longest_ttl, greatest_version}
 use Rattle.broker_types.specs.Name.{is_name, is_mount_name}
 use Rattle.broker_types.specs.Path.{is_path}
 use Rattle.broker_types.specs.Token.{Token, Tokens, Lease}
 use Rattle.broker_types.specs.Secret.{Key, Version}
-use Rattle.broker_types.specs.Lineage.{ParentsStand, ChainsEnd}
+use Rattle.broker_types.specs.Lineage.{ParentsExist, ChainsEnd}
 use Rattle.broker_types.specs.Broker.{Broker, Waiting, Mount, Role}
 use Rattle.broker_types.specs.Places.{IsUsed, OnePlaceEach, AllUsed}
 
--- which texts are compact JSON objects, and which are policies; the crates that read JSON say it
+-- which texts are compact JSON objects, and which are policies: what the crates that read JSON say
 pub record Forms : Type 0 where
   pub is_object : Text → Bool
   pub is_policy : Text → Bool
@@ -43,6 +43,7 @@ pub record IsPathText (p : Text) : Type 0 where
   pub good : is_path p ≡ true
   pub utf8 : IsUtf8 p
 
+-- the compact text of an object
 pub record IsObjectText (forms : Forms) (t : Text) : Type 0 where
   pub object : forms.is_object t ≡ true
   pub short : IsShortText t
@@ -55,6 +56,7 @@ is_ascending (x ∷ y ∷ zs) = is_lt (text_cmp x y) && is_ascending (y ∷ zs)
 
 -- ---- times
 
+-- an accepted moment
 abbrev pub IsMoment : ℕ → Type 0
 IsMoment n = n ≤ greatest_moment
 
@@ -74,6 +76,7 @@ pub record IsLeaseId (lease_id : Text) : Type 0 where
   pub is_identifier : IsIdentifier identifier
   pub parts : lease_id ≡ mount ++ codes "/creds/" ++ role ++ codes "/" ++ identifier
 
+-- a lease under its id: all its numbers are within the limits
 pub record IsSoundLease (lease_id : Text) (l : Lease) : Type 0 where
   pub name : IsLeaseId lease_id
   pub issued : IsMoment l.issued
@@ -83,6 +86,7 @@ pub record IsSoundLease (lease_id : Text) (l : Lease) : Type 0 where
   pub renewed : (m : ℕ) → l.renewed ≡ Some m → IsMoment m
   pub credential : IsIdentifier l.credential
 
+-- a token under its text: all its names, texts and numbers are within the limits
 pub record IsSoundToken (forms : Forms) (t : Text) (x : Token) : Type 0 where
   pub name : IsTokenText t
   pub accessor : IsIdentifier x.accessor
@@ -97,9 +101,11 @@ pub record IsSoundToken (forms : Forms) (t : Text) (x : Token) : Type 0 where
   pub uses_left : (n : ℕ) → x.uses_left ≡ Some n → n < 2 ^ 64
   pub few_meta : len x.meta < 2 ^ 32
   pub meta : (name value : Text) → get x.meta name ≡ Some value → IsShortText name × IsShortText value
-  pub cubbyhole : (path object : Text) → get x.cubbyhole path ≡ Some object → IsPathText path × IsObjectText forms object
+  pub cubbyhole : (path object : Text)
+      → get x.cubbyhole path ≡ Some object → IsPathText path × IsObjectText forms object
   pub leases : (lease_id : Text) (l : Lease) → get x.leases lease_id ≡ Some l → IsSoundLease lease_id l
 
+-- version n of the key k
 pub record IsSoundVersion (forms : Forms) (k : Key) (n : ℕ) (v : Version) : Type 0 where
   pub first : 0 < n
   pub last : n ≤ k.current
@@ -121,6 +127,7 @@ pub record HasNoSettings (k : Key) : Type 0 where
   pub max_versions : k.max_versions ≡ 0
   pub custom_metadata : k.custom_metadata ≡ empty
 
+-- a key under its name
 pub record IsSoundKey (forms : Forms) (q : Text) (k : Key) : Type 0 where
   pub name : IsSecretName q
   pub created : IsMoment k.created
@@ -129,6 +136,7 @@ pub record IsSoundKey (forms : Forms) (q : Text) (k : Key) : Type 0 where
   pub versions : (n : ℕ) (v : Version) → fin.get k.versions n ≡ Some v → IsSoundVersion forms k n v
   pub no_settings : HasNoSettings k
 
+-- a response that waits under a wrapping token
 pub record IsSoundWaiting (t : Text) (w : Waiting) : Type 0 where
   pub name : IsTokenText t
   pub accessor : IsIdentifier w.accessor
@@ -140,11 +148,12 @@ pub record IsSoundWaiting (t : Text) (w : Waiting) : Type 0 where
   pub reply : IsUtf8 w.reply
   pub short : length w.reply < 2 ^ 64
 
+-- a mount under its name
 pub record IsSoundMount (name : Text) (m : Mount) : Type 0 where
   pub mount_name : is_mount_name name ≡ true
   pub max_versions : m.max_versions < 2 ^ 64
 
--- the mount, `/` and the role's name
+-- a role under its mount, `/` and its name
 pub record IsSoundRole (q : Text) (r : Role) : Type 0 where
   pub mount : Text
   pub role : Text
@@ -154,7 +163,7 @@ pub record IsSoundRole (q : Text) (r : Role) : Type 0 where
   pub ttl : r.ttl ≤ longest_duration
   pub max_ttl : r.max_ttl ≤ longest_duration
 
--- the policy `root` is never kept
+-- a policy under its name; the policy `root` is never kept
 pub record IsSoundPolicy (forms : Forms) (name text : Text) : Type 0 where
   pub policy_name : is_name name ≡ true
   pub not_root : name ≢ codes "root"
@@ -166,9 +175,10 @@ pub record IsSoundPolicy (forms : Forms) (name text : Text) : Type 0 where
 -- each token is sound, its parent is a token, and every chain of parents ends
 pub record SoundTokens (forms : Forms) (ts : Tokens) : Type 0 where
   pub each : (t : Text) (x : Token) → get ts t ≡ Some x → IsSoundToken forms t x
-  pub parents_stand : ParentsStand ts
+  pub parents_exist : ParentsExist ts
   pub chains_end : ChainsEnd ts
 
+-- each secret is sound
 abbrev pub SoundSecrets : Forms → Map Key → Type 0
 SoundSecrets forms keys = (q : Text) (k : Key) → get keys q ≡ Some k → IsSoundKey forms q k
 
@@ -177,30 +187,34 @@ pub record SoundWaiting (ws : Map Waiting) : Type 0 where
   pub each : (t : Text) (w : Waiting) → get ws t ≡ Some w → IsSoundWaiting t w
   pub one_origin : (t u : Text) (v w : Waiting) → get ws t ≡ Some v → get ws u ≡ Some w → v.origin ≡ w.origin → t ≡ u
 
+-- each mount is sound
 abbrev pub SoundMounts : Map Mount → Type 0
 SoundMounts ms = (name : Text) (m : Mount) → get ms name ≡ Some m → IsSoundMount name m
 
+-- each role is sound
 abbrev pub SoundRoles : Map Role → Type 0
 SoundRoles rs = (q : Text) (r : Role) → get rs q ≡ Some r → IsSoundRole q r
 
+-- each policy is sound
 abbrev pub SoundPolicies : Forms → Map Text → Type 0
 SoundPolicies forms ps = (name text : Text) → get ps name ≡ Some text → IsSoundPolicy forms name text
 
--- Each identifier stands in one place, and those that stand, and the origins of what waits, were given out.
+-- Each identifier is in one place, and all identifiers in places, and the origins of what waits, were given out.
 pub record SoundIdentifiers (b : Broker) : Type 0 where
   pub used : (i : Text) → IsUsed b i → IsIdentifier i
   pub one_place : OnePlaceEach b
   pub all_used : AllUsed b
   pub origins_used : (t : Text) (w : Waiting) → get b.waiting t ≡ Some w → IsUsed b w.origin
 
--- no token has spent its last use, but who may have
+-- no token has spent its last use, but for who, who may have
 abbrev pub Unspent : Option Text → Tokens → Type 0
 Unspent who ts = (t : Text) (x : Token) → get ts t ≡ Some x → x.uses_left ≡ Some 0 → who ≡ Some t
 
 -- ---- the broker
 
--- The broker is sound, but for the caller who may have spent its last use: between two requests nobody has, and who
--- is none.
+-- The broker is sound, but for the caller who, which may have spent its last use. Between two requests no token has,
+-- and
+-- who is none.
 pub record Sound (forms : Forms) (who : Option Text) (b : Broker) : Type 0 where
   pub clock : IsMoment b.clock
   pub tokens : SoundTokens forms b.tokens

@@ -17,6 +17,6 @@ status_code status.HeaderFieldsTooLarge = 431
 status_code status.InternalServerError = 500
 status_code status.NotImplemented = 501
 
--- no method
+-- none of the methods
 abbrev pub no_methods : Methods
 no_methods = record { get = false; list = false; write = false; delete = false }

@@ -13,14 +13,17 @@ pub same-text_cmp : (a b : Text) → same a b ≡ eq_by_cmp text_cmp a b
 unfolding same
 same-text_cmp a b = sym (is_eq-slice_cmp a b)
 
+-- a text is the same as itself
 pub same_self : (a : Text) → same a a ≡ true
 unfolding same
 same_self a = (bytes_eq-Decides a a).1 refl
 
+-- texts that are the same are equal
 pub same_true : (a b : Text) → same a b ≡ true → a ≡ b
 unfolding same
 same_true a b e = (bytes_eq-Decides a b).0 e
 
+-- to be the same is an equivalence
 pub same_equiv : IsEquivalence same
 same_equiv =
     let by_order : eq_by_cmp text_cmp ≡ same = λ i a b. sym (same-text_cmp a b) i in

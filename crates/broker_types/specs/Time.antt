@@ -1,4 +1,5 @@
--- Times: the civil date of a day, by counting off years and months from the first of January 1970, and its text.
+-- Times: the civil date of a day, by counting off years and months from the first of January 1970, and its text
+-- (RFC 3339).
 use Rattle.std.specs.Prelude.{◌≡◌, ℕ, zero, suc, ◌+◌, ◌-◌, ◌/◌, ◌%◌, List, ◌++◌, codes, true, false, nat_lt, pos}
 use Rattle.jiff_core.specs.Calendar.{days_in_year, days_in_month}
 use Rattle.jiff_core.specs.declared.civil.time.Time.{Time}

@@ -1,4 +1,6 @@
--- Tokens, each with its cubbyhole and its leases (Vault's documentation, "Tokens", "Lease, renew, and revoke", "Cubbyhole secrets engine").
+-- Tokens, each with its cubbyhole and its leases (Vault's documentation, "Tokens", "Lease, renew, and revoke",
+-- "Cubbyhole
+-- secrets engine").
 use Rattle.std.specs.Prelude.{ℕ, List, Option}
 use Rattle.broker_types.specs.Text.{Text}
 use Rattle.broker_types.specs.Map.{Map}

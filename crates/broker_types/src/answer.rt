@@ -33,7 +33,7 @@ impl Room {
         }
     }
 
-    /// Room for at least so many bytes. It fails for want of memory alone.
+    /// Room for at least so many bytes. It fails only when out of memory.
     pub fn reserve(alloc: Global, len: usize) -> Result<Room, AllocError>
         ensures { IfOk result (λ room. len ≤ room) }
     {
@@ -68,14 +68,15 @@ pub struct Answer {
 impl Answer {
     ghost use Rattle.broker_types.specs.Answer.{response_of, HasRoom, refused};
 
-    /// The answer, with room for its text and 1,024 bytes. It fails for want of memory alone.
+    /// The answer, with room for its text and 1,024 bytes. It fails only when out of memory.
     pub fn new(
         alloc: Global,
         status: Status,
         methods: Methods,
         text: TextBuf,
     ) -> Result<Answer, AllocError>
-        ensures response { IfOk result (λ a. response_of a ≡ record { status = status; methods = methods; text = text }) }
+        ensures response { IfOk result (λ a.
+            response_of a ≡ record { status = status; methods = methods; text = text }) }
         ensures room { IfOk result HasRoom }
     {
         let room = Room::reserve(alloc, text.as_str().len() + 1024)?;
@@ -87,7 +88,7 @@ impl Answer {
         })
     }
 
-    /// What is answered to a request that is refused. It fails for want of memory alone.
+    /// What is answered to a request that is refused. It fails only when out of memory.
     pub fn refused(alloc: Global, refusal: Refusal) -> Result<Answer, AllocError>
         ensures response { IfOk result (λ a. response_of a ≡ refused refusal) }
         ensures room { IfOk result HasRoom }
@@ -122,7 +123,7 @@ fn reason_body(alloc: Global, reason: Reason) -> Result<TextBuf, AllocError>
 
 /// The body of a refusal with this text, or with none: `{"errors":["text"]}` or `{"errors":[]}`, and
 /// a line feed (Vault's documentation, "HTTP API", error response). The text is not escaped: no
-/// listed text has a byte that JSON escapes. It fails for want of memory alone.
+/// listed text has a byte that JSON escapes. It fails only when out of memory.
 #[tactic(auto, unfolding(crate::specs::Refusal::errors_body))]
 pub fn errors_body(alloc: Global, text: Option<&str>) -> Result<TextBuf, AllocError>
     ensures { IfOk result (λ t. t ≡ errors_body (option_map (λ s. s.now) text.entry)) }

@@ -24,15 +24,15 @@ pub enum Verb {
 pub struct Ask<'b> {
     /// What is done with the path.
     pub verb: Verb,
-    /// What stands behind `/v1/`.
+    /// What follows `/v1/`.
     pub path: Path<'b>,
-    /// The version that the query asks for, as it stands there; empty if it asks for none.
+    /// The version that the query asks for, as it is written there; empty if it asks for none.
     pub version: CowBytes<'b>,
-    /// The client token, if one is shown.
+    /// The client token, if there is one.
     pub token: Option<CowText<'b>>,
-    /// How long the reply is to be kept for unwrapping, in seconds; 0 if it is not to be wrapped.
+    /// How long the reply is kept for unwrapping.
     pub wrap_ttl: WrapTtl,
-    /// The body, as it came.
+    /// The body, as it was sent.
     pub body: BodyBytes<'b>,
 }
 
@@ -75,7 +75,7 @@ impl WrapTtl {
     }
 }
 
-/// The body of a request: at most 1,048,576 bytes, borrowed where they can be.
+/// The body of a request: at most 1,048,576 bytes (this project's limit), borrowed where they can be.
 #[derive(Drop)]
 pub struct BodyBytes<'b> {
     bytes: CowSlice<'b, u8>,

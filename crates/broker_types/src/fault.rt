@@ -1,17 +1,17 @@
 use std::alloc::{AllocError, AllocFailed};
 use std::fmt;
 
-/// Why a call gave up without an answer.
+/// Why a call ended without an answer.
 #[derive(Clone, Copy, Debug, PartialEq, Eq)]
 pub enum Fault {
     /// Memory ran out.
     Memory,
     /// The storage failed.
     Storage,
-    /// A row's bytes have no reading.
+    /// The bytes of a row cannot be read.
     Damaged,
-    /// A store cannot be started, since it has rows or the words of the first token and its accessor
-    /// are equal; or its clock has no row, so it was never started.
+    /// A store cannot be started, since it has rows already, or the words of the first token and its
+    /// accessor are equal; or it cannot be opened, since it was never started.
     BadStart,
 }
 

@@ -17,7 +17,7 @@ pub fn id_bytes(word: u128) -> [u8; 36]
 }
 
 /// The identifier of a word: its hyphenated lower-case text (RFC 9562, section 4).
-/// It fails for want of memory alone.
+/// It fails only when out of memory.
 pub fn id_text(alloc: Global, word: u128) -> Result<String, AllocError>
     ensures { IfOk result (λ s. string_bytes s ≡ id word) }
 {

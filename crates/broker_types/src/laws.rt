@@ -1,28 +1,28 @@
 //! Laws of the definitions, each the contract of a function that does nothing.
 
 ghost use Rattle.broker_types.specs.Laws.{UnknownHasNoLineage, LineageOfOrphan, LineageOfChild};
-ghost use Rattle.broker_types.specs.Laws.{StandsUnderItself, UnderIsTransitive, UnderOfStanding};
+ghost use Rattle.broker_types.specs.Laws.{IsUnderItself, UnderIsTransitive, UnderOfTokens};
 ghost use Rattle.broker_types.specs.Laws.{RevokedUnknown, RevokedIsGone, OthersAreAsBefore};
 ghost use Rattle.broker_types.specs.Laws.{OrphanedByUnknown, OrphanedIsGone, ChildrenAreOrphans};
-ghost use Rattle.broker_types.specs.Laws.{StrangersAreAsBefore, NoneIsNew};
-ghost use Rattle.broker_types.specs.Laws.{StandingOutlasts, OutlastingStands};
+ghost use Rattle.broker_types.specs.Laws.{UnrelatedAreAsBefore, NoneIsNew};
+ghost use Rattle.broker_types.specs.Laws.{LeftOutlasts, OutlastingIsLeft};
 ghost use Rattle.broker_types.specs.Laws.{RevokeKeepsTrees, RevokeOrphanKeepsTrees, ExpiryKeepsTrees};
 ghost use Rattle.broker_types.specs.Laws.{FirstBrokerIsSound, EndingTheSpentKeepsSoundness};
 ghost use Rattle.broker_types.specs.Laws.{RevokeKeepsSoundness, RevokeOrphanKeepsSoundness, ExpiryKeepsSoundness};
 ghost use Rattle.broker_types.specs.Laws.{RevokeEvolves, RevokeOrphanEvolves, ExpiryEvolves};
 ghost use Rattle.broker_types.specs.Laws.{RevokeEnds, RevokeOrphanEnds, ExpiryEnds};
 ghost use Rattle.broker_types.specs.Laws.{EvolvesFromItself, EvolvingIsTransitive};
-ghost use Rattle.broker_types.specs.Laws.{SpentStaysSpent, EndedStaysEnded, TakenOutStaysOut};
+ghost use Rattle.broker_types.specs.Laws.{HandedOutStaysSo, EndedStaysEnded, TakenOutStaysOut};
 
-/// A law: the lineage of a token is the token and the lineage of its parent; so a token stands under
+/// A law: the lineage of a token is the token and the lineage of its parent; so a token is under
 /// itself, and under is transitive (Vault's documentation, "Tokens", token hierarchies).
 pub fn lineages_climb()
     ensures unknown { UnknownHasNoLineage }
     ensures orphan { LineageOfOrphan }
     ensures child { LineageOfChild }
-    ensures itself { StandsUnderItself }
+    ensures itself { IsUnderItself }
     ensures transitive { UnderIsTransitive }
-    ensures standing { UnderOfStanding }
+    ensures tokens { UnderOfTokens }
 {}
 
 /// A law: a revoked token ends with all that is under it, and nothing else changes (Vault's
@@ -40,20 +40,20 @@ pub fn revocation_orphans_children()
     ensures unknown { OrphanedByUnknown }
     ensures gone { OrphanedIsGone }
     ensures children { ChildrenAreOrphans }
-    ensures others { StrangersAreAsBefore }
+    ensures others { UnrelatedAreAsBefore }
     ensures none_new { NoneIsNew }
     ensures tree { RevokeOrphanKeepsTrees }
 {}
 
-/// A law: at a moment those tokens stand that outlast it, as do all above them, with their leases
-/// that do (Vault's documentation, "Lease, renew, and revoke").
+/// A law: the tokens at a moment are those that end later, as do all above them, each with its leases
+/// that end later (Vault's documentation, "Lease, renew, and revoke").
 pub fn expiry_ends_descendants()
-    ensures standing { StandingOutlasts }
-    ensures outlasting { OutlastingStands }
+    ensures left { LeftOutlasts }
+    ensures outlasting { OutlastingIsLeft }
     ensures tree { ExpiryKeepsTrees }
 {}
 
-/// A law: the broker that a start makes of two different words, at a moment that is accepted, is
+/// A law: the broker that a start makes of two different words, at an accepted moment, is
 /// sound, where the text of the policy `default` is a policy.
 pub fn first_broker_is_sound()
     ensures { FirstBrokerIsSound }
@@ -92,7 +92,7 @@ pub fn removals_end_tokens()
 pub fn evolving_lasts()
     ensures itself { EvolvesFromItself }
     ensures transitive { EvolvingIsTransitive }
-    ensures spent { SpentStaysSpent }
+    ensures handed_out { HandedOutStaysSo }
     ensures ended { EndedStaysEnded }
     ensures taken_out { TakenOutStaysOut }
 {}

@@ -1,4 +1,4 @@
-//! Values of the broker, and the definitions that every crate above speaks of.
+//! Values of the broker, and the definitions that every crate above uses.
 #![tactic(auto)]
 
 mod answer;

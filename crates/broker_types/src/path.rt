@@ -30,11 +30,12 @@ impl<'b> Model for Path<'b> {
 
 impl<'b> Path<'b> {
     /// Reads a path from its decoded text, of which one `/` at the end is dropped. It takes no
-    /// memory. What is no path is refused: 400 `invalid path`.
+    /// memory. Any other text is refused: 400 `invalid path`.
     pub fn read(text: CowStr<'b>) -> Result<Path<'b>, Refusal>
         ensures { MatchResult result
             (λ path. (path ≡ without_slash (cow_str_bytes text.entry)) × (is_path path ≡ true))
-            (λ refusal. (refusal ≡ BadRequest InvalidPath) × (is_path (without_slash (cow_str_bytes text.entry)) ≡ false)) }
+            (λ refusal. (refusal ≡ BadRequest InvalidPath)
+                × (is_path (without_slash (cow_str_bytes text.entry)) ≡ false)) }
     {
         let text = without_final_slash(text);
         if !is_good(text.as_str().as_bytes()) {

@@ -1,6 +1,7 @@
 ghost use Rattle.std.specs.Prelude.{◌≡◌, option_map};
 ghost use Rattle.broker_types.specs.Status.{no_methods};
-ghost use Rattle.broker_types.specs.Refusal.{field_name, reason_opening, reason_field, denial_text, refusal_status, refusal_methods, cutting_text};
+ghost use Rattle.broker_types.specs.Refusal.{field_name, reason_opening, reason_field, denial_text};
+ghost use Rattle.broker_types.specs.Refusal.{refusal_status, refusal_methods, cutting_text};
 
 use crate::status::{Methods, Status};
 
@@ -79,20 +80,20 @@ pub enum Reason {
     /// Transfer-Encoding field, or a length that is no number or too great; or a field of the client
     /// that is there twice or is not UTF-8.
     MalformedRequest,
-    /// A target whose path is none, or that has a query or an encoded byte where none is read.
+    /// A target whose path is not valid, or that has a query or an encoded byte where none is read so far.
     InvalidPath,
-    /// A text that is no duration of at most 4,294,967,295 seconds.
+    /// A text that is not a duration of at most 4,294,967,295 seconds.
     InvalidDuration,
-    /// The body is no JSON object, or has a float or too many levels.
+    /// A body that is not a JSON object, or has a float or too many levels.
     InvalidJson,
-    /// A member of the body, or the version of the query, of another kind or with a value that is not
-    /// taken.
+    /// A member of the body, or the version of the query, of the wrong kind or with a value that is not
+    /// accepted.
     InvalidField(Field),
     /// A member that the body must have.
     MissingField(Field),
-    /// A secret's write without `data`.
+    /// A write of a secret without `data`.
     NoData,
-    /// A cubbyhole's write without members.
+    /// A write to a cubbyhole without members.
     MissingData,
     /// A name of a mount, a policy or a role that is too long or has other characters.
     InvalidName,
@@ -108,29 +109,29 @@ pub enum Reason {
     ExpiringRoot,
     /// A token or a lease that cannot be renewed is renewed.
     TokenNotRenewable,
-    /// An accessor of no token.
+    /// An accessor that no token has.
     InvalidAccessor,
-    /// A policy whose text is none.
+    /// A text that is not a policy.
     UnsupportedPolicy,
-    /// The policy `root` is written, or one of those that stay is deleted.
+    /// The policy `root` is written, or `root` or `default` is deleted.
     PolicyFixed,
-    /// A secret's write that does not name the version that it follows, where it has to.
+    /// A write of a secret without `cas`, where it is required.
     CheckAndSetRequired,
-    /// A secret's write that names another version than the current one.
+    /// A write of a secret whose `cas` is not the current version.
     CheckAndSetFailed,
     /// A mount at a path that has one.
     PathInUse,
-    /// A mount of an engine that is none of this profile's.
+    /// A mount of an engine that this profile does not have.
     UnsupportedMount,
-    /// A mount that stays is disabled.
+    /// `sys`, `auth` or `cubbyhole` is disabled.
     MountFixed,
     /// A caller with one use left asks for a lease, which would end with it.
     LastUseTakesLease,
-    /// A lease id of no lease.
+    /// A lease id that no lease has.
     InvalidLease,
     /// `sys/wrapping/wrap` without a TTL.
     WrappingRequired,
-    /// A wrapping token under which no response waits.
+    /// A wrapping token under which no response is kept.
     InvalidWrappingToken,
 }
 
@@ -186,9 +187,9 @@ impl Reason {
 /// Why a request is refused with 403 (Vault's documentation, "HTTP API").
 #[derive(Clone, Copy, Debug, PartialEq, Eq)]
 pub enum Denial {
-    /// The client token is none, or its policies do not allow what is asked.
+    /// There is no such client token, or its policies do not allow what is asked.
     PermissionDenied,
-    /// A token that is looked up or renewed is not there.
+    /// There is no token to look up or to renew.
     BadToken,
 }
 
@@ -244,8 +245,8 @@ impl Refusal {
     }
 }
 
-/// The text of a refusal of bytes that are no request, by its status; a 501 has none. The texts are
-/// this profile's own.
+/// The text with which bytes that are not a request are refused, by the status; a 501 has none. The
+/// texts are this profile's own.
 pub fn cutting_text(status: Status) -> Option<&'static str>
     ensures { option_map (λ s. s.now) result ≡ cutting_text status }
 {

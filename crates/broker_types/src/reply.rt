@@ -1,6 +1,6 @@
 use crate::text::TextBuf;
 
-/// What a reply with an object says (Vault's documentation, "HTTP API"): of status 200, or of 404 for
+/// A reply with an object (Vault's documentation, "HTTP API"): with status 200, or 404 for
 /// a version that is deleted or destroyed. The members that are objects are compact JSON texts
 /// (RFC 8259), and none prints as `null`.
 #[derive(Drop)]
@@ -17,6 +17,6 @@ pub struct Reply {
     pub renewable: bool,
     /// The identifier of the request.
     pub request_id: TextBuf,
-    /// The wrapping token under which the true reply is kept.
+    /// The wrapping token under which the reply itself is kept.
     pub wrap_info: Option<TextBuf>,
 }

@@ -2,10 +2,12 @@ use crate::fault::Fault;
 use crate::refusal::Refusal;
 use std::alloc::AllocError;
 
-/// Why a step of a request did not answer: a refusal, which is answered to the client, or a fault.
+/// Why a step of a request failed.
 #[derive(Clone, Copy, Debug, PartialEq, Eq)]
 pub enum RequestError {
+    /// The request is refused: the client is told why.
     Refused(Refusal),
+    /// The request cannot be answered: its transaction is given up.
     Fault(Fault),
 }
 

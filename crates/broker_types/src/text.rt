@@ -27,7 +27,7 @@ impl TextBuf {
         TextBuf { text }
     }
 
-    /// A copy of a text. It fails for want of memory alone.
+    /// A copy of a text. It fails only when out of memory.
     pub fn copied(alloc: Global, text: &str) -> Result<TextBuf, AllocError>
         ensures { IfOk result (λ t. t ≡ text.now) }
     {

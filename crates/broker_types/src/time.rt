@@ -42,7 +42,7 @@ fn clock_of(second: u64) -> Time
 
 /// The time that many seconds after the beginning of 1970, in UTC, as `2023-11-14T22:13:20Z`
 /// (RFC 3339). Every second up to the end of the year 9999 has one: the end of a token may be later
-/// than the greatest moment. It fails for want of memory alone.
+/// than the greatest moment. It fails only when out of memory.
 pub fn time_text(alloc: Global, seconds: u64) -> Result<String, AllocError>
     requires { seconds < 253_402_300_800 }
     ensures { IfOk result (λ s. string_bytes s ≡ time_text seconds) }

@@ -6,8 +6,8 @@ use crate::identifier::id_text;
 use std::alloc::{AllocError, Global};
 use std::marker::Model;
 
-/// What a client shows to be served: `hvs.` and an identifier (Vault's documentation, "Tokens",
-/// token prefixes).
+/// The text of a token, which a client sends with its requests: `hvs.` and an identifier (Vault's
+/// documentation, "Tokens", token prefixes).
 #[derive(Drop)]
 pub struct TokenText {
     text: String,
@@ -22,7 +22,7 @@ impl Model for TokenText {
 }
 
 impl TokenText {
-    /// The token of a word. It fails for want of memory alone.
+    /// The token of a word. It fails only when out of memory.
     pub fn of_word(alloc: Global, word: u128) -> Result<TokenText, AllocError>
         ensures { IfOk result (λ t. t ≡ token_text (id word)) }
     {
@@ -39,8 +39,8 @@ impl TokenText {
     }
 }
 
-/// By what a token is named without showing it: an identifier (Vault's documentation, "Tokens",
-/// token accessors).
+/// The name of a token for those who do not know its text: an identifier (Vault's documentation,
+/// "Tokens", token accessors).
 #[derive(Drop)]
 pub struct Accessor {
     identifier: String,
@@ -55,7 +55,7 @@ impl Model for Accessor {
 }
 
 impl Accessor {
-    /// The accessor of a word. It fails for want of memory alone.
+    /// The accessor of a word. It fails only when out of memory.
     pub fn of_word(alloc: Global, word: u128) -> Result<Accessor, AllocError>
         ensures { IfOk result (λ a. a ≡ id word) }
     {

@@ -1,6 +1,7 @@
 -- Replies of which each refusal is a listed one.
 use Rattle.std.specs.Prelude.{◌≡◌, ◌⊎◌, ℕ, Bool, List, []}
-use Rattle.broker_types.specs.Answer.{Response, IsListed}
+use Rattle.broker_types.specs.Answer.{Response}
+use Rattle.broker.specs.Listed.{IsListed}
 use Rattle.http_layer.specs.Listed.{IsListedRefusal}
 use Rattle.http_layer.specs.Reply.{IsReply}
 

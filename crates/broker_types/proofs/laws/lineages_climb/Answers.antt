@@ -1,5 +1,5 @@
 use Rattle.broker_types.specs.LineageLaws.{is_under_trans}
-use Rattle.broker_types.specs.TreeLaws.{lineage_none, lineage_orphan, lineage_child, under_self, under_standing}
+use Rattle.broker_types.specs.TreeLaws.{lineage_none, lineage_orphan, lineage_child, under_self, under_tokens}
 use Rattle.broker_types.proofs.laws.lineages_climb.Goals as goal
 
 pub returns-clause-unknown : goal.returns-clause-unknown
@@ -17,5 +17,5 @@ returns-clause-itself c = under_self
 pub returns-clause-transitive : goal.returns-clause-transitive
 returns-clause-transitive c = is_under_trans
 
-pub returns-clause-standing : goal.returns-clause-standing
-returns-clause-standing c = under_standing
+pub returns-clause-tokens : goal.returns-clause-tokens
+returns-clause-tokens c = under_tokens

@@ -1,4 +1,4 @@
-use Rattle.broker_types.specs.TreeLaws.{orphan_unknown, orphan_gone, orphan_child, orphan_stranger, orphan_none, orphan_tree}
+use Rattle.broker_types.specs.TreeLaws.{orphan_unknown, orphan_gone, orphan_child, orphan_unrelated, orphan_none, orphan_tree}
 use Rattle.broker_types.proofs.laws.revocation_orphans_children.Goals as goal
 
 pub returns-clause-unknown : goal.returns-clause-unknown
@@ -11,7 +11,7 @@ pub returns-clause-children : goal.returns-clause-children
 returns-clause-children c = orphan_child
 
 pub returns-clause-others : goal.returns-clause-others
-returns-clause-others c = orphan_stranger
+returns-clause-others c = orphan_unrelated
 
 pub returns-clause-none_new : goal.returns-clause-none_new
 returns-clause-none_new c = orphan_none

@@ -7,7 +7,7 @@ use Rattle.records.proofs.removal.remove_under.Goals as goal
 
 pub returns-clause-rows : goal.returns-clause-rows
 returns-clause-rows g c honest =
-    let early : IsHonest (g.T.RecordsTx.seen c.under.new.self) = omega (arith, c.loop-entry.invariant.doubts) in
+    let early : IsHonest (g.T.RecordsTx.seen c.under.new.self) = omega (arith, c.loop-entry.invariant.mismatches) in
     let items = c.deref-entry-items.result.now in
     let none : drop c.loop-entry.entry-index items ≡ [] = drop_all _ _ c.loop-entry-test.false in
     ap table_of (

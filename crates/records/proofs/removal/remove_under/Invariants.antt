@@ -9,6 +9,6 @@ invariant-loop-entry g l =
     let seen = g.T.RecordsTx.seen in
     record {
       rows : IsHonest (seen l.tx) → without_listed (seen l.tx).rows (drop l.entry-index l.entry-items) ≡ without_listed (seen l.initial.tx).rows l.entry-items;
-      doubts : (seen l.initial.tx).doubt ≤ (seen l.tx).doubt;
+      mismatches : (seen l.initial.tx).mismatches ≤ (seen l.tx).mismatches;
       goes_on : GoesOn (seen l.fn.tx) (seen l.tx) false;
     }

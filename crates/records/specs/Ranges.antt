@@ -1,0 +1,59 @@
+-- Which records of the broker rows can keep: numbers that no printer has to test again, and texts of a length that
+-- their rows tell (this project's row format).
+use Rattle.std.specs.Prelude.{◌≢◌, ◌<◌, ◌≤◌, ◌^◌, [], Some}
+use Rattle.broker_types.specs.Limits.{longest_ttl, greatest_version}
+use Rattle.broker_types.specs.Duration.{most as longest_duration}
+use Rattle.broker_types.specs.Sound.{IsMoment, IsEnd, IsShortText}
+use Rattle.broker_types.specs.Secret.{Version}
+use Rattle.broker_types.specs.Token.{Lease}
+use Rattle.broker_types.specs.Broker.{Mount, Role, Waiting}
+use Rattle.records.specs.Reading.{IsWide, IsSomeIn}
+use Rattle.records.specs.Fields.{IsLongText}
+use Rattle.records.specs.KeyEntry.{KeyEntry}
+use Rattle.records.specs.TokenEntry.{TokenEntry, IsPolicies, IsMeta}
+
+-- no parent has an empty text
+pub record IsTokenInRange (x : TokenEntry) : Type 0 where
+  pub parent : x.parent ≢ Some []
+  pub accessor : IsShortText x.accessor
+  pub policies : IsPolicies x.policies
+  pub issued : IsMoment x.issued
+  pub ends : IsSomeIn IsEnd x.ends
+  pub ttl : x.ttl ≤ longest_ttl
+  pub explicit_max_ttl : x.explicit_max_ttl ≤ longest_duration
+  pub period : x.period ≤ longest_ttl
+  pub uses_left : IsSomeIn IsWide x.uses_left
+  pub meta : IsMeta x.meta
+
+pub record IsLeaseInRange (l : Lease) : Type 0 where
+  pub ends : IsEnd l.ends
+  pub issued : IsMoment l.issued
+  pub ttl : l.ttl ≤ longest_ttl
+  pub max_ttl : l.max_ttl ≤ longest_ttl
+  pub renewed : IsSomeIn IsMoment l.renewed
+  pub credential : IsShortText l.credential
+
+pub record IsKeyInRange (k : KeyEntry) : Type 0 where
+  pub current : k.current ≤ greatest_version
+  pub created : IsMoment k.created
+  pub updated : IsMoment k.updated
+
+pub record IsVersionInRange (v : Version) : Type 0 where
+  pub created : IsMoment v.created
+  pub deleted : IsSomeIn IsMoment v.deleted
+  pub secret : IsSomeIn IsShortText v.secret
+
+pub record IsWaitingInRange (w : Waiting) : Type 0 where
+  pub accessor : IsShortText w.accessor
+  pub created : IsMoment w.created
+  pub ttl : w.ttl ≤ longest_ttl
+  pub path : IsShortText w.path
+  pub origin : IsShortText w.origin
+  pub reply : IsLongText w.reply
+
+abbrev pub IsMountInRange : Mount → Type 0
+IsMountInRange m = m.max_versions < 2 ^ 64
+
+pub record IsRoleInRange (r : Role) : Type 0 where
+  pub ttl : r.ttl ≤ longest_duration
+  pub max_ttl : r.max_ttl ≤ longest_duration
