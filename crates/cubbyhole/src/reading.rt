@@ -2,7 +2,7 @@
 
 ghost use Rattle.std.specs.Prelude.{◌≡◌, length, IfOk, IfErr, OnOk};
 ghost use Rattle.broker_types.specs.Broker.{Broker};
-ghost use Rattle.broker_types.specs.Fault.{IsWant};
+ghost use Rattle.broker_types.specs.Fault.{IsMemoryOrStorage};
 ghost use Rattle.broker_types.specs.Sound.{Forms, SoundTokens, IsShortText};
 ghost use Rattle.records.specs.Parts.{of_cubbyholes, Tells};
 ghost use Rattle.records.specs.Reading.{Reads, shown};
@@ -40,7 +40,7 @@ pub fn read<T: RecordsTx>(alloc: Global, tx: &mut T, token: &str, path: &str) ->
     ensures damaged { IfErr result
         (IsWantOr (IsHonest (T.seen tx.new) → IsDamagedAt (table (T.seen tx.old)) token.now path.now)) }
     ensures wants { IsHonest (T.seen tx.new) → (forms : Forms) (b : Broker) → SoundTokens forms b.tokens
-        → Tells of_cubbyholes (table (T.seen tx.old)) b → length token.now ≡ token_len → IfErr result IsWant }
+        → Tells of_cubbyholes (table (T.seen tx.old)) b → length token.now ≡ token_len → IfErr result IsMemoryOrStorage }
     ensures goes_on { GoesOn (T.seen tx.old) (T.seen tx.new) (is_storage result) }
 {
     let key = object_key(alloc, token, path)?;

@@ -3,7 +3,7 @@
 ghost use Rattle.std.specs.Prelude.{◌≡◌, ◌≢◌, ◌<◌, ◌^◌, [], None, length, IfErr, OnOk};
 ghost use Rattle.broker_types.specs.Map.{get};
 ghost use Rattle.broker_types.specs.Broker.{Broker};
-ghost use Rattle.broker_types.specs.Fault.{IsWant};
+ghost use Rattle.broker_types.specs.Fault.{IsMemoryOrStorage};
 ghost use Rattle.records.specs.declared.kind.Kind.TheVariants as kind;
 ghost use Rattle.records.specs.Parts.{Part, Tells};
 ghost use Rattle.records.specs.RowForms.{cubby_row};
@@ -31,7 +31,7 @@ pub fn write<T: RecordsTx>(alloc: Global, tx: &mut T, token: &str, path: &str, o
     ensures told { IsHonest (T.seen tx.new) → (part : Part) (b : Broker) → Tells part (table (T.seen tx.old)) b
         → get b.tokens token.now ≢ None → length token.now ≡ token_len
         → OnOk result (Tells part (table (T.seen tx.new)) (cubbyhole.write b token.now path.now object.now)) }
-    ensures wants { IfErr result IsWant }
+    ensures wants { IfErr result IsMemoryOrStorage }
     ensures goes_on { GoesOn (T.seen tx.old) (T.seen tx.new) (is_storage result) }
 {
     let key = object_key(alloc, token, path)?;
@@ -49,7 +49,7 @@ pub fn delete<T: RecordsTx>(alloc: Global, tx: &mut T, token: &str, path: &str) 
     ensures told { IsHonest (T.seen tx.new) → (part : Part) (b : Broker) → Tells part (table (T.seen tx.old)) b
         → length token.now ≡ token_len
         → OnOk result (Tells part (table (T.seen tx.new)) (cubbyhole.delete b token.now path.now)) }
-    ensures wants { IfErr result IsWant }
+    ensures wants { IfErr result IsMemoryOrStorage }
     ensures goes_on { GoesOn (T.seen tx.old) (T.seen tx.new) (is_storage result) }
 {
     let key = object_key(alloc, token, path)?;
@@ -69,7 +69,7 @@ pub fn drop_owner<T: RecordsTx>(alloc: Global, tx: &mut T, token: &str) -> Resul
     ensures told { IsHonest (T.seen tx.new) → (part : Part) (b : Broker) → Tells part (table (T.seen tx.old)) b
         → length token.now ≡ token_len
         → OnOk result (Tells part (table (T.seen tx.new)) (cubbyhole.drop_owner b token.now)) }
-    ensures wants { IfErr result IsWant }
+    ensures wants { IfErr result IsMemoryOrStorage }
     ensures goes_on { GoesOn (T.seen tx.old) (T.seen tx.new) (is_storage result) }
 {
     let key = object_key(alloc, token, "")?;

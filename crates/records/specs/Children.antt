@@ -1,11 +1,13 @@
 -- The immediate children of a folder among paths (Vault's documentation, "KV secrets engine - version 2" and
 -- "Cubbyhole secrets engine", list secrets).
-use Rattle.std.specs.Prelude.{◌==◌, ◌++◌, List, [], ◌∷◌, Bool, if◌then◌else◌, map, filter, drop, length, nat_eq, ⊤}
-use Rattle.std.specs.List.{starts_with}
-use Rattle.std.specs.FinMap.{from_entries}
-use Rattle.broker_types.specs.Text.{Text, text_cmp, same}
+use Rattle.std.specs.Prelude.{◌≡◌, ◌==◌, ◌++◌, ◌-◌, List, [], ◌∷◌, Bool, false, Option, Some, None, if◌then◌else◌, map, filter, drop, length, slice_get, is_some, nat_eq, ⊤}
+use Rattle.std.specs.List.{starts_with, list_any}
+use Rattle.std.specs.FinMap.{from_entries, get}
+use Rattle.broker_types.specs.Text.{Text, same}
 use Rattle.broker_types.specs.Map.{Map, keys}
+use Rattle.records.specs.declared.kind.Kind.{Kind}
 use Rattle.records.specs.Splits.{slash}
+use Rattle.records.specs.Transaction.{Rows, rows_under}
 
 -- how the paths in a folder begin; the empty path is for all paths
 abbrev pub folder : Text → Text
@@ -33,18 +35,33 @@ set_of texts = from_entries (map member texts)
 abbrev pub children : Text → List Text → List Text
 children prefix texts = keys (set_of (map child (below prefix texts)))
 
+-- the keys of the rows of a kind that begin with the prefix, in the order of their bytes
+abbrev pub keys_under : Rows → Kind → Text → List Text
+keys_under rows kind prefix = map (λ e. e.0.1) (rows_under rows kind prefix)
+
+-- whether the text is among the texts
+abbrev pub has : List Text → Text → Bool
+has texts t = list_any (same t) texts
+
+-- the texts are what follows the prefix, for the rows of the kind whose keys begin with it
+abbrev pub AreNames : Rows → Kind → Text → List Text → Type 0
+AreNames rows kind prefix names = (rest : Text) → is_some (get rows (kind, prefix ++ rest)) ≡ has names rest
+
 -- ---- the same from texts in order, where equal children stand together
 
--- the texts without those that are equal to the one before them
-abbrev pub once_after : Text → List Text → List Text
-once_after last [] = []
-once_after last (t ∷ texts) = if same t last then once_after last texts else t ∷ once_after t texts
+-- whether the text is there
+abbrev pub is_text : Text → Option Text → Bool
+is_text t None = false
+is_text t (Some x) = same x t
 
--- the texts, each once, where equal ones stand together
-abbrev pub each_once : List Text → List Text
-each_once [] = []
-each_once (t ∷ texts) = t ∷ once_after t texts
+-- the text after the others, unless it is the last of them
+abbrev pub push_once : List Text → Text → List Text
+push_once texts t = if is_text t (slice_get texts (length texts - 1)) then texts else texts ++ t ∷ []
+
+abbrev pub push_each : List Text → List Text → List Text
+push_each texts [] = texts
+push_each texts (t ∷ more) = push_each (push_once texts t) more
 
 -- the children of what begins with the prefix, from texts in the order of their bytes
 abbrev pub children_in_order : Text → List Text → List Text
-children_in_order prefix texts = each_once (map child (below prefix texts))
+children_in_order prefix texts = push_each [] (map child (below prefix texts))

@@ -2,7 +2,7 @@
 -- their rows tell (this project's row format).
 use Rattle.std.specs.Prelude.{◌≢◌, ◌<◌, ◌≤◌, ◌^◌, [], Some}
 use Rattle.broker_types.specs.Limits.{longest_ttl, greatest_version}
-use Rattle.broker_types.specs.Duration.{most as longest_duration}
+use Rattle.broker_types.specs.Duration.{longest_duration}
 use Rattle.broker_types.specs.Sound.{IsMoment, IsEnd, IsShortText}
 use Rattle.broker_types.specs.Secret.{Version}
 use Rattle.broker_types.specs.Token.{Lease}
