@@ -1,5 +1,5 @@
 -- Cubbyholes as rows: each object has one, at its token, a slash and its path (this project's row format).
-use Rattle.std.specs.Prelude.{◌≡◌, ◌++◌, [], ◌∷◌, true, false, length, Option, Some, option_map, ⊤}
+use Rattle.std.specs.Prelude.{◌≡◌, ◌++◌, List, [], ◌∷◌, true, false, length, Option, Some, option_map, ⊤}
 use Rattle.broker_types.specs.Text.{Text}
 use Rattle.broker_types.specs.Sound.{IsShortText}
 use Rattle.broker_types.specs.declared.fault.Fault.{Fault}
@@ -7,12 +7,13 @@ use Rattle.broker_types.specs.declared.fault.Fault.TheVariants.{Memory, Storage,
 use Rattle.records.specs.declared.kind.Kind.{Kind}
 use Rattle.records.specs.declared.kind.Kind.TheVariants as kind
 use Rattle.records.specs.declared.row.Row.{Row}
+use Rattle.records.specs.Children.{folder, children, keys_under}
 use Rattle.records.specs.Reading.{IsSomeIn}
 use Rattle.records.specs.RowForms.{cubby_row}
 use Rattle.records.specs.Rows.{token_len}
 use Rattle.records.specs.Splits.{slash}
 use Rattle.records.specs.Table.{Table, table_of, is_under}
-use Rattle.records.specs.Transaction.{Seen}
+use Rattle.records.specs.Transaction.{Seen, Rows}
 
 -- the rows that a transaction shows, as a table
 abbrev pub table : Seen → Table
@@ -35,6 +36,11 @@ IsWantOr P Memory = ⊤
 IsWantOr P Storage = ⊤
 IsWantOr P Damaged = P
 IsWantOr P BadStart = ⊥
+
+-- the children of a folder among the keys of t's cubbyhole
+abbrev pub children_in : Rows → Text → Text → List Text
+children_in rows t path =
+    children (object_key t (folder path)) (keys_under rows kind.Cubby (object_key t (folder path)))
 
 -- no row has changed but those of t's cubbyhole
 abbrev pub KeepsOtherOwners : Text → Table → Table → Type 0

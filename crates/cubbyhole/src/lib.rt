@@ -5,5 +5,5 @@ mod keys;
 mod reading;
 mod writing;
 
-pub use reading::read;
+pub use reading::{list, read};
 pub use writing::{delete, drop_owner, write};

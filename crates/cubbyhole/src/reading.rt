@@ -10,11 +10,11 @@ ghost use Rattle.records.specs.RowForms.{cubby_row};
 ghost use Rattle.records.specs.Rows.{token_len};
 ghost use Rattle.records.specs.Transaction.{IsHonest, GoesOn, is_storage};
 ghost use Rattle.cubbyhole.specs.Cubbyhole as cubbyhole;
-ghost use Rattle.cubbyhole.specs.Objects.{table, IsObjectAt, IsDamagedAt, IsWantOr};
+ghost use Rattle.cubbyhole.specs.Objects.{table, children_in, IsObjectAt, IsDamagedAt, IsWantOr};
 
-use crate::keys::object_key;
+use crate::keys::{folder_key, object_key};
 use broker_types::{Fault, TextBuf};
-use records::{Kind, RecordsTx, Row, read_cubby};
+use records::{Kind, RecordsTx, Row, children_of, read_cubby};
 use std::alloc::Global;
 
 /// The compact text of the object that a row of the token's cubbyhole keeps. It fails as `Damaged` where
@@ -49,4 +49,22 @@ pub fn read<T: RecordsTx>(alloc: Global, tx: &mut T, token: &str, path: &str) ->
     };
     let object = object_of(&kept, token)?;
     Ok(Some(TextBuf::copied(alloc, object)?))
+}
+
+/// The immediate children of a folder of a token's cubbyhole, in the order of their bytes, each once: names,
+/// and folders with a slash at their ends. The empty path is for the whole cubbyhole. There are none where
+/// nothing is in the folder. It fails for want of memory, or where the storage fails (Vault's documentation,
+/// "Cubbyhole secrets engine", list secrets).
+pub fn list<T: RecordsTx>(alloc: Global, tx: &mut T, token: &str, path: &str) -> Result<Vec<TextBuf>, Fault>
+    ensures found { IsHonest (T.seen tx.new)
+        → IfOk result (λ names. names.items ≡ children_in (T.seen tx.old).rows token.now path.now) }
+    ensures told { IsHonest (T.seen tx.new) → (b : Broker) → Tells of_cubbyholes (table (T.seen tx.old)) b
+        → length token.now ≡ token_len → IfOk result (λ names. names.items ≡ cubbyhole.list b token.now path.now) }
+    ensures same { IsHonest (T.seen tx.new) → OnOk result ((T.seen tx.new).rows ≡ (T.seen tx.old).rows) }
+    ensures wants { IfErr result IsMemoryOrStorage }
+    ensures goes_on { GoesOn (T.seen tx.old) (T.seen tx.new) (is_storage result) }
+{
+    let key = folder_key(alloc, token, path)?;
+    let listed = tx.under(Kind::Cubby, key.as_str())?;
+    Ok(children_of(alloc, &listed, key.as_str())?)
 }

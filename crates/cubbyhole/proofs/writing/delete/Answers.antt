@@ -16,7 +16,7 @@ returns-clause-rows g c honest =
     let old = g.T.RecordsTx.seen c.args.tx.now in
     on_ok c.remove.result (λ removed.
     ap table_of removed ∙ table_of-remove old.rows kind.Cubby c.as_str.result.now
-    ∙ (λ i. without_row (table old) kind.Cubby ((c.as_str.ensures.value ∙ c.in_ok-key.ensures) i))) (c.remove.ensures.rows honest)
+    ∙ ap (without_row (table old) kind.Cubby) (c.as_str.ensures.value ∙ c.in_ok-key.ensures)) (c.remove.ensures.rows honest)
 
 pub returns-clause-others : goal.returns-clause-others
 returns-clause-others g c honest =
