@@ -7,3 +7,6 @@ mod writing;
 
 pub use reading::{list, read};
 pub use writing::{delete, drop_owner, write};
+
+#[cfg(test)]
+mod tests;
