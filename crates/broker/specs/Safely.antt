@@ -2,7 +2,7 @@
 use Rattle.std.specs.Prelude.{Result, None, IfOk, IfErr}
 use Rattle.broker_types.specs.Answer.{HasRoom, response_of}
 use Rattle.broker_types.specs.Broker.{Broker}
-use Rattle.broker_types.specs.Fault.{IsWant}
+use Rattle.broker_types.specs.Fault.{IsMemoryOrStorage}
 use Rattle.broker_types.specs.declared.answer.Answer.{Answer}
 use Rattle.broker_types.specs.declared.fault.Fault.{Fault}
 use Rattle.records.specs.Transaction.{Seen, IsHonest, GoesOn, is_storage}
@@ -16,6 +16,6 @@ pub record AnswersSafely (old new : Seen) (P : Broker → Type 0) (result : Resu
   -- whatever the rows are, the answer is a success or a listed refusal
   pub listed : IfOk result (λ a. IsListed (response_of a))
   -- on the rows of a broker no row is damaged or missing: it ran out of memory, or the storage failed
-  pub wants : IsHonest new → (b : Broker) → Represents None old.rows b → P b → IfErr result IsWant
+  pub wants : IsHonest new → (b : Broker) → Represents None old.rows b → P b → IfErr result IsMemoryOrStorage
   -- `Storage` comes only from the transaction, which has then failed
   pub goes_on : GoesOn old new (is_storage result)

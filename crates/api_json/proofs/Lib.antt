@@ -1,0 +1,15 @@
+pub mod Bodies
+pub mod Gathering
+pub mod Spaces
+pub mod Whole
+pub mod EntryLemmas
+pub mod Printed
+pub mod Canonical
+pub mod ReadCanonical
+pub mod TextsReadBack
+pub mod LengthsContent
+pub mod LengthsTokens
+pub mod LengthsPrinted
+pub mod Lengths
+pub mod Nested
+pub mod KeptObjects

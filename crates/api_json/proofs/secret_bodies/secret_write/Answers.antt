@@ -1,0 +1,7 @@
+use Rattle.std.proofs.Common.{sym, ◌∙◌}
+use Rattle.api_json.specs.Parsed.{members_of}
+use Rattle.api_json.proofs.KeptObjects.{payloads_kept, given_members}
+use Rattle.api_json.proofs.secret_bodies.secret_write.Goals as goal
+
+pub returns-clause-kept : goal.returns-clause-kept
+returns-clause-kept c bytes fits is = payloads_kept bytes (members_of c.args.body.now) _ fits (given_members bytes (members_of c.args.body.now) is) (sym c.in_ok-text.ensures ∙ c.in-Some.is)

@@ -1,0 +1,49 @@
+-- The JSON values and objects that bytes are (RFC 8259).
+use Rattle.std.specs.Prelude.{ℕ, List, [], ◌∷◌, Bool, true, false, if◌then◌else◌, Option, Some, None, Result}
+use Rattle.std.specs.Prelude.{option_and_then}
+use Rattle.std.specs.Str.{is_utf8}
+use Rattle.serde_json.specs.Data.{Data, null, boolean, number, string, array, object, Members, no_members, member}
+use Rattle.serde_json.specs.Read.{read}
+use Rattle.serde_json.specs.Written.{has_float}
+use Rattle.broker_types.specs.Refuse.{some_or}
+use Rattle.broker_types.specs.declared.refusal.Refusal.{Refusal}
+use Rattle.broker_types.specs.declared.refusal.Refusal.TheVariants as refusal
+use Rattle.broker_types.specs.declared.refusal.Reason.TheVariants as reason
+
+-- the value that bytes are: UTF-8, and JSON of at most 127 levels
+abbrev pub json_value : List ℕ → Option Data
+json_value bytes = if is_utf8 bytes then read bytes else None
+
+-- Floats are not taken (this project's choice): numbers with a fraction or an exponent, `-0`, and whole numbers that 64
+-- bits do not hold.
+abbrev pub without_floats : Data → Option Data
+without_floats d = if has_float d then None else Some d
+
+-- the value without floats that bytes are
+abbrev pub tree : List ℕ → Option Data
+tree bytes = option_and_then without_floats (json_value bytes)
+
+-- the members of an object; `null` is an empty object
+abbrev pub members_in : Data → Option Members
+members_in null = Some no_members
+members_in (boolean b) = None
+members_in (number n) = None
+members_in (string s) = None
+members_in (array ds) = None
+members_in (object ms) = Some ms
+
+-- the object that a body is; no bytes are an empty one
+abbrev pub read_body : List ℕ → Option Members
+read_body [] = Some no_members
+read_body (x ∷ xs) = option_and_then members_in (tree (x ∷ xs))
+
+abbrev pub no_object : Refusal
+no_object = refusal.BadRequest reason.InvalidJson
+
+-- the members of a body, or the refusal
+abbrev pub body_members : List ℕ → Result Members Refusal
+body_members body = some_or no_object (read_body body)
+
+abbrev pub has_members : Members → Bool
+has_members no_members = false
+has_members (member k d ms) = true

@@ -1,0 +1,150 @@
+-- What a member of a body may hold, with its lenient readings (this profile's; Vault's documentation, "HTTP API").
+use Rattle.std.specs.Prelude.{ℕ, ◌+◌, ◌-◌, ◌*◌, ◌&&◌, ◌==◌, nat_le, List, [], ◌∷◌, length, not, map, filter, reverse}
+use Rattle.std.specs.Prelude.{Bool, true, false, if◌then◌else◌, Option, Some, None, option_map, option_and_then, codes}
+use Rattle.std.specs.List.{slice_split}
+use Rattle.std.specs.Char.{is_ascii_digit}
+use Rattle.serde_json.specs.Data.{Data, null, boolean, number, string, array, object}
+use Rattle.serde_json.specs.Data.{Items, no_items, item, Members, no_members, member}
+use Rattle.serde_json.specs.Find.{as_u64}
+use Rattle.serde_json.specs.Written.{compact_text}
+use Rattle.broker_types.specs.Text.{Text, same}
+use Rattle.broker_types.specs.Duration.{duration_of, at_most}
+use Rattle.api_json.specs.declared.from_member.DeletionTime.{DeletionTime}
+use Rattle.api_json.specs.declared.from_member.DeletionTime.TheVariants.{Never}
+
+-- the value of digits that go on after n
+abbrev pub digits_from : ℕ → Text → Option ℕ
+digits_from n [] = Some n
+digits_from n (c ∷ cs) = if is_ascii_digit c then digits_from (n * 10 + (c - 48)) cs else None
+
+-- 1 to 18 digits
+abbrev pub count_text : Text → Option ℕ
+count_text s = if nat_le 1 (length s) && nat_le (length s) 18 then digits_from 0 s else None
+
+-- a whole number from 0 to 2^64-1, or its digits
+abbrev pub count : Data → Option ℕ
+count null = None
+count (boolean b) = None
+count (number n) = as_u64 n
+count (string s) = count_text s
+count (array ds) = None
+count (object ms) = None
+
+abbrev pub flag_text : Text → Option Bool
+flag_text s = if same s (codes "true") then Some true else if same s (codes "false") then Some false else None
+
+-- a truth value, or its name
+abbrev pub flag : Data → Option Bool
+flag null = None
+flag (boolean b) = Some b
+flag (number n) = None
+flag (string s) = flag_text s
+flag (array ds) = None
+flag (object ms) = None
+
+abbrev pub text : Data → Option Text
+text null = None
+text (boolean b) = None
+text (number n) = None
+text (string s) = Some s
+text (array ds) = None
+text (object ms) = None
+
+-- seconds, as a number or as the text of a duration
+abbrev pub duration : Data → Option ℕ
+duration null = None
+duration (boolean b) = None
+duration (number n) = at_most (as_u64 n)
+duration (string s) = duration_of s
+duration (array ds) = None
+duration (object ms) = None
+
+abbrev pub deletion_time_text : Text → Option DeletionTime
+deletion_time_text s = if same s (codes "0s") then Some Never else None
+
+-- when versions are deleted by time: never
+abbrev pub deletion_time : Data → Option DeletionTime
+deletion_time null = None
+deletion_time (boolean b) = None
+deletion_time (number n) = None
+deletion_time (string s) = deletion_time_text s
+deletion_time (array ds) = None
+deletion_time (object ms) = None
+
+-- the items, if each is of the kind
+abbrev pub each_item : {X : Type 0} → (Data → Option X) → Items → Option (List X)
+each_item kind no_items = Some []
+each_item kind (item d ds) = option_and_then (λ x. option_map (λ xs. x ∷ xs) (each_item kind ds)) (kind d)
+
+-- without the spaces at the beginning
+abbrev pub after_spaces : Text → Text
+after_spaces [] = []
+after_spaces (c ∷ cs) = if c == 32 then after_spaces cs else c ∷ cs
+
+-- without the spaces at the end
+abbrev pub before_spaces : Text → Text
+before_spaces s = reverse (after_spaces (reverse s))
+
+abbrev pub without_spaces : Text → Text
+without_spaces s = before_spaces (after_spaces s)
+
+abbrev pub is_part : Text → Bool
+is_part t = not (length t == 0)
+
+-- what stands between commas, without the spaces around it and without empty parts
+unfoldable pub comma_parts : Text → List Text
+comma_parts s = filter is_part (map without_spaces (slice_split (λ c. c == 44) s))
+
+-- texts, or one text with commas between them
+abbrev pub texts : Data → Option (List Text)
+texts null = None
+texts (boolean b) = None
+texts (number n) = None
+texts (string s) = Some (comma_parts s)
+texts (array ds) = each_item text ds
+texts (object ms) = None
+
+-- the counts of texts, if each is one
+abbrev pub each_count : List Text → Option (List ℕ)
+each_count [] = Some []
+each_count (s ∷ ss) = option_and_then (λ n. option_map (λ ns. n ∷ ns) (each_count ss)) (count_text s)
+
+-- whole numbers, or one text with commas between them
+abbrev pub counts : Data → Option (List ℕ)
+counts null = None
+counts (boolean b) = None
+counts (number n) = None
+counts (string s) = each_count (comma_parts s)
+counts (array ds) = each_item count ds
+counts (object ms) = None
+
+-- names and values, by name, if each value is a text
+abbrev pub each_text : Members → Option (List (Text × Text))
+each_text no_members = Some []
+each_text (member k d ms) = option_and_then (λ t. option_map (λ es. (k, t) ∷ es) (each_text ms)) (text d)
+
+abbrev pub pairs : Data → Option (List (Text × Text))
+pairs null = None
+pairs (boolean b) = None
+pairs (number n) = None
+pairs (string s) = None
+pairs (array ds) = None
+pairs (object ms) = each_text ms
+
+-- the members of an object
+abbrev pub members : Data → Option Members
+members null = None
+members (boolean b) = None
+members (number n) = None
+members (string s) = None
+members (array ds) = None
+members (object ms) = Some ms
+
+-- an object, kept as its compact text
+abbrev pub object_text : Data → Option Text
+object_text null = None
+object_text (boolean b) = None
+object_text (number n) = None
+object_text (string s) = None
+object_text (array ds) = None
+object_text (object ms) = Some (compact_text (object ms))

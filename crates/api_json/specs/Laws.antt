@@ -1,0 +1,53 @@
+-- Laws of objects that are printed and of objects that are kept, as statements.
+use Rattle.std.specs.Prelude.{◌≡◌, ◌≤◌, ℕ, List, [], ◌∷◌, ◌++◌, length, map, Some}
+use Rattle.serde_json.specs.Data.{Data, object, Members, no_members, member}
+use Rattle.serde_json.specs.Read.{read}
+use Rattle.serde_json.specs.Written.{compact_text}
+use Rattle.broker_types.specs.Limits.{longest_body}
+use Rattle.broker_types.specs.Text.{Text}
+use Rattle.api_json.specs.Json.{read_body}
+use Rattle.api_json.specs.Kept.{IsKept}
+use Rattle.api_json.specs.Members.{payload}
+use Rattle.api_json.specs.Printing.{object_of, quoted}
+
+-- ---- the same texts, written from the front
+
+abbrev pub behind_comma : List ℕ → List ℕ
+behind_comma [] = []
+behind_comma (x ∷ xs) = 44 ∷ x ∷ xs
+
+-- a name, a colon and a value, and a comma between two members
+abbrev pub members_from_front : List (Text × Text) → List ℕ
+members_from_front [] = []
+members_from_front (m ∷ ms) = quoted m.0 ++ 58 ∷ m.1 ++ behind_comma (members_from_front ms)
+
+-- in braces
+abbrev pub PrintsFromTheFront : Type 0
+PrintsFromTheFront = (ms : List (Text × Text)) → object_of ms ≡ 123 ∷ members_from_front ms ++ 125 ∷ []
+
+abbrev pub as_members : List (Text × Data) → Members
+as_members [] = no_members
+as_members (e ∷ es) = member e.0 e.1 (as_members es)
+
+abbrev pub printed : Text × Data → Text × Text
+printed e = (e.0, compact_text e.1)
+
+-- members whose values are compact JSON make the compact text of an object
+abbrev pub PrintsJson : Type 0
+PrintsJson = (es : List (Text × Data)) → object_of (map printed es) ≡ compact_text (object (as_members es))
+
+-- ---- objects that are kept
+
+-- what a body is read as is read again from its compact text
+abbrev pub BodiesReadBack : Type 0
+BodiesReadBack = (body : List ℕ) (ms : Members) → read_body body ≡ Some ms → read (compact_text (object ms)) ≡ Some (object ms)
+
+abbrev pub BodiesAreKept : Type 0
+BodiesAreKept =
+    (body : List ℕ) (ms : Members) → length body ≤ longest_body → read_body body ≡ Some ms
+    → IsKept (compact_text (object ms))
+
+abbrev pub PayloadsAreKept : Type 0
+PayloadsAreKept =
+    (body : List ℕ) (ms : Members) (t : Text) → length body ≤ longest_body → read_body body ≡ Some ms
+    → payload ms ≡ Some t → IsKept t

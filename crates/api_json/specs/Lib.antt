@@ -1,0 +1,13 @@
+pub mod Entries
+pub mod Json
+pub mod Kept
+pub mod Kinds
+pub mod Laws
+pub mod Members
+pub mod Names
+pub mod Objects
+pub mod Parsed
+pub mod Printing
+pub mod Readers
+pub mod Reads
+pub mod Reply

@@ -1,0 +1,69 @@
+-- Objects and arrays as compact JSON text (RFC 8259), of parts that are JSON texts already.
+use Rattle.std.specs.Prelude.{ℕ, ◌==◌, ◌∷◌, ◌++◌, List, [], length, if◌then◌else◌, map, fold, Bool, true, false}
+use Rattle.std.specs.Prelude.{Option, Some, None, codes, decimal, unwrap_or}
+use Rattle.serde_json.specs.Data.{string}
+use Rattle.serde_json.specs.Written.{compact_text}
+use Rattle.std.specs.BTreeMap.{insert_entry}
+use Rattle.broker_types.specs.Text.{Text, text_cmp}
+use Rattle.broker_types.specs.Time.{time_text}
+
+-- a text as JSON
+unfoldable pub quoted : Text → Text
+quoted t = compact_text (string t)
+
+-- what is written behind an opening bracket, and a comma before it where something stands there already
+unfoldable pub with_item : Text → Text → Text
+with_item begun v = begun ++ (if length begun == 1 then [] else 44 ∷ []) ++ v
+
+-- a name and its value
+unfoldable pub with_member : Text → Text × Text → Text
+with_member begun m = with_item begun (quoted m.0 ++ 58 ∷ m.1)
+
+abbrev pub object_of : List (Text × Text) → Text
+object_of ms = fold with_member (123 ∷ []) ms ++ 125 ∷ []
+
+abbrev pub array_of : List Text → Text
+array_of vs = fold with_item (91 ∷ []) vs ++ 93 ∷ []
+
+unfoldable pub null_text : Text
+null_text = codes "null"
+
+-- a whole number
+unfoldable pub count : ℕ → Text
+count n = decimal n
+
+unfoldable pub bool_text : Bool → Text
+bool_text true = codes "true"
+bool_text false = codes "false"
+
+-- a JSON text, and `null` where there is none
+unfoldable pub or_null : Option Text → Text
+or_null o = unwrap_or o null_text
+
+-- a time (RFC 3339)
+unfoldable pub time : ℕ → Text
+time n = quoted (time_text n)
+
+unfoldable pub time_or : Text → Option ℕ → Text
+time_or other None = other
+time_or other (Some n) = time n
+
+unfoldable pub texts : List Text → Text
+texts ts = array_of (map quoted ts)
+
+-- an object of texts, and `null` where there is none
+abbrev pub pair : Text × Text → Text × Text
+pair e = (e.0, quoted e.1)
+
+unfoldable pub pairs : List (Text × Text) → Text
+pairs es = if length es == 0 then null_text else object_of (map pair es)
+
+-- ---- objects whose names are not known beforehand
+
+-- the members with one more, by name
+unfoldable pub with_entry : List (Text × Text) → Text × Text → List (Text × Text)
+with_entry es e = insert_entry text_cmp es e.0 e.1
+
+-- members by name, in the order of the bytes of their names; of two of one name the last counts
+abbrev pub by_name : List (Text × Text) → List (Text × Text)
+by_name es = fold with_entry [] es

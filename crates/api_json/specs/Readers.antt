@@ -1,0 +1,109 @@
+-- What the body of each route brings, member by member: the first bad member is refused (this profile's members).
+use Rattle.std.specs.Prelude.{ℕ, List, [], ◌∷◌, ◌==◌, ◌||◌, Bool, true, false, length, Option, unwrap_or, codes}
+use Rattle.std.specs.Prelude.{Result, Ok, Err}
+use Rattle.serde_json.specs.Data.{Members}
+use Rattle.broker_types.specs.Text.{Text, same}
+use Rattle.broker_types.specs.declared.refusal.Refusal.{Refusal}
+use Rattle.broker_types.specs.declared.refusal.Field.TheVariants as field
+use Rattle.broker_types.specs.declared.refusal.Refusal.TheVariants as refusal
+use Rattle.broker_types.specs.declared.refusal.Reason.TheVariants as reason
+use Rattle.broker_types.specs.Refuse.{◌>>=◌, some_or, unless}
+use Rattle.api_json.specs.Kinds as kind
+use Rattle.api_json.specs.Members.{optional, required, within, payload, invalid, missing}
+use Rattle.api_json.specs.declared.token_bodies.TokenCreation.{TokenCreation}
+use Rattle.api_json.specs.declared.token_bodies.TokenRenewal.{TokenRenewal}
+use Rattle.api_json.specs.declared.secret_bodies.SecretWrite.{SecretWrite}
+use Rattle.api_json.specs.declared.secret_bodies.MountSettings.{MountSettings}
+
+-- ---- tokens (Vault's documentation, "Token auth method (API)")
+
+-- a period is not served
+abbrev pub is_no_period : Option ℕ → Bool
+is_no_period o = unwrap_or o 0 == 0
+
+abbrev pub is_renewable : Option Bool → Bool
+is_renewable o = unwrap_or o true
+
+abbrev pub is_empty : Option Text → Bool
+is_empty o = length (unwrap_or o []) == 0
+
+abbrev pub is_service : Option Text → Bool
+is_service o = is_empty o || same (unwrap_or o []) (codes "service")
+
+-- the members of a new token
+unfoldable pub token_creation : Members → Result TokenCreation Refusal
+token_creation ms = do
+  policies ← optional kind.texts field.Policies ms
+  meta ← optional kind.pairs field.Meta ms
+  ttl ← optional kind.duration field.Ttl ms
+  explicit_max_ttl ← optional kind.duration field.ExplicitMaxTtl ms
+  num_uses ← optional kind.count field.NumUses ms
+  no_parent ← optional kind.flag field.NoParent ms
+  no_default_policy ← optional kind.flag field.NoDefaultPolicy ms
+  period ← optional kind.duration field.Period ms
+  _ ← unless (is_no_period period) (invalid field.Period)
+  renewable ← optional kind.flag field.Renewable ms
+  _ ← unless (is_renewable renewable) (invalid field.Renewable)
+  id ← optional kind.text field.Id ms
+  _ ← unless (is_empty id) (invalid field.Id)
+  type_name ← optional kind.text field.TypeName ms
+  _ ← unless (is_service type_name) (invalid field.TypeName)
+  Ok (record {
+    policies = unwrap_or policies [];
+    meta = unwrap_or meta [];
+    ttl = unwrap_or ttl 0;
+    explicit_max_ttl = unwrap_or explicit_max_ttl 0;
+    num_uses = unwrap_or num_uses 0;
+    no_parent = unwrap_or no_parent false;
+    no_default_policy = unwrap_or no_default_policy false;
+  })
+
+unfoldable pub token : Members → Result Text Refusal
+token ms = required kind.text field.Token ms
+
+unfoldable pub accessor : Members → Result Text Refusal
+accessor ms = required kind.text field.Accessor ms
+
+-- 0, or absent, for as long as the token was made for
+unfoldable pub increment : Members → Result ℕ Refusal
+increment ms = do
+  increment ← optional kind.duration field.Increment ms
+  Ok (unwrap_or increment 0)
+
+unfoldable pub token_renewal : Members → Result TokenRenewal Refusal
+token_renewal ms = do
+  token ← token ms
+  increment ← increment ms
+  Ok (record { token = token; increment = increment })
+
+-- ---- secrets (Vault's documentation, "KV secrets engine - version 2 (API)")
+
+unfoldable pub secret_write : Members → Result SecretWrite Refusal
+secret_write ms = do
+  object ← some_or (refusal.BadRequest reason.NoData) (payload ms)
+  options ← optional kind.members field.Options ms
+  cas ← within (optional kind.count field.Cas) options
+  Ok (record { object = object; cas = cas })
+
+-- an empty list is as a missing one
+abbrev pub one_or_more : List ℕ → Result (List ℕ) Refusal
+one_or_more [] = Err (missing field.Versions)
+one_or_more (n ∷ ns) = Ok (n ∷ ns)
+
+unfoldable pub versions : Members → Result (List ℕ) Refusal
+versions ms = do
+  versions ← required kind.counts field.Versions ms
+  one_or_more versions
+
+-- what is absent stays as it is
+unfoldable pub mount_settings : Members → Result MountSettings Refusal
+mount_settings ms = do
+  cas_required ← optional kind.flag field.CasRequired ms
+  max_versions ← optional kind.count field.MaxVersions ms
+  _ ← optional kind.deletion_time field.DeleteVersionAfter ms
+  Ok (record { cas_required = cas_required; max_versions = max_versions })
+
+-- ---- policies (Vault's documentation, "/sys/policies")
+
+unfoldable pub policy_text : Members → Result Text Refusal
+policy_text ms = required kind.text field.Policy ms

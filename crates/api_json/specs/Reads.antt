@@ -1,0 +1,20 @@
+-- What a reader gives: what its definition says, but where memory runs out.
+use Rattle.std.specs.Prelude.{◌≡◌, Result, Ok, Err}
+use Rattle.broker_types.specs.declared.fault.Fault.TheVariants.{Memory}
+use Rattle.broker_types.specs.declared.refusal.Refusal.{Refusal}
+use Rattle.broker_types.specs.declared.request_error.RequestError.{RequestError}
+use Rattle.broker_types.specs.declared.request_error.RequestError.TheVariants.{Refused, Fault as Given}
+
+-- the definition's refusal; running out of memory is the only fault
+abbrev pub ReadsErr : {Y : Type 0} → Result Y Refusal → RequestError → Type 0
+ReadsErr d (Refused r) = d ≡ Err r
+ReadsErr d (Given f) = f ≡ Memory
+
+-- the definition's value, as contracts see it
+abbrev pub ReadsAs : {X Y : Type 0} → (X → Y) → Result Y Refusal → Result X RequestError → Type 0
+ReadsAs see d (Ok x) = d ≡ Ok (see x)
+ReadsAs see d (Err e) = ReadsErr d e
+
+abbrev pub Reads : {X : Type 0} → Result X Refusal → Result X RequestError → Type 0
+Reads d (Ok x) = d ≡ Ok x
+Reads d (Err e) = ReadsErr d e

@@ -1,0 +1,36 @@
+-- The bodies of replies (Vault's documentation, "HTTP API").
+use Rattle.std.specs.Prelude.{[], ◌∷◌, ◌++◌, List, false, Some, None}
+use Rattle.broker_types.specs.Text.{Text}
+use Rattle.broker_types.specs.declared.reply.Reply.{Reply}
+use Rattle.api_json.specs.Names.{name_text}
+use Rattle.api_json.specs.Printing.{object_of, quoted, count, bool_text, or_null, null_text}
+use Rattle.api_json.specs.declared.name.Name.TheVariants as name
+
+-- the members by name
+abbrev pub reply_members : Reply → List (Text × Text)
+reply_members r =
+    (name_text name.Auth, or_null r.auth)
+    ∷ (name_text name.Payload, or_null r.payload)
+    ∷ (name_text name.LeaseDuration, count r.lease_duration)
+    ∷ (name_text name.LeaseId, quoted r.lease_id)
+    ∷ (name_text name.Renewable, bool_text r.renewable)
+    ∷ (name_text name.RequestId, quoted r.request_id)
+    ∷ (name_text name.Warnings, null_text)
+    ∷ (name_text name.WrapInfo, or_null r.wrap_info)
+    ∷ []
+
+unfoldable pub reply_text : Reply → Text
+reply_text r = object_of (reply_members r) ++ 10 ∷ []
+
+-- a reply with no more than what was asked for
+abbrev pub plain_reply : Text → Text → Reply
+plain_reply request payload =
+    record {
+      auth = None;
+      payload = Some payload;
+      lease_duration = 0;
+      lease_id = [];
+      renewable = false;
+      request_id = request;
+      wrap_info = None;
+    }

@@ -1,0 +1,42 @@
+//! Bodies of requests read into their members, and the objects and bodies of replies printed (RFC 8259).
+#![tactic(auto)]
+
+mod by_name;
+mod end_time;
+mod from_member;
+mod laws;
+mod lists;
+mod member_lists;
+mod members;
+mod name;
+mod parsed;
+mod policy_bodies;
+mod policy_objects;
+mod printing;
+mod reading;
+mod reply;
+mod secret_bodies;
+mod secret_objects;
+#[cfg(test)]
+mod tests;
+mod token_bodies;
+mod token_objects;
+mod version_list;
+
+pub use end_time::EndTime;
+pub use laws::{kept_objects, objects_are_json};
+pub use lists::{Counts, Pairs, Texts};
+pub use parsed::{Body, Tree};
+pub use policy_bodies::policy_text;
+pub use policy_objects::policy_object;
+pub use reading::read_body;
+pub use reply::{plain_reply, reply_text};
+pub use secret_bodies::{MountSettings, SecretWrite, mount_settings, secret_write, versions};
+pub use secret_objects::{
+    KeyObject, key_object, keys_object, read_object, settings_object, version_object,
+};
+pub use token_bodies::{
+    TokenCreation, TokenRenewal, accessor, increment, token, token_creation, token_renewal,
+};
+pub use token_objects::{AuthObject, TokenObject, auth_object, token_object};
+pub use version_list::{VersionObject, Versions};

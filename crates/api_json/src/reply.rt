@@ -1,0 +1,45 @@
+//! The bodies of replies.
+ghost use Rattle.std.specs.Prelude.{◌≡◌, IfOk};
+ghost use Rattle.api_json.specs.Reply.{reply_text, plain_reply};
+
+use crate::name::Name;
+use crate::printing::ObjectText;
+use broker_types::{Reply, TextBuf};
+use std::alloc::{AllocError, Global};
+
+/// Prints the body of a reply: compact JSON (RFC 8259), the members in the order of the bytes of their names, and a line
+/// feed. It fails when memory runs out, and then alone.
+#[tactic(auto, unfolding(crate::specs::Reply::reply_text))]
+pub fn reply_text(alloc: Global, reply: &Reply) -> Result<TextBuf, AllocError>
+    ensures { IfOk result (λ t. t ≡ reply_text reply.now) }
+{
+    let mut text = ObjectText::new(alloc)?
+        .or_null(Name::Auth, &reply.auth)?
+        .or_null(Name::Payload, &reply.payload)?
+        .number(Name::LeaseDuration, reply.lease_duration)?
+        .text(Name::LeaseId, reply.lease_id.as_str())?
+        .flag(Name::Renewable, reply.renewable)?
+        .text(Name::RequestId, reply.request_id.as_str())?
+        .null(Name::Warnings)?
+        .or_null(Name::WrapInfo, &reply.wrap_info)?
+        .finish()?
+        .into_string();
+    text.push_str("\n")?;
+    Ok(TextBuf::new(text))
+}
+
+/// A reply with no more than what was asked for, the compact text of an object. It fails when memory runs out, and then
+/// alone.
+pub fn plain_reply(alloc: Global, request: &str, payload: TextBuf) -> Result<Reply, AllocError>
+    ensures { IfOk result (λ r. r ≡ plain_reply request.now payload) }
+{
+    Ok(Reply {
+        auth: None,
+        payload: Some(payload),
+        lease_duration: 0,
+        lease_id: TextBuf::new(String::new(alloc)),
+        renewable: false,
+        request_id: TextBuf::copied(alloc, request)?,
+        wrap_info: None,
+    })
+}

@@ -1,0 +1,128 @@
+//! The objects that replies about secrets have (Vault's documentation, "KV secrets engine - version 2 (API)").
+ghost use Rattle.std.specs.Prelude.{◌≡◌, IfOk, option_map};
+ghost use Rattle.api_json.specs.Objects.{version_object, version_entry, versions_object, key_object, keys_object};
+ghost use Rattle.api_json.specs.Objects.{read_object, settings_object};
+
+use crate::by_name::ByName;
+use crate::name::Name;
+use crate::printing::ObjectText;
+use crate::version_list::{VersionObject, Versions};
+use broker_types::{Moment, TextBuf};
+use std::alloc::{AllocError, Global};
+
+/// Prints a version of a secret. It fails when memory runs out, and then alone.
+#[tactic(auto, unfolding(crate::specs::Objects::version_object))]
+pub fn version_object(alloc: Global, version: &VersionObject) -> Result<TextBuf, AllocError>
+    ensures { IfOk result (λ t. t ≡ version_object version.now) }
+{
+    ObjectText::new(alloc)?
+        .time(Name::CreatedTime, version.created)?
+        .null(Name::CustomMetadata)?
+        .time_or_empty(Name::DeletionTime, version.deleted)?
+        .flag(Name::Destroyed, version.destroyed)?
+        .number(Name::Version, version.version)?
+        .finish()
+}
+
+/// Prints a version that is read: its object, a compact JSON text, and its metadata. An object that is deleted or
+/// destroyed is none, and prints as null. It fails when memory runs out, and then alone.
+#[tactic(auto, unfolding(crate::specs::Objects::read_object))]
+pub fn read_object(
+    alloc: Global,
+    object: &Option<TextBuf>,
+    version: &VersionObject,
+) -> Result<TextBuf, AllocError>
+    ensures { IfOk result (λ t. t ≡ read_object object.now version.now) }
+{
+    let metadata = version_object(alloc, version)?;
+    ObjectText::new(alloc)?
+        .or_null(Name::Payload, object)?
+        .member(Name::Metadata, metadata.as_str())?
+        .finish()
+}
+
+/// A key of secrets.
+#[derive(Drop)]
+pub struct KeyObject {
+    /// Whether each write has to name the version that it follows.
+    pub cas_required: bool,
+    /// When its first version was written.
+    pub created: Moment,
+    pub current_version: u64,
+    /// How many versions it keeps; 0 if its mount says that.
+    pub max_versions: u64,
+    /// The oldest version that is kept, if above 1; else 0.
+    pub oldest_version: u64,
+    /// When its last version was written.
+    pub updated: Moment,
+    /// Those that are kept.
+    pub versions: Versions,
+}
+
+/// Prints a key of secrets with its versions. It fails when memory runs out, and then alone.
+#[tactic(auto, unfolding(crate::specs::Objects::key_object))]
+pub fn key_object(alloc: Global, key: &KeyObject) -> Result<TextBuf, AllocError>
+    ensures { IfOk result (λ t. t ≡ key_object key.now) }
+{
+    let versions = versions_object(alloc, key.versions.as_slice())?;
+    ObjectText::new(alloc)?
+        .flag(Name::CasRequired, key.cas_required)?
+        .time(Name::CreatedTime, key.created)?
+        .number(Name::CurrentVersion, key.current_version)?
+        .null(Name::CustomMetadata)?
+        .text(Name::DeleteVersionAfter, "0s")?
+        .number(Name::MaxVersions, key.max_versions)?
+        .number(Name::OldestVersion, key.oldest_version)?
+        .time(Name::UpdatedTime, key.updated)?
+        .member(Name::Versions, versions.as_str())?
+        .finish()
+}
+
+/// Prints the versions of a key by their numbers, in the order of the bytes of their digits.
+#[tactic(auto, unfolding(crate::specs::Objects::versions_object, crate::specs::Printing::count))]
+fn versions_object(alloc: Global, versions: &[VersionObject]) -> Result<TextBuf, AllocError>
+    ensures { IfOk result (λ t. t ≡ versions_object versions.now) }
+{
+    let mut entries = ByName::new(alloc);
+    for version in versions {
+        let name = version.version.to_string(alloc)?;
+        let value = version_entry(alloc, version)?;
+        entries = entries.insert(name, value)?;
+    }
+    entries.finish(alloc)
+}
+
+/// Prints the metadata of one version of a key.
+fn version_entry(alloc: Global, version: &VersionObject) -> Result<TextBuf, AllocError>
+    ensures { IfOk result (λ t. t ≡ (version_entry version.now).1) }
+{
+    ObjectText::new(alloc)?
+        .time(Name::CreatedTime, version.created)?
+        .time_or_empty(Name::DeletionTime, version.deleted)?
+        .flag(Name::Destroyed, version.destroyed)?
+        .finish()
+}
+
+/// Prints a list of keys, in the order in which they are given. It fails when memory runs out, and then alone.
+#[tactic(auto, unfolding(crate::specs::Objects::keys_object))]
+pub fn keys_object(alloc: Global, keys: &[TextBuf]) -> Result<TextBuf, AllocError>
+    ensures { IfOk result (λ t. t ≡ keys_object keys.now) }
+{
+    ObjectText::new(alloc)?.texts(Name::Keys, keys)?.finish()
+}
+
+/// Prints the settings of a mount of secrets. It fails when memory runs out, and then alone.
+#[tactic(auto, unfolding(crate::specs::Objects::settings_object))]
+pub fn settings_object(
+    alloc: Global,
+    cas_required: bool,
+    max_versions: u64,
+) -> Result<TextBuf, AllocError>
+    ensures { IfOk result (λ t. t ≡ settings_object cas_required max_versions) }
+{
+    ObjectText::new(alloc)?
+        .flag(Name::CasRequired, cas_required)?
+        .text(Name::DeleteVersionAfter, "0s")?
+        .number(Name::MaxVersions, max_versions)?
+        .finish()
+}

@@ -1,0 +1,1 @@
+//! What bodies are read as, and what replies print as.
