@@ -20,8 +20,8 @@ use Rattle.records.specs.Table.{Table}
 use Rattle.cubbyhole.specs.Cubbyhole.{with_cubbyhole, edited}
 use Rattle.cubbyhole.specs.Objects.{object_key, KeepsOtherOwners}
 use Rattle.std.proofs.lemmas.Bool.{eqb-true}
-use Rattle.records.proofs.KindNumbers.{kind_of, kind_of-number}
-use Rattle.records.proofs.Options.{mapped, then_mapped, unseen}
+use Rattle.records.specs.KeyLaws.{kind_of, kind_of-number}
+use Rattle.records.specs.ValueLaws.{mapped, then_mapped, unseen}
 
 -- the table with r at the keys of cubbyholes that are met
 abbrev pub replaced : (Text → Bool) → Option Row → Table → Table

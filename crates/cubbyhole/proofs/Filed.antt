@@ -12,7 +12,8 @@ use Rattle.records.specs.Rows.{token_len, has_slash}
 use Rattle.records.specs.Table.{Table, without_under, without_owned, unless_owned}
 use Rattle.cubbyhole.specs.Objects.{object_key, AreFiled}
 use Rattle.cubbyhole.proofs.Edits.{is_cubby}
-use Rattle.cubbyhole.proofs.ObjectKeys.{key_has_slash, key_token, key_owner}
+use Rattle.records.specs.CubbyKeyLaws.{key_has_slash, key_token}
+use Rattle.cubbyhole.proofs.ObjectKeys.{key_owner}
 
 module _ (rows : Table) (t : Text) (filed : AreFiled rows) (len : length t ≡ token_len) where
   at_cubby : (q : Text) → (if starts_with nat_eq q (object_key t []) then None else rows kind.Cubby q) ≡ unless_owned t (rows kind.Cubby q)

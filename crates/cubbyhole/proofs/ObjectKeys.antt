@@ -7,19 +7,10 @@ use Rattle.std.proofs.lemmas.Bool.{cases_lt, and_parts, false_from_ne_true, fals
 use Rattle.std.proofs.lemmas.List.{take-append-drop, get_or_past}
 use Rattle.broker_types.specs.Text.{Text, same}
 use Rattle.broker_types.specs.TextLaws.{same_self, same_true}
+use Rattle.records.specs.CubbyKeyLaws.{key_has_slash, key_token, key_path}
 use Rattle.records.specs.Rows.{token_len, has_slash}
 use Rattle.records.specs.Splits.{slash}
 use Rattle.cubbyhole.specs.Objects.{object_key}
-
-pub key_has_slash : (t path : Text) → length t ≡ token_len → has_slash (object_key t path) ≡ true
-key_has_slash t path e =
-    subst (λ n. (get_or (object_key t path) n 0 == slash) ≡ true) e (ap (λ v. v == slash) (get_or-append_seam t slash path 0))
-
-pub key_token : (t path : Text) → length t ≡ token_len → take token_len (object_key t path) ≡ t
-key_token t path e = subst (λ n. take n (object_key t path) ≡ t) e (take-append_seam t (slash ∷ path))
-
-pub key_path : (t path : Text) → length t ≡ token_len → drop (token_len + 1) (object_key t path) ≡ path
-key_path t path e = subst (λ n. drop (n + 1) (object_key t path) ≡ path) e (drop-append-add t (slash ∷ path) 1)
 
 -- a key with a slash in its place is that of its token and its path
 pub key_parts : (q : Text) → has_slash q ≡ true → q ≡ object_key (take token_len q) (drop (token_len + 1) q)

@@ -15,7 +15,8 @@ use Rattle.records.specs.Rows.{rows_of, token_len, has_slash}
 use Rattle.cubbyhole.specs.Cubbyhole.{object_at, write, delete, drop_owner}
 use Rattle.cubbyhole.specs.CubbyholeLaws.{object_at-write, object_at-delete, object_at-drop_owner}
 use Rattle.cubbyhole.specs.Objects.{object_key}
-use Rattle.cubbyhole.proofs.ObjectKeys.{key_has_slash, key_token, key_path, key_met, key_owner}
+use Rattle.records.specs.CubbyKeyLaws.{key_has_slash, key_token, key_path}
+use Rattle.cubbyhole.proofs.ObjectKeys.{key_met, key_owner}
 
 -- what each token has at each path
 abbrev pub Objects : Type 0

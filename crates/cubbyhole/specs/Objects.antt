@@ -30,12 +30,12 @@ IsObjectAt rows t path object = rows kind.Cubby (object_key t path) ≡ option_m
 abbrev pub IsDamagedAt : Table → Text → Text → Type 0
 IsDamagedAt rows t path = (object : Option Text) → IsSomeIn IsShortText object → IsObjectAt rows t path object → ⊥
 
--- out of memory, the storage failed, or a row is damaged and the fact holds
-abbrev pub IsWantOr : Type 0 → Fault → Type 0
-IsWantOr P Memory = ⊤
-IsWantOr P Storage = ⊤
-IsWantOr P Damaged = P
-IsWantOr P BadStart = ⊥
+-- memory ran out, the storage failed, or the row is damaged and the fact holds
+abbrev pub IsReadFault : Type 0 → Fault → Type 0
+IsReadFault P Memory = ⊤
+IsReadFault P Storage = ⊤
+IsReadFault P Damaged = P
+IsReadFault P BadStart = ⊥
 
 -- the children of a folder among the keys of t's cubbyhole
 abbrev pub children_in : Rows → Text → Text → List Text

@@ -8,9 +8,9 @@ ghost use Rattle.records.specs.Parts.{of_cubbyholes, Tells};
 ghost use Rattle.records.specs.Reading.{Reads, shown};
 ghost use Rattle.records.specs.RowForms.{cubby_row};
 ghost use Rattle.records.specs.Rows.{token_len};
-ghost use Rattle.records.specs.Transaction.{IsHonest, GoesOn, is_storage};
+ghost use Rattle.records.specs.Transaction.{IsHonest, GoesOn, IsCall, is_storage};
 ghost use Rattle.cubbyhole.specs.Cubbyhole as cubbyhole;
-ghost use Rattle.cubbyhole.specs.Objects.{table, children_in, IsObjectAt, IsDamagedAt, IsWantOr};
+ghost use Rattle.cubbyhole.specs.Objects.{table, children_in, IsObjectAt, IsDamagedAt, IsReadFault};
 
 use crate::keys::{folder_key, object_key};
 use broker_types::{Fault, TextBuf};
@@ -30,16 +30,16 @@ fn object_of<'r>(kept: &'r Row, token: &str) -> Result<&'r str, Fault>
 }
 
 /// The compact text of the object at a path of a token's cubbyhole, if there is one. It fails as
-/// `Damaged` where the row at the path is none of the token's cubbyhole, for want of memory, or where the
+/// `Damaged` where the row at the path is none of the token's cubbyhole, when out of memory, or where the
 /// storage fails (Vault's documentation, "Cubbyhole secrets engine", read secret).
 pub fn read<T: RecordsTx>(alloc: Global, tx: &mut T, token: &str, path: &str) -> Result<Option<TextBuf>, Fault>
     ensures found { IsHonest (T.seen tx.new) → IfOk result (IsObjectAt (table (T.seen tx.old)) token.now path.now) }
     ensures told { IsHonest (T.seen tx.new) → (b : Broker) → Tells of_cubbyholes (table (T.seen tx.old)) b
         → length token.now ≡ token_len → IfOk result (λ object. object ≡ cubbyhole.object_at b token.now path.now) }
     ensures same { IsHonest (T.seen tx.new) → OnOk result ((T.seen tx.new).rows ≡ (T.seen tx.old).rows) }
-    ensures damaged { IfErr result
-        (IsWantOr (IsHonest (T.seen tx.new) → IsDamagedAt (table (T.seen tx.old)) token.now path.now)) }
-    ensures wants { IsHonest (T.seen tx.new) → (forms : Forms) (b : Broker) → SoundTokens forms b.tokens
+    ensures faults { IfErr result
+        (IsReadFault (IsHonest (T.seen tx.new) → IsDamagedAt (table (T.seen tx.old)) token.now path.now)) }
+    ensures undamaged { IsHonest (T.seen tx.new) → (forms : Forms) (b : Broker) → SoundTokens forms b.tokens
         → Tells of_cubbyholes (table (T.seen tx.old)) b → length token.now ≡ token_len → IfErr result IsMemoryOrStorage }
     ensures goes_on { GoesOn (T.seen tx.old) (T.seen tx.new) (is_storage result) }
 {
@@ -53,7 +53,7 @@ pub fn read<T: RecordsTx>(alloc: Global, tx: &mut T, token: &str, path: &str) ->
 
 /// The immediate children of a folder of a token's cubbyhole, in the order of their bytes, each once: names,
 /// and folders with a slash at their ends. The empty path is for the whole cubbyhole. There are none where
-/// nothing is in the folder. It fails for want of memory, or where the storage fails (Vault's documentation,
+/// nothing is in the folder. It fails only when out of memory, or where the storage fails (Vault's documentation,
 /// "Cubbyhole secrets engine", list secrets).
 pub fn list<T: RecordsTx>(alloc: Global, tx: &mut T, token: &str, path: &str) -> Result<Vec<TextBuf>, Fault>
     ensures found { IsHonest (T.seen tx.new)
@@ -61,8 +61,7 @@ pub fn list<T: RecordsTx>(alloc: Global, tx: &mut T, token: &str, path: &str) ->
     ensures told { IsHonest (T.seen tx.new) → (b : Broker) → Tells of_cubbyholes (table (T.seen tx.old)) b
         → length token.now ≡ token_len → IfOk result (λ names. names.items ≡ cubbyhole.list b token.now path.now) }
     ensures same { IsHonest (T.seen tx.new) → OnOk result ((T.seen tx.new).rows ≡ (T.seen tx.old).rows) }
-    ensures wants { IfErr result IsMemoryOrStorage }
-    ensures goes_on { GoesOn (T.seen tx.old) (T.seen tx.new) (is_storage result) }
+    ensures call { IsCall (T.seen tx.old) (T.seen tx.new) result }
 {
     let key = folder_key(alloc, token, path)?;
     let listed = tx.under(Kind::Cubby, key.as_str())?;

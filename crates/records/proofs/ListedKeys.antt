@@ -15,7 +15,7 @@ use Rattle.records.specs.Kind.{Key, key_cmp, is_of_kind, kind_number}
 use Rattle.records.specs.Transaction.{Rows, rows_under}
 use Rattle.records.specs.Children.{children, children_in_order}
 use Rattle.records.proofs.ChildrenInOrder.{children_ordered}
-use Rattle.records.proofs.MapLemmas.{key_cmp_exact}
+use Rattle.records.specs.KeyLaws.{key_cmp_exact}
 
 -- rows by their keys alone
 abbrev pub named : List (Key × Row) → List (Text × Row)

@@ -58,7 +58,7 @@ fn push_child(alloc: Global, names: &mut Vec<TextBuf>, key: &str, prefix: &str) 
 
 /// The immediate children of a folder, in the order of their bytes, each once: names, and folders with a
 /// slash at their ends. They are those of the keys that begin with the prefix, where the rows are listed
-/// under it. It fails for want of memory alone (Vault's documentation, "KV secrets engine - version 2" and
+/// under it. It fails only when out of memory (Vault's documentation, "KV secrets engine - version 2" and
 /// "Cubbyhole secrets engine", list secrets).
 pub fn children_of(alloc: Global, listed: &[Entry], prefix: &str) -> Result<Vec<TextBuf>, AllocError>
     ensures in_order { IfOk result
