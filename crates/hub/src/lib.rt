@@ -2,7 +2,7 @@
 #![tactic(auto)]
 
 mod connection;
-mod ends;
+mod endpoints;
 mod event;
 mod hub;
 mod laws;
@@ -10,7 +10,7 @@ mod running;
 mod serving;
 mod table;
 
-pub use ends::{Failed, Reading, Sink, Source, Writing};
+pub use endpoints::{Failed, Reading, Sink, Source, Writing};
 pub use event::Event;
 pub use hub::Hub;
 pub use laws::run_law;

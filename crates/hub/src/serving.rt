@@ -7,9 +7,10 @@ ghost use Rattle.http_layer.specs.Asked.{asked};
 ghost use Rattle.http_layer.specs.Front.{IsFront, need};
 ghost use Rattle.http_layer.specs.Refusing.{front_refused};
 ghost use Rattle.http_layer.specs.Reply.{IsReply};
+ghost use Rattle.hub.specs.AnyRows.{IsRequestReply};
+ghost use Rattle.hub.specs.Feeding.{Serves, IsServed, Keeps};
 ghost use Rattle.hub.specs.Listed.{IsListedReply};
-ghost use Rattle.hub.specs.Serving.{Serves, IsServed, Keeps};
-ghost use Rattle.hub.specs.World.{request_effect};
+ghost use Rattle.hub.specs.World.{request_closes, request_effect};
 
 use broker::Store;
 use broker_types::{Answer, Fault, Moment, Room, Status, Words};
@@ -72,9 +73,8 @@ pub(crate) fn serve<S: Store>(
     moment: Moment,
     words: &Words,
 ) -> Result<Served, Fault>
-    ensures ok { IsHonest (S.seen store.new) → (b : Broker) → Holds (S.seen store.old).rows b
-        → IfOk result (λ served. Serves b moment words.now rest.now served
-        (S.seen store.new).rows) }
+    ensures serves { IfOk result (λ served. Serves (S.seen store.old) (S.seen store.new)
+        moment words.now rest.now served) }
     ensures listed { IfOk result (λ served. IsListedReply served.bytes.items) }
     ensures free { IsFront rest.now need → IsOk result }
     ensures keeps { Keeps (S.seen store.old) (S.seen store.new) result }
@@ -112,11 +112,16 @@ fn serve_request<S: Store>(
     moment: Moment,
     words: &Words,
 ) -> Result<Served, Fault>
-    ensures ok { IsHonest (S.seen store.new) → (b : Broker) → Holds (S.seen store.old).rows b
-        → IfOk result (λ served. IsServed (request_effect b moment words.now head.now
-        (asked head.now body.now)) moment served (S.seen store.new).rows) }
-    ensures listed { IfOk result (λ served. IsListedReply served.bytes.items) }
+    ensures broker { IsHonest (S.seen store.new) → (b : Broker) → Holds (S.seen store.old).rows b
+        → IfOk result (λ served. IsServed (request_effect b moment words.now
+        (asked head.now body.now)) moment (request_closes head.now (asked head.now body.now))
+        served.bytes.items (S.seen store.new).rows) }
+    ensures reply { IfOk result (λ served. IsRequestReply moment
+        (request_closes head.now (asked head.now body.now)) (asked head.now body.now)
+        served.bytes.items) }
     ensures len { IfOk result (λ served. served.len ≡ Some len) }
+    ensures closes { IfOk result (λ served. served.closes
+        ≡ request_closes head.now (asked head.now body.now)) }
     ensures keeps { Keeps (S.seen store.old) (S.seen store.new) result }
 {
     match ask_of(alloc, head, body) {

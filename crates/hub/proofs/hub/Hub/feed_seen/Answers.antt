@@ -1,7 +1,7 @@
 use Rattle.std.proofs.Common.{◌≡◌, ◌∙◌, Some, subst, arith, nat_cmp}
 use Rattle.std.specs.BTreeMap.{get}
 use Rattle.std.proofs.lemmas.Grind.{common_steps}
-use Rattle.hub.specs.Serving.{Feeds}
+use Rattle.hub.specs.Feeding.{Feeds}
 use Rattle.hub.specs.declared.connection.Connection.{Connection}
 use Rattle.hub.proofs.hub.Hub.feed_seen.Goals as goal
 

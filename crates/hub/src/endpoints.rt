@@ -74,7 +74,7 @@ impl<R: Read> Reading<R> {
 }
 
 impl<R: Read> Source for Reading<R> {
-    ghost use Rattle.hub.specs.Ends.{reader_of, pulls_of, read_failed};
+    ghost use Rattle.hub.specs.Endpoints.{reader_of, pulls_of, read_failed};
 
     ghost left = { λ source. R.remaining (reader_of source) };
 
@@ -126,7 +126,7 @@ impl<W: Write> Writing<W> {
 }
 
 impl<W: Write> Sink for Writing<W> {
-    ghost use Rattle.hub.specs.Ends.{writer_of, write_failed};
+    ghost use Rattle.hub.specs.Endpoints.{writer_of, write_failed};
 
     ghost written = { λ sink. W.contents (writer_of sink) };
 

@@ -1,7 +1,7 @@
 -- What a reader as a source, and a writer as a sink, show.
 use Rattle.std.specs.Prelude.{ℕ, Bool}
-use Rattle.hub.specs.declared.ends.Reading.{Reading}
-use Rattle.hub.specs.declared.ends.Writing.{Writing}
+use Rattle.hub.specs.declared.endpoints.Reading.{Reading}
+use Rattle.hub.specs.declared.endpoints.Writing.{Writing}
 
 -- the reader as it is now
 abbrev pub reader_of : {R : Type 0} → Reading R → R
