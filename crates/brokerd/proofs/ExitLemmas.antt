@@ -3,17 +3,9 @@ use Rattle.std.proofs.Common.{◌≡◌, ◌∙◌, ◌⊎◌, inl, inr, ℕ, Bo
 use Rattle.broker_types.specs.Fault.{IsWant, fault_number}
 use Rattle.broker_types.specs.declared.fault.Fault.{Fault}
 use Rattle.broker_types.specs.declared.fault.Fault.TheVariants.{Memory, Storage, Damaged, BadStart}
-use Rattle.brokerd.specs.Exits.{EndsBy, EndsByRead}
+use Rattle.brokerd.specs.Exits.{EndsBy}
 use Rattle.brokerd.specs.declared.replay.Exit.{Exit}
-use Rattle.brokerd.specs.declared.replay.Exit.TheVariants.{Done, Faulted, BadLine}
-
--- what ends without a read ends so
-pub ends_by_read : (ReadFailed : Type 0) (failed : Bool) (exit : Exit) → EndsBy failed exit → EndsByRead ReadFailed failed exit
-ends_by_read ReadFailed failed Done ends = tt
-ends_by_read ReadFailed failed (BadLine line) ends = tt
-ends_by_read ReadFailed failed (Faulted n) (inl memory) = inl memory
-ends_by_read ReadFailed failed (Faulted n) (inr (inl start)) = inr (inl start)
-ends_by_read ReadFailed failed (Faulted n) (inr (inr write)) = inr (inr (inr write))
+use Rattle.brokerd.specs.declared.replay.Exit.TheVariants.{Faulted}
 
 -- a want that is none of storage is one of memory
 pub want_number : (fault : Fault) → IsWant fault → ¬ (fault ≡ Storage) → fault_number fault ≡ 1
@@ -23,7 +15,7 @@ want_number Damaged want other = absurd want
 want_number BadStart want other = absurd want
 
 -- the replies were written after a want of memory, or a write failed
-pub ends_of : (failed : Bool) (result exit : Exit) (n : ℕ) (A : Type 0) → ((result ≡ exit) × A) ⊎ ((result ≡ Faulted 6) × IsTrue failed)
-    → exit ≡ Faulted n → n ≡ 1 → EndsBy failed result
-ends_of failed result exit n A (inl p) is one = subst (EndsBy failed) (sym (p.0 ∙ is)) (inl one)
-ends_of failed result exit n A (inr p) is one = subst (EndsBy failed) (sym p.0) (inr (inr (refl, p.1)))
+pub ends_of : (Equal : Type 0) (failed : Bool) (result exit : Exit) (n : ℕ) (A : Type 0) → ((result ≡ exit) × A) ⊎ ((result ≡ Faulted 6) × IsTrue failed)
+    → exit ≡ Faulted n → n ≡ 1 → EndsBy Equal failed result
+ends_of Equal failed result exit n A (inl p) is one = subst (EndsBy Equal failed) (sym (p.0 ∙ is)) (inl one)
+ends_of Equal failed result exit n A (inr p) is one = subst (EndsBy Equal failed) (sym p.0) (inr (inr (refl, p.1)))

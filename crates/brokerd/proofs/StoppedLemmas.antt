@@ -1,15 +1,10 @@
 -- What was written before a fault.
-use Rattle.std.proofs.Common.{◌≡◌, ◌⊎◌, inl, inr, ℕ, List, [], Option, Some, None, Vec, Global, take, slice_index, refl, sym, subst}
+use Rattle.std.proofs.Common.{◌≡◌, ◌⊎◌, inl, inr, ℕ, List, [], Option, Some, None, take, slice_index, refl, sym, subst}
 use Rattle.std.specs.Io.KnownBytes.{Appends}
 use Rattle.std.specs.List.{concat}
 use Rattle.broker_types.specs.First.{first_broker}
-use Rattle.broker_types.specs.declared.fault.Fault.{Fault}
-use Rattle.broker_types.specs.declared.fault.Fault.TheVariants.{Memory}
-use Rattle.broker.specs.Kept.{Kept}
-use Rattle.hub.specs.Runs.{bytes_of, StopsAt}
 use Rattle.hub.specs.World.{World, Run, new_world}
 use Rattle.hub.specs.declared.event.Event.{Event}
-use Rattle.hub.specs.declared.hub.Hub.{Hub}
 use Rattle.brokerd.specs.Lines.{Told}
 use Rattle.brokerd.specs.Replays.{IsUnfaulted, Replayed, WroteFirst, Stopped}
 use Rattle.brokerd.specs.declared.replay.Exit.{Exit}
@@ -49,14 +44,14 @@ stopped_at t old new (Faulted number) count replayed = λ other. (count, replaye
 abbrev pub world_of : Told → World
 world_of t = new_world (first_broker t.start.moment (slice_index t.start.words.0 1) (slice_index t.start.words.0 2))
 
--- the run stopped at an event, or before the first, and its replies were written
-pub stopped_run : {S : Type 0} (seen : S → Kept) (t : Told) (events : List Event) (place : ℕ) (replies : List (Vec ℕ Global)) (fault : Fault) (before after : Hub S)
-    (old new : Option (List ℕ)) (exit : Exit) → events ≡ t.events
-    → StopsAt seen (world_of t) events place (bytes_of replies) fault after ⊎ ((place ≡ 0) × (replies ≡ []) × (fault ≡ Memory) × (after ≡ before))
-    → Appends old new (concat (bytes_of replies)) → Stopped (Some t) old new exit
-stopped_run seen t events place replies fault before after old new exit same (inl stop) written =
+-- the replies of a run of so many events were written
+pub stopped_run : (t : Told) (events : List Event) (place : ℕ) (replies : List (List ℕ)) (after : World) (old new : Option (List ℕ)) (exit : Exit)
+    → events ≡ t.events → Run (world_of t) (take place events) replies after → Appends old new (concat replies) → Stopped (Some t) old new exit
+stopped_run t events place replies after old new exit same run written =
     stopped_at t old new exit place
-    (record { replies = bytes_of replies; after = stop.before; run = subst (λ (es : List Event). Run (world_of t) (take place es) (bytes_of replies) stop.before) same stop.run; written = written })
-stopped_run seen t events place replies fault before after old new exit same (inr none) written =
-    stopped_at t old new exit 0
-    (record { replies = []; after = world_of t; run = refl; written = subst (λ (rs : List (Vec ℕ Global)). Appends old new (concat (bytes_of rs))) none.1 written })
+    (record {
+      replies = replies;
+      after = after;
+      run = subst (λ (es : List Event). Run (world_of t) (take place es) replies after) same run;
+      written = written;
+    })

@@ -2,7 +2,7 @@ ghost use Rattle.std.specs.Prelude.{◌≡◌, ◌⊎◌, ◌+◌, ◌≤◌, �
 ghost use Rattle.std.specs.Io.KnownBytes.{Appends};
 ghost use Rattle.std.specs.List.{concat};
 ghost use Rattle.hub.specs.Runs.{bytes_of};
-ghost use Rattle.brokerd.specs.Exits.{EndsBy, EndsByRead};
+ghost use Rattle.brokerd.specs.Exits.{EndsBy, EndsByRead, HasEqualWords};
 ghost use Rattle.brokerd.specs.Lines.{lines_of, told_in};
 ghost use Rattle.brokerd.specs.Replays.{IsUnfaulted, Replayed, Replays, Stopped, exit_of, told};
 ghost use Rattle.brokerd.specs.declared.replay.Exit.TheVariants.{Faulted};
@@ -19,8 +19,8 @@ use std::alloc::Global;
 pub(crate) enum Exit {
     /// All lines were run.
     Done,
-    /// Memory (1), the storage (2), a read (5) or a write (6) failed, a row was damaged (3), or the
-    /// store could not be started (4).
+    /// Memory ran out (1), the storage failed (2), a row is damaged (3), the store cannot be started (4), or
+    /// a read (5) or a write (6) failed.
     Faulted(u8),
     /// The line of this number, counted from 1, is bad; those before it were run.
     BadLine(u64),
@@ -50,10 +50,11 @@ pub(crate) fn replay<R: Source, W: Sink>(alloc: Global, reader: &mut R, writer: 
     ensures stopped { (input : List ℕ) → R.left reader.old ≡ Some input
         → Stopped (told_in (lines_of input)) (W.written writer.old) (W.written writer.new) result }
 
-    // A fault of reading comes only where the source failed, or after 4,294,967,296 pulls; one of writing
-    // only where the sink failed.
-    ensures ends { EndsByRead (IsTrue (R.has_failed reader.new)
-        ⊎ (R.pulls reader.old + 4294967296 ≤ R.pulls reader.new))
+    // Fault 4 comes only where the start's words 1 and 2 are equal, a fault of reading only where the source
+    // failed, or after 4,294,967,296 pulls, and one of writing only where the sink failed.
+    ensures ends { EndsByRead
+        ((input : List ℕ) → R.left reader.old ≡ Some input → HasEqualWords (told_in (lines_of input)))
+        (IsTrue (R.has_failed reader.new) ⊎ (R.pulls reader.old + 4294967296 ≤ R.pulls reader.new))
         (W.has_failed writer.new) result }
 {
     match read_to_end(alloc, reader) {
@@ -65,7 +66,7 @@ pub(crate) fn replay<R: Source, W: Sink>(alloc: Global, reader: &mut R, writer: 
 
 /// Runs the lines of the input, and writes the replies.
 fn replay_input<W: Sink>(alloc: Global, input: &[u8], writer: &mut W) -> Exit
-    ensures ends { EndsBy (W.has_failed writer.new) result }
+    ensures ends { EndsBy (HasEqualWords (told_in (lines_of input.now))) (W.has_failed writer.new) result }
     ensures replays { IsUnfaulted result
         → Replays (told_in (lines_of input.now)) (W.written writer.old)
         (W.written writer.new) result }
@@ -81,7 +82,7 @@ fn replay_input<W: Sink>(alloc: Global, input: &[u8], writer: &mut W) -> Exit
 
 /// Starts a broker in memory, feeds it the events, and writes the replies.
 fn run_script<W: Sink>(alloc: Global, script: &Script, writer: &mut W) -> Exit
-    ensures ends { EndsBy (W.has_failed writer.new) result }
+    ensures ends { EndsBy (HasEqualWords (Some (told script.now))) (W.has_failed writer.new) result }
     ensures exit { IsUnfaulted result → result ≡ exit_of (told script.now) }
     ensures ran { IsUnfaulted result
         → Replayed script.now.start script.now.events.items (W.written writer.old)

@@ -42,9 +42,9 @@ impl<S: Store> Hub<S> {
 
     /// Takes a piece that comes on a connection, and answers at most one request. A connection that
     /// was not seen is opened; a closed one gives no bytes. The result is the bytes of the reply, or
-    /// none. After a fault the other connections are as before, and this one is closed; it stays not
+    /// none. After a fault the other connections are as before, and this one is closed; it is still not
     /// seen where opening it found no memory. The broker is as before then, as long as the storage
-    /// returns what was written and can still be asked. On rows that stand for a broker it fails with
+    /// returns what was written and can still be asked. On rows that represent a broker it fails with
     /// `Memory` or `Storage` alone, else with any fault of the store.
     pub fn feed(
         &mut self,

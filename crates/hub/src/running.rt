@@ -22,7 +22,7 @@ use std::alloc::Global;
 /// **Each connection receives exactly the reply bytes of the broker**, asked by the complete requests
 /// in the order in which their events answered them: for each world that the hub represents, the
 /// replies are those of a run from this world, no other replies are a run's, and the hub then represents
-/// for the world after it, as long as the storage returns what was written and no fault ends the run.
+/// the world after it, as long as the storage returns what was written and no fault ends the run.
 /// From a new hub this is the world of the store's broker with no connection seen.
 pub fn run<S: Store>(
     alloc: Global,
