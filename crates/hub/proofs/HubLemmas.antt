@@ -150,16 +150,16 @@ shut_represents : (d : Connection) (h : History) → d.closed ≡ true → Conne
 shut_represents d h shut = record { closed = shut; waits = λ e. absurd (false≢true (sym e)) }
 
 -- no fault where nothing comes on a seen connection and more bytes are wanted
-fed_free : (before after : Kept) (old new : ℕ → Option Connection) (conn : ℕ)
+fed_succeeds : (before after : Kept) (old new : ℕ → Option Connection) (conn : ℕ)
     (piece : List ℕ) (m : ℕ) (ws : Words) (r : Result (Vec ℕ Global) Fault) (all : Connections) (h : History) (rest : List ℕ)
     → Feeding before after old new conn piece m ws r → EachRepresents old all → (history_at all conn).closed ≡ false → all conn ≡ Some h → piece ≡ []
     → FollowsRequests h.stream h.answered rest → IsFront rest need → IsOk r
-fed_free before after old new conn piece m ws r all h rest f each is_open seen nothing follows front =
+fed_succeeds before after old new conn piece m ws r all h rest f each is_open seen nothing follows front =
     let at : history_at all conn ≡ h = ap (λ (x : Option History). unwrap_or x new_history) seen in
     let c : ConnectionRepresents f.c h = subst (ConnectionRepresents f.c) at (opened_at (old conn) (all conn) f.c (each conn) f.opened) in
     let wait = c.waits (ap (λ (x : History). x.closed) (sym at) ∙ is_open) in
     let same : rest ≡ wait.0 = FollowsRequests-unique h.stream h.answered rest wait.0 follows wait.2 in
-    f.feeds.free nothing wait.0 wait.1 (subst (λ (l : List ℕ). IsFront l need) same front)
+    f.feeds.succeeds nothing wait.0 wait.1 (subst (λ (l : List ℕ). IsFront l need) same front)
 
 -- whatever the rows are
 pub fed_gives : (before after : Kept) (old new : ℕ → Option Connection) (conn : ℕ)
@@ -185,7 +185,7 @@ fed_gives before after old new conn piece m ws (Err fault) all f each is_open =
       record {
         is_open = is_open;
         has_work = λ g rest seen nothing follows front.
-          false≢true (fed_free before after old new conn piece m ws (Err fault) all g rest f each is_open seen nothing follows front);
+          false≢true (fed_succeeds before after old new conn piece m ws (Err fault) all g rest f each is_open seen nothing follows front);
         left = inl refl;
       },
     )

@@ -7,6 +7,7 @@ use Rattle.http_layer.specs.Front.{Front, IsFront}
 use Rattle.http_layer.proofs.ReplyLemmas.{IsReply-unique}
 use Rattle.http_layer.proofs.FrontLemmas.{IsFront-unique}
 use Rattle.hub.specs.declared.event.Event.{Event}
+use Rattle.hub.specs.Asking.{PrefixesRun}
 use Rattle.hub.specs.World.{World, History, Next, Run, Turns, AreReplyBytes, front_closes, front_effect, history_after, put_history, history_at}
 use Rattle.hub.proofs.HistoryLemmas.{FollowsRequests-unique}
 
@@ -69,3 +70,18 @@ Run-unique w (e ∷ es) (x ∷ rs) (y ∷ qs) u v (s, first, p) (t, second, q) =
     let one = Next-unique w e x y s t first second in
     let more = Run-unique t es rs qs u v (subst (λ (z : World). Run z es rs u) one.1 p) q in
     (cc (one.0, more.0), more.1)
+
+pub Run-split : PrefixesRun
+Run-split w [] later replies after run =
+    record { first = []; last = replies; replies_are = refl; mid = w; run_first = refl; run_last = run }
+Run-split w (e ∷ es) later [] after run = absurd run
+Run-split w (e ∷ es) later (bytes ∷ replies) after (mid, next, run) =
+    let more = Run-split mid es later replies after run in
+    record {
+      first = bytes ∷ more.first;
+      last = more.last;
+      replies_are = ap (λ (l : List (List ℕ)). bytes ∷ l) more.replies_are;
+      mid = more.mid;
+      run_first = (mid, next, more.run_first);
+      run_last = more.run_last;
+    }

@@ -76,5 +76,5 @@ pub record Feeds (old new : Kept) (c d : Connection) (piece : List ℕ) (moment 
       → IfOk r (λ bytes. TookTurn old new h piece moment words bytes.items d)
   pub listed : IfOk r (λ bytes. IsListedReply bytes.items)
   pub closed : OnErr r (d.closed ≡ true)
-  pub free : piece ≡ [] → (rest : List ℕ) → Unanswered c rest → IsFront rest need → IsOk r
+  pub succeeds : piece ≡ [] → (rest : List ℕ) → Unanswered c rest → IsFront rest need → IsOk r
   pub keeps : Keeps old new r

@@ -1,4 +1,5 @@
 pub mod AnyRows
+pub mod Asking
 pub mod Endpoints
 pub mod Feeding
 pub mod Listed

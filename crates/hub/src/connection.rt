@@ -74,7 +74,7 @@ impl Connection {
             → IfOk result (λ bytes. TookTurn (S.seen store.old) (S.seen store.new) h piece.now moment
             words.now bytes.items self.new) }
         ensures listed { IfOk result (λ bytes. IsListedReply bytes.items) }
-        ensures free { piece.now ≡ [] → (rest : List ℕ) → Unanswered self.old rest
+        ensures succeeds { piece.now ≡ [] → (rest : List ℕ) → Unanswered self.old rest
             → IsFront rest need → IsOk result }
         ensures keeps { Keeps (S.seen store.old) (S.seen store.new) result }
     {
@@ -95,7 +95,7 @@ impl Connection {
         ensures ok { OnOk result ((rest : List ℕ) → Unanswered self.old rest
             → Unanswered self.new (rest ++ piece.now)) }
         ensures closed { self.new.closed ≡ self.old.closed }
-        ensures free { piece.now ≡ [] → IsOk result }
+        ensures succeeds { piece.now ≡ [] → IsOk result }
     {
         if piece.is_empty() {
             return Ok(());

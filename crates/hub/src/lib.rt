@@ -13,7 +13,7 @@ mod table;
 pub use endpoints::{Failed, Reading, Sink, Source, Writing};
 pub use event::Event;
 pub use hub::Hub;
-pub use laws::run_law;
+pub use laws::{asking_laws, run_laws};
 pub use running::run;
 
 #[cfg(test)]

@@ -76,7 +76,7 @@ pub(crate) fn serve<S: Store>(
     ensures serves { IfOk result (λ served. Serves (S.seen store.old) (S.seen store.new)
         moment words.now rest.now served) }
     ensures listed { IfOk result (λ served. IsListedReply served.bytes.items) }
-    ensures free { IsFront rest.now need → IsOk result }
+    ensures succeeds { IsFront rest.now need → IsOk result }
     ensures keeps { Keeps (S.seen store.old) (S.seen store.new) result }
 {
     match cut(rest) {
