@@ -9,15 +9,11 @@ ghost use Rattle.clap.specs.Words.{kind_of};
 ghost use Rattle.brokerd.specs.Exits.{status_after};
 
 mod command;
-mod input;
-mod lines;
-mod replay;
-mod script;
 
 use clap::error::{Error, ErrorKind};
 use command::{Command, command_of};
 use hub::{Reading, Writing};
-use replay::Exit;
+use replay::{Exit, replay};
 use std::io::{Eprint, Print};
 use std::process::ExitCode;
 use std::{env, io};
@@ -32,7 +28,7 @@ fn main(rt: HostRuntime) -> anyhow::Result<ExitCode> {
         Ok(Some(Command::Replay)) => {
             let mut reader = Reading::new(rt.reader());
             let mut writer = Writing::new(io::writer(&rt));
-            let exit = replay::replay(alloc, &mut reader, &mut writer);
+            let exit = replay(alloc, &mut reader, &mut writer);
             tell(&rt, exit)
         }
         Ok(None) => Ok(ExitCode::from(2)),
