@@ -185,7 +185,7 @@ fed_gives before after old new conn piece m ws (Err fault) all f each is_open =
       record {
         is_open = is_open;
         has_work = λ g rest seen nothing follows front.
-          false≢true (fed_succeeds before after old new conn piece m ws (Err fault) all g rest f each is_open seen nothing follows front);
+            false≢true (fed_succeeds before after old new conn piece m ws (Err fault) all g rest f each is_open seen nothing follows front);
         left = inl refl;
       },
     )

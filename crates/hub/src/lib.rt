@@ -17,4 +17,6 @@ pub use laws::{asking_laws, run_laws};
 pub use running::run;
 
 #[cfg(test)]
+mod rows;
+#[cfg(test)]
 mod tests;

@@ -40,14 +40,17 @@ returns-in-Err-feed-clause-before g c = λ honest w represents.
     (a.after, a.run)
 
 pub returns-in-Err-feed-clause-stopped : goal.returns-in-Err-feed-clause-stopped
-returns-in-Err-feed-clause-stopped g c = inr (c.loop-i-test.true, λ honest open_ w represents.
-    let seen = g.S.Store.seen in
-    let old = c.loop-i.hub in
-    let new = c.feed.new.self in
-    let honest_then = honest_before (hub_store seen old) (hub_store seen new) c.feed.ensures.keeps.later.doubts honest in
-    let kept = IfErr-at_err (λ _. (hub_store seen new).rows ≡ (hub_store seen old).rows) c.in-Err-feed.is (c.feed.ensures.keeps.kept honest open_) in
-    stops_at seen w c.args.events.now c.loop-i.i c.index-events-i.result c.as_slice-piece.result.now (bytes_of c.loop-i.replies.items) c.in-Err-feed.fault
-    old new c.index-events-i.is c.as_slice-piece.ensures (c.loop-i.invariant.answers honest_then w represents) kept c.in-Err-feed.ensures.connections)
+returns-in-Err-feed-clause-stopped g c = inr (
+  c.loop-i-test.true,
+  λ honest open_ w represents.
+      let seen = g.S.Store.seen in
+      let old = c.loop-i.hub in
+      let new = c.feed.new.self in
+      let honest_then = honest_before (hub_store seen old) (hub_store seen new) c.feed.ensures.keeps.later.doubts honest in
+      let kept = IfErr-at_err (λ _. (hub_store seen new).rows ≡ (hub_store seen old).rows) c.in-Err-feed.is (c.feed.ensures.keeps.kept honest open_) in
+      stops_at seen w c.args.events.now c.loop-i.i c.index-events-i.result c.as_slice-piece.result.now (bytes_of c.loop-i.replies.items) c.in-Err-feed.fault
+      old new c.index-events-i.is c.as_slice-piece.ensures (c.loop-i.invariant.answers honest_then w represents) kept c.in-Err-feed.ensures.connections,
+)
 
 pub returns-in-Err-feed-clause-wants : goal.returns-in-Err-feed-clause-wants
 returns-in-Err-feed-clause-wants g c = λ honest w represents.
