@@ -149,7 +149,7 @@ fed_next seen before old hub conn piece m ws r w f honest held each is_open =
 shut_represents : (d : Connection) (h : History) → d.closed ≡ true → ConnectionRepresents d (record h { closed = true })
 shut_represents d h shut = record { closed = shut; waits = λ e. absurd (false≢true (sym e)) }
 
--- no fault where nothing comes on a seen connection and more bytes are wanted
+-- no fault where nothing comes on a seen connection and more bytes are needed
 fed_succeeds : (before after : Kept) (old new : ℕ → Option Connection) (conn : ℕ)
     (piece : List ℕ) (m : ℕ) (ws : Words) (r : Result (Vec ℕ Global) Fault) (all : Connections) (h : History) (rest : List ℕ)
     → Feeding before after old new conn piece m ws r → EachRepresents old all → (history_at all conn).closed ≡ false → all conn ≡ Some h → piece ≡ []

@@ -21,7 +21,7 @@ abbrev pub IsRequestReply : ℕ → Bool → Result Ask RefusalParts → List �
 IsRequestReply moment close (Ok ask) bytes = (r : Response) × IsListed r × IsReply r moment close bytes
 IsRequestReply moment close (Err r) bytes = IsReply (ask_refused r) moment close bytes
 
--- the reply to a front: no bytes where more are wanted
+-- the reply to a front: no bytes where more are needed
 abbrev pub IsFrontReply : ℕ → Front → List ℕ → Type 0
 IsFrontReply moment need bytes = bytes ≡ []
 IsFrontReply moment (refused status) bytes = IsReply (front_refused status) moment true bytes
@@ -56,7 +56,7 @@ pub record FaultsAt (fault : Fault) (all : Connections) (conn : ℕ) (piece : Li
     : Type 0 where
   -- a closed connection has no fault
   pub is_open : (history_at all conn).closed ≡ false
-  -- nor has one that was seen, where nothing comes and more bytes are wanted
+  -- nor has one that was seen, where nothing comes and more bytes are needed
   pub has_work : (h : History) (rest : List ℕ) → all conn ≡ Some h → piece ≡ []
       → FollowsRequests h.stream h.answered rest → ¬ (IsFront rest need)
   -- it is closed, or opening it found no memory and it is still not seen; no other changes

@@ -30,7 +30,7 @@ pub(crate) struct Served {
 }
 
 impl Served {
-    /// No reply: more bytes are wanted.
+    /// No reply: more bytes are needed.
     fn nothing(alloc: Global) -> Served
         ensures bytes { result.bytes.items ≡ [] }
         ensures len { result.len ≡ None }

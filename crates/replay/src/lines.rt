@@ -17,7 +17,7 @@ pub(crate) struct Start {
 }
 
 /// The start that a line tells: a JSON object of `moment` and `words`. None if it is no such line. It
-/// fails for want of memory alone.
+/// fails only where memory runs out.
 pub(crate) fn read_start(alloc: Global, line: &[u8]) -> Result<Option<Start>, AllocError>
     ensures { IfOk result (λ start. start ≡ start_line line.now) }
 {
@@ -40,7 +40,7 @@ fn start_of(value: &Value) -> Option<Start>
 }
 
 /// The event that a line tells: a JSON object of `conn`, `moment`, `words` and `piece`. None if it is
-/// no such line. It fails for want of memory alone.
+/// no such line. It fails only where memory runs out.
 pub(crate) fn read_event(alloc: Global, line: &[u8]) -> Result<Option<Event>, AllocError>
     ensures { IfOk result (λ event. event ≡ event_line line.now) }
 {

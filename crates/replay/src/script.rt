@@ -34,7 +34,7 @@ impl Script {
 }
 
 /// Reads the lines of a replay, each ended by LF, of which the last may be missing. None if the first
-/// line is bad. It fails for want of memory alone.
+/// line is bad. It fails only where memory runs out.
 pub(crate) fn read_script(alloc: Global, input: &[u8]) -> Result<Option<Script>, AllocError>
     ensures { IfOk result (λ script. option_map told script ≡ told_in (lines_of input.now)) }
 {
@@ -84,7 +84,7 @@ fn split_line(lines: &[u8]) -> (&[u8], Option<&[u8]>)
     }
 }
 
-/// Where the first LF stands.
+/// The place of the first LF.
 fn line_end(lines: &[u8]) -> Option<usize>
     ensures place { result ≡ position is_line_feed lines.now }
     ensures within { IfSome result (λ end. end < length lines.now) }
