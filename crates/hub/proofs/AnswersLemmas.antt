@@ -30,8 +30,8 @@ pub answers_of : {S : Type 0} (seen : S → Kept) (w : World) (events : List Eve
 answers_of seen w events replies hub after run represents =
     record { after = after; run = run; only = λ others other is. (Run-unique w events replies others after other run is).0; represents = represents }
 
-pub answers_more : {S : Type 0} (seen : S → Kept) (w : World) (events : List Event) (i : ℕ) (e : Event) (piece bytes : List ℕ) (replies : List (List ℕ)) (old new : Hub S)
-    → i < length events → e ≡ get_or events i e → piece ≡ e.piece → Answers seen w (take i events) replies old
+pub answers_more : {S : Type 0} (seen : S → Kept) (w : World) (events : List Event) (i : ℕ) (e : Event) (piece bytes : List ℕ)
+    (replies : List (List ℕ)) (old new : Hub S) → i < length events → e ≡ get_or events i e → piece ≡ e.piece → Answers seen w (take i events) replies old
     → ((v : World) → HubRepresents seen old v → AnswersOne seen v (with_piece e piece) bytes new)
     → Answers seen w (take (i + 1) events) (replies ++ bytes ∷ []) new
 answers_more seen w events i e piece bytes replies old new lt is same a next =

@@ -175,7 +175,8 @@ fed_gives before after old new conn piece m ws (Ok bytes) all f each is_open =
     record { rest = t.rest; front = t.front; follows = t.follows; is_front = t.is_front; reply = t.reply; history = refl } in (
       next,
       puts_each old new conn all f.d g each f.here f.others t.represents,
-      subst (λ (x : Bool). MatchBool x ((bytes.items ≡ []) × (next ≡ all)) ((k : History) × TurnsOpen h piece m bytes.items k × (next ≡ put_history all conn k)))
+      subst (λ (x : Bool). MatchBool x ((bytes.items ≡ []) × (next ≡ all))
+          ((k : History) × TurnsOpen h piece m bytes.items k × (next ≡ put_history all conn k)))
           (sym is_open) (g, turns, refl),
     )
 fed_gives before after old new conn piece m ws (Err fault) all f each is_open =

@@ -70,7 +70,8 @@ request_served (Ok s) old new m w p body closing reply broker = record { closes 
 
 -- ---- what a request that asks the broker gives
 
-pub asked_served : (b : Broker) (m : ℕ) (w : Words) (p : HeadParts) (x : Result Ask RefusalParts) (ask : Ask) (a : Response) (close : Bool) (bytes : List ℕ) (rows : Rows)
+pub asked_served : (b : Broker) (m : ℕ) (w : Words) (p : HeadParts) (x : Result Ask RefusalParts) (ask : Ask) (a : Response) (close : Bool)
+    (bytes : List ℕ) (rows : Rows)
     → x ≡ Ok ask → close ≡ closes p → a ≡ (step b m w ask).response → IsReply a m close bytes → Holds rows (step b m w ask).next
     → IsServed (request_effect b m w x) m (request_closes p x) bytes rows
 asked_served b m w p x ask a close bytes rows is same response reply held =

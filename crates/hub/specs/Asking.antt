@@ -55,7 +55,8 @@ pub record EventOutcome (w : World) (e : Event) (bytes : List ℕ) (after : Worl
 
 -- each event asked something, which made its reply and the next broker, or nothing, and the broker is as before
 abbrev pub EachEventAsks : Type 0
-EachEventAsks = (w : World) (e : Event) (bytes : List ℕ) (after : World) → Next w e bytes after → EventOutcome w e bytes after
+EachEventAsks =
+    (w : World) (e : Event) (bytes : List ℕ) (after : World) → Next w e bytes after → EventOutcome w e bytes after
 
 -- an event asks one thing at most
 abbrev pub OneAsking : Type 0
@@ -72,7 +73,8 @@ abbrev pub WholeRequestsAsk : Type 0
 WholeRequestsAsk =
     (w : World) (e : Event) (rest : List ℕ) (len : ℕ) (head : HeadParts) (body : List ℕ) (ask : Ask)
     → (history_at w.connections e.conn).closed ≡ false
-    → FollowsRequests ((history_at w.connections e.conn).stream ++ e.piece) (history_at w.connections e.conn).answered rest
+    → FollowsRequests ((history_at w.connections e.conn).stream ++ e.piece)
+    (history_at w.connections e.conn).answered rest
     → IsFront rest (whole len head body) → asked head body ≡ Ok ask
     → EventAsks w e (Some (record { broker = w.broker; ask = ask; outcome = step w.broker e.moment e.words ask }))
 

@@ -1,7 +1,8 @@
 //! Laws of runs, each the contract of a function that does nothing.
 
 ghost use Rattle.std.specs.Prelude.{◌≡◌, ℕ, List};
-ghost use Rattle.hub.specs.Asking.{AskingIsAStep, EachEventAsks, EachPlaceAsks, OneAsking, PrefixesRun, WholeRequestsAsk};
+ghost use Rattle.hub.specs.Asking.{AskingIsAStep, EachEventAsks, EachPlaceAsks, OneAsking, PrefixesRun};
+ghost use Rattle.hub.specs.Asking.{WholeRequestsAsk};
 ghost use Rattle.hub.specs.World.{World, Run};
 ghost use Rattle.hub.specs.declared.event.Event.{Event};
 

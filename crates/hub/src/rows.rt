@@ -319,24 +319,28 @@ fn json_read_back(rt: HostRuntime) -> Result<(), Fail> {
     let row = row! {
         1 request!("POST /v1/cubbyhole/a", "Content-Length: 13\r\n\r\n{\"b\":1,\"a\":2}") => WRITTEN;
         1 request!("GET /v1/cubbyhole/a", "\r\n") => found!("171", "{\"a\":2,\"b\":1}", "020");
-        1 request!("POST /v1/cubbyhole/a", "Content-Length: 55\r\n\r\n \t\r\n{ \"a\" : [ 1 , true , false , null , { } , [ ] ] } \n")
+        1 request!("POST /v1/cubbyhole/a", "Content-Length: 55\r\n\r\n\
+            \x20\t\r\n{ \"a\" : [ 1 , true , false , null , { } , [ ] ] } \n")
             => WRITTEN;
         1 request!("GET /v1/cubbyhole/a", "\r\n") => found!("189", "{\"a\":[1,true,false,null,{},[]]}", "040");
         1 request!("POST /v1/cubbyhole/a", "Content-Length: 13\r\n\r\n{\"a\":1,\"a\":2}") => WRITTEN;
         1 request!("GET /v1/cubbyhole/a", "\r\n") => found!("165", "{\"a\":2}", "060");
         1 request!("POST /v1/cubbyhole/a", "Content-Length: 15\r\n\r\n{\"a\":1.5,\"a\":2}") => WRITTEN;
         1 request!("GET /v1/cubbyhole/a", "\r\n") => found!("165", "{\"a\":2}", "080");
-        1 request!("POST /v1/cubbyhole/a", "Content-Length: 38\r\n\r\n{\"a\":\"\\u0041\\u00e9\\ud83d\\ude00\\/\\\"\\\\\"}")
+        1 request!("POST /v1/cubbyhole/a", "Content-Length: 38\r\n\r\n\
+            {\"a\":\"\\u0041\\u00e9\\ud83d\\ude00\\/\\\"\\\\\"}")
             => WRITTEN;
         1 request!("GET /v1/cubbyhole/a", "\r\n") => found!("178", "{\"a\":\"Aé😀/\\\"\\\\\"}", "0a0");
-        1 request!("POST /v1/cubbyhole/a", "Content-Length: 42\r\n\r\n{\"a\":\"\\b\\f\\n\\r\\t\\u0000\\u001F\\u007f\\u0008\"}")
+        1 request!("POST /v1/cubbyhole/a", "Content-Length: 42\r\n\r\n\
+            {\"a\":\"\\b\\f\\n\\r\\t\\u0000\\u001F\\u007f\\u0008\"}")
             => WRITTEN;
         1 request!("GET /v1/cubbyhole/a", "\r\n")
             => found!("191", "{\"a\":\"\\b\\f\\n\\r\\t\\u0000\\u001f\x7f\\b\"}", "0c0");
         1 request!("POST /v1/cubbyhole/a", "Content-Length: 39\r\n\r\n{\"é\":1,\"z\":2,\"\\uffff\":3,\"😀\":4,\"\":5}")
             => WRITTEN;
         1 request!("GET /v1/cubbyhole/a", "\r\n") => found!("194", "{\"\":5,\"z\":2,\"é\":1,\"￿\":3,\"😀\":4}", "0e0");
-        1 request!("POST /v1/cubbyhole/a", "Content-Length: 64\r\n\r\n{\"a\":-9223372036854775808,\"b\":18446744073709551615,\"c\":-1,\"d\":\
+        1 request!("POST /v1/cubbyhole/a", "Content-Length: 64\r\n\r\n\
+            {\"a\":-9223372036854775808,\"b\":18446744073709551615,\"c\":-1,\"d\":\
              0}")
             => WRITTEN;
         1 request!("GET /v1/cubbyhole/a", "\r\n")
@@ -355,12 +359,14 @@ fn limits_of_json(rt: HostRuntime) -> Result<(), Fail> {
     let row = row! {
         1 request!("POST /v1/cubbyhole/a", "Content-Length: 8\r\n\r\n{\"a\":-0}") => NO_JSON;
         1 request!("POST /v1/cubbyhole/a", "Content-Length: 9\r\n\r\n{\"a\":1.5}") => NO_JSON;
-        1 request!("POST /v1/cubbyhole/a", "Content-Length: 260\r\n\r\n{\"a\":[[[[[[[[[[[[[[[[[[[[[[[[[[[[[[[[[[[[[[[[[[[[[[[[[[[[[[[[[[[[[[\
+        1 request!("POST /v1/cubbyhole/a", "Content-Length: 260\r\n\r\n\
+            {\"a\":[[[[[[[[[[[[[[[[[[[[[[[[[[[[[[[[[[[[[[[[[[[[[[[[[[[[[[[[[[[[[[\
              [[[[[[[[[[[[[[[[[[[[[[[[[[[[[[[[[[[[[[[[[[[[[[[[[[[[[[[[[[[[[[[[[]]]]]]]]]]]]]]]]]]]]]]]]]]]]]]]\
              ]]]]]]]]]]]]]]]]]]]]]]]]]]]]]]]]]]]]]]]]]]]]]]]]]]]]]]]]]]]]]]]]]]]]]]]]]]]]]]]]]]]]]]]]]]]]]]]]\
              }")
             => NO_JSON;
-        1 request!("POST /v1/cubbyhole/a", "Content-Length: 258\r\n\r\n{\"a\":[[[[[[[[[[[[[[[[[[[[[[[[[[[[[[[[[[[[[[[[[[[[[[[[[[[[[[[[[[[[[[\
+        1 request!("POST /v1/cubbyhole/a", "Content-Length: 258\r\n\r\n\
+            {\"a\":[[[[[[[[[[[[[[[[[[[[[[[[[[[[[[[[[[[[[[[[[[[[[[[[[[[[[[[[[[[[[[\
              [[[[[[[[[[[[[[[[[[[[[[[[[[[[[[[[[[[[[[[[[[[[[[[[[[[[[[[[[[[[[[[[]]]]]]]]]]]]]]]]]]]]]]]]]]]]]]]]\
              ]]]]]]]]]]]]]]]]]]]]]]]]]]]]]]]]]]]]]]]]]]]]]]]]]]]]]]]]]]]]]]]]]]]]]]]]]]]]]]]]]]]]]]]]]]]]]]}")
             => WRITTEN;

@@ -1,5 +1,6 @@
 -- What a line of a replay tells.
-use Rattle.std.proofs.Common.{◌≡◌, ◌∙◌, ℕ, suc, ◌<◌, ◌^◌, ◌==◌, ◌&&◌, Bool, true, false, List, [], ◌∷◌, length, drop, Some, None, Result, Ok, Err, String, Global, if◌then◌else◌, cond, refl, sym, ap, subst, arith}
+use Rattle.std.proofs.Common.{◌≡◌, ◌∙◌, ℕ, suc, ◌<◌, ◌^◌, ◌==◌, ◌&&◌, Bool, true, false, List, [], ◌∷◌, length, drop, Some, None, Result, Ok, Err, String}
+use Rattle.std.proofs.Common.{Global, if◌then◌else◌, cond, refl, sym, ap, subst, arith}
 use Rattle.std.specs.Char.{is_ascii_hexdigit, digit_value}
 use Rattle.std.specs.List.{list_all}
 use Rattle.std.specs.Result.{result_ok, OkIff}

@@ -1,5 +1,6 @@
 -- The lines of an input, and what they tell.
-use Rattle.std.proofs.Common.{◌≡◌, ◌∙◌, ℕ, ◌+◌, ◌-◌, ◌<◌, ◌≤◌, Bool, true, false, cond, not, List, [], ◌∷◌, ◌++◌, length, take, drop, Some, None, nat_lt, refl, sym, ap, arith}
+use Rattle.std.proofs.Common.{◌≡◌, ◌∙◌, ℕ, ◌+◌, ◌-◌, ◌<◌, ◌≤◌, Bool, true, false, cond, not, List, [], ◌∷◌, ◌++◌, length, take, drop, Some, None, nat_lt, refl}
+use Rattle.std.proofs.Common.{sym, ap, arith}
 use Rattle.std.specs.List.{onto_first, position, position_or_len, slice_split}
 use Rattle.std.proofs.lemmas.Bool.Decides.{nat_tests}
 use Rattle.std.proofs.lemmas.List.{length-drop, take_all}
@@ -20,7 +21,8 @@ found_at p xs k true is e =
 pub slice_split-found : (p : ℕ → Bool) (xs : List ℕ) (k : ℕ) → Some k ≡ position p xs → k < length xs
     → slice_split p xs ≡ take k xs ∷ slice_split p (take (length xs - (k + 1)) (drop (k + 1) xs))
 slice_split-found p xs k e within =
-    let all : take (length xs - (k + 1)) (drop (k + 1) xs) ≡ drop (k + 1) xs = take_all (length xs - (k + 1)) (drop (k + 1) xs) (omega (arith, length-drop (k + 1) xs)) in
+    let all : take (length xs - (k + 1)) (drop (k + 1) xs) ≡ drop (k + 1) xs =
+    take_all (length xs - (k + 1)) (drop (k + 1) xs) (omega (arith, length-drop (k + 1) xs)) in
     found_at p xs k (nat_lt (position_or_len p xs) (length xs)) refl (sym e) ∙ ap (λ (l : List ℕ). take k xs ∷ slice_split p l) (sym all)
 
 no_first : (p : ℕ → Bool) (xs : List ℕ) → length xs ≤ position_or_len p xs → slice_split p xs ≡ xs ∷ []

@@ -1,5 +1,7 @@
 -- The lines of a replay: a format of this project, in which each line is one JSON object (RFC 8259).
-use Rattle.std.specs.Prelude.{ℕ, zero, suc, ◌+◌, ◌%◌, ◌^◌, ◌==◌, ◌&&◌, ◌||◌, Bool, false, List, [], ◌∷◌, length, take, codes, slice_index, nat_le, if◌then◌else◌, Option, Some, None, option_map, option_and_then, is_none, ◌-◌}
+use Rattle.std.specs.Prelude.{ℕ, zero, suc, ◌+◌, ◌%◌, ◌^◌, ◌==◌, ◌&&◌, ◌||◌, Bool, false, List, [], ◌∷◌, length, take}
+use Rattle.std.specs.Prelude.{codes, slice_index, nat_le, if◌then◌else◌, Option, Some, None, option_map}
+use Rattle.std.specs.Prelude.{option_and_then, is_none, ◌-◌}
 use Rattle.std.specs.Char.{is_ascii_hexdigit}
 use Rattle.std.specs.List.{list_all, slice_split}
 use Rattle.std.specs.Option.{option_map_or}
@@ -71,7 +73,8 @@ abbrev pub start_line : List ℕ → Option Start
 start_line line = option_and_then start_in (line_value line)
 
 abbrev pub event_with : Option ℕ → Option ℕ → Option Words → Option Text → Option Event
-event_with (Some conn) (Some moment) (Some words) (Some piece) = Some (record { conn = conn; piece = piece; moment = moment; words = words })
+event_with (Some conn) (Some moment) (Some words) (Some piece) =
+    Some (record { conn = conn; piece = piece; moment = moment; words = words })
 event_with (Some conn) (Some moment) (Some words) None = None
 event_with (Some conn) (Some moment) None piece = None
 event_with (Some conn) None words piece = None

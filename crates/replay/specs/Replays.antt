@@ -1,5 +1,6 @@
 -- What a replay answers.
-use Rattle.std.specs.Prelude.{◌≡◌, ◌≢◌, ◌+◌, ℕ, List, [], Option, Some, None, ⊤, length, take, slice_index, if◌then◌else◌}
+use Rattle.std.specs.Prelude.{◌≡◌, ◌≢◌, ◌+◌, ℕ, List, [], Option, Some, None, ⊤, length, take, slice_index}
+use Rattle.std.specs.Prelude.{if◌then◌else◌}
 use Rattle.std.specs.Io.KnownBytes.{Appends}
 use Rattle.std.specs.List.{concat}
 use Rattle.broker_types.specs.First.{first_broker}
@@ -29,7 +30,8 @@ exit_of t = if t.is_cut then BadLine (length t.events + 2) else Done
 pub record Replayed (start : Start) (events : List Event) (old new : Option (List ℕ)) : Type 0 where
   pub replies : List (List ℕ)
   pub after : World
-  pub run : Run (new_world (first_broker start.moment (slice_index start.words.0 1) (slice_index start.words.0 2))) events replies after
+  pub run : Run (new_world (first_broker start.moment (slice_index start.words.0 1) (slice_index start.words.0 2)))
+      events replies after
   pub written : Appends old new (concat replies)
 
 -- what the lines tell was replayed; nothing was written where the first is bad

@@ -2,7 +2,8 @@ ghost use Rattle.std.specs.Prelude.{◌≡◌, IfOk, codes, option_map};
 ghost use Rattle.std.specs.Char.{is_ascii_hexdigit};
 ghost use Rattle.std.specs.List.{list_all};
 ghost use Rattle.serde_json.specs.View.{view};
-ghost use Rattle.replay.specs.Lines.{start_line, start_in, event_line, event_in, line_value, member_count, number_in, text_in, moment_in, words_in, word_of, words_from};
+ghost use Rattle.replay.specs.Lines.{start_line, start_in, event_line, event_in, line_value, member_count, number_in};
+ghost use Rattle.replay.specs.Lines.{text_in, moment_in, words_in, word_of, words_from};
 
 use broker_types::{Bytes, Moment, Words};
 use hub::Event;

@@ -1,4 +1,5 @@
-use Rattle.std.proofs.Common.{◌≡◌, ◌∙◌, ◌+◌, ℕ, List, [], ◌∷◌, ◌++◌, Result, Ok, Err, IsOk, is_ok, if◌then◌else◌, ap, sym, subst, inr, arith, take, refl, rules, Vec}
+use Rattle.std.proofs.Common.{◌≡◌, ◌∙◌, ◌+◌, ℕ, List, [], ◌∷◌, ◌++◌, Result, Ok, Err, IsOk, is_ok, if◌then◌else◌, ap, sym, subst, inr, arith, take, refl, rules}
+use Rattle.std.proofs.Common.{Vec}
 use Rattle.std.proofs.lemmas.Bool.{false≢true}
 use Rattle.std.proofs.lemmas.List.{map_push}
 use Rattle.std.proofs.lemmas.Result.{IfErr-at_err}
@@ -35,7 +36,8 @@ returns-in-Err-clause-before g c = λ honest w represents.
 
 pub returns-in-Err-feed-clause-before : goal.returns-in-Err-feed-clause-before
 returns-in-Err-feed-clause-before g c = λ honest w represents.
-    let honest_then = honest_before (hub_store g.S.Store.seen c.loop-i.hub) (hub_store g.S.Store.seen c.feed.new.self) c.feed.ensures.keeps.later.doubts honest in
+    let honest_then = honest_before (hub_store g.S.Store.seen c.loop-i.hub) (hub_store g.S.Store.seen c.feed.new.self)
+    c.feed.ensures.keeps.later.doubts honest in
     let a = c.loop-i.invariant.answers honest_then w represents in
     (a.after, a.run)
 
@@ -54,7 +56,8 @@ returns-in-Err-feed-clause-stopped g c = inr (
 
 pub returns-in-Err-feed-clause-wants : goal.returns-in-Err-feed-clause-wants
 returns-in-Err-feed-clause-wants g c = λ honest w represents.
-    let before = honest_before (hub_store g.S.Store.seen c.loop-i.hub) (hub_store g.S.Store.seen c.feed.new.self) c.feed.ensures.keeps.later.doubts honest in
+    let before = honest_before (hub_store g.S.Store.seen c.loop-i.hub) (hub_store g.S.Store.seen c.feed.new.self)
+    c.feed.ensures.keeps.later.doubts honest in
     let a = c.loop-i.invariant.answers before w represents in
     IfErr-at_err IsWant c.in-Err-feed.is (c.feed.ensures.keeps.wants honest a.after.broker a.represents.broker)
 
@@ -73,15 +76,18 @@ loop-i-init g c = record {
 pub loop-i-preserved : goal.loop-i-preserved
 loop-i-preserved g c =
     let ok : IsOk c.push.result = c.push.ensures.succeeds (omega (arith, c.loop-i-test.true, c.loop-i.invariant.count, c.loop-i.invariant.room)) in
-    let now = replies_more c.push.new.self.items c.loop-i.replies.items c.in-Ok.bytes (pushed {A = List (Vec ℕ Global)} c.push.result _ _ _ ok c.push.ensures.items) in
+    let now = replies_more c.push.new.self.items c.loop-i.replies.items c.in-Ok.bytes
+    (pushed {A = List (Vec ℕ Global)} c.push.result _ _ _ ok c.push.ensures.items) in
     record {
       count = pushed c.push.result _ _ _ ok c.push.ensures.len ∙ ap (λ (n : ℕ). n + 1) c.loop-i.invariant.count;
       room = omega (arith, c.push.ensures.capacity, c.loop-i.invariant.room);
-      later = later_still (hub_store g.S.Store.seen c.args.hub.now) (hub_store g.S.Store.seen c.loop-i.hub) (hub_store g.S.Store.seen c.feed.new.self) c.loop-i.invariant.later c.feed.ensures.keeps.later;
+      later = later_still (hub_store g.S.Store.seen c.args.hub.now) (hub_store g.S.Store.seen c.loop-i.hub) (hub_store g.S.Store.seen c.feed.new.self)
+          c.loop-i.invariant.later c.feed.ensures.keeps.later;
       listed = subst (All IsListedReply) (sym now)
           (All-push IsListedReply (bytes_of c.loop-i.replies.items) c.in-Ok.bytes.items c.loop-i.invariant.listed c.in-Ok.ensures.listed);
       answers = λ honest w represents.
-          let before = honest_before (hub_store g.S.Store.seen c.loop-i.hub) (hub_store g.S.Store.seen c.feed.new.self) c.feed.ensures.keeps.later.doubts honest in
+          let before = honest_before (hub_store g.S.Store.seen c.loop-i.hub) (hub_store g.S.Store.seen c.feed.new.self)
+          c.feed.ensures.keeps.later.doubts honest in
           subst (λ (l : List (List ℕ)). Answers g.S.Store.seen w (take (c.loop-i.i + 1) c.args.events.now) l c.feed.new.self) (sym now)
           (answers_more g.S.Store.seen w c.args.events.now c.loop-i.i c.index-events-i.result c.as_slice-piece.result.now c.in-Ok.bytes.items
           (bytes_of c.loop-i.replies.items) c.loop-i.hub c.feed.new.self c.loop-i-test.true c.index-events-i.is c.as_slice-piece.ensures
@@ -90,4 +96,5 @@ loop-i-preserved g c =
 
 pub returns-clause-replies : goal.returns-clause-replies
 returns-clause-replies g c = λ honest w represents.
-    answers_all g.S.Store.seen w c.args.events.now c.loop-i.i (bytes_of c.loop-i.replies.items) c.loop-i.hub c.loop-i-test.false (c.loop-i.invariant.answers honest w represents)
+    answers_all g.S.Store.seen w c.args.events.now c.loop-i.i (bytes_of c.loop-i.replies.items) c.loop-i.hub c.loop-i-test.false
+    (c.loop-i.invariant.answers honest w represents)

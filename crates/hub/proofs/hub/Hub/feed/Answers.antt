@@ -10,7 +10,8 @@ pub returns-then-is_closed-clause-ok : goal.returns-then-is_closed-clause-ok
 returns-then-is_closed-clause-ok g c = λ honest w represents.
     let hub = c.args.self.now in
     let is = is_closed_in (hub_connections hub) c.args.conn w.connections c.is_closed.result represents.connections c.is_closed.ensures in
-    closed_next g.S.Store.seen hub c.args.conn c.args.piece.now c.new.result.items c.args.moment c.args.words.now w represents (is ∙ c.if-is_closed.true) c.new.ensures.items
+    closed_next g.S.Store.seen hub c.args.conn c.args.piece.now c.new.result.items c.args.moment c.args.words.now w represents
+    (is ∙ c.if-is_closed.true) c.new.ensures.items
 
 pub returns-then-is_closed-clause-connections : goal.returns-then-is_closed-clause-connections
 returns-then-is_closed-clause-connections g c = λ all each.
