@@ -1,5 +1,6 @@
 -- What follows the answered requests of a stream.
-use Rattle.std.proofs.Common.{◌≡◌, ◌∙◌, ℕ, zero, suc, ◌+◌, ◌≤◌, List, ◌++◌, length, drop, refl, sym, ap, subst, arith, add-one, Result, Ok, Err, OnOk, is_ok, if◌then◌else◌}
+use Rattle.std.proofs.Common.{◌≡◌, ◌∙◌, ℕ, zero, suc, ◌+◌, ◌≤◌, List, ◌++◌, length, drop, refl, sym, ap, subst, arith, add-one, Result, Ok, Err, OnOk, is_ok}
+use Rattle.std.proofs.Common.{if◌then◌else◌}
 use Rattle.std.proofs.lemmas.List.{drop-append-le, length-drop}
 use Rattle.http_layer.specs.Front.{need, refused_with, whole, IsFront}
 use Rattle.http_layer.specs.HeadParts.{HeadParts}

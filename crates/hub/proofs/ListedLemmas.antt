@@ -1,26 +1,32 @@
--- Replies that are given without asking the broker are listed.
-use Rattle.std.proofs.Common.{◌≡◌, ℕ, Bool, true, List, Result, Ok, Err, IfOk, IfErr, refl, subst, inl, inr}
-use Rattle.broker_types.specs.Answer.{Response}
+-- The replies to fronts are listed.
+use Rattle.std.proofs.Common.{ℕ, Bool, true, List, Result, Ok, Err, IfOk, IfErr, refl, inl, inr}
 use Rattle.broker_types.specs.declared.ask.Ask.{Ask}
 use Rattle.broker_types.specs.declared.fault.Fault.{Fault}
-use Rattle.broker_types.specs.declared.status.Status.{Status}
 use Rattle.http_layer.specs.Asked.{asked}
-use Rattle.http_layer.specs.Front.{refused_with, IsFront}
-use Rattle.http_layer.specs.HeadParts.{HeadParts}
+use Rattle.http_layer.specs.Front.{Front, need, refused_with, whole, IsFront}
 use Rattle.http_layer.specs.Listed.{IsAskRefusal}
 use Rattle.http_layer.specs.Refusing.{RefusalParts, ask_refused, front_refused}
-use Rattle.http_layer.specs.Reply.{IsReply}
 use Rattle.http_layer.proofs.ListedLemmas.{front_refuses, ask_refuses}
+use Rattle.hub.specs.AnyRows.{IsRequestReply, IsFrontReply}
+use Rattle.hub.specs.World.{request_closes}
+use Rattle.hub.specs.Feeding.{Serves}
 use Rattle.hub.specs.Listed.{IsListedReply}
 use Rattle.hub.specs.declared.serving.Served.{Served}
+use Rattle.broker.specs.Kept.{Kept}
+use Rattle.broker_types.specs.declared.words.Words.{Words}
 
-pub front_listed : (r : Result Served Fault) (rest : List ℕ) (status : Status) (m : ℕ) → IsFront rest (refused_with status)
-    → IfOk r (λ s. IsReply (front_refused status) m true s.bytes.items) → IfOk r (λ s. IsListedReply s.bytes.items)
-front_listed (Err e) rest status m front reply = tt
-front_listed (Ok s) rest status m front reply =
-    inr (front_refused status, m, true, inr (inl (status, front_refuses rest status front, refl)), reply)
+request_listed : (m : ℕ) (close : Bool) (x : Result Ask RefusalParts) (bytes : List ℕ) → IfErr x IsAskRefusal → IsRequestReply m close x bytes
+    → IsListedReply bytes
+request_listed m close (Ok ask) bytes refusal (response, listed, reply) = inr (response, m, close, inl listed, reply)
+request_listed m close (Err r) bytes refusal reply = inr (ask_refused r, m, close, inr (inr (r, refusal, refl)), reply)
 
-pub ask_listed : (head : HeadParts) (body : List ℕ) (r : RefusalParts) (a : Response) (m : ℕ) (close : Bool) (bytes : List ℕ)
-    → asked head body ≡ Err r → a ≡ ask_refused r → IsReply a m close bytes → IsListedReply bytes
-ask_listed head body r a m close bytes is same reply =
-    inr (a, m, close, inr (inr (r, subst (λ (x : Result Ask RefusalParts). IfErr x IsAskRefusal) is (ask_refuses head body), same)), reply)
+front_listed : (m : ℕ) (rest : List ℕ) (front : Front) (bytes : List ℕ) → IsFront rest front → IsFrontReply m front bytes → IsListedReply bytes
+front_listed m rest need bytes is reply = inl reply
+front_listed m rest (refused_with status) bytes is reply = inr (front_refused status, m, true, inr (inl (status, front_refuses rest status is, refl)), reply)
+front_listed m rest (whole len head body) bytes is reply =
+    request_listed m (request_closes head (asked head body)) (asked head body) bytes (ask_refuses head body) reply
+
+pub served_listed : (old new : Kept) (m : ℕ) (w : Words) (rest : List ℕ) (r : Result Served Fault) → IfOk r (Serves old new m w rest)
+    → IfOk r (λ s. IsListedReply s.bytes.items)
+served_listed old new m w rest (Err e) serves = tt
+served_listed old new m w rest (Ok s) serves = front_listed m rest serves.front s.bytes.items serves.is_front serves.reply
