@@ -32,7 +32,8 @@ by_order q (t ∷ ts) = λ i. same-text_cmp q t i || by_order q ts i
 has-paths : (b : Broker) (t path : Text) → is_some (object_at b t path) ≡ has (paths b t) path
 has-paths b t path = inner (get b.tokens t)
   where
-    inner : (o : Option Token) → is_some (option_and_then (λ (x : Token). get x.cubbyhole path) o) ≡ has (option_map_or (λ (x : Token). keys x.cubbyhole) o []) path
+    inner : (o : Option Token) → is_some (option_and_then (λ (x : Token). get x.cubbyhole path) o)
+        ≡ has (option_map_or (λ (x : Token). keys x.cubbyhole) o []) path
     inner None = refl
     inner (Some x) = contains_key-keys x.cubbyhole path ∙ sym (by_order path (keys x.cubbyhole))
 

@@ -44,7 +44,8 @@ children_in rows t path =
 
 -- no row has changed but those of t's cubbyhole
 abbrev pub KeepsOtherOwners : Text → Table → Table → Type 0
-KeepsOtherOwners t old new = (k : Kind) (q : Text) → is_under kind.Cubby (object_key t []) k q ≡ false → new k q ≡ old k q
+KeepsOtherOwners t old new =
+    (k : Kind) (q : Text) → is_under kind.Cubby (object_key t []) k q ≡ false → new k q ≡ old k q
 
 -- a row of a cubbyhole has its token as its owner, and stands at the token, a slash and a path
 pub record IsFiled (q : Text) (row : Row) : Type 0 where

@@ -1,5 +1,6 @@
 -- Edits of a cubbyhole leave a sound broker sound, and let it evolve.
-use Rattle.std.specs.Prelude.{◌≡◌, ◌≢◌, ℕ, zero, suc, length, Bool, true, false, cond, if◌then◌else◌, Option, Some, None}
+use Rattle.std.specs.Prelude.{◌≡◌, ◌≢◌, ℕ, zero, suc, length, Bool, true, false, cond, if◌then◌else◌, Option, Some}
+use Rattle.std.specs.Prelude.{None}
 use Rattle.std.specs.Prelude.{option_map, option_and_then, is_none}
 use Rattle.std.specs.Option.{option_map_or}
 use Rattle.std.specs.FinMap.{len-entries, get-empty}
@@ -12,7 +13,8 @@ use Rattle.broker_types.specs.Token.{Token, Tokens, Lease}
 use Rattle.broker_types.specs.Lineage.{ends_within, ParentsExist, ChainsEnd}
 use Rattle.broker_types.specs.Broker.{Broker}
 use Rattle.broker_types.specs.Places.{Place, token, accessor, lease, credential, wrapping_token, wrapping_accessor}
-use Rattle.broker_types.specs.Places.{identifier_at, token_identifier, lease_identifier, lease_of, OnePlaceEach, AllUsed}
+use Rattle.broker_types.specs.Places.{identifier_at, token_identifier, lease_identifier, lease_of, OnePlaceEach}
+use Rattle.broker_types.specs.Places.{AllUsed}
 use Rattle.broker_types.specs.Evolves.{Evolves}
 use Rattle.broker_types.specs.Sound.{Forms, Sound, IsSoundToken, IsPathText, IsObjectText}
 use Rattle.broker_types.specs.TextLaws.{same_true}
@@ -122,7 +124,8 @@ module _ (b : Broker) (t : Text) (edit : Map Text → Map Text) where
       }
 
   module _ (forms : Forms) where
-    sound_token : (q : Text) (v : Bool) (x : Token) → (AreObjects forms x.cubbyhole → AreObjects forms (edit x.cubbyhole))
+    sound_token : (q : Text) (v : Bool) (x : Token)
+        → (AreObjects forms x.cubbyhole → AreObjects forms (edit x.cubbyhole))
         → IsSoundToken forms q x → IsSoundToken forms q (if v then with_cubbyhole edit x else x)
     sound_token q false x keeps s = s
     sound_token q true x keeps s =

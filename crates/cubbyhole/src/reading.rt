@@ -40,7 +40,8 @@ pub fn read<T: RecordsTx>(alloc: Global, tx: &mut T, token: &str, path: &str) ->
     ensures faults { IfErr result
         (IsReadFault (IsHonest (T.seen tx.new) → IsDamagedAt (table (T.seen tx.old)) token.now path.now)) }
     ensures undamaged { IsHonest (T.seen tx.new) → (forms : Forms) (b : Broker) → SoundTokens forms b.tokens
-        → Tells of_cubbyholes (table (T.seen tx.old)) b → length token.now ≡ token_len → IfErr result IsMemoryOrStorage }
+        → Tells of_cubbyholes (table (T.seen tx.old)) b → length token.now ≡ token_len
+            → IfErr result IsMemoryOrStorage }
     ensures goes_on { GoesOn (T.seen tx.old) (T.seen tx.new) (is_storage result) }
 {
     let key = object_key(alloc, token, path)?;
