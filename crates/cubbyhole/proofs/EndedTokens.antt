@@ -53,7 +53,7 @@ ended_left b c (t ∷ ended) rows lens told objects =
     ended_left (drop_owner b t) c ended (without_under rows kind.Cubby (object_key t []))
     (λ u h. lens u (or_right (same u t) (has ended u) h))
     (tells_edited b t (λ m. empty) (λ q. starts_with nat_eq q (object_key t [])) None rows (without_under rows kind.Cubby (object_key t [])) refl
-        (cubby-drop_owner b t (lens t (ap (λ v. v || has ended t) (same_self t)))) of_cubbyholes told)
+    (cubby-drop_owner b t (lens t (ap (λ v. v || has ended t) (same_self t)))) of_cubbyholes told)
     (λ u path.
     objects u path ∙ one_more (same u t) (has ended u) (object_at b u path)
     ∙ ap (λ o. if has ended u then None else o) (sym (object_at-drop_owner b t u path)))

@@ -1,5 +1,5 @@
 -- Cubbyholes as rows: each object has one, at its token, a slash and its path (this project's row format).
-use Rattle.std.specs.Prelude.{◌≡◌, ◌++◌, List, [], ◌∷◌, true, false, length, Option, Some, option_map, ⊤}
+use Rattle.std.specs.Prelude.{◌≡◌, ◌++◌, List, [], ◌∷◌, false, length, Option, Some, option_map, ⊤}
 use Rattle.broker_types.specs.Text.{Text}
 use Rattle.broker_types.specs.Sound.{IsShortText}
 use Rattle.broker_types.specs.declared.fault.Fault.{Fault}

@@ -198,7 +198,7 @@ module _ (forms : Forms) (who : Option Text) (b : Broker) (t : Text) (sound : So
       → AreObjects forms m → AreObjects forms (put m path object)
   put_objects path object m hp ho all p o e =
       elim (same p path) as (λ v. same p path ≡ v → cond v (Some object) (get m p) ≡ Some o
-          → IsPathText p × IsObjectText forms o) [
+      → IsPathText p × IsObjectText forms o) [
         | true ↦ λ at is.
             (subst IsPathText (sym (same_true p path at)) hp, subst (IsObjectText forms) (same_Some _ _ is) ho)
         | false ↦ λ _ is. all p o is

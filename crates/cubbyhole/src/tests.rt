@@ -18,9 +18,21 @@ fn kept(rt: &HostRuntime, token: &str, paths: &[&str]) -> Result<ListTx, Fail> {
 }
 
 /// Whether the children of a folder are these.
-fn lists(rt: &HostRuntime, tx: &mut ListTx, token: &str, path: &str, expected: &[&str]) -> Result<bool, Fail> {
+fn lists(
+    rt: &HostRuntime,
+    tx: &mut ListTx,
+    token: &str,
+    path: &str,
+    expected: &[&str],
+) -> Result<bool, Fail> {
     let names = list(rt.alloc(), tx, token, path)?;
-    Ok(names.len() == expected.len() && names.iter().zip(expected).all(|(name, wanted)| name.as_str() == *wanted))
+    Ok(
+        names.len() == expected.len()
+            && names
+                .iter()
+                .zip(expected)
+                .all(|(name, wanted)| name.as_str() == *wanted),
+    )
 }
 
 #[test]
@@ -41,7 +53,13 @@ fn a_path_and_a_folder_may_have_one_name(rt: HostRuntime) -> Result<(), Fail> {
 }
 
 /// Whether a path of the token's cubbyhole has this object.
-fn reads(rt: &HostRuntime, tx: &mut ListTx, token: &str, path: &str, expected: &str) -> Result<bool, Fail> {
+fn reads(
+    rt: &HostRuntime,
+    tx: &mut ListTx,
+    token: &str,
+    path: &str,
+    expected: &str,
+) -> Result<bool, Fail> {
     let object = read(rt.alloc(), tx, token, path)?;
     Ok(object.is_some_and(|object| object.as_str() == expected))
 }

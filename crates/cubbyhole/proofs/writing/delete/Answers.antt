@@ -29,7 +29,7 @@ returns-clause-others g c honest =
     let path = c.args.path.now in
     on_ok_weaker c.remove.result (λ rows.
     others_kept t (λ q. same q (object_key t path)) None (table (seen c.args.tx.now)) (table (seen c.remove.new.self)) rows (key_under t path))
-        (returns-clause-rows g c honest)
+    (returns-clause-rows g c honest)
 
 pub returns-clause-told : goal.returns-clause-told
 returns-clause-told g c honest part b told len =

@@ -32,7 +32,7 @@ returns-clause-others g c honest =
     let path = c.args.path.now in
     on_ok_weaker c.put.result (λ rows.
     others_kept t (λ q. same q (object_key t path)) (Some (cubby_row t c.args.object.now)) (table (seen c.args.tx.now)) (table (seen c.put.new.self)) rows
-        (key_under t path)) (returns-clause-rows g c honest)
+    (key_under t path)) (returns-clause-rows g c honest)
 
 pub returns-clause-told : goal.returns-clause-told
 returns-clause-told g c honest part b told here len =
@@ -42,5 +42,5 @@ returns-clause-told g c honest part b told here len =
     let object = c.args.object.now in
     on_ok_weaker c.put.result (λ rows.
     tells_edited b t (λ m. put m path object) (λ q. same q (object_key t path)) (Some (cubby_row t object)) (table (seen c.args.tx.now))
-        (table (seen c.put.new.self)) rows
+    (table (seen c.put.new.self)) rows
     (cubby-write b t len path object here) part told) (returns-clause-rows g c honest)
