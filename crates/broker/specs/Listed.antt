@@ -3,7 +3,8 @@ use Rattle.std.specs.Prelude.{◌≡◌, ◌⊎◌}
 use Rattle.broker_types.specs.Answer.{Response, IsRefused}
 use Rattle.broker_types.specs.declared.reply.Reply.{Reply}
 use Rattle.broker_types.specs.declared.status.Status.TheVariants as status
-use Rattle.broker.specs.Reply.{reply_text, not_found}
+use Rattle.api_json.specs.Reply.{reply_text}
+use Rattle.broker.specs.Responses.{not_found}
 
 -- a 404 with a reply, as for a version of a secret that was deleted
 abbrev pub IsMissing : Response → Type 0

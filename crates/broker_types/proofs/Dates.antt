@@ -40,8 +40,8 @@ found_at y m d n civ e ge =
     let month : suc (m - 1) ≡ m = omega arith in
     let last : d - 1 < days_in_month (pos y) (suc (m - 1)) = rw month (omega (arith, civ.2.1)) in
     let in_month =
-        month_found 11 y 0 (days_of_months (pos y) (m - 1) + (d - 1)) (m - 1) (d - 1) (omega arith) (omega arith)
-        (omega (arith, days_of_months-zero (pos y))) last in
+    month_found 11 y 0 (days_of_months (pos y) (m - 1) + (d - 1)) (m - 1) (d - 1) (omega arith) (omega arith)
+    (omega (arith, days_of_months-zero (pos y))) last in
     let day : d - 1 + 1 ≡ d = omega arith in
     in_year ∙ in_month ∙ rw (month, day) refl
 

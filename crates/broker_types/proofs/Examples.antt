@@ -1,13 +1,13 @@
 -- Definitions computed on small inputs.
 use Rattle.std.specs.Prelude.{◌≡◌, ◌+◌, ℕ, List, [], ◌∷◌, true, false, not, cond, Option, Some, None, option_map, option_and_then, if◌then◌else◌, nat_lt}
-use Rattle.std.specs.Prelude.{length, replicate, codes}
+use Rattle.std.specs.Prelude.{length, replicate, codes, is_none, ◌&&◌}
 use Rattle.std.specs.declared.cmp.Ordering.TheVariants.{Less, Greater}
 use Rattle.std.specs.FinMap as fin
 use Rattle.std.specs.List.{find, list_any, list_all}
 use Rattle.std.specs.Option.{option_map_or}
 use Rattle.std.proofs.Common.{refl, ◌∙◌, ap}
 use Rattle.broker_types.specs.Text.{Text, text_cmp, same}
-use Rattle.broker_types.specs.Map.{Map, get, len, put, without, keep, with_values, map_values, change, first_where, entries}
+use Rattle.broker_types.specs.Map.{Map, get, len, put, without, keep, with_values, map_values, change, first_where, entries, empty}
 use Rattle.broker_types.specs.Name.{is_name, is_mount_name}
 use Rattle.broker_types.specs.Token.{Token, Tokens, Lease}
 use Rattle.broker_types.specs.Lineage.{climb, lineage, is_under, revoke, revoke_orphan, orphaned_by, outlasts, is_alive, alive_at, with_live_leases}
@@ -17,6 +17,8 @@ use Rattle.broker_types.specs.First.{root_token, first_broker}
 use Rattle.broker_types.specs.Sound.{is_ascending}
 use Rattle.broker_types.specs.Places as place
 use Rattle.broker_types.specs.Places.{token_identifier, lease_identifier, identifier_at, credential, wrapping_token, wrapping_accessor}
+use Rattle.broker_types.specs.Spending.{one_less, is_spent}
+use Rattle.broker_types.specs.Used.{are_new, use_up}
 use Rattle.broker_types.specs.MapLaws.{get-put, get-without, get-keep, get-map_values, entries-map_values}
 
 -- ---- texts
@@ -282,3 +284,22 @@ credential_stands = rw lessee_stands (rw leased refl)
 
 lease_stands : identifier_at broker (place.lease r lease_id) ≡ Some (codes "00000000-0000-0000-0000-000000000013")
 lease_stands = rw lessee_stands (rw leased refl)
+
+-- ---- uses and identifiers given out
+
+one_use_less : (one_less (record (root_token 0 r) { uses_left = Some 3 })).uses_left ≡ Some 2
+one_use_less = refl
+
+no_limit : (one_less (root_token 0 r)).uses_left ≡ None
+no_limit = refl
+
+last_use : is_spent (record (root_token 0 r) { uses_left = Some 0 }) ≡ true
+last_use = refl
+
+equal_ones_are_not_new : are_new empty (a ∷ a ∷ []) ≡ false
+unfolding same
+equal_ones_are_not_new = ap (λ o. is_none o && (false && (is_none o && true))) (fin.get-empty text_cmp a)
+
+given_out : are_new (use_up empty (a ∷ [])) (a ∷ []) ≡ false
+unfolding same
+given_out = ap (λ o. is_none o && true) (get-put empty a (tt {0}) a)

@@ -11,12 +11,12 @@ use Rattle.std.proofs.lemmas.List.Sums.{sum_by-cons}
 use Rattle.std.proofs.lemmas.List.Elements.{All-nil, All-cons, All-head, All-tail}
 use Rattle.std.proofs.lemmas.Str.{digit_value_digit}
 use Rattle.std.proofs.lemmas.Str.Parse.{digit_from_value}
-use Rattle.broker_types.specs.Duration.{unit_of, group_end, groups, with_unit, at_most, longest_duration, duration_of, TimeUnit, hours, minutes, seconds}
-use Rattle.broker_types.specs.Duration.{unit_byte, unit_seconds, Group, IsGroup, group_text, group_seconds, IsCount, IsSum, IsDuration}
-use Rattle.broker_types.proofs.Groups.{in_range}
 use Rattle.std.proofs.lemmas.Bool.{false≢true}
 use Rattle.std.proofs.lemmas.Option.{none-some, same_Some}
 use Rattle.std.proofs.Math.Bool.{and-false}
+use Rattle.broker_types.specs.Duration.{unit_of, group_end, groups, with_unit, at_most, longest_duration, duration_of, TimeUnit, hours, minutes, seconds}
+use Rattle.broker_types.specs.Duration.{unit_byte, unit_seconds, Group, IsGroup, group_text, group_seconds, IsCount, IsSum, IsDuration}
+use Rattle.broker_types.proofs.Groups.{in_range}
 
 -- ---- digits
 
@@ -154,7 +154,7 @@ one_digit : (sum : ℕ) (begun : Option ℕ) (c : ℕ) (cs : List ℕ) (n : ℕ)
 one_digit sum None c cs n digit r =
     let g : Group = record { digits = c ∷ r.digits; unit = r.unit } in
     let value : digits_value_after 10 (0 * 10 + (c - 48)) r.digits ≡ digits_value 10 (c ∷ r.digits) =
-        ap (λ k. digits_value_after 10 (0 * 10 + k) r.digits) (digit_is c digit) in
+    ap (λ k. digits_value_after 10 (0 * 10 + k) r.digits) (digit_is c digit) in
     let scaled : digits_value_after 10 (0 * 10 + (c - 48)) r.digits * unit_seconds r.unit ≡ group_seconds g = ap (λ k. k * unit_seconds r.unit) value in
     record {
       parts = g ∷ r.parts;
@@ -192,17 +192,17 @@ reads [] sum None n e = record { parts = []; each = All-nil IsGroup; joined = re
 reads [] sum (Some d) n e = absurd (none-some _ e)
 reads (c ∷ cs) sum begun n e =
     elim (is_ascii_digit c)
-        as (λ b. is_ascii_digit c ≡ b
-        → option_and_then (λ p. groups p.0 p.1 cs) (if b then Some (sum, Some (unwrap_or begun 0 * 10 + (c - 48))) else group_end sum begun (unit_of c))
-        ≡ Some n → Reads sum begun (c ∷ cs) n) [
+    as (λ b. is_ascii_digit c ≡ b
+    → option_and_then (λ p. groups p.0 p.1 cs) (if b then Some (sum, Some (unwrap_or begun 0 * 10 + (c - 48))) else group_end sum begun (unit_of c))
+    ≡ Some n → Reads sum begun (c ∷ cs) n) [
       | true ↦ λ digit f. one_digit sum begun c cs n digit (reads cs sum (Some (unwrap_or begun 0 * 10 + (c - 48))) n f)
       | false ↦ λ _ f. elim begun as (λ o. option_and_then (λ p. groups p.0 p.1 cs) (group_end sum o (unit_of c)) ≡ Some n → Reads sum o (c ∷ cs) n) [
         | None ↦ λ g. absurd (none-some _ g)
         | Some d ↦ λ g. elim (unit_of c)
-              as (λ o. unit_of c ≡ o → option_and_then (λ p. groups p.0 p.1 cs) (group_end sum (Some d) o) ≡ Some n → AreGroupsAfter sum d (c ∷ cs) n) [
-          | None ↦ λ _ k. absurd (none-some _ k)
-          | Some u ↦ λ is k. one_unit sum d c u cs n is (reads cs (sum + d * u) None n k)
-        ] refl g
+            as (λ o. unit_of c ≡ o → option_and_then (λ p. groups p.0 p.1 cs) (group_end sum (Some d) o) ≡ Some n → AreGroupsAfter sum d (c ∷ cs) n) [
+              | None ↦ λ _ k. absurd (none-some _ k)
+              | Some u ↦ λ is k. one_unit sum d c u cs n is (reads cs (sum + d * u) None n k)
+            ] refl g
       ] f
     ] refl e
 

@@ -1,4 +1,6 @@
 -- What the groups of a text come to.
+use Rattle.std.specs.List.{list_all}
+use Rattle.std.specs.Char.{is_ascii_digit}
 use Rattle.std.proofs.Common.{◌≡◌, ℕ, ◌+◌, ◌-◌, ◌*◌, ◌<◌, ◌≤◌, ◌==◌, ◌&&◌, nat_le, List, [], ◌∷◌, ◌++◌, length, get_or, drop, Bool, true, false, not, cond}
 use Rattle.std.proofs.Common.{Option, Some, None, option_and_then, unwrap_or, refl, sym, ap, ◌∙◌, arith, add-one}
 use Rattle.std.proofs.Math.Nat.{mul-le-mul_left}
@@ -6,8 +8,6 @@ use Rattle.std.proofs.Math.ListN.{drop_of_length-le}
 use Rattle.std.proofs.Math.Seq.{drop-cons}
 use Rattle.std.proofs.lemmas.List.{append-nil}
 use Rattle.std.proofs.lemmas.Bool.Decides.{nat_tests}
-use Rattle.std.specs.List.{list_all}
-use Rattle.std.specs.Char.{is_ascii_digit}
 use Rattle.broker_types.specs.Duration.{unit_of, group_end, group_step, groups, whole_groups, with_unit, at_most, duration_of}
 
 past : (n : ℕ) → 4294967295 < n → at_most (Some n) ≡ None
@@ -44,7 +44,7 @@ too_large (c ∷ cs) sum begun h = by_digit (is_ascii_digit c) (λ t b k. too_la
 
     by_digit : (t : Bool) → ((t : ℕ) (b : Option ℕ) → 4294967295 < t + unwrap_or b 0 → at_most (groups t b cs) ≡ None)
         → at_most (option_and_then (λ p. groups p.0 p.1 cs) (cond t (Some (sum, Some (unwrap_or begun 0 * 10 + (c - 48)))) (group_end sum begun (unit_of c))))
-            ≡ None
+        ≡ None
     by_digit true later = later sum (Some (unwrap_or begun 0 * 10 + (c - 48))) (omega arith)
     by_digit false later = by_unit begun (unit_of c) h (λ v e. unit_least c v e) later
 

@@ -1,9 +1,9 @@
 -- One byte more of a path.
+use Rattle.std.specs.List.{list_all}
 use Rattle.std.proofs.Common.{◌≡◌, ℕ, suc, ◌+◌, ◌-◌, ◌<◌, ◌≤◌, ◌==◌, List, [], ◌∷◌, ◌++◌, length, get_or, take, drop, slice_range, true, false, refl, ap, ◌∙◌}
 use Rattle.std.proofs.Common.{arith, add-one, length-drop}
 use Rattle.std.proofs.Math.Seq.{take-suc, drop-cons}
 use Rattle.std.proofs.lemmas.List.{get_or-drop}
-use Rattle.std.specs.List.{list_all}
 use Rattle.broker_types.specs.Path.{is_segment, segments}
 
 grown : (s : List ℕ) (start i : ℕ) → start ≤ i → i < length s → slice_range s start (i + 1) ≡ slice_range s start i ++ (get_or s i 0 ∷ [])

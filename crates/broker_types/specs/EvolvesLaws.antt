@@ -1,11 +1,11 @@
 -- What lasts as a broker evolves.
 use Rattle.std.proofs.Common.{sym, ◌∙◌, subst, inl, inr}
+use Rattle.std.proofs.lemmas.Option.{none-some}
 use Rattle.broker_types.specs.Text.{Text}
 use Rattle.broker_types.specs.Map.{get}
 use Rattle.broker_types.specs.Broker.{Broker}
 use Rattle.broker_types.specs.Places.{token_identifier, lease_identifier}
 use Rattle.broker_types.specs.Evolves.{Evolves, IsNew}
-use Rattle.std.proofs.lemmas.Option.{none-some}
 use Rattle.broker_types.specs.OptionLaws.{found_or_not}
 
 -- what is new later was new before
@@ -32,8 +32,11 @@ evolves_trans b c d e f = record {
   ];
   wrapping_tokens = λ t w is. elim (f.wrapping_tokens t w is) [
     | inl before ↦
-          elim (found_or_not (get c.waiting t)) [ inl none ↦ absurd (before none) | inr v ↦
-          e.wrapping_tokens t v.0 v.1 ]
+        elim (found_or_not (get c.waiting t)) [
+          | inl none ↦ absurd (before none)
+          | inr v ↦
+              e.wrapping_tokens t v.0 v.1
+        ]
     | inr fresh ↦ inr (new_before b c (token_identifier t) e fresh)
   ];
   waiting = λ t w is. elim (f.waiting t w is) [

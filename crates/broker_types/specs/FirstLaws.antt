@@ -1,16 +1,15 @@
 -- The first broker is sound.
 use Rattle.std.specs.Prelude.{◌≡◌, ◌≢◌, ◌<◌, ◌≤◌, ◌^◌, ◌&&◌, ◌⊎◌, ℕ, [], ◌∷◌, Bool, true, false, cond, nat_lt, length}
-use Rattle.std.specs.Prelude.{drop, codes, Option, Some, None, option_map, option_and_then, is_none, IsUtf8, All}
+use Rattle.std.specs.Prelude.{drop, codes, Option, Some, None, option_map, option_and_then, is_none, IsUtf8, All, ◌==◌}
 use Rattle.std.specs.List.{list_all}
 use Rattle.std.specs.Option.{option_map_or}
 use Rattle.std.specs.FinMap.{get-empty, len-empty}
-use Rattle.std.proofs.Common.{refl, sym, ◌∙◌, ap, subst, inl, inr, lit<}
+use Rattle.std.proofs.Common.{refl, sym, ◌∙◌, ap, subst, inl, inr, lit<, zero-le}
 use Rattle.std.proofs.lemmas.List.Elements.{All-cons, All-nil}
 use Rattle.std.proofs.lemmas.Str.{IsUtf8-from_ascii}
 use Rattle.std.proofs.lemmas.Str.Ascii.{IsAscii-from_all}
 use Rattle.std.proofs.lemmas.Bool.{ltb-true, false≢true}
-use Rattle.std.specs.Prelude.{◌==◌}
-use Rattle.std.proofs.Common.{zero-le}
+use Rattle.std.proofs.lemmas.Option.{none-some, same_Some}
 use Rattle.broker_types.specs.Text.{Text, text_cmp, same}
 use Rattle.broker_types.specs.Map.{Map, get, put, empty, len}
 use Rattle.broker_types.specs.Identifier.{id}
@@ -24,11 +23,11 @@ use Rattle.broker_types.specs.Places.{Place, token, accessor, lease, credential,
 use Rattle.broker_types.specs.Places.{identifier_at, lease_of, IsUsed}
 use Rattle.broker_types.specs.Sound.{Forms, Sound, IsSoundToken, IsSoundMount, IsSoundPolicy, IsShortText}
 use Rattle.broker_types.specs.First.{default_policy, root_token, first_broker}
+use Rattle.broker_types.specs.OptionLaws.{mapped}
 use Rattle.broker_types.specs.TextLaws.{same_self, same_true}
 use Rattle.broker_types.specs.MapLaws.{get-put}
 use Rattle.broker_types.specs.LineageLaws.{ends_in_time}
 use Rattle.broker_types.specs.IdentifierLaws.{id-same}
-use Rattle.std.proofs.lemmas.Option.{none-some, same_Some}
 
 -- ---- maps of one entry
 
@@ -140,16 +139,16 @@ module _ (forms : Forms) (moment v w : ℕ) (now : moment ≤ greatest_moment) (
           | false ↦ λ r. absurd (u (
               get-put _ (id w) (tt {0}) i ∙ ap (λ b. cond b (Some (tt {0})) (get (put nothing (id v) (tt {0})) i)) s
               ∙ get-put nothing (id v) (tt {0}) i ∙ ap (λ b. cond b (Some (tt {0})) (get nothing i)) r
-                  ∙ get-empty text_cmp i))
+              ∙ get-empty text_cmp i))
         ] refl
       ] refl
 
   used_v : IsUsed first (id v)
   used_v none =
       elim (same (id v) (id w)) as (λ b. cond b (Some (tt {0})) (get (put nothing (id v) (tt {0})) (id v)) ≡ None → ⊥) [
-    | true ↦ λ e. absurd (none-some _ (sym e))
-    | false ↦ λ e. absurd (none-some _ (sym e ∙ there (id v) nothing (tt {0})))
-  ] (sym (get-put _ (id w) (tt {0}) (id v)) ∙ none)
+        | true ↦ λ e. absurd (none-some _ (sym e))
+        | false ↦ λ e. absurd (none-some _ (sym e ∙ there (id v) nothing (tt {0})))
+      ] (sym (get-put _ (id w) (tt {0}) (id v)) ∙ none)
 
   used_w : IsUsed first (id w)
   used_w none = absurd (none-some _ (sym none ∙ there (id w) _ (tt {0})))
@@ -168,21 +167,16 @@ module _ (forms : Forms) (moment v w : ℕ) (now : moment ≤ greatest_moment) (
           ap (λ (y : Token). get y.leases lease_id) (token_is t x (h x refl)).1 ∙ get-empty text_cmp lease_id
 
   at_token : (t i : Text) → identifier_at first (token t) ≡ Some i → IsFilled (token t) i
-  at_token t i e = by (get first.tokens t) (λ x e. e) e
-    where
-      by : (o : Option Token) → ((x : Token) → o ≡ Some x → get first.tokens t ≡ Some x)
-          → option_map (λ _. drop 4 t) o ≡ Some i → IsFilled (token t) i
-      by None h f = absurd (none-some _ f)
-      by (Some x) h f = let r = token_is t x (h x refl) in inl (ap token r.0, sym (same_Some _ _ f) ∙ ap (drop 4) r.0)
+  at_token t i e =
+      let x = mapped (λ _. drop 4 t) (get first.tokens t) i e in
+      let r = token_is t x.0 x.1 in
+      inl (ap token r.0, x.2 ∙ ap (drop 4) r.0)
 
   at_accessor : (t i : Text) → identifier_at first (accessor t) ≡ Some i → IsFilled (accessor t) i
-  at_accessor t i e = by (get first.tokens t) (λ x e. e) e
-    where
-      by : (o : Option Token) → ((x : Token) → o ≡ Some x → get first.tokens t ≡ Some x)
-          → option_map (λ (x : Token). x.accessor) o ≡ Some i → IsFilled (accessor t) i
-      by None h f = absurd (none-some _ f)
-      by (Some x) h f = let r = token_is t x (h x refl) in
-          inr (ap accessor r.0, sym (same_Some _ _ f) ∙ ap (λ (y : Token). y.accessor) r.1)
+  at_accessor t i e =
+      let x = mapped (λ (x : Token). x.accessor) (get first.tokens t) i e in
+      let r = token_is t x.0 x.1 in
+      inr (ap accessor r.0, x.2 ∙ ap (λ (y : Token). y.accessor) r.1)
 
   filled : (p : Place) (i : Text) → identifier_at first p ≡ Some i → IsFilled p i
   filled (token t) i e = at_token t i e
@@ -217,7 +211,8 @@ module _ (forms : Forms) (moment v w : ℕ) (now : moment ≤ greatest_moment) (
   pub first_sound : v ≢ w → forms.is_policy default_policy ≡ true → Sound forms None first
   first_sound ne accepted = record {
     clock = now;
-    tokens = record { each = token_sound; parents_exist = λ t p x e f none. no_parent t p x e f; chains_end = chain_ends };
+    tokens =
+        record { each = token_sound; parents_exist = λ t p x e f none. no_parent t p x e f; chains_end = chain_ends };
     secrets = λ q k e. absurd (no_entry q k e);
     waiting = record { each = λ t x e. absurd (no_entry t x e); one_origin = λ t u x y e f g. absurd (no_entry t x e) };
     mounts = λ name m e.
@@ -227,9 +222,9 @@ module _ (forms : Forms) (moment v w : ℕ) (now : moment ≤ greatest_moment) (
     policies = λ name text e.
         let r = one_entry (codes "default") name default_policy text e in
         let kept : IsSoundPolicy forms (codes "default") default_policy =
-            record { policy_name = refl; not_root = not_root; policy = accepted; short = default_short } in
+        record { policy_name = refl; not_root = not_root; policy = accepted; short = default_short } in
         subst (λ z. IsSoundPolicy forms z text) (sym r.0)
-            (subst (λ y. IsSoundPolicy forms (codes "default") y) (sym r.1) kept);
+        (subst (λ y. IsSoundPolicy forms (codes "default") y) (sym r.1) kept);
     identifiers = record {
       used = λ i u. elim (used_is i u) [ inl e ↦ (v, fits_v, e) | inr e ↦ (w, fits_w, e) ];
       one_place = one_place ne;

@@ -1,14 +1,13 @@
 -- Identifiers are as many as words.
-use Rattle.std.proofs.Common.{◌≡◌, ℕ, zero, suc, ◌<◌, ◌^◌, List, [], length, get_or, Option, Some, unwrap_or, refl, sym}
-use Rattle.std.proofs.Common.{ap, ◌∙◌, inl}
-use Rattle.std.proofs.lemmas.List.Elements.{All-from_get_or}
 use Rattle.std.specs.Int.{byte_at, bytes_high_first, to_be_bytes, from_be_bytes, w128}
+use Rattle.std.proofs.Common.{◌≡◌, ℕ, zero, suc, ◌<◌, ◌^◌, List, [], length, get_or, Option, Some, unwrap_or, refl, sym}
+use Rattle.std.proofs.Common.{ap, ◌∙◌, inl, lit<, ◌/◌}
+use Rattle.std.proofs.lemmas.List.Elements.{All-from_get_or}
+use Rattle.std.proofs.lemmas.Nat.{mod_below}
 use Rattle.uuid.specs.Text.{lower, parsed}
 use Rattle.uuid.proofs.TextLemmas.{by_index_length}
 use Rattle.uuid.proofs.RoundTrips.{parses_hyphenated}
 use Rattle.uuid.proofs.OrderLemmas.{from_be_bytes-to_be_bytes_16}
-use Rattle.std.proofs.lemmas.Nat.{mod_below}
-use Rattle.std.proofs.Common.{lit<, ◌/◌}
 use Rattle.broker_types.specs.Identifier.{id}
 
 byte_small : (k n : ℕ) → byte_at k n < 256
@@ -36,7 +35,7 @@ same_bytes xs ys o e f = ap (λ (r : Option (List ℕ)). unwrap_or r []) (e ∙ 
 pub id-same : (v w : ℕ) → v < 2 ^ 128 → w < 2 ^ 128 → id v ≡ id w → v ≡ w
 id-same v w fits_v fits_w e =
     let bytes = same_bytes (to_be_bytes w128 v) (to_be_bytes w128 w) (parsed (id w)) (reads_back v ∙ ap parsed e)
-        (reads_back w) in
+    (reads_back w) in
     sym (from_be_bytes-to_be_bytes_16 v fits_v) ∙ ap (from_be_bytes w128) bytes ∙ from_be_bytes-to_be_bytes_16 w fits_w
 
 -- an identifier has 36 bytes

@@ -5,13 +5,13 @@ use Rattle.broker_types.specs.Text.{Text}
 use Rattle.broker_types.specs.Map.{get}
 use Rattle.broker_types.specs.Moment.{greatest_moment}
 use Rattle.broker_types.specs.Token.{Token, Tokens}
-use Rattle.broker_types.specs.Lineage.{lineage, is_under, ParentsExist, ChainsEnd, alive_at, with_live_leases}
-use Rattle.broker_types.specs.Lineage.{revoke, revoke_orphan}
+use Rattle.broker_types.specs.Lineage.{lineage, is_under, ParentsExist, ChainsEnd, alive_at, with_live_leases, revoke}
+use Rattle.broker_types.specs.Lineage.{revoke_orphan}
 use Rattle.broker_types.specs.Broker as broker
-use Rattle.broker_types.specs.Broker.{Broker}
+use Rattle.broker_types.specs.Broker.{Broker, Waiting}
 use Rattle.broker_types.specs.Evolves.{Evolves, IsHandedOut, HasEnded, IsTakenOut}
-use Rattle.broker_types.specs.Sound.{Forms, SoundIdentifiers, Sound}
-use Rattle.broker_types.specs.Spending.{end_spent}
+use Rattle.broker_types.specs.Sound.{Forms, SoundIdentifiers, SoundWaiting, Sound}
+use Rattle.broker_types.specs.Spending.{spend, end_spent, drop_waiting}
 use Rattle.broker_types.specs.First.{default_policy, first_broker}
 
 -- ---- lineages
@@ -137,6 +137,15 @@ ExpiryKeepsSoundness =
     (forms : Forms) (who : Option Text) (b : Broker) (moment : ℕ) → moment ≤ greatest_moment
     → Sound forms who b → Sound forms who (broker.at_moment b moment)
 
+abbrev pub DropWaitingKeepsSoundness : Type 0
+DropWaitingKeepsSoundness =
+    (forms : Forms) (who : Option Text) (b : Broker) (t : Text)
+    → Sound forms who b → Sound forms who (drop_waiting b t)
+
+-- the caller of a request may have spent its last use then
+abbrev pub SpendKeepsSoundness : Type 0
+SpendKeepsSoundness = (forms : Forms) (b : Broker) (c : Text) → Sound forms None b → Sound forms (Some c) (spend b c)
+
 -- once a caller that has spent its last use is ended, no token has
 abbrev pub EndingTheSpentKeepsSoundness : Type 0
 EndingTheSpentKeepsSoundness =
@@ -173,6 +182,15 @@ RevokeOrphanEvolves = (b : Broker) (t : Text) → Evolves b (broker.revoke_orpha
 abbrev pub ExpiryEvolves : Type 0
 ExpiryEvolves = (b : Broker) (moment : ℕ) → Evolves b (broker.at_moment b moment)
 
+abbrev pub SpendEvolves : Type 0
+SpendEvolves = (b : Broker) (c : Text) → Evolves b (spend b c)
+
+abbrev pub EndSpentEvolves : Type 0
+EndSpentEvolves = (b : Broker) (who : Option Text) → Evolves b (end_spent b who)
+
+abbrev pub DropWaitingEvolves : Type 0
+DropWaitingEvolves = (b : Broker) (t : Text) → Evolves b (drop_waiting b t)
+
 -- each token that is gone has ended
 abbrev pub EndTokens : Broker → Broker → Type 0
 EndTokens b c = (q : Text) → get b.tokens q ≢ None → get c.tokens q ≡ None → HasEnded c q
@@ -185,3 +203,17 @@ RevokeOrphanEnds = (b : Broker) (t : Text) → SoundIdentifiers b → EndTokens 
 
 abbrev pub ExpiryEnds : Type 0
 ExpiryEnds = (b : Broker) (moment : ℕ) → SoundIdentifiers b → EndTokens b (broker.at_moment b moment)
+
+abbrev pub EndSpentEnds : Type 0
+EndSpentEnds = (b : Broker) (who : Option Text) → SoundIdentifiers b → EndTokens b (end_spent b who)
+
+-- a wrapping token whose response is dropped is taken out
+abbrev pub DroppedIsTakenOut : Type 0
+DroppedIsTakenOut =
+    (b : Broker) (t : Text) → SoundIdentifiers b → get b.waiting t ≢ None → IsTakenOut (drop_waiting b t) t
+
+-- and the origin of the response is handed out
+abbrev pub DroppedIsHandedOut : Type 0
+DroppedIsHandedOut =
+    (b : Broker) (t : Text) → SoundIdentifiers b → SoundWaiting b.waiting
+    → (w : Waiting) → get b.waiting t ≡ Some w → IsHandedOut (drop_waiting b t) w.origin

@@ -4,6 +4,7 @@ pub mod Duration
 pub mod Evolves
 pub mod EvolvesLaws
 pub mod Fault
+pub mod FewerLaws
 pub mod First
 pub mod FirstLaws
 pub mod Identifier
@@ -29,6 +30,7 @@ pub mod SearchLaws
 pub mod Secret
 pub mod Sound
 pub mod Spending
+pub mod SpendingLaws
 pub mod Status
 pub mod Text
 pub mod TextLaws

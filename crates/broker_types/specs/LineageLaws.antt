@@ -1,22 +1,21 @@
 -- Laws of the tree of tokens.
 use Rattle.std.specs.Prelude.{◌≡◌, ◌≢◌, ℕ, zero, suc, List, [], ◌∷◌, true, false, not, cond, ◌||◌, Option, Some, None}
-use Rattle.std.specs.Prelude.{is_none, length, ◌≤◌, IsSome}
+use Rattle.std.specs.Prelude.{is_none, length, ◌≤◌, IsSome, Bool}
 use Rattle.std.specs.List.{list_any, IsDistinct, AllByRecursion}
 use Rattle.std.specs.Option.{option_map_or}
-use Rattle.std.proofs.Common.{refl, sym, ◌∙◌, ap, subst}
 use Rattle.std.specs.Map.{lookup}
 use Rattle.std.specs.FinMap.{len-entries}
+use Rattle.std.proofs.Common.{refl, sym, ◌∙◌, ap, subst}
 use Rattle.std.proofs.lemmas.Map.Steps.{length-le_from_keys}
 use Rattle.std.proofs.Math.Nat.{le_refl, le_trans, le-suc, not-suc-le_self, not-suc-le-zero, le_of_suc-le-suc}
 use Rattle.std.proofs.lemmas.Option.{none-some}
-use Rattle.std.specs.Prelude.{Bool}
+use Rattle.std.proofs.lemmas.Bool.{or_right, false_from_ne_true, false≢true}
 use Rattle.broker_types.specs.Text.{Text, same}
 use Rattle.broker_types.specs.Map.{get, len, entries}
 use Rattle.broker_types.specs.Token.{Token, Tokens}
 use Rattle.broker_types.specs.Lineage.{climb, is_under, revoke, ends_within, ChainsEnd}
 use Rattle.broker_types.specs.TextLaws.{same_true, same_equiv}
 use Rattle.broker_types.specs.MapLaws.{get-lookup, get-keep, same_map}
-use Rattle.std.proofs.lemmas.Bool.{or_right, false_from_ne_true, false≢true}
 
 -- the steps of `ends_within` and of `climb`, at a token that may be there, and at a parent that it may have
 abbrev pub ends_above : ℕ → Tokens → Option Text → Bool
@@ -49,11 +48,11 @@ climb_enough (suc n) (suc m) ts t h k =
     elim (get ts t) as (λ o. ends_at n ts o ≡ true → ends_at m ts o ≡ true → climb_at n ts t o ≡ climb_at m ts t o) [
       | None ↦ λ _ _. refl
       | Some x ↦ λ e f. ap (λ r. t ∷ r)
-            (elim (x.parent)
-            as (λ p. ends_above n ts p ≡ true → ends_above m ts p ≡ true → climb_above n ts p ≡ climb_above m ts p) [
-        | None ↦ λ _ _. refl
-        | Some p ↦ λ a b. climb_enough n m ts p a b
-      ] e f)
+          (elim (x.parent)
+          as (λ p. ends_above n ts p ≡ true → ends_above m ts p ≡ true → climb_above n ts p ≡ climb_above m ts p) [
+            | None ↦ λ _ _. refl
+            | Some p ↦ λ a b. climb_enough n m ts p a b
+          ] e f)
     ] h k
 
 -- each member of a lineage is a token
@@ -63,37 +62,37 @@ in_climb (suc n) ts t a h =
     elim (get ts t) as (λ o. get ts t ≡ o → list_any (same a) (climb_at n ts t o) ≡ true → get ts a ≢ None) [
       | None ↦ λ _ e. absurd (false≢true e)
       | Some x ↦ λ is. elim (same a t)
-            as (λ b. same a t ≡ b → (b || list_any (same a) (climb_above n ts x.parent)) ≡ true → get ts a ≢ None) [
-        | true ↦ λ s _ none. none-some x (sym none ∙ ap (get ts) (same_true a t s) ∙ is)
-        | false ↦ λ s. elim (x.parent) as (λ p. list_any (same a) (climb_above n ts p) ≡ true → get ts a ≢ None) [
-          | None ↦ λ e. absurd (false≢true e)
-          | Some p ↦ λ e. in_climb n ts p a e
-        ]
-      ] refl
+          as (λ b. same a t ≡ b → (b || list_any (same a) (climb_above n ts x.parent)) ≡ true → get ts a ≢ None) [
+            | true ↦ λ s _ none. none-some x (sym none ∙ ap (get ts) (same_true a t s) ∙ is)
+            | false ↦ λ s. elim (x.parent) as (λ p. list_any (same a) (climb_above n ts p) ≡ true → get ts a ≢ None) [
+              | None ↦ λ e. absurd (false≢true e)
+              | Some p ↦ λ e. in_climb n ts p a e
+            ]
+          ] refl
     ] refl h
 
 -- under is transitive where chains end
 pub under_climb : (n m : ℕ) (ts : Tokens) (q a t : Text) → ends_within n ts q ≡ true → ends_within m ts a ≡ true
     → list_any (same a) (climb n ts q) ≡ true → list_any (same t) (climb m ts a) ≡ true
-        → list_any (same t) (climb n ts q) ≡ true
+    → list_any (same t) (climb n ts q) ≡ true
 under_climb zero m ts q a t h k u v = absurd (false≢true u)
 under_climb (suc n) m ts q a t h k u v =
     elim (same a q) as (λ b. same a q ≡ b → list_any (same t) (climb (suc n) ts q) ≡ true) [
       | true ↦ λ s. let e : a ≡ q = same_true a q s in
           let hm : ends_within m ts q ≡ true = subst (λ z. ends_within m ts z ≡ true) e k in
           subst (λ (l : List Text). list_any (same t) l ≡ true) (sym (climb_enough (suc n) m ts q h hm))
-              (subst (λ z. list_any (same t) (climb m ts z) ≡ true) e v)
+          (subst (λ z. list_any (same t) (climb m ts z) ≡ true) e v)
       | false ↦ λ s. elim (get ts q)
-            as (λ o. ends_at n ts o ≡ true → list_any (same a) (climb_at n ts q o) ≡ true
-            → list_any (same t) (climb_at n ts q o) ≡ true) [
-        | None ↦ λ _ e. absurd (false≢true e)
-        | Some x ↦ λ f e. elim (x.parent)
-              as (λ p. ends_above n ts p ≡ true → list_any (same a) (climb_above n ts p) ≡ true
-              → (same t q || list_any (same t) (climb_above n ts p)) ≡ true) [
-          | None ↦ λ _ z. absurd (false≢true z)
-          | Some p ↦ λ g z. or_right (same t q) _ (under_climb n m ts p a t g k z v)
-        ] f (subst (λ b. (b || list_any (same a) (climb_above n ts x.parent)) ≡ true) s e)
-      ] h u
+          as (λ o. ends_at n ts o ≡ true → list_any (same a) (climb_at n ts q o) ≡ true
+          → list_any (same t) (climb_at n ts q o) ≡ true) [
+            | None ↦ λ _ e. absurd (false≢true e)
+            | Some x ↦ λ f e. elim (x.parent)
+                as (λ p. ends_above n ts p ≡ true → list_any (same a) (climb_above n ts p) ≡ true
+                → (same t q || list_any (same t) (climb_above n ts p)) ≡ true) [
+                  | None ↦ λ _ z. absurd (false≢true z)
+                  | Some p ↦ λ g z. or_right (same t q) _ (under_climb n m ts p a t g k z v)
+                ] f (subst (λ b. (b || list_any (same a) (climb_above n ts x.parent)) ≡ true) s e)
+          ] h u
     ] refl
 
 -- what a token of a chain has above it is no longer than the chain
@@ -102,30 +101,32 @@ part_of : (n : ℕ) (ts : Tokens) (q a : Text) → ends_within n ts q ≡ true �
 part_of zero ts q a h u = absurd (false≢true u)
 part_of (suc n) ts q a h u =
     elim (same a q)
-        as (λ b. same a q ≡ b
-        → (m : ℕ) × (ends_within m ts a ≡ true) × (length (climb m ts a) ≤ length (climb (suc n) ts q))) [
-      | true ↦ λ s. let e : q ≡ a = sym (same_true a q s) in
-          (suc n, subst (λ z. ends_within (suc n) ts z ≡ true) e h,
-              subst (λ z. length (climb (suc n) ts z) ≤ length (climb (suc n) ts q)) e (le_refl _))
+    as (λ b. same a q ≡ b
+    → (m : ℕ) × (ends_within m ts a ≡ true) × (length (climb m ts a) ≤ length (climb (suc n) ts q))) [
+      | true ↦ λ s. let e : q ≡ a = sym (same_true a q s) in (
+        suc n,
+        subst (λ z. ends_within (suc n) ts z ≡ true) e h,
+        subst (λ z. length (climb (suc n) ts z) ≤ length (climb (suc n) ts q)) e (le_refl _),
+      )
       | false ↦ λ s. elim (get ts q)
-            as (λ o. ends_at n ts o ≡ true → list_any (same a) (climb_at n ts q o) ≡ true
-            → (m : ℕ) × (ends_within m ts a ≡ true) × (length (climb m ts a) ≤ length (climb_at n ts q o))) [
-        | None ↦ λ _ e. absurd (false≢true e)
-        | Some x ↦ λ f e. elim (x.parent)
-              as (λ p. ends_above n ts p ≡ true → list_any (same a) (climb_above n ts p) ≡ true
-              → (m : ℕ) × (ends_within m ts a ≡ true) × (length (climb m ts a) ≤ suc (length (climb_above n ts p)))) [
-          | None ↦ λ _ z. absurd (false≢true z)
-          | Some p ↦ λ g z. let r = part_of n ts p a g z in (r.0, r.1, le_trans r.2 (le-suc _))
-        ] f (subst (λ b. (b || list_any (same a) (climb_above n ts x.parent)) ≡ true) s e)
-      ] h u
+          as (λ o. ends_at n ts o ≡ true → list_any (same a) (climb_at n ts q o) ≡ true
+          → (m : ℕ) × (ends_within m ts a ≡ true) × (length (climb m ts a) ≤ length (climb_at n ts q o))) [
+            | None ↦ λ _ e. absurd (false≢true e)
+            | Some x ↦ λ f e. elim (x.parent)
+                as (λ p. ends_above n ts p ≡ true → list_any (same a) (climb_above n ts p) ≡ true
+                → (m : ℕ) × (ends_within m ts a ≡ true) × (length (climb m ts a) ≤ suc (length (climb_above n ts p)))) [
+                  | None ↦ λ _ z. absurd (false≢true z)
+                  | Some p ↦ λ g z. let r = part_of n ts p a g z in (r.0, r.1, le_trans r.2 (le-suc _))
+                ] f (subst (λ b. (b || list_any (same a) (climb_above n ts x.parent)) ≡ true) s e)
+          ] h u
     ] refl
 
 all_apart : (q : Text) (xs : List Text) → list_any (same q) xs ≡ false → AllByRecursion (λ y. same q y ≡ false) xs
 all_apart q [] e = tt
 all_apart q (x ∷ xs) e =
     elim (same q x)
-        as (λ b. same q x ≡ b → (b || list_any (same q) xs) ≡ false
-        → (same q x ≡ false) × AllByRecursion (λ y. same q y ≡ false) xs) [
+    as (λ b. same q x ≡ b → (b || list_any (same q) xs) ≡ false
+    → (same q x ≡ false) × AllByRecursion (λ y. same q y ≡ false) xs) [
       | true ↦ λ _ z. absurd (false≢true (sym z))
       | false ↦ λ s z. (s, all_apart q xs z)
     ] refl e
@@ -138,20 +139,20 @@ climb_distinct (suc n) ts q h =
     elim (get ts q) as (λ o. get ts q ≡ o → ends_at n ts o ≡ true → IsDistinct same (climb_at n ts q o)) [
       | None ↦ λ _ _. tt
       | Some x ↦ λ is. elim (x.parent)
-            as (λ p. x.parent ≡ p → ends_above n ts p ≡ true → IsDistinct same (q ∷ climb_above n ts p)) [
-        | None ↦ λ _ _. (tt, tt)
-        | Some p ↦ λ ip g. (
-          all_apart q _ (false_from_ne_true _ (λ u.
-              let r = part_of n ts p q g u in
-              let len_part : length (climb r.0 ts q) ≤ length (climb n ts p) = r.2 in
-              let one : climb (suc n) ts q ≡ climb r.0 ts q = climb_enough (suc n) r.0 ts q h r.1 in
-              let whole : climb (suc n) ts q ≡ q ∷ climb n ts p =
+          as (λ p. x.parent ≡ p → ends_above n ts p ≡ true → IsDistinct same (q ∷ climb_above n ts p)) [
+            | None ↦ λ _ _. (tt, tt)
+            | Some p ↦ λ ip g. (
+              all_apart q _ (false_from_ne_true _ (λ u.
+                  let r = part_of n ts p q g u in
+                  let len_part : length (climb r.0 ts q) ≤ length (climb n ts p) = r.2 in
+                  let one : climb (suc n) ts q ≡ climb r.0 ts q = climb_enough (suc n) r.0 ts q h r.1 in
+                  let whole : climb (suc n) ts q ≡ q ∷ climb n ts p =
                   ap (λ o. climb_at n ts q o) is ∙ ap (λ o. q ∷ climb_above n ts o) ip in
-              let long : length (climb r.0 ts q) ≡ suc (length (climb n ts p)) = ap length (sym one ∙ whole) in
-              not-suc-le_self _ (subst (λ k. k ≤ length (climb n ts p)) long len_part))),
-          climb_distinct n ts p g,
-        )
-      ] refl
+                  let long : length (climb r.0 ts q) ≡ suc (length (climb n ts p)) = ap length (sym one ∙ whole) in
+                  not-suc-le_self _ (subst (λ k. k ≤ length (climb n ts p)) long len_part))),
+              climb_distinct n ts p g,
+            )
+          ] refl
     ] refl h
 
 -- a chain that ends does so within its own length
@@ -160,7 +161,7 @@ ends_own : (n : ℕ) (ts : Tokens) (q : Text) → ends_within n ts q ≡ true
 ends_own zero ts q h = h
 ends_own (suc n) ts q h =
     elim (get ts q)
-        as (λ o. get ts q ≡ o → ends_at n ts o ≡ true → ends_within (length (climb_at n ts q o)) ts q ≡ true) [
+    as (λ o. get ts q ≡ o → ends_at n ts o ≡ true → ends_within (length (climb_at n ts q o)) ts q ≡ true) [
       | None ↦ λ is _. ap is_none is
       | Some x ↦ λ is e. ap (λ o. ends_at (length (climb_above n ts x.parent)) ts o) is
           ∙ elim (x.parent) as (λ p. ends_above n ts p ≡ true → ends_above (length (climb_above n ts p)) ts p ≡ true) [
@@ -174,7 +175,7 @@ ends_more : (n m : ℕ) (ts : Tokens) (q : Text) → n ≤ m → ends_within n t
 ends_more zero zero ts q le h = h
 ends_more zero (suc m) ts q le h =
     elim (get ts q)
-        as (λ o. is_none o ≡ true → ends_at m ts o ≡ true) [ None ↦ λ _. refl | Some x ↦ λ e. absurd (false≢true e) ] h
+    as (λ o. is_none o ≡ true → ends_at m ts o ≡ true) [ None ↦ λ _. refl | Some x ↦ λ e. absurd (false≢true e) ] h
 ends_more (suc n) zero ts q le h = absurd (not-suc-le-zero le)
 ends_more (suc n) (suc m) ts q le h =
     elim (get ts q) as (λ o. ends_at n ts o ≡ true → ends_at m ts o ≡ true) [
@@ -191,7 +192,7 @@ ends_in_time ts q n h =
     ends_more _ (len ts) ts q
     (subst (λ z. length (climb n ts q) ≤ z) (sym (len-entries ts))
     (length-le_from_keys same_equiv (climb n ts q) (entries ts) (climb_distinct n ts q h)
-        (λ a u. found a (in_climb n ts q a u))))
+    (λ a u. found a (in_climb n ts q a u))))
     (ends_own n ts q h)
   where
     some_of : {X : Type 0} (o : Option X) → (o ≢ None) → IsSome o

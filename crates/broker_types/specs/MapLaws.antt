@@ -9,9 +9,11 @@ use Rattle.std.specs.List.{find as first}
 use Rattle.std.specs.Map.{lookup}
 use Rattle.std.specs.Ordering.{is_lt}
 use Rattle.std.proofs.Common.{refl, sym, ◌∙◌, ap, subst}
+use Rattle.std.proofs.lemmas.Option.{none-some}
 use Rattle.broker_types.specs.Text.{Text, text_cmp, same}
 use Rattle.broker_types.specs.Map.{Map, get, entries, put, without, keep, with_values, map_values, change, first_where}
-use Rattle.broker_types.specs.TextLaws.{same-text_cmp, same_true}
+use Rattle.broker_types.specs.OptionLaws.{mapped, mapped_none}
+use Rattle.broker_types.specs.TextLaws.{same-text_cmp, same_self, same_true}
 
 module _ {X : Type 0} where
   -- the value at each key of a map with x at k
@@ -23,6 +25,20 @@ module _ {X : Type 0} where
   pub get-without : (m : Map X) (k q : Text) → get (without m k) q ≡ cond (same q k) None (get m q)
   get-without m k q =
       fin.get-remove nat_list_cmp_total m k q ∙ ap (λ b. cond b None (get m q)) (sym (same-text_cmp q k))
+
+  -- k has no value in a map without k
+  pub get-without_self : (m : Map X) (k : Text) → get (without m k) k ≡ None
+  get-without_self m k = get-without m k k ∙ ap (λ b. cond b None (get m k)) (same_self k)
+
+  -- what is in a map without k was there, under another key
+  pub without_is : (m : Map X) (k q : Text) (x : X)
+      → get (without m k) q ≡ Some x → (same q k ≡ false) × (get m q ≡ Some x)
+  without_is m k q x e =
+      elim (same q k)
+      as (λ b. same q k ≡ b → cond b None (get m q) ≡ Some x → (same q k ≡ false) × (get m q ≡ Some x)) [
+        | true ↦ λ _ none. absurd (none-some x none)
+        | false ↦ λ other is. (other, is)
+      ] refl (sym (get-without m k q) ∙ e)
 
   -- of the entries that pass
   pub get-keep : (p : Text → Bool) (m : Map X) (q : Text) → get (keep p m) q ≡ cond (p q) (get m q) None
@@ -37,7 +53,7 @@ module _ {X : Type 0} where
   find-lookup q [] = refl
   find-lookup q (e ∷ es) =
       ap (λ b. cond b (Some e.1) (find text_cmp q es)) (sym (same-text_cmp q e.0))
-          ∙ ap (cond (same q e.0) (Some e.1)) (find-lookup q es)
+      ∙ ap (cond (same q e.0) (Some e.1)) (find-lookup q es)
 
   -- the value at a key is the first in the list of entries
   pub get-lookup : (m : Map X) (q : Text) → get m q ≡ lookup (same q) (entries m)
@@ -67,9 +83,9 @@ module _ {X Y : Type 0} where
   lookup-with_values f q [] = refl
   lookup-with_values f q (e ∷ es) =
       elim (same q e.0)
-          as (λ b. same q e.0 ≡ b
-          → cond b (Some (f e.0 e.1)) (lookup (same q) (with_values f es))
-          ≡ option_map (f q) (cond b (Some e.1) (lookup (same q) es))) [
+      as (λ b. same q e.0 ≡ b
+      → cond b (Some (f e.0 e.1)) (lookup (same q) (with_values f es))
+      ≡ option_map (f q) (cond b (Some e.1) (lookup (same q) es))) [
         | true ↦ λ h. ap (λ k. Some (f k e.1)) (sym (same_true q e.0 h))
         | false ↦ λ h. lookup-with_values f q es
       ] refl
@@ -78,7 +94,16 @@ module _ {X Y : Type 0} where
   pub get-map_values : (f : Text → X → Y) (m : Map X) (q : Text) → get (map_values f m) q ≡ option_map (f q) (get m q)
   get-map_values f m q =
       get-lookup (map_values f m) q ∙ ap (lookup (same q)) (entries-map_values f m) ∙ lookup-with_values f q (entries m)
-          ∙ ap (option_map (f q)) (sym (get-lookup m q))
+      ∙ ap (option_map (f q)) (sym (get-lookup m q))
+
+  -- a value of a map of changed values
+  pub valued_is : (f : Text → X → Y) (m : Map X) (q : Text) (y : Y)
+      → get (map_values f m) q ≡ Some y → (x : X) × (get m q ≡ Some x) × (y ≡ f q x)
+  valued_is f m q y e = mapped (f q) (get m q) y (sym (get-map_values f m q) ∙ e)
+
+  -- where it has none, neither has the map
+  pub valued_none : (f : Text → X → Y) (m : Map X) (q : Text) → get (map_values f m) q ≡ None → get m q ≡ None
+  valued_none f m q e = mapped_none (f q) (get m q) (sym (get-map_values f m q) ∙ e)
 
   found-with_values : (f : Text → X → Y) (p : Text → Y → Bool) (p' : Text → X → Bool)
       → ((q : Text) (x : X) → p q (f q x) ≡ p' q x) → (es : List (Text × X))
@@ -87,8 +112,8 @@ module _ {X Y : Type 0} where
   found-with_values f p p' h (e ∷ es) =
       ap (λ b. cond b (Some (e.0, f e.0 e.1)) (first (λ e. p e.0 e.1) (with_values f es))) (h e.0 e.1)
       ∙ elim (p' e.0 e.1)
-          as (λ b. cond b (Some (e.0, f e.0 e.1)) (first (λ e. p e.0 e.1) (with_values f es))
-          ≡ option_map (λ e. (e.0, f e.0 e.1)) (cond b (Some e) (first (λ e. p' e.0 e.1) es))) [
+      as (λ b. cond b (Some (e.0, f e.0 e.1)) (first (λ e. p e.0 e.1) (with_values f es))
+      ≡ option_map (λ e. (e.0, f e.0 e.1)) (cond b (Some e) (first (λ e. p' e.0 e.1) es))) [
         | true ↦ refl
         | false ↦ found-with_values f p p' h es
       ]
@@ -112,6 +137,6 @@ module _ {X Y : Type 0} where
       → ((q : Text) → find text_cmp q xs ≡ option_map (f q) (get m q)) → xs ≡ with_values f (entries m)
   listing_is f m xs sorted finds =
       let same_one =
-          same_map (fin.from_sorted xs) (map_values f m)
-          (λ q. fin.get-from_sorted text_cmp xs q sorted ∙ finds q ∙ sym (get-map_values f m q)) in
+      same_map (fin.from_sorted xs) (map_values f m)
+      (λ q. fin.get-from_sorted text_cmp xs q sorted ∙ finds q ∙ sym (get-map_values f m q)) in
       sym (fin.entries-from_sorted text_cmp xs sorted) ∙ ap entries same_one ∙ entries-map_values f m

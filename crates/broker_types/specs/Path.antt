@@ -1,6 +1,6 @@
 -- Paths of requests (RFC 3986, section 3.3; the limits are this project's).
-use Rattle.std.specs.Prelude.{ℕ, ◌-◌, ◌&&◌, ◌==◌, nat_le, nat_lt, List, [], ◌∷◌, ◌++◌, take, length, slice_index}
-use Rattle.std.specs.Prelude.{Bool, not, if◌then◌else◌, bytes_eq, codes}
+use Rattle.std.specs.Prelude.{ℕ, ◌-◌, ◌&&◌, ◌==◌, nat_le, nat_lt, List, [], ◌∷◌, ◌++◌, take, length, slice_index, Bool}
+use Rattle.std.specs.Prelude.{not, if◌then◌else◌, bytes_eq, codes}
 use Rattle.std.specs.List.{list_all}
 
 -- the parts between slashes, of which the first has begun

@@ -11,12 +11,12 @@ use Rattle.std.specs.Map.{lookup}
 use Rattle.std.specs.FinMap.Entries.{below_all}
 use Rattle.std.proofs.Common.{refl, sym, ◌∙◌, ap, subst, inl, inr}
 use Rattle.std.proofs.lemmas.List.Elements.{All-cons, All-nil}
+use Rattle.std.proofs.lemmas.Bool.{false≢true}
+use Rattle.std.proofs.lemmas.Option.{none-some, same_Some}
 use Rattle.broker_types.specs.Text.{Text, text_cmp, same}
 use Rattle.broker_types.specs.Map.{Map, get, entries, keep, first_where}
 use Rattle.broker_types.specs.TextLaws.{same-text_cmp, same_self, same_true}
 use Rattle.broker_types.specs.MapLaws.{get-keep, get-lookup}
-use Rattle.std.proofs.lemmas.Bool.{false≢true}
-use Rattle.std.proofs.lemmas.Option.{none-some, same_Some}
 use Rattle.broker_types.specs.OptionLaws.{found_or_not}
 
 left : (a b : Bool) → T (a && b) → T a
@@ -38,25 +38,25 @@ module _ {X : Type 0} where
   below_none k [] h = refl
   below_none k (e ∷ es) h =
       ap (λ b. cond b (Some e.1) (lookup (same k) es)) (same-text_cmp k e.0 ∙ less_apart (text_cmp k e.0) (left _ _ h))
-          ∙ below_none k es (right _ _ h)
+      ∙ below_none k es (right _ _ h)
 
   found_is : (p : Text × X → Bool) (es : List (Text × X)) (e : Text × X) → T (is_sorted text_cmp es)
       → first p es ≡ Some e → (lookup (same e.0) es ≡ Some e.1) × (p e ≡ true)
   found_is p [] e s h = absurd (none-some _ h)
   found_is p (f ∷ es) e s h =
       elim (p f) as
-          (λ b. p f ≡ b → cond b (Some f) (first p es) ≡ Some e
-          → (lookup (same e.0) (f ∷ es) ≡ Some e.1) × (p e ≡ true)) [
+      (λ b. p f ≡ b → cond b (Some f) (first p es) ≡ Some e
+      → (lookup (same e.0) (f ∷ es) ≡ Some e.1) × (p e ≡ true)) [
         | true ↦ λ passes is. let one : f ≡ e = same_Some _ _ is in
             subst (λ z. (lookup (same z.0) (f ∷ es) ≡ Some z.1) × (p z ≡ true)) one
-                (ap (λ b. cond b (Some f.1) (lookup (same f.0) es)) (same_self f.0), passes)
+            (ap (λ b. cond b (Some f.1) (lookup (same f.0) es)) (same_self f.0), passes)
         | false ↦ λ fails is.
             let rest = found_is p es e (right _ _ s) is in (
               elim (same e.0 f.0) as (λ b. same e.0 f.0 ≡ b → cond b (Some f.1) (lookup (same e.0) es) ≡ Some e.1) [
                 | true ↦ λ at. absurd
-                      (none-some _
-                      (sym (subst (λ z. lookup (same z) es ≡ None) (sym (same_true e.0 f.0 at))
-                      (below_none f.0 es (left _ _ s))) ∙ rest.0))
+                    (none-some _
+                    (sym (subst (λ z. lookup (same z) es ≡ None) (sym (same_true e.0 f.0 at))
+                    (below_none f.0 es (left _ _ s))) ∙ rest.0))
                 | false ↦ λ _. rest.0
               ] refl,
               rest.1,
@@ -70,10 +70,10 @@ module _ {X : Type 0} where
       elim (p e) as (λ b. p e ≡ b → cond b (Some e) (first p es) ≡ None → p (t, x) ≡ false) [
         | true ↦ λ _ is. absurd (none-some _ (sym is))
         | false ↦ λ fails is. elim (same t e.0)
-              as (λ b. same t e.0 ≡ b → cond b (Some e.1) (lookup (same t) es) ≡ Some x → p (t, x) ≡ false) [
-          | true ↦ λ at g. (λ i. p (same_true t e.0 at i, same_Some _ _ (sym g) i)) ∙ fails
-          | false ↦ λ _ g. none_passes p es t x is g
-        ] refl f
+            as (λ b. same t e.0 ≡ b → cond b (Some e.1) (lookup (same t) es) ≡ Some x → p (t, x) ≡ false) [
+              | true ↦ λ at g. (λ i. p (same_true t e.0 at i, same_Some _ _ (sym g) i)) ∙ fails
+              | false ↦ λ _ g. none_passes p es t x is g
+            ] refl f
       ] refl h
 
   each_found : (P : Text × X → Type 0) (es : List (Text × X)) → T (is_sorted text_cmp es)
@@ -81,16 +81,16 @@ module _ {X : Type 0} where
   each_found P [] s h = All-nil P
   each_found P (e ∷ es) s h =
       All-cons P e es (h e.0 e.1 (ap (λ b. cond b (Some e.1) (lookup (same e.0) es)) (same_self e.0)))
-          (each_found P es (right _ _ s) (λ t x is. h t x (still t x is)))
+      (each_found P es (right _ _ s) (λ t x is. h t x (still t x is)))
     where
       still : (t : Text) (x : X) → lookup (same t) es ≡ Some x
           → cond (same t e.0) (Some e.1) (lookup (same t) es) ≡ Some x
       still t x is =
           elim (same t e.0) as (λ b. same t e.0 ≡ b → cond b (Some e.1) (lookup (same t) es) ≡ Some x) [
             | true ↦ λ at. absurd
-                  (none-some _
-                  (sym (subst (λ z. lookup (same z) es ≡ None) (sym (same_true t e.0 at))
-                  (below_none e.0 es (left _ _ s))) ∙ is))
+                (none-some _
+                (sym (subst (λ z. lookup (same z) es ≡ None) (sym (same_true t e.0 at))
+                (below_none e.0 es (left _ _ s))) ∙ is))
             | false ↦ λ _. is
           ] refl
 
@@ -150,8 +150,8 @@ module _ {X : Type 0} where
             let is = first_where_is p (keep r m) e found.1 in
             let kept = kept_get r m e.0 e.1 is.0 in
             found.1 ∙ sym
-                (ap (if_kept r) (first_where_only p m e.0 e.1 one kept.0 is.1)
-                ∙ ap (λ b. if b then Some e else None) kept.1)
+            (ap (if_kept r) (first_where_only p m e.0 e.1 one kept.0 is.1)
+            ∙ ap (λ b. if b then Some e else None) kept.1)
         | inl none ↦ none ∙ sym (elim (found_or_not (first_where p m)) [
           | inl nothing ↦ ap (if_kept r) nothing
           | inr found ↦
@@ -159,9 +159,9 @@ module _ {X : Type 0} where
               let is = first_where_is p m e found.1 in
               ap (if_kept r) found.1 ∙ elim (r e.0) as (λ b. r e.0 ≡ b → (if b then Some e else None) ≡ None) [
                 | true ↦ λ passes. absurd
-                      (false≢true (sym
-                      (first_where_none p (keep r m) e.0 e.1 none
-                      (get-keep r m e.0 ∙ ap (λ b. cond b (get m e.0) None) passes ∙ is.0)) ∙ is.1))
+                    (false≢true (sym
+                    (first_where_none p (keep r m) e.0 e.1 none
+                    (get-keep r m e.0 ∙ ap (λ b. cond b (get m e.0) None) passes ∙ is.0)) ∙ is.1))
                 | false ↦ λ _. refl
               ] refl
         ])

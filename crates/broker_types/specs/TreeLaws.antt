@@ -5,20 +5,21 @@ use Rattle.std.specs.List.{list_any, list_all}
 use Rattle.std.specs.Map.{lookup}
 use Rattle.std.specs.FinMap.{len-entries}
 use Rattle.std.proofs.Common.{refl, sym, ◌∙◌, ap, subst, inl, inr}
-use Rattle.std.proofs.lemmas.Bool.{ltb-true, lt-ltb}
+use Rattle.std.proofs.lemmas.Bool.{ltb-true, lt-ltb, and_parts, and_from, or_right, false_from_ne_true, false≢true}
+use Rattle.std.proofs.lemmas.Option.{none-some, same_Some}
 use Rattle.broker_types.specs.Text.{Text, same}
-use Rattle.broker_types.specs.Map.{get, len, entries}
+use Rattle.broker_types.specs.Map.{get, len, entries, map_values}
 use Rattle.broker_types.specs.Token.{Token, Tokens}
 use Rattle.broker_types.specs.Lineage.{climb, lineage, is_under, ends_within, ParentsExist, ChainsEnd, outlasts}
 use Rattle.broker_types.specs.Lineage.{is_alive, with_live_leases, alive_at, revoke, orphaned_by, revoke_orphan}
 use Rattle.broker_types.specs.Laws.{IsTree, OutlastsAbove}
 use Rattle.broker_types.specs.TextLaws.{same_self, same_true}
-use Rattle.broker_types.specs.MapLaws.{get-lookup, get-keep, get-without, get-map_values, same_map}
+use Rattle.broker_types.specs.Map.{without, keep}
+use Rattle.broker_types.specs.MapLaws.{without_is, valued_is, valued_none, get-lookup, get-keep, get-without, get-map_values}
+use Rattle.broker_types.specs.MapLaws.{same_map}
 use Rattle.broker_types.specs.LineageLaws.{ends_above, ends_at, climb_above, climb_at, climb_none, climb_enough}
 use Rattle.broker_types.specs.LineageLaws.{in_climb, ends_in_time, revoke_other}
 use Rattle.broker_types.specs.SearchLaws.{kept_get}
-use Rattle.std.proofs.lemmas.Bool.{and_parts, and_from, or_right, false_from_ne_true, false≢true}
-use Rattle.std.proofs.lemmas.Option.{none-some, same_Some}
 use Rattle.broker_types.specs.OptionLaws.{found_or_not}
 
 same_false : (a b : Text) → a ≢ b → same a b ≡ false
@@ -61,7 +62,7 @@ lineage_child ts t p x chains is parent =
     let r = lineage_some ts t x is in
     let here : ends_within (suc r.0) ts t ≡ true = subst (λ k. ends_within k ts t ≡ true) r.1 (chains t) in
     let above : ends_within r.0 ts p ≡ true =
-        sym (ends_some r.0 ts t x is ∙ ap (λ o. ends_above r.0 ts o) parent) ∙ here in
+    sym (ends_some r.0 ts t x is ∙ ap (λ o. ends_above r.0 ts o) parent) ∙ here in
     r.2 ∙ ap (λ o. t ∷ climb_above r.0 ts o) parent ∙ ap (λ l. t ∷ l) (climb_enough r.0 (len ts) ts p above (chains p))
 
 -- a token is under itself
@@ -114,6 +115,21 @@ pruned_ends (suc n) ts us t pruned h = elim (found_or_not (get us t)) [
 pruned_chains : (ts us : Tokens) → IsPruned ts us → ChainsEnd ts → ChainsEnd us
 pruned_chains ts us pruned chains t = ends_in_time us t (len ts) (pruned_ends (len ts) ts us t pruned (chains t))
 
+-- tokens that keep their parents, whatever else of them changes, stay a tree
+pub values_tree : (f : Text → Token → Token) (ts : Tokens) → ((q : Text) (x : Token) → (f q x).parent ≡ x.parent)
+    → IsTree ts → IsTree (map_values f ts)
+values_tree f ts same_parent tree = record {
+  parents_exist = λ q p y is parent none.
+      let x = valued_is f ts q y is in
+      tree.parents_exist q p x.0 x.1
+      (sym (same_parent q x.0) ∙ ap (λ (z : Token). z.parent) (sym x.2) ∙ parent) (valued_none f ts p none);
+  chains_end =
+      pruned_chains ts (map_values f ts)
+      (λ q y is. let x = valued_is f ts q y is in
+      (x.0, x.1, inl (ap (λ (z : Token). z.parent) x.2 ∙ same_parent q x.0)))
+      tree.chains_end;
+}
+
 -- ---- revocation
 
 -- revocation leaves a tree
@@ -158,7 +174,7 @@ pub orphan_unrelated : (ts : Tokens) (t q : Text) (x : Token) → q ≢ t → ge
     → get (revoke_orphan ts t) q ≡ Some x
 orphan_unrelated ts t q x ne is parent =
     orphan_other ts t q ne ∙ ap (option_map (orphaned_by t)) is
-        ∙ ap (λ o. Some (record x { parent = o })) (by x.parent parent)
+    ∙ ap (λ o. Some (record x { parent = o })) (by x.parent parent)
   where
     by : (o : Option Text) → o ≢ Some t → option_and_then (λ p. if same p t then None else Some p) o ≡ o
     by None h = refl
@@ -175,26 +191,21 @@ pub orphan_unknown : (ts : Tokens) (t : Text) → ParentsExist ts → get ts t �
 orphan_unknown ts t stand none = same_map (revoke_orphan ts t) ts (λ q. elim (found_or_not (get ts q)) [
   | inl nothing ↦ orphan_none ts t q nothing ∙ sym nothing
   | inr x ↦ orphan_unrelated ts t q x.0 (λ e. absurd (none-some _ (sym none ∙ ap (get ts) (sym e) ∙ x.1))) x.1
-        (λ parent. stand q t x.0 x.1 parent none) ∙ sym x.1
+      (λ parent. stand q t x.0 x.1 parent none) ∙ sym x.1
 ])
 
 -- a token that is left was there, with its parent unless that was revoked
 pub orphaned_is : (ts : Tokens) (t q : Text) (y : Token) → get (revoke_orphan ts t) q ≡ Some y
     → (x : Token) × (get ts q ≡ Some x) × (y ≡ orphaned_by t x)
-orphaned_is ts t q y is = by (same q t) (get ts q) (sym (get-revoke_orphan ts t q) ∙ is)
-  where
-    by : (b : Bool) (o : Option Token) → option_map (orphaned_by t) (cond b None o) ≡ Some y
-        → (x : Token) × (o ≡ Some x) × (y ≡ orphaned_by t x)
-    by true o e = absurd (none-some _ e)
-    by false None e = absurd (none-some _ e)
-    by false (Some x) e = (x, refl, sym (same_Some _ _ e))
+orphaned_is ts t q y is =
+    let x = valued_is (λ q. orphaned_by t) (without ts t) q y is in (x.0, (without_is ts t q x.0 x.1).1, x.2)
 
 parent_left : (t p : Text) (o : Option Text) → option_and_then (λ p. if same p t then None else Some p) o ≡ Some p
     → (o ≡ Some p) × (same p t ≡ false)
 parent_left t p None e = absurd (none-some _ e)
 parent_left t p (Some r) e =
     elim (same r t)
-        as (λ b. same r t ≡ b → (if b then None else Some r) ≡ Some p → (Some r ≡ Some p) × (same p t ≡ false)) [
+    as (λ b. same r t ≡ b → (if b then None else Some r) ≡ Some p → (Some r ≡ Some p) × (same p t ≡ false)) [
       | true ↦ λ _ g. absurd (none-some _ g)
       | false ↦ λ h g. (g, subst (λ z. same z t ≡ false) (same_Some _ _ g) h)
     ] refl e
@@ -205,8 +216,11 @@ parent_kept : (t : Text) (o : Option Text)
 parent_kept t None = inl refl
 parent_kept t (Some r) =
     elim (same r t)
-    as (λ b. ((if b then None else Some r) ≡ Some r) ⊎ ((if b then None else Some r) ≡ None)) [ true ↦
-    inr refl | false ↦ inl refl ]
+    as (λ b. ((if b then None else Some r) ≡ Some r) ⊎ ((if b then None else Some r) ≡ None)) [
+      | true ↦
+          inr refl
+      | false ↦ inl refl
+    ]
 
 -- revocation of one token leaves a tree
 pub orphan_tree : (ts : Tokens) (t : Text) → IsTree ts → IsTree (revoke_orphan ts t)
@@ -215,7 +229,7 @@ orphan_tree ts t tree = record {
       let x = orphaned_is ts t q y is in
       let left = parent_left t p x.0.parent (ap (λ (z : Token). z.parent) (sym x.2) ∙ parent) in
       let there : get (revoke_orphan ts t) p ≡ option_map (orphaned_by t) (get ts p) =
-          get-revoke_orphan ts t p ∙ ap (λ b. option_map (orphaned_by t) (cond b None (get ts p))) left.1 in
+      get-revoke_orphan ts t p ∙ ap (λ b. option_map (orphaned_by t) (cond b None (get ts p))) left.1 in
       elim (found_or_not (get ts p)) [
         | inl nothing ↦ tree.parents_exist q p x.0 x.1 left.0 nothing
         | inr z ↦ absurd (none-some _ (sym none ∙ there ∙ ap (option_map (orphaned_by t)) z.1))
@@ -241,13 +255,10 @@ get-alive_at now ts t = get-map_values _ _ t ∙ ap (option_map (with_live_lease
 -- a token that is alive was there, with all its leases
 pub alive_is : (now : ℕ) (ts : Tokens) (t : Text) (y : Token) → get (alive_at now ts) t ≡ Some y
     → (x : Token) × (get ts t ≡ Some x) × (is_alive now ts t ≡ true) × (y ≡ with_live_leases now x)
-alive_is now ts t y is = by (is_alive now ts t) (get ts t) (sym (get-alive_at now ts t) ∙ is)
-  where
-    by : (b : Bool) (o : Option Token) → option_map (with_live_leases now) (cond b o None) ≡ Some y
-        → (x : Token) × (o ≡ Some x) × (b ≡ true) × (y ≡ with_live_leases now x)
-    by false o e = absurd (none-some _ e)
-    by true None e = absurd (none-some _ e)
-    by true (Some x) e = (x, refl, refl, sym (same_Some _ _ e))
+alive_is now ts t y is =
+    let x = valued_is (λ t. with_live_leases now) (keep (is_alive now ts) ts) t y is in
+    let kept = kept_get (is_alive now ts) ts t x.0 x.1 in
+    (x.0, kept.0, kept.1, x.2)
 
 all_at : (f : Text → Bool) (xs : List Text) (a : Text) → list_all f xs ≡ true → list_any (same a) xs ≡ true → f a ≡ true
 all_at f [] a h u = absurd (false≢true u)
@@ -262,7 +273,7 @@ all_from : (f : Text → Bool) (xs : List Text) → ((a : Text) → list_any (sa
 all_from f [] h = refl
 all_from f (x ∷ xs) h =
     and_from (f x) (list_all f xs) (h x (ap (λ b. b || list_any (same x) xs) (same_self x)))
-        (all_from f xs (λ a u. h a (or_right (same a x) _ u)))
+    (all_from f xs (λ a u. h a (or_right (same a x) _ u)))
 
 abbrev outlasts_end : ℕ → Tokens → Text → Bool
 outlasts_end now ts a = outlasts now (option_and_then (λ (x : Token). x.ends) (get ts a))
@@ -281,7 +292,7 @@ left_outlasts now ts t ne a y m u is ends = elim (found_or_not (get (alive_at no
       let alive = (alive_is now ts t z.0 z.1).2 in
       let at : outlasts_end now ts a ≡ true = all_at (outlasts_end now ts) (lineage ts t) a alive u in
       later now m (sym (ap (λ o. outlasts now (option_and_then (λ (x : Token). x.ends) o)) is ∙ ap (outlasts now) ends)
-          ∙ at)
+      ∙ at)
 ]
 
 -- a token that outlasts now, as does all above it, is left, with its leases that do
@@ -289,7 +300,7 @@ pub outlasting_is_left : (now : ℕ) (ts : Tokens) (t : Text) (x : Token) → ge
     → get (alive_at now ts) t ≡ Some (with_live_leases now x)
 outlasting_is_left now ts t x is above =
     get-alive_at now ts t ∙ ap (λ b. option_map (with_live_leases now) (cond b (get ts t) None)) alive
-        ∙ ap (option_map (with_live_leases now)) is
+    ∙ ap (option_map (with_live_leases now)) is
   where
     by_end : (a : Text) (y : Token) → is_under ts t a ≡ true → get ts a ≡ Some y → (o : Option ℕ) → y.ends ≡ o
         → outlasts now o ≡ true
@@ -300,7 +311,7 @@ outlasting_is_left now ts t x is above =
     one a u = elim (found_or_not (get ts a)) [
       | inl none ↦ ap (λ o. outlasts now (option_and_then (λ (x : Token). x.ends) o)) none
       | inr y ↦ ap (λ o. outlasts now (option_and_then (λ (x : Token). x.ends) o)) y.1
-            ∙ by_end a y.0 u y.1 y.0.ends refl
+          ∙ by_end a y.0 u y.1 y.0.ends refl
     ]
 
     alive : is_alive now ts t ≡ true
@@ -313,15 +324,15 @@ alive_tree now ts tree = record {
       let x = alive_is now ts q y is in
       let above : x.0.parent ≡ Some p = ap (λ (z : Token). z.parent) (sym x.3) ∙ parent in
       let line : list_all (outlasts_end now ts) (q ∷ lineage ts p) ≡ true =
-          ap (list_all (outlasts_end now ts)) (sym (lineage_child ts q p x.0 tree.chains_end x.1 above)) ∙ x.2 in
+      ap (list_all (outlasts_end now ts)) (sym (lineage_child ts q p x.0 tree.chains_end x.1 above)) ∙ x.2 in
       let alive : is_alive now ts p ≡ true = (and_parts (outlasts_end now ts q) (is_alive now ts p) line).1 in
       elim (found_or_not (get ts p)) [
         | inl nothing ↦ tree.parents_exist q p x.0 x.1 above nothing
         | inr z ↦ absurd
-              (none-some _
-              (sym none ∙ get-alive_at now ts p
-              ∙ ap (λ b. option_map (with_live_leases now) (cond b (get ts p) None)) alive
-              ∙ ap (option_map (with_live_leases now)) z.1))
+            (none-some _
+            (sym none ∙ get-alive_at now ts p
+            ∙ ap (λ b. option_map (with_live_leases now) (cond b (get ts p) None)) alive
+            ∙ ap (option_map (with_live_leases now)) z.1))
       ];
   chains_end =
       pruned_chains ts (alive_at now ts)

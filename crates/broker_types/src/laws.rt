@@ -7,10 +7,13 @@ ghost use Rattle.broker_types.specs.Laws.{OrphanedByUnknown, OrphanedIsGone, Chi
 ghost use Rattle.broker_types.specs.Laws.{UnrelatedAreAsBefore, NoneIsNew};
 ghost use Rattle.broker_types.specs.Laws.{LeftOutlasts, OutlastingIsLeft};
 ghost use Rattle.broker_types.specs.Laws.{RevokeKeepsTrees, RevokeOrphanKeepsTrees, ExpiryKeepsTrees};
-ghost use Rattle.broker_types.specs.Laws.{FirstBrokerIsSound, EndingTheSpentKeepsSoundness};
+ghost use Rattle.broker_types.specs.Laws.{FirstBrokerIsSound, DropWaitingKeepsSoundness};
+ghost use Rattle.broker_types.specs.Laws.{SpendKeepsSoundness, EndingTheSpentKeepsSoundness};
 ghost use Rattle.broker_types.specs.Laws.{RevokeKeepsSoundness, RevokeOrphanKeepsSoundness, ExpiryKeepsSoundness};
 ghost use Rattle.broker_types.specs.Laws.{RevokeEvolves, RevokeOrphanEvolves, ExpiryEvolves};
-ghost use Rattle.broker_types.specs.Laws.{RevokeEnds, RevokeOrphanEnds, ExpiryEnds};
+ghost use Rattle.broker_types.specs.Laws.{SpendEvolves, EndSpentEvolves, DropWaitingEvolves};
+ghost use Rattle.broker_types.specs.Laws.{RevokeEnds, RevokeOrphanEnds, ExpiryEnds, EndSpentEnds};
+ghost use Rattle.broker_types.specs.Laws.{DroppedIsTakenOut, DroppedIsHandedOut};
 ghost use Rattle.broker_types.specs.Laws.{EvolvesFromItself, EvolvingIsTransitive};
 ghost use Rattle.broker_types.specs.Laws.{HandedOutStaysSo, EndedStaysEnded, TakenOutStaysOut};
 
@@ -59,32 +62,48 @@ pub fn first_broker_is_sound()
     ensures { FirstBrokerIsSound }
 {}
 
-/// A law: revocation and expiry leave a sound broker sound, whoever may have spent its last use.
+/// A law: revocation, expiry and dropping a waiting response leave a sound broker sound, whoever may have
+/// spent its last use.
 pub fn removals_keep_soundness()
     ensures revoked { RevokeKeepsSoundness }
     ensures revoked_alone { RevokeOrphanKeepsSoundness }
     ensures expired { ExpiryKeepsSoundness }
+    ensures dropped { DropWaitingKeepsSoundness }
 {}
 
-/// A law: where a caller that has spent its last use ends with its descendants, the broker is sound, and
-/// nobody is left that has spent its last use (Vault's documentation, "Tokens", use limits).
-pub fn ending_the_spent_keeps_soundness()
-    ensures { EndingTheSpentKeepsSoundness }
+/// A law: spending a use of the caller leaves a sound broker sound, but for the caller, which may have spent
+/// its last; and once it is ended then, with its descendants, the broker is sound, and no token has spent its
+/// last use (Vault's documentation, "Tokens", use limits).
+pub fn spending_keeps_soundness()
+    ensures spent { SpendKeepsSoundness }
+    ensures ended { EndingTheSpentKeepsSoundness }
 {}
 
-/// A law: revocation and expiry let a broker evolve.
+/// A law: revocation, expiry, spending a use, ending a spent caller and dropping a waiting response let a
+/// broker evolve.
 pub fn removals_evolve()
     ensures revoked { RevokeEvolves }
     ensures revoked_alone { RevokeOrphanEvolves }
     ensures expired { ExpiryEvolves }
+    ensures spent { SpendEvolves }
+    ensures ended { EndSpentEvolves }
+    ensures dropped { DropWaitingEvolves }
 {}
 
-/// A law: a token that revocation or expiry takes out has ended, where each identifier has one place and
-/// was given out.
+/// A law: a token that is gone after revocation, expiry or the end of a spent caller has ended, where each
+/// identifier is in one place and was given out.
 pub fn removals_end_tokens()
     ensures revoked { RevokeEnds }
     ensures revoked_alone { RevokeOrphanEnds }
     ensures expired { ExpiryEnds }
+    ensures spent { EndSpentEnds }
+{}
+
+/// A law: a wrapping token whose response is dropped is taken out, and the response is handed out: no
+/// wrapping token has its origin any more (Vault's documentation, "Response wrapping").
+pub fn dropping_hands_out()
+    ensures taken_out { DroppedIsTakenOut }
+    ensures handed_out { DroppedIsHandedOut }
 {}
 
 /// A law: what has ended, was handed out or was taken out in one broker is so in each that evolves

@@ -27,9 +27,9 @@ pub use duration::read_duration;
 pub use fault::Fault;
 pub use identifier::{id_bytes, id_text, identifiers_differ};
 pub use laws::{
-    ending_the_spent_keeps_soundness, evolving_lasts, expiry_ends_descendants, first_broker_is_sound, lineages_climb,
-    removals_end_tokens, removals_evolve, removals_keep_soundness, revocation_ends_descendants,
-    revocation_orphans_children,
+    dropping_hands_out, evolving_lasts, expiry_ends_descendants, first_broker_is_sound,
+    lineages_climb, removals_end_tokens, removals_evolve, removals_keep_soundness,
+    revocation_ends_descendants, revocation_orphans_children, spending_keeps_soundness,
 };
 pub use moment::Moment;
 pub use path::Path;

@@ -35,7 +35,7 @@ impl<'b> Path<'b> {
         ensures { MatchResult result
             (λ path. (path ≡ without_slash (cow_str_bytes text.entry)) × (is_path path ≡ true))
             (λ refusal. (refusal ≡ BadRequest InvalidPath)
-                × (is_path (without_slash (cow_str_bytes text.entry)) ≡ false)) }
+            × (is_path (without_slash (cow_str_bytes text.entry)) ≡ false)) }
     {
         let text = without_final_slash(text);
         if !is_good(text.as_str().as_bytes()) {

@@ -1,6 +1,6 @@
 use super::*;
 use std::alloc::{AllocError, AllocFailed, Global};
-use std::borrow::{CowSlice, CowStr};
+use std::borrow::CowStr;
 use std::process::Abort;
 use std::test::Fail;
 
@@ -46,49 +46,16 @@ fn times(rt: HostRuntime) -> Result<(), Fail> {
 }
 
 #[test]
-fn moments(rt: HostRuntime) {
+fn limits(rt: HostRuntime) {
+    let greatest = Moment::new(250_000_000_000);
     assert_eq!(rt;
-        Moment::new(250_000_000_000).map(|moment| moment.seconds()),
+        greatest.map(|moment| moment.seconds()),
         Some(250_000_000_000)
     );
     assert_eq!(rt; Moment::new(250_000_000_001), None);
-}
-
-#[test]
-fn later_moments(rt: HostRuntime) {
-    for (one, other) in [(60, 0), (0, 60), (60, 60)] {
-        match (Moment::new(one), Moment::new(other)) {
-            (Some(one), Some(other)) => assert_eq!(rt; one.later(other).seconds(), 60),
-            _ => assert!(rt; false, "a moment is not accepted"),
-        }
-    }
-}
-
-#[test]
-fn wrap_ttls(rt: HostRuntime) {
-    let cut = [
-        (0, 0),
-        (60, 60),
-        (2_764_800, 2_764_800),
-        (2_764_801, 2_764_800),
-    ];
-    for (asked, want) in cut {
+    for (asked, want) in [(2_764_800, 2_764_800), (2_764_801, 2_764_800)] {
         assert_eq!(rt; WrapTtl::cut(Seconds::new(asked)).count(), want);
     }
-}
-
-#[test]
-fn bodies(rt: HostRuntime) -> Result<(), Fail> {
-    let alloc = rt.alloc();
-    match BodyBytes::new(CowSlice::Borrowed(b"{}".as_slice())) {
-        Some(body) => assert!(rt; body.as_slice() == b"{}".as_slice()),
-        None => assert!(rt; false, "a short body is refused"),
-    }
-    let longest = vec![in alloc; b' '; 1_048_576]?;
-    assert!(rt; BodyBytes::new(CowSlice::Borrowed(longest.as_slice())).is_some());
-    let longer = vec![in alloc; b' '; 1_048_577]?;
-    assert!(rt; BodyBytes::new(CowSlice::Borrowed(longer.as_slice())).is_none());
-    Ok(())
 }
 
 #[test]
@@ -175,67 +142,39 @@ fn paths(rt: HostRuntime) -> Result<(), Fail> {
     Ok(())
 }
 
-/// The refusal has this code and this body, word for word.
-fn expect_refusal<R: Abort>(
-    rt: &R,
-    alloc: Global,
-    refusal: Refusal,
-    code: u16,
-    body: &str,
-) -> Result<(), Fault> {
-    let answer = Answer::refused(alloc, refusal)?;
-    assert_eq!(rt; answer.status.code(), code);
-    assert_eq!(rt; answer.methods, refusal.methods());
-    assert_eq!(rt; answer.text.as_str(), body);
-    Ok(())
-}
-
-#[test]
-fn bad_requests(rt: HostRuntime) -> Result<(), Fail> {
-    let table = [
-        (
-            Reason::MalformedRequest,
-            "{\"errors\":[\"malformed request\"]}\n",
-        ),
-        (
-            Reason::InvalidField(Field::TypeName),
-            "{\"errors\":[\"invalid field: type\"]}\n",
-        ),
-        (
-            Reason::MissingField(Field::LeaseId),
-            "{\"errors\":[\"missing field: lease_id\"]}\n",
-        ),
-    ];
-    for (reason, body) in table {
-        expect_refusal(&rt, rt.alloc(), Refusal::BadRequest(reason), 400, body)?;
-    }
-    Ok(())
-}
-
 #[test]
 fn refusals(rt: HostRuntime) -> Result<(), Fail> {
     let methods = Methods {
         get: true,
         ..Methods::none()
     };
-    let denied = "{\"errors\":[\"permission denied\"]}\n";
-    let bad_token = "{\"errors\":[\"bad token\"]}\n";
-    let unsupported = "{\"errors\":[\"unsupported operation\"]}\n";
-    let used = "{\"errors\":[\"identifier already used\"]}\n";
+    let bad = Refusal::BadRequest(Reason::MalformedRequest);
+    let missing = Refusal::BadRequest(Reason::MissingField(Field::LeaseId));
     let table = [
-        (Refusal::Forbidden(Denial::PermissionDenied), 403, denied),
-        (Refusal::Forbidden(Denial::BadToken), 403, bad_token),
-        (Refusal::NotFound, 404, "{\"errors\":[]}\n"),
-        (Refusal::MethodNotAllowed(methods), 405, unsupported),
-        (Refusal::IdentifierUsed, 500, used),
+        (bad, 400, "[\"malformed request\"]"),
+        (missing, 400, "[\"missing field: lease_id\"]"),
+        (Refusal::Forbidden(Denial::BadToken), 403, "[\"bad token\"]"),
+        (Refusal::NotFound, 404, "[]"),
+        (
+            Refusal::MethodNotAllowed(methods),
+            405,
+            "[\"unsupported operation\"]",
+        ),
+        (
+            Refusal::IdentifierUsed,
+            500,
+            "[\"identifier already used\"]",
+        ),
     ];
-    for (refusal, code, body) in table {
-        expect_refusal(&rt, rt.alloc(), refusal, code, body)?;
+    for (refusal, code, errors) in table {
+        let answer = Answer::refused(rt.alloc(), refusal)?;
+        assert_eq!(rt; answer.status.code(), code);
+        assert_eq!(rt; answer.methods, refusal.methods());
+        let body = format!(in rt.alloc(); "{{\"errors\":{errors}}}\n")?;
+        assert_eq!(rt; answer.text.as_str(), body.as_str());
     }
-    assert_eq!(rt;
-        errors_body(rt.alloc(), Some("a"))?.as_str(),
-        "{\"errors\":[\"a\"]}\n"
-    );
+    let body = errors_body(rt.alloc(), Some("a"))?;
+    assert_eq!(rt; body.as_str(), "{\"errors\":[\"a\"]}\n");
     Ok(())
 }
 
@@ -259,31 +198,17 @@ fn answers(rt: HostRuntime) -> Result<(), Fail> {
     Ok(())
 }
 
-#[test]
-fn texts(rt: HostRuntime) -> Result<(), Fail> {
-    assert_eq!(rt; CowText::new(CowStr::Borrowed("a")).as_str(), "a");
-    assert_eq!(rt;
-        CowBytes::new(CowSlice::Borrowed(b"a".as_slice())).as_slice(),
-        b"a".as_slice()
-    );
-    let bytes = Bytes::new(b"ab".to_vec(rt.alloc())?);
-    assert_eq!(rt; bytes.as_slice(), b"ab".as_slice());
-    assert_eq!(rt; bytes.into_vec().as_slice(), b"ab".as_slice());
-    Ok(())
-}
-
 /// Converts through the bound, at a concrete type.
-fn fault_of<E: Drop>(error: E) -> Fault
-where
-    Fault: From<E>,
-{
-    Fault::from(error)
+fn converted<E: Drop, F: From<E> + Drop>(error: E) -> F {
+    F::from(error)
 }
 
 #[test]
 fn faults(rt: HostRuntime) -> Result<(), Fail> {
-    assert_eq!(rt; fault_of(AllocError), Fault::Memory);
-    assert_eq!(rt; fault_of(AllocFailed { value: 7u8 }), Fault::Memory);
+    let fault: Fault = converted(AllocFailed { value: 7u8 });
+    assert_eq!(rt; fault, Fault::Memory);
+    let error: RequestError = converted(AllocError);
+    assert_eq!(rt; error, RequestError::Fault(Fault::Memory));
     let numbers = [
         (Fault::Memory, 1, "out of memory"),
         (Fault::Storage, 2, "the storage failed"),

@@ -1,43 +1,51 @@
 -- The front, where the code knows its case.
-use Rattle.std.proofs.Common.{◌≡◌, ℕ, ◌+◌, ◌<◌, ◌≤◌, Bool, true, false, cond, List, length, take, slice_range, Result, Ok, Err, nat_le, refl, sym, ap, ◌∙◌, subst, arith}
+use Rattle.std.proofs.Common.{◌≡◌, ℕ, ◌+◌, ◌<◌, ◌≤◌, Bool, true, false, cond, List, length, take, slice_range, Result, Ok, Err, nat_le, sym, ap}
+use Rattle.std.proofs.Common.{◌∙◌, subst, arith}
+use Rattle.std.proofs.lemmas.List.{length-take-le}
 use Rattle.std.proofs.lemmas.Bool.Decides.{nat_tests}
 use Rattle.broker_types.specs.declared.status.Status.{Status}
 use Rattle.http_layer.specs.HeadParts.{HeadParts, IsHead}
-use Rattle.http_layer.specs.Front.{need, refused, whole, read, HeadEnds, window, IsFront, front_of_body, body_length}
+use Rattle.http_layer.specs.Front.{need, refused_with, whole, read, HeadEnds, window, IsFront, front_of_body, body_length}
 
--- what is known where the head was read
+-- the head is the first len bytes of s, and p has its parts
 pub record ReadsHead (s : List ℕ) (len : ℕ) (p : HeadParts) : Type 0 where
   pub ends : HeadEnds (window s) len
   pub head : IsHead (take len s) p
   pub size : p.size ≡ len
 
-front_read : (s : List ℕ) (len : ℕ) (p : HeadParts) → ReadsHead s len p → IsFront s (front_of_body s p (body_length p))
-front_read s len p h =
+pub reads_head : (s : List ℕ) (len : ℕ) (p : HeadParts) → HeadEnds (window s) len → len ≤ length s → IsHead (take len s) p
+    → p.size ≡ length (take len s) → ReadsHead s len p
+reads_head s len p ends within head size = record { ends = ends; head = head; size = size ∙ length-take-le len s within }
+
+IsFront-read : (s : List ℕ) (len : ℕ) (p : HeadParts) (r : Result ℕ Status) → ReadsHead s len p → body_length p ≡ r → IsFront s (front_of_body s p r)
+IsFront-read s len p r h is =
     record {
       head = read p;
       is_head = (
         subst (λ (n : ℕ). HeadEnds (window s) n) (sym h.size) h.ends,
         subst (λ (n : ℕ). IsHead (take n s) p) (sym h.size) h.head,
       );
-      front = refl;
+      front = ap (front_of_body s p) (sym is);
     }
 
-pub front_refused : (s : List ℕ) (len : ℕ) (p : HeadParts) (status : Status) → ReadsHead s len p → body_length p ≡ Err status → IsFront s (refused status)
-front_refused s len p status h is = subst (λ (r : Result ℕ Status). IsFront s (front_of_body s p r)) is (front_read s len p h)
+pub IsFront-refused : (s : List ℕ) (len : ℕ) (p : HeadParts) (status : Status) → ReadsHead s len p → body_length p ≡ Err status
+    → IsFront s (refused_with status)
+IsFront-refused s len p status h is = IsFront-read s len p (Err status) h is
 
-pub front_whole : (s : List ℕ) (len : ℕ) (p : HeadParts) (n : ℕ) → ReadsHead s len p → body_length p ≡ Ok n → len + n ≤ length s
-    → IsFront s (whole (len + n) p (slice_range s p.size (len + n)))
-front_whole s len p n h is fits =
-    let at : IsFront s (front_of_body s p (Ok n)) = subst (λ (r : Result ℕ Status). IsFront s (front_of_body s p r)) is (front_read s len p h) in
+pub IsFront-whole : (s : List ℕ) (len : ℕ) (p : HeadParts) (n : ℕ) (body : List ℕ) → ReadsHead s len p → body_length p ≡ Ok n
+    → len + n ≤ length s → body ≡ slice_range s len (len + n) → IsFront s (whole (len + n) p body)
+IsFront-whole s len p n body h is fits same =
     let test : nat_le (p.size + n) (length s) ≡ true = grind (arith, nat_tests, h.size) in
-    let there : front_of_body s p (Ok n) ≡ whole (len + n) p (slice_range s p.size (len + n)) =
+    let there : front_of_body s p (Ok n) ≡ whole (len + n) p body =
     ap (λ (b : Bool). cond b (whole (p.size + n) p (slice_range s p.size (p.size + n))) need) test
-    ∙ ap (λ (m : ℕ). whole (m + n) p (slice_range s p.size (m + n))) h.size in
-    subst (IsFront s) there at
+    ∙ ap (λ (m : ℕ). whole (m + n) p (slice_range s m (m + n))) h.size
+    ∙ ap (whole (len + n) p) (sym same) in
+    subst (IsFront s) there (IsFront-read s len p (Ok n) h is)
 
-pub front_short : (s : List ℕ) (len : ℕ) (p : HeadParts) (n : ℕ) → ReadsHead s len p → body_length p ≡ Ok n → length s < len + n
+pub IsFront-short : (s : List ℕ) (len : ℕ) (p : HeadParts) (n : ℕ) → ReadsHead s len p → body_length p ≡ Ok n → length s < len + n
     → IsFront s need
-front_short s len p n h is short =
-    let at : IsFront s (front_of_body s p (Ok n)) = subst (λ (r : Result ℕ Status). IsFront s (front_of_body s p r)) is (front_read s len p h) in
+IsFront-short s len p n h is short =
     let test : nat_le (p.size + n) (length s) ≡ false = grind (arith, nat_tests, h.size) in
-    subst (IsFront s) (ap (λ (b : Bool). cond b (whole (p.size + n) p (slice_range s p.size (p.size + n))) need) test) at
+    let there : front_of_body s p (Ok n) ≡ need =
+    ap (λ (b : Bool). cond b (whole (p.size + n) p (slice_range s p.size (p.size + n))) need) test in
+    subst (IsFront s) there (IsFront-read s len p (Ok n) h is)

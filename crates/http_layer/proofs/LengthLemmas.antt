@@ -1,9 +1,9 @@
 -- The number of a text of digits, one digit after another.
-use Rattle.std.proofs.Common.{◌≡◌, ℕ, ◌+◌, ◌-◌, ◌*◌, ◌<◌, Bool, true, List, [], ◌∷◌, ◌++◌, length, take, min, ap, ◌∙◌, arith, get_or}
-use Rattle.std.specs.Prelude.{◌&&◌}
+use Rattle.std.proofs.Common.{◌≡◌, refl, ℕ, ◌+◌, ◌-◌, ◌*◌, ◌<◌, true, List, [], ◌∷◌, ◌++◌, length, take, min, ap, ◌∙◌, arith, get_or}
 use Rattle.std.specs.Char.{is_ascii_digit, digit_value}
 use Rattle.std.specs.List.{list_all}
 use Rattle.std.specs.Str.Parse.{digits_value}
+use Rattle.std.proofs.lemmas.Bool.{and_from}
 use Rattle.std.proofs.lemmas.List.{take_more}
 use Rattle.std.proofs.lemmas.List.Folds.{list_all-append}
 use Rattle.std.proofs.lemmas.Int.Digits.{digits_value_push}
@@ -21,16 +21,10 @@ capped_more ds i value lt digits so_far digit next is =
     let grown : digits_value 10 (take (i + 1) ds) ≡ digits_value 10 (take i ds) * 10 + digit_value (get_or ds i 0) =
     ap (digits_value 10) more ∙ digits_value_push 10 (take i ds) (get_or ds i 0) in
     let at : digit_value (get_or ds i 0) ≡ get_or ds i 0 - 48 = digit_value_at (get_or ds i 0) digit in (
-      ap (list_all is_ascii_digit) more ∙ list_all-append is_ascii_digit (take i ds) (get_or ds i 0 ∷ []) ∙ both _ _ digits (one _ digit),
+      ap (list_all is_ascii_digit) more ∙ list_all-append is_ascii_digit (take i ds) (get_or ds i 0 ∷ []) ∙ and_from _ _ digits (and_from _ _ digit refl),
       capped_next _ _ _ _ _ _ so_far is grown at,
     )
   where
-    both : (a b : Bool) → a ≡ true → b ≡ true → (a && b) ≡ true
-    both a b p q = ap (λ (x : Bool). x && b) p ∙ q
-
-    one : (a : Bool) → a ≡ true → (a && true) ≡ true
-    one a p = ap (λ (x : Bool). x && true) p
-
     capped_next : (value before next after d e : ℕ) → value ≡ min before 1048577 → next ≡ min (10 * value + d) 1048577
         → after ≡ before * 10 + e → e ≡ d → next ≡ min after 1048577
     capped_next value before next after d e so_far is grown at = omega arith

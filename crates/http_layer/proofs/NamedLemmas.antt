@@ -5,27 +5,27 @@ use Rattle.std.specs.List.{list_any}
 use Rattle.std.proofs.lemmas.List.{map-append, append-nil}
 use Rattle.std.proofs.lemmas.List.Elements.{filter-append}
 use Rattle.std.proofs.lemmas.List.Folds.{list_any_at}
-use Rattle.http_layer.specs.HeadParts.{Field, is_named, values_named}
+use Rattle.http_layer.specs.HeadParts.{HeadField, is_named, values_named}
 use Rattle.http_layer.specs.Named.{AreNamed}
 use Rattle.http_layer.specs.declared.fields.Named.{Named}
 use Rattle.http_layer.specs.declared.fields.Named.TheVariants.{Absent, Once, Several}
 
-values_named-append : (name : List ℕ) (fields more : List Field) → values_named name (fields ++ more) ≡ values_named name fields ++ values_named name more
+values_named-append : (name : List ℕ) (fields more : List HeadField) → values_named name (fields ++ more) ≡ values_named name fields ++ values_named name more
 values_named-append name fields more =
-    ap (map (λ (f : Field). f.1)) (filter-append (is_named name) fields more)
-    ∙ map-append (λ (f : Field). f.1) (filter (is_named name) fields) (filter (is_named name) more)
+    ap (map (λ (f : HeadField). f.1)) (filter-append (is_named name) fields more)
+    ∙ map-append (λ (f : HeadField). f.1) (filter (is_named name) fields) (filter (is_named name) more)
 
-pub values_named-hit : (name : List ℕ) (fields : List Field) (f : Field) → is_named name f ≡ true
+pub values_named-hit : (name : List ℕ) (fields : List HeadField) (f : HeadField) → is_named name f ≡ true
     → values_named name (fields ++ f ∷ []) ≡ values_named name fields ++ f.1 ∷ []
 values_named-hit name fields f is =
     values_named-append name fields (f ∷ [])
-    ∙ ap (λ (b : Bool). values_named name fields ++ map (λ (g : Field). g.1) (cond b (f ∷ []) [])) is
+    ∙ ap (λ (b : Bool). values_named name fields ++ map (λ (g : HeadField). g.1) (cond b (f ∷ []) [])) is
 
-pub values_named-miss : (name : List ℕ) (fields : List Field) (f : Field) → is_named name f ≡ false
+pub values_named-miss : (name : List ℕ) (fields : List HeadField) (f : HeadField) → is_named name f ≡ false
     → values_named name (fields ++ f ∷ []) ≡ values_named name fields
 values_named-miss name fields f is =
     values_named-append name fields (f ∷ [])
-    ∙ ap (λ (b : Bool). values_named name fields ++ map (λ (g : Field). g.1) (cond b (f ∷ []) [])) is
+    ∙ ap (λ (b : Bool). values_named name fields ++ map (λ (g : HeadField). g.1) (cond b (f ∷ []) [])) is
     ∙ append-nil (values_named name fields)
 
 -- where a value stood, one more makes it several

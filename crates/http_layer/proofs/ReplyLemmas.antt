@@ -1,5 +1,5 @@
--- Replies: texts that are added one after another, and what one second has one of.
-use Rattle.std.proofs.Common.{◌≡◌, ℕ, Bool, ◌≤◌, List, [], ◌++◌, length, refl, sym, ap, ◌∙◌, arith, append_assoc, decimal, codes}
+-- Replies: texts that are added one after another, and the laws of replies.
+use Rattle.std.proofs.Common.{◌≡◌, ℕ, Bool, ◌<◌, ◌≤◌, subst, List, [], ◌++◌, length, refl, sym, ap, ◌∙◌, arith, append_assoc, decimal, codes}
 use Rattle.broker_types.specs.declared.status.Status.{Status}
 use Rattle.broker_types.specs.declared.status.Status.TheVariants as is
 use Rattle.broker_types.specs.Answer.{Response}
@@ -8,16 +8,18 @@ use Rattle.httpdate.specs.Text.{imf_fixdate}
 use Rattle.httpdate.proofs.Theorems.{unix_secs_injective}
 use Rattle.http_layer.specs.Reply.{IsReply, phrase_of, body_lines, reply_head, reply_body, crlf}
 
-pub chain3 : (h a b c x1 x2 x3 : List ℕ) → x1 ≡ h ++ a → x2 ≡ x1 ++ b → x3 ≡ x2 ++ c → x3 ≡ h ++ (a ++ b ++ c)
-chain3 h a b c x1 x2 x3 p1 p2 p3 =
+-- ---- texts that are added one after another
+
+pub appended_3 : (h a b c x1 x2 x3 : List ℕ) → x1 ≡ h ++ a → x2 ≡ x1 ++ b → x3 ≡ x2 ++ c → x3 ≡ h ++ (a ++ b ++ c)
+appended_3 h a b c x1 x2 x3 p1 p2 p3 =
     p3 ∙ ap (λ (l : List ℕ). l ++ c) (p2 ∙ ap (λ (l : List ℕ). l ++ b) p1) ∙ regroup
   where
     regroup : ((h ++ a) ++ b) ++ c ≡ h ++ ((a ++ b) ++ c)
     regroup = simp append_assoc
 
-pub chain5 : (h a b c d e x1 x2 x3 x4 x5 : List ℕ) → x1 ≡ h ++ a → x2 ≡ x1 ++ b → x3 ≡ x2 ++ c → x4 ≡ x3 ++ d → x5 ≡ x4 ++ e
+pub appended_5 : (h a b c d e x1 x2 x3 x4 x5 : List ℕ) → x1 ≡ h ++ a → x2 ≡ x1 ++ b → x3 ≡ x2 ++ c → x4 ≡ x3 ++ d → x5 ≡ x4 ++ e
     → x5 ≡ h ++ (a ++ b ++ c ++ d ++ e)
-chain5 h a b c d e x1 x2 x3 x4 x5 p1 p2 p3 p4 p5 =
+appended_5 h a b c d e x1 x2 x3 x4 x5 p1 p2 p3 p4 p5 =
     p5 ∙ ap (λ (l : List ℕ). l ++ e) (p4 ∙ ap (λ (l : List ℕ). l ++ d) (p3 ∙ ap (λ (l : List ℕ). l ++ c) (p2 ∙ ap (λ (l : List ℕ). l ++ b) p1))) ∙ regroup
   where
     regroup : ((((h ++ a) ++ b) ++ c) ++ d) ++ e ≡ h ++ ((((a ++ b) ++ c) ++ d) ++ e)
@@ -51,10 +53,10 @@ body_lines_other is.PayloadTooLarge len a b = refl
 body_lines_other is.HeaderFieldsTooLarge len a b = refl
 body_lines_other is.InternalServerError len a b = refl
 
-pub chain7 : (a b c d e f g x0 x1 x2 x3 x4 x5 x6 x7 : List ℕ) → x0 ≡ [] → x1 ≡ x0 ++ a → x2 ≡ x1 ++ b → x3 ≡ x2 ++ c
+pub appended_7 : (a b c d e f g x0 x1 x2 x3 x4 x5 x6 x7 : List ℕ) → x0 ≡ [] → x1 ≡ x0 ++ a → x2 ≡ x1 ++ b → x3 ≡ x2 ++ c
     → x4 ≡ x3 ++ d → x5 ≡ x4 ++ e → x6 ≡ x5 ++ f → x7 ≡ x6 ++ g
     → x7 ≡ a ++ b ++ c ++ d ++ e ++ f ++ g
-chain7 a b c d e f g x0 x1 x2 x3 x4 x5 x6 x7 p0 p1 p2 p3 p4 p5 p6 p7 =
+appended_7 a b c d e f g x0 x1 x2 x3 x4 x5 x6 x7 p0 p1 p2 p3 p4 p5 p6 p7 =
     let q1 : x1 ≡ a = p1 ∙ ap (λ (l : List ℕ). l ++ a) p0 in
     let q2 : x2 ≡ a ++ b = p2 ∙ ap (λ (l : List ℕ). l ++ b) q1 in
     let q3 : x3 ≡ a ++ b ++ c = p3 ∙ ap (λ (l : List ℕ). l ++ c) q2 in
@@ -63,8 +65,13 @@ chain7 a b c d e f g x0 x1 x2 x3 x4 x5 x6 x7 p0 p1 p2 p3 p4 p5 p6 p7 =
     let q6 : x6 ≡ a ++ b ++ c ++ d ++ e ++ f = p6 ∙ ap (λ (l : List ℕ). l ++ f) q5 in
     p7 ∙ ap (λ (l : List ℕ). l ++ g) q6
 
--- one second has one date, and so one reply
+-- ---- laws
+
+-- a second has one date, and so one reply
 pub IsReply-unique : (r : Response) (moment : ℕ) (close : Bool) (x y : List ℕ) → IsReply r moment close x → IsReply r moment close y → x ≡ y
 IsReply-unique r moment close x y a b =
     let same : a.date.parts ≡ b.date.parts = unix_secs_injective a.date b.date (a.at_moment ∙ sym b.at_moment) in
     a.bytes_are ∙ ap (λ (p : Parts). reply_head r (imf_fixdate p) close ++ reply_body r.status r.text) same ∙ sym b.bytes_are
+
+pub IsReply-not_empty : (r : Response) (moment : ℕ) (close : Bool) (bytes : List ℕ) → IsReply r moment close bytes → 0 < length bytes
+IsReply-not_empty r moment close bytes a = subst (λ (l : List ℕ). 0 < length l) (sym a.bytes_are) (omega arith)

@@ -1,23 +1,23 @@
--- What `cut` answers, as a front.
-use Rattle.std.specs.Prelude.{ℕ, ◌<◌, ◌≤◌, ⊤, List, slice_range}
+-- What an answer of `cut` means.
+use Rattle.std.specs.Prelude.{ℕ, ◌<◌, ◌≤◌, ⊤}
 use Rattle.http_layer.specs.declared.front.Cut.{Cut}
 use Rattle.http_layer.specs.declared.front.Cut.TheVariants.{Need, Whole, Refused}
-use Rattle.http_layer.specs.Front.{Front, need, refused, whole}
+use Rattle.http_layer.specs.Front.{Front, need, refused_with, whole}
 
--- the front that the answer tells of s
-abbrev pub front_of : List ℕ → Cut → Front
-front_of s Need = need
-front_of s (Refused status) = refused status
-front_of s (Whole len head) = whole len head (slice_range s head.size len)
+-- the front that the answer describes
+abbrev pub front_of : Cut → Front
+front_of Need = need
+front_of (Refused status) = refused_with status
+front_of (Whole len head body) = whole len head body
 
--- where a request is whole, it is not empty and lies within so many bytes, and its head within it
+-- a whole request takes at least one byte, and at most so many
 abbrev pub FitsIn : ℕ → Cut → Type 0
 FitsIn room Need = ⊤
 FitsIn room (Refused status) = ⊤
-FitsIn room (Whole len head) = (0 < len) × (head.size ≤ len) × (len ≤ room)
+FitsIn room (Whole len head body) = (0 < len) × (len ≤ room)
 
--- more bytes are wanted
+-- the answer is that more bytes are needed
 abbrev pub IsNeed : Cut → Type 0
 IsNeed Need = ⊤
 IsNeed (Refused status) = ⊥
-IsNeed (Whole len head) = ⊥
+IsNeed (Whole len head body) = ⊥

@@ -1,5 +1,6 @@
 -- The first request of a stream of bytes (RFC 9112, sections 2 to 6).
-use Rattle.std.specs.Prelude.{◌≡◌, ℕ, ◌+◌, ◌-◌, ◌<◌, ◌≤◌, ◌==◌, ◌||◌, ◌&&◌, Bool, true, false, List, [], ◌∷◌, length, take, drop, codes, if◌then◌else◌, nat_lt, nat_le, Result, Ok, Err, slice_range}
+use Rattle.std.specs.Prelude.{◌≡◌, ℕ, ◌+◌, ◌-◌, ◌<◌, ◌≤◌, ◌==◌, ◌||◌, ◌&&◌, Bool, true, false, List, [], ◌∷◌, length}
+use Rattle.std.specs.Prelude.{take, drop, codes, if◌then◌else◌, nat_lt, nat_le, Result, Ok, Err, slice_range}
 use Rattle.std.specs.List.{prefix_len, list_all}
 use Rattle.std.specs.Char.{is_ascii_digit}
 use Rattle.std.specs.Str.Parse.{digits_value}
@@ -10,16 +11,16 @@ use Rattle.broker_types.specs.Limits.{longest_body}
 
 -- ---- where the head ends
 
--- CR or LF
+-- whether the byte is CR or LF
 abbrev pub is_line_byte : ℕ → Bool
 is_line_byte b = (b == 13) || (b == 10)
 
--- CR LF CR LF stands at the place
+-- CR LF CR LF begins at this place: the end of a line, and an empty line
 abbrev pub HasEmptyLineAt : List ℕ → ℕ → Type 0
 HasEmptyLineAt s place = take 4 (drop place s) ≡ 13 ∷ 10 ∷ 13 ∷ 10 ∷ []
 
--- The head is the first len bytes of s: they end in the first CR LF CR LF that stands at or after
--- the first byte which is neither CR nor LF (RFC 9112, section 2.2, on empty lines before).
+-- The head is the first len bytes of s: they end with the first CR LF CR LF that begins at or after the first byte
+-- which is neither CR nor LF (RFC 9112, section 2.1, and section 2.2 on empty lines before the request).
 pub record HeadEnds (s : List ℕ) (len : ℕ) : Type 0 where
   pub started : prefix_len is_line_byte s + 4 ≤ len
   pub ended : HasEmptyLineAt s (len - 4)
@@ -29,70 +30,73 @@ pub record HeadEnds (s : List ℕ) (len : ℕ) : Type 0 where
 abbrev pub HasNoHeadEnd : List ℕ → Type 0
 HasNoHeadEnd s = (len : ℕ) → ¬ (HeadEnds s len)
 
--- the bytes in which the head has to end: all of them, since a head may be of any length
+-- the bytes in which the head has to end: so far all of them, since the length of a head is not limited
 abbrev pub window : List ℕ → List ℕ
 window s = s
 
--- whether so many bytes are there that a head which has not ended is refused: never
+-- whether a head that has not ended within these bytes is refused: so far never
 abbrev pub is_too_long : List ℕ → Bool
 is_too_long s = false
 
 -- ---- what the head says of the body
 
--- one or more digits (RFC 9110, section 8.6)
+-- whether the value is one or more digits (RFC 9110, section 8.6)
 abbrev pub is_number : List ℕ → Bool
 is_number v = nat_lt 0 (length v) && list_all is_ascii_digit v
 
--- the length of the body by the values of Content-Length, or the status of a refusal
+-- The length of the body from the values of Content-Length, or the status of a refusal (RFC 9112, section 6.3): at most
+-- one value, of digits, and at most 1,048,576 (this project's limit).
 abbrev pub content_length : List (List ℕ) → Result ℕ Status
 content_length [] = Ok 0
-content_length (v ∷ []) = if is_number v && nat_le (digits_value 10 v) longest_body then Ok (digits_value 10 v) else Err BadRequest
+content_length (v ∷ []) =
+    if is_number v && nat_le (digits_value 10 v) longest_body then Ok (digits_value 10 v) else Err BadRequest
 content_length (v ∷ w ∷ vs) = Err BadRequest
 
--- HTTP/1.1 with one Host field (RFC 9112, section 3.2), and without Transfer-Encoding
+-- whether the head is HTTP/1.1 with one Host field (RFC 9112, section 3.2) and no Transfer-Encoding field (section 6.1)
 abbrev pub is_served : HeadParts → Bool
 is_served p =
     (p.minor == 1) && (length (values_named (codes "host") p.fields) == 1)
     && (length (values_named (codes "transfer-encoding") p.fields) == 0)
 
--- the length of the body, or the status of a refusal
+-- the length of the body, or the status of a refusal (RFC 9112, section 6.3)
 abbrev pub body_length : HeadParts → Result ℕ Status
 body_length p = if is_served p then content_length (values_named (codes "content-length") p.fields) else Err BadRequest
 
 -- ---- the front
 
--- What the first bytes of a stream are: not yet known, refused with a status, or a whole request of
--- so many bytes, with its head and its body.
+-- What a stream begins with: not known before more bytes come, a refusal with a status, or a whole request of so many
+-- bytes, with its head and its body.
 pub data Front : Type 0 where
   need : Front
-  refused : Status → Front
+  refused_with : Status → Front
   whole : ℕ → HeadParts → List ℕ → Front
 
--- what is known of the head
+-- what is known of the head: it has not ended, it is too long, it is no head of the grammar, or it has these parts
 pub data HeadFront : Type 0 where
   unended too_long malformed : HeadFront
   read : HeadParts → HeadFront
 
--- the head of s, by cases
+-- this is what is known of the head of s (RFC 9112, sections 2 to 5)
 abbrev pub IsHeadFront : List ℕ → HeadFront → Type 0
 IsHeadFront s unended = (is_too_long s ≡ false) × HasNoHeadEnd (window s)
 IsHeadFront s too_long = (is_too_long s ≡ true) × HasNoHeadEnd (window s)
 IsHeadFront s malformed = (len : ℕ) × HeadEnds (window s) len × ((p : HeadParts) → ¬ (IsHead (take len s) p))
 IsHeadFront s (read p) = HeadEnds (window s) p.size × IsHead (take p.size s) p
 
--- the front, when the head is read and its body has so many bytes
+-- the front, where the head has these parts and its body has so many bytes (RFC 9112, section 6)
 abbrev pub front_of_body : List ℕ → HeadParts → Result ℕ Status → Front
-front_of_body s p (Ok n) = if nat_le (p.size + n) (length s) then whole (p.size + n) p (slice_range s p.size (p.size + n)) else need
-front_of_body s p (Err status) = refused status
+front_of_body s p (Ok n) =
+    if nat_le (p.size + n) (length s) then whole (p.size + n) p (slice_range s p.size (p.size + n)) else need
+front_of_body s p (Err status) = refused_with status
 
--- the front, by what is known of the head
+-- the front, from what is known of the head
 abbrev pub front_of_head : List ℕ → HeadFront → Front
 front_of_head s unended = need
-front_of_head s too_long = refused HeaderFieldsTooLarge
-front_of_head s malformed = refused BadRequest
+front_of_head s too_long = refused_with HeaderFieldsTooLarge
+front_of_head s malformed = refused_with BadRequest
 front_of_head s (read p) = front_of_body s p (body_length p)
 
--- f is what the first bytes of the stream s are
+-- f is what the stream s begins with (RFC 9112, sections 2 to 6)
 pub record IsFront (s : List ℕ) (f : Front) : Type 0 where
   pub head : HeadFront
   pub is_head : IsHeadFront s head

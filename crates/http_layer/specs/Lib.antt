@@ -3,6 +3,7 @@ pub mod Closing
 pub mod Cutting
 pub mod Front
 pub mod HeadParts
+pub mod Laws
 pub mod Listed
 pub mod Named
 pub mod Refusing

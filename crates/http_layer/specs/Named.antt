@@ -1,9 +1,9 @@
--- How often a field stands in a head.
+-- How often a head has a field.
 use Rattle.std.specs.Prelude.{◌≡◌, ℕ, List, [], ◌∷◌}
 use Rattle.http_layer.specs.declared.fields.Named.{Named}
 use Rattle.http_layer.specs.declared.fields.Named.TheVariants.{Absent, Once, Several}
 
--- these are all values of a field: none, one, or more
+-- these are all the values of a field: none, one, or more than one
 abbrev pub AreNamed : List (List ℕ) → Named → Type 0
 AreNamed values Absent = values ≡ []
 AreNamed values (Once value) = values ≡ value.now ∷ []

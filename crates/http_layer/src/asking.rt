@@ -1,8 +1,8 @@
 ghost use Rattle.std.specs.Prelude.{◌≡◌, MatchResult, Ok, Err, codes};
 ghost use Rattle.std.specs.List.{list_any};
 ghost use Rattle.http_layer.specs.HeadParts.{values_named};
-ghost use Rattle.http_layer.specs.Asked.{asked, verb_asked, token_asked, path_asked, path_read, body_asked, is_query_or_escape};
-ghost use Rattle.http_layer.specs.Refusing.{Tells, parts_of_refusal};
+ghost use Rattle.http_layer.specs.Asked.{asked, verb_asked, token_asked, path_asked, path_read, is_query_or_escape};
+ghost use Rattle.http_layer.specs.Refusing.{Agrees, parts_of_refusal};
 
 use crate::fields::Named;
 use crate::head::Head;
@@ -12,20 +12,18 @@ use std::alloc::Global;
 use std::borrow::{CowSlice, CowStr};
 use std::str;
 
-/// What a whole request asks (RFC 9110, section 9; Vault's documentation, "HTTP API"), or why it is
-/// refused, in this order: 501 for a method that is not GET, LIST, POST, PUT or DELETE; 400 for
-/// X-Vault-Token that stands twice or is not UTF-8; 404 for a target that does not begin with `/v1/`;
-/// 400 for a target with `?` or `%`, or whose rest is no path; 413 for a body of more than 1,048,576
-/// bytes, which a front that is whole never has. Other fields are ignored. A fault is want of memory
-/// alone.
+/// What a whole request asks (RFC 9110, section 9; Vault's documentation, "HTTP API"), or the first
+/// refusal, in this order: 501 for a method that is not GET, LIST, POST, PUT or DELETE; 400 for more
+/// than one X-Vault-Token field, or one that is not UTF-8; 404 for a target that does not begin with
+/// `/v1/`; 400 for a target with `?` or `%`, or whose rest is not a valid path. Other fields are
+/// ignored. The only fault is running out of memory.
 #[tactic(auto, unfolding(crate::specs::Asked::asked))]
-pub fn ask_of<'b>(alloc: Global, head: &Head<'b>, body: &'b [u8]) -> Result<Ask<'b>, AskError>
-    ensures { Tells (asked head.now body.now) result }
+pub fn ask_of<'b>(alloc: Global, head: &Head<'b>, body: Body<'b>) -> Result<Ask<'b>, AskError>
+    ensures { Agrees (asked head.now body.entry) result }
 {
     let verb = verb_of(head.method())?;
     let token = token_of(alloc, head)?;
     let path = path_of(alloc, head.target())?;
-    let body = body_of(alloc, body)?;
     Ok(Ask {
         verb,
         path,
@@ -54,12 +52,12 @@ fn verb_of(method: &[u8]) -> Result<Verb, HttpRefusal>
     if method == b"DELETE".as_slice() {
         return Ok(Verb::Delete);
     }
-    Err(HttpRefusal::not_implemented())
+    Err(HttpRefusal::unknown_method())
 }
 
-/// The client token: the value of X-Vault-Token, if it is not empty.
+/// The client token: the value of X-Vault-Token, unless it is empty.
 fn token_of<'b>(alloc: Global, head: &Head<'b>) -> Result<Option<CowText<'b>>, AskError>
-    ensures { Tells (token_asked (values_named (codes "x-vault-token") head.now.fields)) result }
+    ensures { Agrees (token_asked (values_named (codes "x-vault-token") head.now.fields)) result }
 {
     let value = match head.named(b"x-vault-token") {
         Named::Absent => return Ok(None),
@@ -77,25 +75,15 @@ fn token_of<'b>(alloc: Global, head: &Head<'b>) -> Result<Option<CowText<'b>>, A
 
 /// The path that a target names.
 fn path_of<'b>(alloc: Global, target: &'b str) -> Result<Path<'b>, AskError>
-    ensures { Tells (path_asked target.now) result }
+    ensures { Agrees (path_asked target.now) result }
 {
     let Some(text) = target.strip_prefix("/v1/") else {
-        return Err(HttpRefusal::not_found().into());
+        return Err(HttpRefusal::unknown_target().into());
     };
     if has_query_or_escape(target.as_bytes()) {
         return Err(HttpRefusal::bad_request(Reason::InvalidPath).into());
     }
     read_path(alloc, text)
-}
-
-/// The body, kept.
-fn body_of<'b>(alloc: Global, body: &'b [u8]) -> Result<Body<'b>, AskError>
-    ensures { Tells (body_asked body.now) result }
-{
-    match Body::new(CowSlice::Owned(Vec::from_slice(alloc, body)?)) {
-        Some(kept) => Ok(kept),
-        None => Err(HttpRefusal::body_too_large().into()),
-    }
 }
 
 fn has_query_or_escape(target: &[u8]) -> bool
@@ -104,9 +92,9 @@ fn has_query_or_escape(target: &[u8]) -> bool
     target.iter().any(|byte| *byte == b'?' || *byte == b'%')
 }
 
-/// The path of a text below `/v1/`.
+/// The path, from what follows `/v1/`.
 fn read_path<'b>(alloc: Global, text: &'b str) -> Result<Path<'b>, AskError>
-    ensures { Tells (path_read text.now) result }
+    ensures { Agrees (path_read text.now) result }
 {
     match Path::read(CowStr::Owned(String::from_str(alloc, text)?)) {
         Ok(path) => Ok(path),

@@ -7,7 +7,7 @@ ghost use Rattle.http_layer.specs.Closing.{is_close, lists_close, is_closing};
 use crate::fields::same_in_any_case;
 use httparse::spans::HeaderSpan;
 
-/// Whether one of the fields is a Connection field that lists `close`.
+/// Whether a Connection field lists `close` (RFC 9112, section 9.6).
 pub(crate) fn asks_to_close(text: &[u8], headers: &[HeaderSpan]) -> bool
     requires { All (IsHeaderWithin (length text.now)) headers.now }
     ensures { result ≡ list_any is_closing (map (header_bytes text.now) headers.now) }

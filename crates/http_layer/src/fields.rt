@@ -5,7 +5,7 @@ ghost use Rattle.http_layer.specs.Named.{AreNamed};
 
 use httparse::spans::HeaderSpan;
 
-/// The fields of a head that have one name, with the value of a field that stands once.
+/// How often a head has a field of some name, with the value where it has one.
 #[derive(Clone, Copy)]
 pub(crate) enum Named<'b> {
     Absent,
@@ -13,7 +13,7 @@ pub(crate) enum Named<'b> {
     Several,
 }
 
-/// Whether two texts are one but for the case of ASCII letters.
+/// Whether the texts are equal, ignoring the case of ASCII letters.
 pub(crate) fn same_in_any_case(a: &[u8], b: &[u8]) -> bool
     ensures { result ≡ same_in_any_case a.now b.now }
 {

@@ -1,13 +1,19 @@
 use crate::head::Head;
-use broker_types::Status;
+use broker_types::{Body, Status};
 
-/// What the first bytes of a stream are.
+/// What a stream begins with.
 #[derive(Drop)]
 pub enum Cut<'b> {
-    /// More bytes are wanted.
+    /// More bytes are needed to know it.
     Need,
-    /// A request of `len` bytes, of which those behind the head are the body.
-    Whole { len: usize, head: Head<'b> },
-    /// A refusal, after which the connection closes.
-    Refused { status: Status },
+    /// A whole request. It takes `len` bytes, with the empty lines before it.
+    Whole {
+        len: usize,
+        head: Head<'b>,
+        body: Body<'b>,
+    },
+    /// A refusal; the connection closes after it.
+    Refused {
+        status: Status,
+    },
 }

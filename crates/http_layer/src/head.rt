@@ -1,4 +1,5 @@
-ghost use Rattle.std.specs.Prelude.{◌≡◌, ◌<◌, length, IfSome, IfNone};
+ghost use Rattle.std.specs.Prelude.{◌≡◌, ◌<◌, ◌≤◌, length, IfSome, IfNone, IfOk};
+ghost use Rattle.broker_types.specs.Limits.{longest_body};
 ghost use Rattle.http_layer.specs.HeadParts.{HeadParts, IsHead, values_named};
 ghost use Rattle.http_layer.specs.Closing.{closes};
 ghost use Rattle.http_layer.specs.Front.{body_length, is_served};
@@ -12,7 +13,7 @@ use httparse::spans::{EMPTY_HEADER_SPAN, HeaderSpan, RequestSpans, parse_request
 use std::marker::Model;
 use std::str;
 
-/// A request head over the bytes that it was read from (RFC 9112, sections 3 and 5).
+/// A request head, borrowed from the bytes of its connection (RFC 9112, sections 3 and 5).
 #[derive(Drop)]
 pub struct Head<'b> {
     text: &'b [u8],
@@ -39,7 +40,7 @@ impl<'b> Model for Head<'b> {
 }
 
 impl<'b> Head<'b> {
-    /// The head that is exactly these bytes; none if they are no head of at most 64 fields.
+    /// The head that these bytes are; none if they are not exactly one head of at most 64 fields.
     pub(crate) fn read(text: &'b [u8]) -> Option<Head<'b>>
         ensures read { IfSome result (IsHead text.now) }
         ensures size { IfSome result (λ h. h.size ≡ length text.now) }
@@ -56,21 +57,14 @@ impl<'b> Head<'b> {
         }
     }
 
-    /// How many bytes the head takes, its empty line among them.
-    pub fn size(&self) -> usize
-        ensures { result ≡ self.now.size }
-    {
-        self.spans.len
-    }
-
-    /// The method, in the case in which it stands.
+    /// The method, in its own case (RFC 9110, section 9.1).
     pub fn method(&self) -> &'b [u8]
         ensures { result.now ≡ self.now.method }
     {
         self.spans.method.of(self.text)
     }
 
-    /// The target, as it stands.
+    /// The target, not decoded (RFC 9112, section 3.2).
     pub fn target(&self) -> &'b str
         ensures value { result.now ≡ self.now.target }
         ensures nonempty { 0 < length result.now }
@@ -78,8 +72,8 @@ impl<'b> Head<'b> {
         str::from_utf8(self.spans.path.of(self.text)).unwrap()
     }
 
-    /// Whether the connection closes after the reply: HTTP/1.0, or a Connection field with the
-    /// element `close` in any case (RFC 9112, section 9.6).
+    /// Whether the connection closes after the reply: the request is HTTP/1.0, or a Connection field
+    /// has the element `close` in any case (RFC 9112, sections 9.3 and 9.6).
     pub fn closes(&self) -> bool
         ensures { result ≡ closes self.now }
     {
@@ -93,9 +87,10 @@ impl<'b> Head<'b> {
         find_named(self.text, &self.headers[..self.spans.headers], name)
     }
 
-    /// The length of the body, or the status of the refusal.
+    /// The length of the body in bytes, or the status of the refusal.
     pub(crate) fn body_len(&self) -> Result<usize, Status>
-        ensures { result ≡ body_length self.now }
+        ensures length { result ≡ body_length self.now }
+        ensures short { IfOk result (λ len. len ≤ longest_body) }
     {
         if !self.is_served() {
             return Err(Status::BadRequest);

@@ -2,7 +2,7 @@ ghost use Rattle.std.specs.Prelude.{◌≡◌, ◌≤◌, length, IfSome, IfNone
 ghost use Rattle.std.specs.List.{prefix_len};
 ghost use Rattle.http_layer.specs.Front.{is_line_byte, HeadEnds, HasNoHeadEnd};
 
-/// The length of the head, if it ends.
+/// The length of the head in bytes, with its empty line; none if it does not end within the bytes.
 pub(crate) fn head_end(bytes: &[u8]) -> Option<usize>
     ensures found { IfSome result (HeadEnds bytes.now) }
     ensures none { IfNone result (HasNoHeadEnd bytes.now) }
@@ -16,7 +16,7 @@ pub(crate) fn head_end(bytes: &[u8]) -> Option<usize>
     None
 }
 
-/// How many bytes are CR or LF, before the first that is neither.
+/// How many bytes are CR or LF before the first that is neither.
 fn line_bytes(bytes: &[u8]) -> usize
     ensures { result ≡ prefix_len is_line_byte bytes.now }
 {

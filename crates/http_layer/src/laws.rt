@@ -1,29 +1,25 @@
-ghost use Rattle.std.specs.Prelude.{◌≡◌, ◌≢◌, ℕ, ◌<◌, ◌≤◌, Bool, List, ◌++◌, length, IfErr};
-ghost use Rattle.http_layer.specs.Front.{Front, need, refused, whole, IsFront};
-ghost use Rattle.http_layer.specs.HeadParts.{HeadParts};
-ghost use Rattle.http_layer.specs.Reply.{IsReply};
-ghost use Rattle.http_layer.specs.Asked.{asked};
-ghost use Rattle.http_layer.specs.Listed.{IsFrontRefusal, IsAskRefusal};
-ghost use Rattle.broker_types.specs.Answer.{Response};
-ghost use Rattle.broker_types.specs.declared.status.Status.{Status};
+//! Laws of the definitions. Each is the contract of a function that does nothing.
 
-/// Every stream has at most one front; more bytes do not change a front that is known; a whole
-/// request is not empty and lies within the bytes.
+ghost use Rattle.http_layer.specs.Laws.{FrontIsUnique, KnownFrontStays, WholeRequestIsWithin, WholeRequestHasShortBody};
+ghost use Rattle.http_layer.specs.Laws.{ReplyIsUnique, ReplyIsNotEmpty, FrontRefusalIsListed, AskRefusalIsListed};
+
+/// A stream has at most one front, and more bytes do not change a front that is known. A whole request
+/// takes at least one byte and no more than there are, and its body at most 1,048,576 bytes.
 pub fn front_laws()
-    ensures one { (s : List ℕ) (f g : Front) → IsFront s f → IsFront s g → f ≡ g }
-    ensures stable { (s t : List ℕ) (f : Front) → IsFront s f → f ≢ need → IsFront (s ++ t) f }
-    ensures within { (s : List ℕ) (len : ℕ) (head : HeadParts) (body : List ℕ)
-        → IsFront s (whole len head body) → (0 < len) × (len ≤ length s) }
+    ensures unique { FrontIsUnique }
+    ensures stays { KnownFrontStays }
+    ensures within { WholeRequestIsWithin }
+    ensures short_body { WholeRequestHasShortBody }
 {}
 
-/// A response at a moment has one reply.
-pub fn reply_law()
-    ensures { (r : Response) (moment : ℕ) (close : Bool) (x y : List ℕ)
-        → IsReply r moment close x → IsReply r moment close y → x ≡ y }
+/// A response at a moment has one reply, which is not empty.
+pub fn reply_laws()
+    ensures unique { ReplyIsUnique }
+    ensures not_empty { ReplyIsNotEmpty }
 {}
 
-/// Every front that is refused, and every request that asks nothing, has a listed refusal.
+/// The refusals of fronts, and of requests that ask nothing, are listed.
 pub fn refusal_laws()
-    ensures fronts { (s : List ℕ) (status : Status) → IsFront s (refused status) → IsFrontRefusal status }
-    ensures asks { (head : HeadParts) (body : List ℕ) → IfErr (asked head body) IsAskRefusal }
+    ensures fronts { FrontRefusalIsListed }
+    ensures asks { AskRefusalIsListed }
 {}

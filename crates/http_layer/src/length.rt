@@ -4,10 +4,11 @@ ghost use Rattle.http_layer.specs.Front.{is_number, content_length};
 
 use broker_types::Status;
 
-/// How many bytes a body may have.
+/// The longest body, in bytes.
 const BODY_LIMIT: u64 = 1_048_576;
 
-/// The length of the body that the value of Content-Length tells, or the status of the refusal.
+/// The length of the body in bytes, from the value of the only Content-Length field, or the status of
+/// the refusal.
 pub(crate) fn body_len_of(value: &[u8]) -> Result<usize, Status>
     ensures { result ≡ content_length (value.now ∷ []) }
 {
@@ -17,8 +18,8 @@ pub(crate) fn body_len_of(value: &[u8]) -> Result<usize, Status>
     }
 }
 
-/// The value of the digits, or one more than the greatest length if that is less. None if there is
-/// another byte, or no byte.
+/// The number that the digits are, or the longest body and one if that is less. None if a byte is not
+/// a digit, or if there is no byte.
 fn capped_number(digits: &[u8]) -> Option<u64>
     ensures some { IfSome result (λ n. IsTrue (is_number digits.now)
         × (n ≡ min (digits_value 10 digits.now) (BODY_LIMIT + 1))) }

@@ -2,7 +2,8 @@ ghost use Rattle.std.specs.Prelude.{◌≡◌, ◌+◌, ◌≤◌, [], ◌++◌,
 
 use std::marker::Model;
 
-/// The head of a reply while it is written: at most 512 bytes, seen as their list.
+/// The head of a reply while it is being written, of at most 512 bytes. Contracts see the list of its
+/// bytes.
 #[derive(Drop)]
 pub(crate) struct Lines {
     bytes: [u8; 512],
@@ -29,7 +30,7 @@ impl Lines {
         }
     }
 
-    /// Adds a text, which has to fit.
+    /// Adds a text at the end. It must fit.
     pub(crate) fn add(&mut self, text: &[u8])
         requires { length self.old + length text.now ≤ 512 }
         ensures { self.new ≡ self.old ++ text.now }

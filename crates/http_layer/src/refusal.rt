@@ -6,18 +6,18 @@ use broker_types::{Answer, Fault, Methods, Reason, Status, TextBuf, cutting_text
 use std::alloc::{AllocError, Global};
 use thiserror::Error;
 
-/// Why a request is refused before the broker is asked.
+/// A refusal of a request that asks nothing of the broker.
 #[derive(Clone, Copy, Debug)]
 pub struct HttpRefusal {
     /// The status of the reply.
     pub status: Status,
-    /// The text; none on 404 and 501.
+    /// The text of the error; none on 404 and 501.
     pub text: Option<&'static str>,
-    /// Whether the refusal closes the connection, whatever the request says of it.
+    /// Whether the connection closes, whatever the request says of it.
     pub close: bool,
 }
 
-/// Why there is no ask.
+/// Why a request has no ask.
 #[derive(Debug, Drop, Error)]
 pub enum AskError {
     /// The request is refused.
@@ -55,11 +55,11 @@ impl HttpRefusal {
     ghost use Rattle.std.specs.Prelude.{◌≡◌, IfOk};
     ghost use Rattle.broker_types.specs.Answer.{response_of, HasRoom};
     ghost use Rattle.http_layer.specs.Refusing.{parts_of_refusal, ask_refused};
-    ghost use Rattle.http_layer.specs.Asked.{not_implemented, not_found, body_too_large, bad_request};
+    ghost use Rattle.http_layer.specs.Asked.{unknown_method, unknown_target, bad_request};
 
-    /// 501, for a method that is not served.
-    pub(crate) fn not_implemented() -> HttpRefusal
-        ensures { parts_of_refusal result ≡ not_implemented }
+    /// 501, for a method that the API does not have; the connection closes.
+    pub(crate) fn unknown_method() -> HttpRefusal
+        ensures { parts_of_refusal result ≡ unknown_method }
     {
         HttpRefusal {
             status: Status::NotImplemented,
@@ -69,8 +69,8 @@ impl HttpRefusal {
     }
 
     /// 404, for a target outside the API.
-    pub(crate) fn not_found() -> HttpRefusal
-        ensures { parts_of_refusal result ≡ not_found }
+    pub(crate) fn unknown_target() -> HttpRefusal
+        ensures { parts_of_refusal result ≡ unknown_target }
     {
         HttpRefusal {
             status: Status::NotFound,
@@ -79,18 +79,7 @@ impl HttpRefusal {
         }
     }
 
-    /// 413, for a body of more than 1,048,576 bytes; the connection closes.
-    pub(crate) fn body_too_large() -> HttpRefusal
-        ensures { parts_of_refusal result ≡ body_too_large }
-    {
-        HttpRefusal {
-            status: Status::PayloadTooLarge,
-            text: cutting_text(Status::PayloadTooLarge),
-            close: true,
-        }
-    }
-
-    /// 400, for a reason that names no member of the body.
+    /// 400, for a reason that does not name a member of the body.
     pub(crate) fn bad_request(reason: Reason) -> HttpRefusal
         ensures { parts_of_refusal result ≡ bad_request reason }
     {
@@ -101,8 +90,8 @@ impl HttpRefusal {
         }
     }
 
-    /// What is answered (Vault's documentation, "HTTP API", error response): `{"errors":["text"]}` or
-    /// `{"errors":[]}` and a line feed, and on 501 no body. It fails for want of memory alone.
+    /// The answer (Vault's documentation, "HTTP API", error response): `{"errors":["text"]}` or
+    /// `{"errors":[]}` and a line feed, and no body on 501. The only error is running out of memory.
     pub fn answer(&self, alloc: Global) -> Result<Answer, AllocError>
         ensures response { IfOk result (λ a. response_of a ≡ ask_refused (parts_of_refusal self.now)) }
         ensures room { IfOk result HasRoom }
@@ -111,10 +100,10 @@ impl HttpRefusal {
     }
 }
 
-/// What is answered to a front that is refused with the status (Vault's documentation, "HTTP API",
-/// error response): on 400 the errors with the text `malformed request`, on 413 `request body too
-/// large`, on 431 `request head too large`, on 501 no body, on any other status errors without a text.
-/// It fails for want of memory alone.
+/// The answer to a front that is refused with the status (Vault's documentation, "HTTP API", error
+/// response). The text of the error is `malformed request` on 400, `request body too large` on 413 and
+/// `request head too large` on 431. There is no body on 501, and no text on any other status. The only
+/// error is running out of memory.
 pub fn front_refusal(alloc: Global, status: Status) -> Result<Answer, AllocError>
     ensures response { IfOk result (λ a. response_of a ≡ front_refused status) }
     ensures room { IfOk result HasRoom }
@@ -127,11 +116,11 @@ fn answer_of(alloc: Global, status: Status, text: Option<&str>) -> Result<Answer
         response_of a ≡ refusal_response status (option_map (λ s. s.now) text.entry)) }
     ensures room { IfOk result HasRoom }
 {
-    let body = body_of(alloc, status, text)?;
+    let body = refusal_body(alloc, status, text)?;
     Answer::new(alloc, status, Methods::none(), body)
 }
 
-fn body_of(alloc: Global, status: Status, text: Option<&str>) -> Result<TextBuf, AllocError>
+fn refusal_body(alloc: Global, status: Status, text: Option<&str>) -> Result<TextBuf, AllocError>
     ensures { IfOk result (λ t. t ≡ refusal_body status (option_map (λ s. s.now) text.entry)) }
 {
     match status {

@@ -1,7 +1,8 @@
 ghost use Rattle.std.specs.Prelude.{◌≡◌, ◌+◌, ◌≤◌, ◌++◌, length, IsOk, OnOk, vec_capacity, vec_len};
 ghost use Rattle.broker_types.specs.Answer.{response_of};
 ghost use Rattle.broker_types.specs.Status.{status_code};
-ghost use Rattle.http_layer.specs.Reply.{IsReply, status_line, date_line, allow_line, connection_line, body_lines, reply_body, comma_joined, method_names, phrase_of};
+ghost use Rattle.http_layer.specs.Reply.{IsReply, status_line, date_line, allow_line, connection_line, body_lines};
+ghost use Rattle.http_layer.specs.Reply.{reply_body, comma_joined, method_names, phrase_of};
 ghost use Rattle.httpdate.specs.Date.{unix_secs, date_text};
 ghost use Rattle.httpdate.specs.declared.date.HttpDate.{HttpDate as Date};
 
@@ -13,8 +14,8 @@ use itoa::Buffer;
 use std::alloc::AllocError;
 use std::marker::Model;
 
-/// The bytes of a reply (RFC 9112, sections 2.1 and 4), seen as their list: its head, and the text of
-/// the answer where the reply has a body.
+/// The bytes of a reply (RFC 9112, sections 2.1 and 4): its head, and the text of the answer if the
+/// reply has a body. Contracts see the list of the bytes.
 #[derive(Drop)]
 pub struct ReplyBytes<'a> {
     head: Lines,
@@ -32,8 +33,8 @@ impl<'a> Model for ReplyBytes<'a> {
 }
 
 impl<'a> ReplyBytes<'a> {
-    /// Adds the bytes to the end of the room. It fails for want of memory alone, and never where the
-    /// room suffices.
+    /// Adds the bytes at the end of the room. The only error is running out of memory, which does not
+    /// happen if the room suffices.
     pub fn append_to(&self, room: &mut Vec<u8>) -> Result<(), AllocError>
         ensures ok { OnOk result (room.new.items ≡ room.old.items ++ self.now) }
         ensures succeeds { vec_len room.old + length self.now ≤ vec_capacity room.old → IsOk result }
@@ -43,8 +44,8 @@ impl<'a> ReplyBytes<'a> {
     }
 }
 
-/// The bytes of the reply to an answer, whose connection closes or stays open, with the date of the
-/// moment (RFC 9110, section 6.6.1). It takes no memory.
+/// The bytes of the reply to an answer, with the date of the moment (RFC 9110, section 6.6.1), and with
+/// `Connection: close` if the connection closes. It allocates nothing.
 pub fn reply_bytes<'a>(answer: &'a Answer, moment: Moment, close: bool) -> ReplyBytes<'a>
     ensures reply { IsReply (response_of answer.now) moment close result }
     ensures fits { length result ≤ length answer.now.text + 1024 }
@@ -60,7 +61,7 @@ pub fn reply_bytes<'a>(answer: &'a Answer, moment: Moment, close: bool) -> Reply
     head.add(b"\r\n");
     ReplyBytes {
         head,
-        body: body_of(answer.status, text),
+        body: reply_body(answer.status, text),
     }
 }
 
@@ -77,7 +78,7 @@ fn add_status_line(head: &mut Lines, status: Status)
     head.add(b"\r\n");
 }
 
-/// The status code, as `http` has it.
+/// The status code, as a value of `http`.
 fn code_of(status: Status) -> StatusCode
     ensures { result ≡ status_code status }
 {
@@ -133,7 +134,7 @@ fn add_allow_line(head: &mut Lines, status: Status, methods: Methods)
     }
 }
 
-/// The names of the methods, joined.
+/// The names of the methods, with a comma and a space between them.
 fn methods_text(methods: Methods) -> &'static [u8]
     ensures text { result.now ≡ comma_joined (method_names methods) }
     ensures short { length result.now ≤ 30 }
@@ -185,7 +186,7 @@ fn add_body_lines(head: &mut Lines, status: Status, len: usize)
     }
 }
 
-fn body_of<'a>(status: Status, text: &'a [u8]) -> &'a [u8]
+fn reply_body<'a>(status: Status, text: &'a [u8]) -> &'a [u8]
     ensures { result.now ≡ reply_body status text.now }
 {
     match status {

@@ -1,7 +1,7 @@
 -- What follows the answered requests of a stream.
 use Rattle.std.proofs.Common.{◌≡◌, ◌∙◌, ℕ, zero, suc, ◌+◌, ◌≤◌, List, ◌++◌, length, drop, refl, sym, ap, subst, arith, add-one, Result, Ok, Err, OnOk, is_ok, if◌then◌else◌}
 use Rattle.std.proofs.lemmas.List.{drop-append-le, length-drop}
-use Rattle.http_layer.specs.Front.{need, refused, whole, IsFront}
+use Rattle.http_layer.specs.Front.{need, refused_with, whole, IsFront}
 use Rattle.http_layer.specs.HeadParts.{HeadParts}
 use Rattle.http_layer.proofs.FrontLemmas.{IsFront-unique, IsFront-append, whole_known, whole_within}
 use Rattle.http_layer.specs.Cutting.{front_of}
@@ -76,9 +76,9 @@ appended (Err e) old new piece n is = tt
 appended (Ok u) old new piece n is = λ rest x. subst (λ (l : List ℕ). FollowsRequests l n (rest ++ piece)) (sym is) (FollowsRequests-append old piece n rest x)
 
 -- an answer of `cut` that is no request says that no front is one
-pub no_request : (x : Cut) (s : List ℕ) → IsFront s (front_of s x) → ((len : ℕ) (head : HeadParts) → x ≡ Whole len head → ⊥)
+pub no_request : (x : Cut) (s : List ℕ) → IsFront s (front_of x) → ((len : ℕ) (head : HeadParts) (body : List ℕ) → x ≡ Whole len head body → ⊥)
     → (len : ℕ) (p : HeadParts) (body : List ℕ) → ¬ (IsFront s (whole len p body))
 no_request Need s front none len p body there = whole_known s len p body there front
 no_request (Refused status) s front none len p body there =
-    let e : refused status ≡ whole len p body = IsFront-unique s (refused status) (whole len p body) front there in cc
-no_request (Whole n head) s front none len p body there = none n head refl
+    let e : refused_with status ≡ whole len p body = IsFront-unique s (refused_with status) (whole len p body) front there in cc
+no_request (Whole n head content) s front none len p body there = none n head content refl

@@ -5,7 +5,7 @@ use Rattle.broker_types.specs.declared.ask.Ask.{Ask}
 use Rattle.broker_types.specs.declared.fault.Fault.{Fault}
 use Rattle.broker_types.specs.declared.status.Status.{Status}
 use Rattle.http_layer.specs.Asked.{asked}
-use Rattle.http_layer.specs.Front.{refused, IsFront}
+use Rattle.http_layer.specs.Front.{refused_with, IsFront}
 use Rattle.http_layer.specs.HeadParts.{HeadParts}
 use Rattle.http_layer.specs.Listed.{IsAskRefusal}
 use Rattle.http_layer.specs.Refusing.{RefusalParts, ask_refused, front_refused}
@@ -14,7 +14,7 @@ use Rattle.http_layer.proofs.ListedLemmas.{front_refuses, ask_refuses}
 use Rattle.hub.specs.Listed.{IsListedReply}
 use Rattle.hub.specs.declared.serving.Served.{Served}
 
-pub front_listed : (r : Result Served Fault) (rest : List ℕ) (status : Status) (m : ℕ) → IsFront rest (refused status)
+pub front_listed : (r : Result Served Fault) (rest : List ℕ) (status : Status) (m : ℕ) → IsFront rest (refused_with status)
     → IfOk r (λ s. IsReply (front_refused status) m true s.bytes.items) → IfOk r (λ s. IsListedReply s.bytes.items)
 front_listed (Err e) rest status m front reply = tt
 front_listed (Ok s) rest status m front reply =

@@ -1,5 +1,5 @@
 -- What each way of serving gives is the outcome.
-use Rattle.std.proofs.Common.{◌≡◌, ◌∙◌, ℕ, Bool, true, List, Some, None, Result, Ok, Err, IfOk, slice_range, sym, subst}
+use Rattle.std.proofs.Common.{◌≡◌, ◌∙◌, ℕ, Bool, true, List, Some, None, Result, Ok, Err, IfOk, sym, subst}
 use Rattle.broker_types.specs.declared.fault.Fault.{Fault}
 use Rattle.broker_types.specs.declared.status.Status.{Status}
 use Rattle.broker_types.specs.declared.words.Words.{Words}
@@ -12,7 +12,7 @@ use Rattle.broker.specs.Transaction.{Rows}
 use Rattle.http_layer.specs.Asked.{asked}
 use Rattle.http_layer.specs.Refusing.{RefusalParts, front_refused}
 use Rattle.http_layer.specs.Closing.{closes}
-use Rattle.http_layer.specs.Front.{refused, whole, IsFront}
+use Rattle.http_layer.specs.Front.{refused_with, whole, IsFront}
 use Rattle.http_layer.specs.HeadParts.{HeadParts}
 use Rattle.http_layer.specs.Reply.{IsReply}
 use Rattle.hub.specs.World.{request_effect}
@@ -20,29 +20,28 @@ use Rattle.hub.specs.Serving.{IsServed, Serves}
 use Rattle.hub.specs.declared.serving.Served.{Served}
 
 pub refusal_serves : (r : Result Served Fault) (rest : List ℕ) (status : Status) (b : Broker) (m : ℕ) (w : Words) (rows : Rows)
-    → IsFront rest (refused status) → Holds rows b
+    → IsFront rest (refused_with status) → Holds rows b
     → IfOk r (λ s. IsReply (front_refused status) m true s.bytes.items) → IfOk r (λ s. s.len ≡ None) → IfOk r (λ s. s.closes ≡ true)
     → IfOk r (λ s. Serves b m w rest s rows)
 refusal_serves (Err e) rest status b m w rows front held reply len closing = tt
 refusal_serves (Ok s) rest status b m w rows front held reply len closing =
     record {
-      front = refused status;
+      front = refused_with status;
       is_front = front;
       len = len;
       effect = record { reply = reply; closes = closing; holds = held };
     }
 
-pub request_serves : (r : Result Served Fault) (rest : List ℕ) (len n : ℕ) (p : HeadParts) (b : Broker) (m : ℕ) (w : Words) (rows : Rows)
-    → IsFront rest (whole len p (slice_range rest p.size len)) → n ≡ p.size
-    → IfOk r (λ s. IsServed (request_effect b m w p (asked p (slice_range rest n len))) m s rows) → IfOk r (λ s. s.len ≡ Some len)
+pub request_serves : (r : Result Served Fault) (rest : List ℕ) (len : ℕ) (p : HeadParts) (body : List ℕ) (b : Broker) (m : ℕ) (w : Words) (rows : Rows)
+    → IsFront rest (whole len p body) → IfOk r (λ s. IsServed (request_effect b m w p (asked p body)) m s rows) → IfOk r (λ s. s.len ≡ Some len)
     → IfOk r (λ s. Serves b m w rest s rows)
-request_serves (Err e) rest len n p b m w rows front size served told = tt
-request_serves (Ok s) rest len n p b m w rows front size served told =
+request_serves (Err e) rest len p body b m w rows front served told = tt
+request_serves (Ok s) rest len p body b m w rows front served told =
     record {
-      front = whole len p (slice_range rest p.size len);
+      front = whole len p body;
       is_front = front;
       len = told;
-      effect = subst (λ (k : ℕ). IsServed (request_effect b m w p (asked p (slice_range rest k len))) m s rows) size served;
+      effect = served;
     }
 
 pub asked_served : (b : Broker) (m : ℕ) (w : Words) (p : HeadParts) (x : Result Ask RefusalParts) (ask : Ask) (s : Served) (rows : Rows) (a : Response) (close : Bool)

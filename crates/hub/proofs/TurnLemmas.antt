@@ -7,7 +7,7 @@ use Rattle.broker_types.specs.declared.ask.Ask.{Ask}
 use Rattle.broker.specs.Transaction.{Rows}
 use Rattle.http_layer.specs.Asked.{asked}
 use Rattle.http_layer.specs.Refusing.{RefusalParts}
-use Rattle.http_layer.specs.Front.{Front, need, refused, whole, IsFront}
+use Rattle.http_layer.specs.Front.{Front, need, refused_with, whole, IsFront}
 use Rattle.http_layer.specs.HeadParts.{HeadParts}
 use Rattle.hub.specs.World.{History, FollowsRequests, front_effect, request_effect, history_after}
 use Rattle.hub.specs.Pending.{Unanswered, Tracks}
@@ -34,7 +34,7 @@ waits_after : (f : Front) (b : Broker) (m : ℕ) (w : Words) (len : Option ℕ) 
     → (after : List ℕ) × Unanswered new after × FollowsRequests stream (n + (front_effect b m w f).counts) after
 waits_after need b m w len closing old new stream rest n s is shut is_open waits follows front =
     (rest, s.same (shut ∙ is_open) is rest waits, subst (λ (k : ℕ). FollowsRequests stream k rest) (sym (add-zero n)) follows)
-waits_after (refused status) b m w len closing old new stream rest n s is shut is_open waits follows front = absurd (false≢true (sym is_open))
+waits_after (refused_with status) b m w len closing old new stream rest n s is shut is_open waits follows front = absurd (false≢true (sym is_open))
 waits_after (whole k p body) b m w len closing old new stream rest n s is shut is_open waits follows front = (
   drop k rest,
   s.more (shut ∙ is_open) k is rest p body waits front,

@@ -9,7 +9,7 @@ use Rattle.broker_types.specs.declared.words.Words.{Words}
 use Rattle.broker.specs.Kept.{Kept, IsHonest}
 use Rattle.broker.specs.Standing.{Holds}
 use Rattle.broker.specs.Transaction.{Rows}
-use Rattle.http_layer.specs.Front.{Front, need, refused, whole, IsFront}
+use Rattle.http_layer.specs.Front.{Front, need, refused_with, whole, IsFront}
 use Rattle.hub.specs.World.{Effect, front_effect, AreReplyBytes, History, Turns}
 use Rattle.hub.specs.Listed.{IsListedReply}
 use Rattle.hub.specs.Pending.{Tracks, Unanswered}
@@ -25,7 +25,7 @@ pub record IsServed (e : Effect) (moment : ℕ) (served : Served) (rows : Rows) 
 -- the length of a front that is a whole request
 abbrev pub request_len : Front → Option ℕ
 request_len need = None
-request_len (refused status) = None
+request_len (refused_with status) = None
 request_len (whole len head body) = Some len
 
 -- what was served is the effect of the front of rest

@@ -9,7 +9,7 @@ use Rattle.broker_types.specs.declared.words.Words.{Words}
 use Rattle.broker.specs.Step.{step}
 use Rattle.http_layer.specs.Asked.{asked}
 use Rattle.http_layer.specs.Closing.{closes}
-use Rattle.http_layer.specs.Front.{Front, need, refused, whole, IsFront}
+use Rattle.http_layer.specs.Front.{Front, need, refused_with, whole, IsFront}
 use Rattle.http_layer.specs.HeadParts.{HeadParts}
 use Rattle.http_layer.specs.Refusing.{RefusalParts, ask_refused, front_refused}
 use Rattle.http_layer.specs.Reply.{IsReply}
@@ -65,7 +65,7 @@ request_effect b moment words head (Ok ask) =
 -- a front that is not known yet gives nothing, and one that is refused closes the connection
 abbrev pub front_effect : Broker → ℕ → Words → Front → Effect
 front_effect b moment words need = record { reply = None; counts = 0; closes = false; broker = b }
-front_effect b moment words (refused status) =
+front_effect b moment words (refused_with status) =
     record { reply = Some (front_refused status); counts = 0; closes = true; broker = b }
 front_effect b moment words (whole len head body) = request_effect b moment words head (asked head body)
 

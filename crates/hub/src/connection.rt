@@ -158,8 +158,8 @@ fn after_request<'b>(bytes: &'b [u8]) -> Option<&'b [u8]>
     ensures none { IfNone result ((len : ℕ) (head : HeadParts) (body : List ℕ)
         → ¬ (IsFront bytes.now (whole len head body))) }
 {
-    match cut(bytes) {
-        Cut::Whole { len, .. } => Some(&bytes[len..]),
-        _ => None,
-    }
+    let Cut::Whole { len, .. } = cut(bytes) else {
+        return None;
+    };
+    Some(&bytes[len..])
 }

@@ -12,7 +12,7 @@ ghost use Rattle.hub.specs.Serving.{Serves, IsServed, Keeps};
 ghost use Rattle.hub.specs.World.{request_effect};
 
 use broker::Store;
-use broker_types::{Answer, Fault, Moment, Room, Status, Words};
+use broker_types::{Answer, Body, Fault, Moment, Room, Status, Words};
 use http_layer::{AskError, Cut, Head, ask_of, cut, front_refusal, reply_bytes};
 use std::alloc::Global;
 use std::mem;
@@ -82,8 +82,7 @@ pub(crate) fn serve<S: Store>(
     match cut(rest) {
         Cut::Need => Ok(Served::nothing(alloc)),
         Cut::Refused { status } => serve_refusal(alloc, status, moment),
-        Cut::Whole { len, head } => {
-            let body = &rest[head.size()..len];
+        Cut::Whole { len, head, body } => {
             serve_request(alloc, store, &head, body, len, moment, words)
         }
     }
@@ -103,18 +102,18 @@ fn serve_refusal(alloc: Global, status: Status, moment: Moment) -> Result<Served
 
 /// The reply to a whole request: the broker's answer to what it asks, or the refusal of one that asks
 /// nothing.
-fn serve_request<S: Store>(
+fn serve_request<'b, S: Store>(
     alloc: Global,
     store: &mut S,
-    head: &Head<'_>,
-    body: &[u8],
+    head: &Head<'b>,
+    body: Body<'b>,
     len: usize,
     moment: Moment,
     words: &Words,
 ) -> Result<Served, Fault>
     ensures ok { IsHonest (S.seen store.new) → (b : Broker) → Holds (S.seen store.old).rows b
         → IfOk result (λ served. IsServed (request_effect b moment words.now head.now
-        (asked head.now body.now)) moment served (S.seen store.new).rows) }
+        (asked head.now body.entry)) moment served (S.seen store.new).rows) }
     ensures listed { IfOk result (λ served. IsListedReply served.bytes.items) }
     ensures len { IfOk result (λ served. served.len ≡ Some len) }
     ensures keeps { Keeps (S.seen store.old) (S.seen store.new) result }

@@ -15,7 +15,7 @@ returns-then-total-unwrap_or-gt-LONGEST-clause-value c =
     let l = c.loop-byte in
     let large : 4294967295 < c.in_ok-total.total + unwrap_or c.in_ok-total.digits 0 = rw (← c.unwrap_or.ensures) c.if-total-unwrap_or-gt-LONGEST.true in
     over c.as_bytes-bytes.result.now l.byte-index l.sum l.begun c.in_ok-total.total c.in_ok-total.digits c.loop-byte-test.true l.invariant.rest
-        (sym c.in_ok-total.ensures) large
+    (sym c.in_ok-total.ensures) large
     ∙ ap duration_of c.as_bytes-bytes.ensures.value
 
 pub returns-in-None-clause-value : goal.returns-in-None-clause-value

@@ -1,4 +1,5 @@
 use Rattle.broker_types.specs.RemovalLaws.{revoke_sound, revoke_orphan_sound, at_moment_sound}
+use Rattle.broker_types.specs.SpendingLaws.{drop_sound}
 use Rattle.broker_types.proofs.laws.removals_keep_soundness.Goals as goal
 
 pub returns-clause-revoked : goal.returns-clause-revoked
@@ -9,3 +10,6 @@ returns-clause-revoked_alone c = λ forms who b t sound. revoke_orphan_sound for
 
 pub returns-clause-expired : goal.returns-clause-expired
 returns-clause-expired c = λ forms who b moment within sound. at_moment_sound forms who b sound moment within
+
+pub returns-clause-dropped : goal.returns-clause-dropped
+returns-clause-dropped c = λ forms who b t. drop_sound b t forms who

@@ -23,7 +23,7 @@ returns-in-Ok c =
     let day = signed_day c.args.day c.requires in
     let only : IsOnly Day (pos c.args.day) c.days.result = rw day at c.days.ensures in
     c.in-Ok.ensures.value ∙ date_add-days c.date.result (pos c.args.day) c.days.result only
-        ∙ rw (epoch c.date.result c.date.ensures) (omega (arith, signed_arith))
+    ∙ rw (epoch c.date.result c.date.ensures) (omega (arith, signed_arith))
 
 pub prove-unreachable-requires : goal.prove-unreachable-requires
 prove-unreachable-requires c =

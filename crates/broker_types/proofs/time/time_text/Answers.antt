@@ -17,5 +17,5 @@ pub returns : goal.returns
 returns c =
     let k = c.from_parts-shown.ensures in
     IfOk-weaker c.format.result _ _
-        (λ s e. shows c.args.seconds c.from_parts-shown.result (string_bytes s) (rw k.date c.date_of.ensures)
-        (rw k.time c.clock_of.ensures) e) c.format.ensures.ok
+    (λ s e. shows c.args.seconds c.from_parts-shown.result (string_bytes s) (rw k.date c.date_of.ensures)
+    (rw k.time c.clock_of.ensures) e) c.format.ensures.ok

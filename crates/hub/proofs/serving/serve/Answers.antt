@@ -10,8 +10,8 @@ returns-in-Refused-clause-ok g c = λ honest b held.
 
 pub returns-in-Whole-clause-ok : goal.returns-in-Whole-clause-ok
 returns-in-Whole-clause-ok g c = λ honest b held.
-    request_serves c.serve_request.result c.args.rest.now c.in-Whole.len c.size.result c.in-Whole.head b c.args.moment c.args.words.now
-    ((g.S.Store.seen c.serve_request.new.store).rows) c.in-Whole.ensures.front c.size.ensures (c.serve_request.ensures.ok honest b held) c.serve_request.ensures.len
+    request_serves c.serve_request.result c.args.rest.now c.in-Whole.len c.in-Whole.head c.in-Whole.body b c.args.moment c.args.words.now
+    ((g.S.Store.seen c.serve_request.new.store).rows) c.in-Whole.ensures.front (c.serve_request.ensures.ok honest b held) c.serve_request.ensures.len
 
 pub returns-in-Refused-clause-listed : goal.returns-in-Refused-clause-listed
 returns-in-Refused-clause-listed g c =
