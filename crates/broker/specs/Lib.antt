@@ -1,6 +1,5 @@
 pub mod Act
 pub mod Command
-pub mod Cubbyhole
 pub mod FirstRows
 pub mod Forms
 pub mod Kept

@@ -7,7 +7,7 @@ ghost use Rattle.http_layer.specs.Refusing.{Agrees, parts_of_refusal};
 use crate::fields::Named;
 use crate::head::Head;
 use crate::refusal::{AskError, HttpRefusal};
-use broker_types::{Ask, Body, CowBytes, CowText, Path, Reason, Seconds, Verb, WrapTtl};
+use broker_types::{Ask, BodyBytes, CowBytes, CowText, Path, Reason, Seconds, Verb, WrapTtl};
 use std::alloc::Global;
 use std::borrow::{CowSlice, CowStr};
 use std::str;
@@ -18,7 +18,7 @@ use std::str;
 /// `/v1/`; 400 for a target with `?` or `%`, or whose rest is not a valid path. Other fields are
 /// ignored. The only fault is running out of memory.
 #[tactic(auto, unfolding(crate::specs::Asked::asked))]
-pub fn ask_of<'b>(alloc: Global, head: &Head<'b>, body: Body<'b>) -> Result<Ask<'b>, AskError>
+pub fn ask_of<'b>(alloc: Global, head: &Head<'b>, body: BodyBytes<'b>) -> Result<Ask<'b>, AskError>
     ensures { Agrees (asked head.now body.entry) result }
 {
     let verb = verb_of(head.method())?;

@@ -6,7 +6,7 @@ ghost use Rattle.http_layer.specs.Front.{IsFront, need};
 use crate::front::Cut;
 use crate::head::Head;
 use crate::head_end::head_end;
-use broker_types::{Body, Status};
+use broker_types::{BodyBytes, Status};
 use std::borrow::CowSlice;
 
 /// The request or the refusal that a stream begins with, as soon as its first bytes decide it
@@ -39,9 +39,9 @@ pub fn cut<'b>(bytes: &'b [u8]) -> Cut<'b>
 }
 
 /// The body that these bytes are.
-fn short_body<'b>(bytes: &'b [u8]) -> Body<'b>
+fn short_body<'b>(bytes: &'b [u8]) -> BodyBytes<'b>
     requires { length bytes.now ≤ longest_body }
     ensures { result ≡ bytes.now }
 {
-    Body::new(CowSlice::Borrowed(bytes)).unwrap()
+    BodyBytes::new(CowSlice::Borrowed(bytes)).unwrap()
 }

@@ -1,5 +1,5 @@
 use crate::head::Head;
-use broker_types::{Body, Status};
+use broker_types::{BodyBytes, Status};
 
 /// What a stream begins with.
 #[derive(Drop)]
@@ -10,7 +10,7 @@ pub enum Cut<'b> {
     Whole {
         len: usize,
         head: Head<'b>,
-        body: Body<'b>,
+        body: BodyBytes<'b>,
     },
     /// A refusal; the connection closes after it.
     Refused {

@@ -12,7 +12,7 @@ ghost use Rattle.hub.specs.Serving.{Serves, IsServed, Keeps};
 ghost use Rattle.hub.specs.World.{request_effect};
 
 use broker::Store;
-use broker_types::{Answer, Body, Fault, Moment, Room, Status, Words};
+use broker_types::{Answer, BodyBytes, Fault, Moment, Room, Status, Words};
 use http_layer::{AskError, Cut, Head, ask_of, cut, front_refusal, reply_bytes};
 use std::alloc::Global;
 use std::mem;
@@ -106,7 +106,7 @@ fn serve_request<'b, S: Store>(
     alloc: Global,
     store: &mut S,
     head: &Head<'b>,
-    body: Body<'b>,
+    body: BodyBytes<'b>,
     len: usize,
     moment: Moment,
     words: &Words,
