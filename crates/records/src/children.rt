@@ -1,7 +1,8 @@
 //! The immediate children of a folder, from the keys of rows.
 
 ghost use Rattle.std.specs.Prelude.{◌≡◌, ◌-◌, [], ◌∷◌, ◌++◌, List, length, slice_get, map, IfOk, OnOk, string_bytes};
-ghost use Rattle.records.specs.Children.{child, children, children_in_order, keys_under, AreNames, below, is_text, push_once, push_each};
+ghost use Rattle.records.specs.Children.{child, children, children_in_order, keys_under, AreNames, below, is_text};
+ghost use Rattle.records.specs.Children.{push_once, push_each};
 ghost use Rattle.broker_types.specs.Text.{Text};
 ghost use Rattle.records.specs.Transaction.{Rows, rows_under};
 ghost use Rattle.records.specs.declared.kind.Kind.{Kind};
