@@ -1,0 +1,167 @@
+-- Which rows a part of a broker has: another value of the part leaves the rows of all other kinds.
+use Rattle.std.specs.Prelude.{◌≡◌, ℕ, Bool, true, false, ⊤, refl}
+use Rattle.std.proofs.Common.{sym, ◌∙◌, ap}
+use Rattle.std.proofs.lemmas.Bool.{false≢true}
+use Rattle.broker_types.specs.Text.{Text}
+use Rattle.broker_types.specs.Map.{Map}
+use Rattle.broker_types.specs.Token.{Tokens}
+use Rattle.broker_types.specs.Secret.{Key}
+use Rattle.broker_types.specs.Broker.{Broker, Waiting, Mount, Role}
+use Rattle.records.specs.declared.kind.Kind.{Kind}
+use Rattle.records.specs.declared.kind.Kind.TheVariants as kind
+use Rattle.records.specs.Parts.{Part, Tells, KeepsOthers, of_tokens_and_theirs, of_secrets, of_waiting}
+use Rattle.records.specs.Parts.{of_mounts, of_policies, of_roles, of_used, of_clock}
+use Rattle.records.specs.Rows.{rows_of}
+use Rattle.records.specs.Table.{Table}
+
+-- the rows outside of the part are those of both brokers
+abbrev pub AgreeOutside : Part → Broker → Broker → Type 0
+AgreeOutside part b c = KeepsOthers part (rows_of b) (rows_of c)
+
+-- where a table had the rows of b, and an operation made the part that of c and left the rest, it has the rows of c
+pub joined_rows : (part : Part) (old new : Table) (b c : Broker) → old ≡ rows_of b → Tells part new c
+    → KeepsOthers part old new → AgreeOutside part b c → new ≡ rows_of c
+joined_rows part old new b c was tells keeps agree = λ i k q. at k q i
+  where
+    at : (k : Kind) (q : Text) → new k q ≡ rows_of c k q
+    at k q =
+        elim (part k) as (λ v. part k ≡ v → new k q ≡ rows_of c k q) [
+          | true ↦ λ inside. tells k q inside
+          | false ↦ λ outside. keeps k q outside ∙ ap (λ (t : Table). t k q) was ∙ sym (agree k q outside)
+        ] refl
+
+-- the rows that the tokens, with their cubbyholes and leases, have
+pub rows_of-other_tokens : (b : Broker) (x : Tokens) → AgreeOutside of_tokens_and_theirs b (record b { tokens = x })
+unfolding rows_of
+rows_of-other_tokens b x kind.Clock q h = refl
+rows_of-other_tokens b x kind.Used q h = refl
+rows_of-other_tokens b x kind.Token q h = absurd (false≢true (sym h))
+rows_of-other_tokens b x kind.Accessor q h = absurd (false≢true (sym h))
+rows_of-other_tokens b x kind.Cubby q h = absurd (false≢true (sym h))
+rows_of-other_tokens b x kind.Lease q h = absurd (false≢true (sym h))
+rows_of-other_tokens b x kind.Credential q h = absurd (false≢true (sym h))
+rows_of-other_tokens b x kind.KvKey q h = refl
+rows_of-other_tokens b x kind.KvVersion q h = refl
+rows_of-other_tokens b x kind.Waiting q h = refl
+rows_of-other_tokens b x kind.Mount q h = refl
+rows_of-other_tokens b x kind.Policy q h = refl
+rows_of-other_tokens b x kind.Role q h = refl
+
+-- the rows that the secrets have
+pub rows_of-other_secrets : (b : Broker) (x : Map Key) → AgreeOutside of_secrets b (record b { secrets = x })
+unfolding rows_of
+rows_of-other_secrets b x kind.Clock q h = refl
+rows_of-other_secrets b x kind.Used q h = refl
+rows_of-other_secrets b x kind.Token q h = refl
+rows_of-other_secrets b x kind.Accessor q h = refl
+rows_of-other_secrets b x kind.Cubby q h = refl
+rows_of-other_secrets b x kind.Lease q h = refl
+rows_of-other_secrets b x kind.Credential q h = refl
+rows_of-other_secrets b x kind.KvKey q h = absurd (false≢true (sym h))
+rows_of-other_secrets b x kind.KvVersion q h = absurd (false≢true (sym h))
+rows_of-other_secrets b x kind.Waiting q h = refl
+rows_of-other_secrets b x kind.Mount q h = refl
+rows_of-other_secrets b x kind.Policy q h = refl
+rows_of-other_secrets b x kind.Role q h = refl
+
+-- the rows that the waiting responses have
+pub rows_of-other_waiting : (b : Broker) (x : Map Waiting) → AgreeOutside of_waiting b (record b { waiting = x })
+unfolding rows_of
+rows_of-other_waiting b x kind.Clock q h = refl
+rows_of-other_waiting b x kind.Used q h = refl
+rows_of-other_waiting b x kind.Token q h = refl
+rows_of-other_waiting b x kind.Accessor q h = absurd (false≢true (sym h))
+rows_of-other_waiting b x kind.Cubby q h = refl
+rows_of-other_waiting b x kind.Lease q h = refl
+rows_of-other_waiting b x kind.Credential q h = refl
+rows_of-other_waiting b x kind.KvKey q h = refl
+rows_of-other_waiting b x kind.KvVersion q h = refl
+rows_of-other_waiting b x kind.Waiting q h = absurd (false≢true (sym h))
+rows_of-other_waiting b x kind.Mount q h = refl
+rows_of-other_waiting b x kind.Policy q h = refl
+rows_of-other_waiting b x kind.Role q h = refl
+
+-- the rows that the mounts have
+pub rows_of-other_mounts : (b : Broker) (x : Map Mount) → AgreeOutside of_mounts b (record b { mounts = x })
+unfolding rows_of
+rows_of-other_mounts b x kind.Clock q h = refl
+rows_of-other_mounts b x kind.Used q h = refl
+rows_of-other_mounts b x kind.Token q h = refl
+rows_of-other_mounts b x kind.Accessor q h = refl
+rows_of-other_mounts b x kind.Cubby q h = refl
+rows_of-other_mounts b x kind.Lease q h = refl
+rows_of-other_mounts b x kind.Credential q h = refl
+rows_of-other_mounts b x kind.KvKey q h = refl
+rows_of-other_mounts b x kind.KvVersion q h = refl
+rows_of-other_mounts b x kind.Waiting q h = refl
+rows_of-other_mounts b x kind.Mount q h = absurd (false≢true (sym h))
+rows_of-other_mounts b x kind.Policy q h = refl
+rows_of-other_mounts b x kind.Role q h = refl
+
+-- the rows that the policies have
+pub rows_of-other_policies : (b : Broker) (x : Map Text) → AgreeOutside of_policies b (record b { policies = x })
+unfolding rows_of
+rows_of-other_policies b x kind.Clock q h = refl
+rows_of-other_policies b x kind.Used q h = refl
+rows_of-other_policies b x kind.Token q h = refl
+rows_of-other_policies b x kind.Accessor q h = refl
+rows_of-other_policies b x kind.Cubby q h = refl
+rows_of-other_policies b x kind.Lease q h = refl
+rows_of-other_policies b x kind.Credential q h = refl
+rows_of-other_policies b x kind.KvKey q h = refl
+rows_of-other_policies b x kind.KvVersion q h = refl
+rows_of-other_policies b x kind.Waiting q h = refl
+rows_of-other_policies b x kind.Mount q h = refl
+rows_of-other_policies b x kind.Policy q h = absurd (false≢true (sym h))
+rows_of-other_policies b x kind.Role q h = refl
+
+-- the rows that the roles have
+pub rows_of-other_roles : (b : Broker) (x : Map Role) → AgreeOutside of_roles b (record b { roles = x })
+unfolding rows_of
+rows_of-other_roles b x kind.Clock q h = refl
+rows_of-other_roles b x kind.Used q h = refl
+rows_of-other_roles b x kind.Token q h = refl
+rows_of-other_roles b x kind.Accessor q h = refl
+rows_of-other_roles b x kind.Cubby q h = refl
+rows_of-other_roles b x kind.Lease q h = refl
+rows_of-other_roles b x kind.Credential q h = refl
+rows_of-other_roles b x kind.KvKey q h = refl
+rows_of-other_roles b x kind.KvVersion q h = refl
+rows_of-other_roles b x kind.Waiting q h = refl
+rows_of-other_roles b x kind.Mount q h = refl
+rows_of-other_roles b x kind.Policy q h = refl
+rows_of-other_roles b x kind.Role q h = absurd (false≢true (sym h))
+
+-- the rows that the identifiers given out have
+pub rows_of-other_used : (b : Broker) (x : Map ⊤) → AgreeOutside of_used b (record b { used = x })
+unfolding rows_of
+rows_of-other_used b x kind.Clock q h = refl
+rows_of-other_used b x kind.Used q h = absurd (false≢true (sym h))
+rows_of-other_used b x kind.Token q h = refl
+rows_of-other_used b x kind.Accessor q h = refl
+rows_of-other_used b x kind.Cubby q h = refl
+rows_of-other_used b x kind.Lease q h = refl
+rows_of-other_used b x kind.Credential q h = refl
+rows_of-other_used b x kind.KvKey q h = refl
+rows_of-other_used b x kind.KvVersion q h = refl
+rows_of-other_used b x kind.Waiting q h = refl
+rows_of-other_used b x kind.Mount q h = refl
+rows_of-other_used b x kind.Policy q h = refl
+rows_of-other_used b x kind.Role q h = refl
+
+-- the rows that the clock has
+pub rows_of-other_clock : (b : Broker) (x : ℕ) → AgreeOutside of_clock b (record b { clock = x })
+unfolding rows_of
+rows_of-other_clock b x kind.Clock q h = absurd (false≢true (sym h))
+rows_of-other_clock b x kind.Used q h = refl
+rows_of-other_clock b x kind.Token q h = refl
+rows_of-other_clock b x kind.Accessor q h = refl
+rows_of-other_clock b x kind.Cubby q h = refl
+rows_of-other_clock b x kind.Lease q h = refl
+rows_of-other_clock b x kind.Credential q h = refl
+rows_of-other_clock b x kind.KvKey q h = refl
+rows_of-other_clock b x kind.KvVersion q h = refl
+rows_of-other_clock b x kind.Waiting q h = refl
+rows_of-other_clock b x kind.Mount q h = refl
+rows_of-other_clock b x kind.Policy q h = refl
+rows_of-other_clock b x kind.Role q h = refl
