@@ -35,10 +35,10 @@ given_members body ms e = by (read_body body) e
     by (Some ns) f = cc
 
 -- an object that can be printed and read again
-record Stays (ms : Members) : Type 0 where
-  canonical : IsCanonical (object ms)
-  shallow : depth (object ms) ≤ max_depth
-  whole : members_have_float ms ≡ false
+pub record Stays (ms : Members) : Type 0 where
+  pub canonical : IsCanonical (object ms)
+  pub shallow : depth (object ms) ≤ max_depth
+  pub whole : members_have_float ms ≡ false
 
 none_stays : Stays no_members
 none_stays = record { canonical = (tt, tt); shallow = lit≤ tt; whole = refl }
@@ -51,7 +51,7 @@ in_value (string t) ms e c s w = cc
 in_value (array ds) ms e c s w = cc
 in_value (object ns) ms e c s w = subst Stays (same_Some _ _ e) (record { canonical = c; shallow = s; whole = w })
 
-body_stays : (body : List ℕ) (ms : Members) → read_body body ≡ Some ms → Stays ms
+pub body_stays : (body : List ℕ) (ms : Members) → read_body body ≡ Some ms → Stays ms
 body_stays [] ms e = subst Stays (same_Some _ _ e) none_stays
 body_stays (x ∷ xs) ms e =
     let d = via_then (tree (x ∷ xs)) members_in ms e in

@@ -70,7 +70,8 @@ pub(crate) fn within<X: FromMember>(
     object: Option<&Map<String, Value>>,
     field: Field,
 ) -> Result<Option<X>, RequestError>
-    ensures { Reads (within (optional X.kind field) (option_map (λ m. members_view m.now.entries) object.entry)) result }
+    ensures { Reads (within (optional X.kind field)
+        (option_map (λ m. members_view m.now.entries) object.entry)) result }
 {
     match object {
         None => Ok(None),
@@ -115,7 +116,8 @@ fn object_text(alloc: Global, value: &Value) -> Result<Option<TextBuf>, AllocErr
 
 /// The member of this name, unless it is null.
 fn given<'m>(members: &'m Map<String, Value>, field: Field) -> Option<&'m Value>
-    ensures { option_map (λ v. view v.now) result ≡ given (get_member (field_name field) (members_view members.now.entries)) }
+    ensures { option_map (λ v. view v.now) result
+        ≡ given (get_member (field_name field) (members_view members.now.entries)) }
 {
     match member(members, field.name()) {
         None | Some(Value::Null) => None,

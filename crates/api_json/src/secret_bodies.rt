@@ -63,9 +63,9 @@ pub struct MountSettings {
     pub max_versions: Option<u64>,
 }
 
-/// Reads the settings of a mount of secrets: the members `cas_required`, `max_versions` and `delete_version_after`, which
-/// is the text `0s` or absent. The first bad one is refused with 400 `invalid field: NAME`. The only fault is running out
-/// of memory.
+/// Reads the settings of a mount of secrets: the members `cas_required`, `max_versions` and
+/// `delete_version_after`, which is the text `0s` or absent. The first bad one is refused with 400
+/// `invalid field: NAME`. The only fault is running out of memory.
 #[tactic(auto, unfolding(crate::specs::Readers::mount_settings))]
 pub fn mount_settings(alloc: Global, body: &Body) -> Result<MountSettings, RequestError>
     ensures { Reads (reader.mount_settings (members_of body.now)) result }

@@ -1,5 +1,8 @@
 //! The bodies of the routes of tokens (Vault's documentation, "Token auth method (API)").
-ghost use Rattle.std.specs.Prelude.{◌≡◌};
+ghost use Rattle.std.specs.Prelude.{◌≡◌, ◌≤◌, ℕ, List, Ok, IfOk, length};
+ghost use Rattle.broker_types.specs.Limits.{longest_body};
+ghost use Rattle.api_json.specs.Json.{body_members};
+ghost use Rattle.api_json.specs.Kept.{IsKeptCreation};
 ghost use Rattle.api_json.specs.Parsed.{members_of};
 ghost use Rattle.api_json.specs.Reads.{Reads};
 ghost use Rattle.api_json.specs.Readers as reader;
@@ -36,7 +39,9 @@ pub struct TokenCreation {
 /// only fault is running out of memory.
 #[tactic(auto, unfolding(crate::specs::Readers::token_creation))]
 pub fn token_creation(alloc: Global, body: &Body) -> Result<TokenCreation, RequestError>
-    ensures { Reads (reader.token_creation (members_of body.now)) result }
+    ensures reads { Reads (reader.token_creation (members_of body.now)) result }
+    ensures kept { (bytes : List ℕ) → length bytes ≤ longest_body → body_members bytes ≡ Ok (members_of body.now)
+        → IfOk result IsKeptCreation }
 {
     let members = &body.members;
     let policies: Option<Texts> = optional(alloc, members, Field::Policies)?;
@@ -111,8 +116,8 @@ pub fn accessor(alloc: Global, body: &Body) -> Result<TextBuf, RequestError>
     required(alloc, &body.members, Field::Accessor)
 }
 
-/// Reads for how long the caller's token is renewed, the member `increment`; 0, or absent, is for as long as it was made
-/// for. Of another kind: 400 `invalid field: increment`. The only fault is running out of memory.
+/// Reads for how long the caller's token is renewed, the member `increment`; 0, or absent, is for as long as it
+/// was made for. Of another kind: 400 `invalid field: increment`. The only fault is running out of memory.
 #[tactic(auto, unfolding(crate::specs::Readers::increment))]
 pub fn increment(alloc: Global, body: &Body) -> Result<Seconds, RequestError>
     ensures { Reads (reader.increment (members_of body.now)) result }
@@ -130,8 +135,8 @@ pub struct TokenRenewal {
     pub increment: Seconds,
 }
 
-/// Reads which token is renewed, and for how long: the members `token` and `increment`, refused in this order as `token`
-/// and `increment` refuse them. The only fault is running out of memory.
+/// Reads which token is renewed, and for how long: the members `token` and `increment`, refused in this order as
+/// `token` and `increment` refuse them. The only fault is running out of memory.
 #[tactic(auto, unfolding(crate::specs::Readers::token_renewal))]
 pub fn token_renewal(alloc: Global, body: &Body) -> Result<TokenRenewal, RequestError>
     ensures { Reads (reader.token_renewal (members_of body.now)) result }
