@@ -13,7 +13,7 @@ use Rattle.broker_types.specs.Limits.{longest_body}
 use Rattle.broker_types.specs.TextLaws.{same_self}
 use Rattle.broker_types.specs.Refuse.{some_or}
 use Rattle.api_json.specs.Json.{tree, members_in, without_floats, read_body, body_members, no_object}
-use Rattle.api_json.specs.Kinds.{object_text}
+use Rattle.api_json.specs.Kinds.{as_object_text}
 use Rattle.api_json.specs.Members.{payload}
 use Rattle.api_json.specs.Kept.{is_object, IsKept}
 use Rattle.api_json.specs.Laws.{BodiesReadBack, BodiesAreKept, PayloadsAreKept}
@@ -78,7 +78,7 @@ bodies_kept body ms fits e = record { object = passes ms (body_stays body ms e);
 
 -- a member that is an object
 member_kept : (body : List ℕ) (ms : Members) (k : List ℕ) (d : Data) (t : Text) → length body ≤ longest_body → read_body body ≡ Some ms
-    → get_member k ms ≡ Some d → object_text d ≡ Some t → IsKept t
+    → get_member k ms ≡ Some d → as_object_text d ≡ Some t → IsKept t
 member_kept body ms k null t fits e g o = cc
 member_kept body ms k (boolean b) t fits e g o = cc
 member_kept body ms k (number n) t fits e g o = cc
@@ -100,5 +100,5 @@ member_kept body ms k (object ns) t fits e g o =
 pub payloads_kept : PayloadsAreKept
 unfolding payload
 payloads_kept body ms t fits e p =
-    let d = via_then (get_member (codes "data") ms) object_text t p in
+    let d = via_then (get_member (codes "data") ms) as_object_text t p in
     member_kept body ms (codes "data") d.0 t fits e d.1 d.2

@@ -10,7 +10,7 @@ ghost use Rattle.api_json.specs.Json.{json_value, tree, without_floats, members_
 ghost use Rattle.api_json.specs.Json.{has_members};
 ghost use Rattle.api_json.specs.Kept.{IsKept};
 ghost use Rattle.api_json.specs.Parsed.{data_of, members_of};
-ghost use Rattle.api_json.specs.Reads.{ReadsAs};
+ghost use Rattle.api_json.specs.Reads.{IsReadAs};
 
 use crate::parsed::{Body, Tree};
 use broker_types::{Reason, Refusal, RequestError, TextBuf};
@@ -22,7 +22,7 @@ use std::alloc::{AllocError, Global};
 /// levels, or have a number that is a float: one with a fraction or an exponent, `-0`, or a whole number below
 /// -2^63 or above 2^64-1. The only fault is running out of memory.
 pub fn read_body(alloc: Global, bytes: &[u8]) -> Result<Body, RequestError>
-    ensures { ReadsAs members_of (body_members bytes.now) result }
+    ensures { IsReadAs members_of (body_members bytes.now) result }
 {
     if bytes.is_empty() {
         return Ok(no_members(alloc));
@@ -45,7 +45,7 @@ fn no_members(alloc: Global) -> Body
 
 /// The object that a value is; `null` is an empty one.
 fn object(alloc: Global, tree: Tree) -> Result<Body, RequestError>
-    ensures { ReadsAs members_of (some_or no_object (members_in (data_of tree))) result }
+    ensures { IsReadAs members_of (some_or no_object (members_in (data_of tree))) result }
 {
     let Tree { value } = tree;
     match value {

@@ -4,7 +4,7 @@ ghost use Rattle.broker_types.specs.Limits.{longest_body};
 ghost use Rattle.api_json.specs.Json.{body_members};
 ghost use Rattle.api_json.specs.Kept.{IsKeptCreation};
 ghost use Rattle.api_json.specs.Parsed.{members_of};
-ghost use Rattle.api_json.specs.Reads.{Reads};
+ghost use Rattle.api_json.specs.Reads.{IsRead};
 ghost use Rattle.api_json.specs.Readers as reader;
 ghost use Rattle.api_json.specs.Readers.{is_no_period, is_empty, is_service};
 
@@ -39,7 +39,7 @@ pub struct TokenCreation {
 /// only fault is running out of memory.
 #[tactic(auto, unfolding(crate::specs::Readers::token_creation))]
 pub fn token_creation(alloc: Global, body: &Body) -> Result<TokenCreation, RequestError>
-    ensures reads { Reads (reader.token_creation (members_of body.now)) result }
+    ensures reads { IsRead (reader.token_creation (members_of body.now)) result }
     ensures kept { (bytes : List ℕ) → length bytes ≤ longest_body → body_members bytes ≡ Ok (members_of body.now)
         → IfOk result IsKeptCreation }
 {
@@ -102,7 +102,7 @@ fn is_service(type_name: &Option<TextBuf>) -> bool
 /// kind: 400 `invalid field: token`. The only fault is running out of memory.
 #[tactic(auto, unfolding(crate::specs::Readers::token))]
 pub fn token(alloc: Global, body: &Body) -> Result<TextBuf, RequestError>
-    ensures { Reads (reader.token (members_of body.now)) result }
+    ensures { IsRead (reader.token (members_of body.now)) result }
 {
     required(alloc, &body.members, Field::Token)
 }
@@ -111,7 +111,7 @@ pub fn token(alloc: Global, body: &Body) -> Result<TextBuf, RequestError>
 /// another kind: 400 `invalid field: accessor`. The only fault is running out of memory.
 #[tactic(auto, unfolding(crate::specs::Readers::accessor))]
 pub fn accessor(alloc: Global, body: &Body) -> Result<TextBuf, RequestError>
-    ensures { Reads (reader.accessor (members_of body.now)) result }
+    ensures { IsRead (reader.accessor (members_of body.now)) result }
 {
     required(alloc, &body.members, Field::Accessor)
 }
@@ -120,7 +120,7 @@ pub fn accessor(alloc: Global, body: &Body) -> Result<TextBuf, RequestError>
 /// was made for. Of another kind: 400 `invalid field: increment`. The only fault is running out of memory.
 #[tactic(auto, unfolding(crate::specs::Readers::increment))]
 pub fn increment(alloc: Global, body: &Body) -> Result<Seconds, RequestError>
-    ensures { Reads (reader.increment (members_of body.now)) result }
+    ensures { IsRead (reader.increment (members_of body.now)) result }
 {
     let increment: Option<Seconds> = optional(alloc, &body.members, Field::Increment)?;
     Ok(increment.unwrap_or(Seconds::new(0)))
@@ -139,7 +139,7 @@ pub struct TokenRenewal {
 /// `token` and `increment` refuse them. The only fault is running out of memory.
 #[tactic(auto, unfolding(crate::specs::Readers::token_renewal))]
 pub fn token_renewal(alloc: Global, body: &Body) -> Result<TokenRenewal, RequestError>
-    ensures { Reads (reader.token_renewal (members_of body.now)) result }
+    ensures { IsRead (reader.token_renewal (members_of body.now)) result }
 {
     let token = token(alloc, body)?;
     let increment = increment(alloc, body)?;
