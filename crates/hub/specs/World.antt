@@ -31,6 +31,10 @@ new_history = record { stream = []; answered = 0; closed = false }
 abbrev pub Connections : Type 0
 Connections = ℕ → Option History
 
+-- none was seen
+abbrev pub no_connections : Connections
+no_connections conn = None
+
 -- the connection of a number: one on which nothing came, where it was not seen
 abbrev pub history_at : Connections → ℕ → History
 history_at all conn = unwrap_or (all conn) new_history
@@ -46,7 +50,7 @@ pub record World : Type 0 where
 
 -- no connection was seen
 abbrev pub new_world : Broker → World
-new_world b = record { connections = λ conn. None; broker = b }
+new_world b = record { connections = no_connections; broker = b }
 
 -- rest is what follows the first n requests of the stream
 abbrev pub FollowsRequests : List ℕ → ℕ → List ℕ → Type 0

@@ -23,14 +23,14 @@ impl<S: Store> Hub<S> {
     ghost use Rattle.hub.specs.Listed.{IsListedReply};
     ghost use Rattle.hub.specs.Representing.{HubRepresents, ConnectionsRepresent, hub_connections, hub_store};
     ghost use Rattle.hub.specs.Runs.{AnswersOne};
-    ghost use Rattle.hub.specs.World.{World, Connections, history_at, new_world};
+    ghost use Rattle.hub.specs.World.{World, Connections, history_at, new_world, no_connections};
     ghost use Rattle.hub.specs.declared.connection.Connection.{Connection as Seen};
 
     /// A hub over a store that was started. No connection is seen. It takes no memory.
     pub fn new(alloc: Global, store: S) -> Hub<S>
         ensures represents { (b : Broker) → Represents None (S.seen store).rows b
             → HubRepresents S.seen result (new_world b) }
-        ensures unseen { (b : Broker) → ConnectionsRepresent result (new_world b).connections }
+        ensures unseen { ConnectionsRepresent result no_connections }
         ensures store { hub_store S.seen result ≡ S.seen store }
     {
         Hub {
