@@ -1,1 +1,559 @@
-//! What bodies are read as, and what replies print as.
+//! What bodies are read as, and what replies print as. The outcomes of the readers are those of a reference broker that
+//! was written apart from this one; the printed objects are those of its replies.
+
+use crate::{
+    AuthObject, Body, EndTime, KeyObject, Pairs, Texts, TokenObject, Tree, VersionObject, Versions,
+    accessor, auth_object, increment, key_object, keys_object, mount_settings, plain_reply,
+    policy_object, policy_text, read_body, read_object, reply_text, secret_write, settings_object,
+    token, token_creation, token_object, token_renewal, version_object, versions,
+};
+use broker_types::{Field, Moment, Reason, Refusal, RequestError, TextBuf};
+use std::alloc::{AllocError, Global};
+use std::process::Abort;
+use std::test::Fail;
+
+#[derive(Clone, Copy, Debug, PartialEq, Eq)]
+enum Route {
+    Creation,
+    Token,
+    Accessor,
+    Increment,
+    TokenRenewal,
+    Settings,
+    Secret,
+    Versions,
+    Policy,
+}
+
+/// Why the reader of a route refuses a body, if it does.
+fn refused(alloc: Global, route: Route, body: &Body) -> Option<RequestError> {
+    match route {
+        Route::Creation => token_creation(alloc, body).err(),
+        Route::Token => token(alloc, body).err(),
+        Route::Accessor => accessor(alloc, body).err(),
+        Route::Increment => increment(alloc, body).err(),
+        Route::TokenRenewal => token_renewal(alloc, body).err(),
+        Route::Settings => mount_settings(alloc, body).err(),
+        Route::Secret => secret_write(alloc, body).err(),
+        Route::Versions => versions(alloc, body).err(),
+        Route::Policy => policy_text(alloc, body).err(),
+    }
+}
+
+/// `.` where a body is read, `i` and `m` where the field is invalid and missing, `d` without data.
+fn outcome(error: Option<RequestError>, field: Field) -> u8 {
+    let Some(RequestError::Refused(Refusal::BadRequest(reason))) = error else {
+        return if error.is_none() { b'.' } else { b'?' };
+    };
+    match reason {
+        Reason::InvalidField(bad) if bad == field => b'i',
+        Reason::MissingField(bad) if bad == field => b'm',
+        Reason::NoData => b'd',
+        _ => b'?',
+    }
+}
+
+/// Each reader on each kind of value of each of its members.
+#[test]
+fn kinds_of_members(rt: HostRuntime) -> Result<(), Fail> {
+    let alloc = rt.alloc();
+    let values = [
+        "null",
+        "true",
+        "false",
+        "\"true\"",
+        "\"false\"",
+        "\"True\"",
+        "0",
+        "1",
+        "-1",
+        "18446744073709551615",
+        "4294967296",
+        "\"\"",
+        "\"x\"",
+        "\"service\"",
+        "\"0s\"",
+        "\"1h30m\"",
+        "\"1d\"",
+        "\"000000000000000007\"",
+        "\"0000000000000000007\"",
+        "\" a, ,b \"",
+        "[]",
+        "[\"a\"]",
+        "[\"1\",2]",
+        "[null]",
+        "{}",
+        "{\"a\":\"b\"}",
+        "{\"a\":null}",
+    ];
+    let rows = [
+        (
+            Route::Creation,
+            "{\"policies\":",
+            Field::Policies,
+            "}",
+            ".ii...iiiii...........iiiii",
+        ),
+        (
+            Route::Creation,
+            "{\"meta\":",
+            Field::Meta,
+            "}",
+            ".iiiiiiiiiiiiiiiiiiiiiii..i",
+        ),
+        (
+            Route::Creation,
+            "{\"ttl\":",
+            Field::Ttl,
+            "}",
+            ".iiiii..iii.ii..i..iiiiiiii",
+        ),
+        (
+            Route::Creation,
+            "{\"explicit_max_ttl\":",
+            Field::ExplicitMaxTtl,
+            "}",
+            ".iiiii..iii.ii..i..iiiiiiii",
+        ),
+        (
+            Route::Creation,
+            "{\"num_uses\":",
+            Field::NumUses,
+            "}",
+            ".iiiii..i..iiiiii.iiiiiiiii",
+        ),
+        (
+            Route::Creation,
+            "{\"no_parent\":",
+            Field::NoParent,
+            "}",
+            ".....iiiiiiiiiiiiiiiiiiiiii",
+        ),
+        (
+            Route::Creation,
+            "{\"no_default_policy\":",
+            Field::NoDefaultPolicy,
+            "}",
+            ".....iiiiiiiiiiiiiiiiiiiiii",
+        ),
+        (
+            Route::Creation,
+            "{\"period\":",
+            Field::Period,
+            "}",
+            ".iiiii.iiii.ii.iiiiiiiiiiii",
+        ),
+        (
+            Route::Creation,
+            "{\"renewable\":",
+            Field::Renewable,
+            "}",
+            "..i.iiiiiiiiiiiiiiiiiiiiiii",
+        ),
+        (
+            Route::Creation,
+            "{\"id\":",
+            Field::Id,
+            "}",
+            ".iiiiiiiiii.iiiiiiiiiiiiiii",
+        ),
+        (
+            Route::Creation,
+            "{\"type\":",
+            Field::TypeName,
+            "}",
+            ".iiiiiiiiii.i.iiiiiiiiiiiii",
+        ),
+        (
+            Route::Token,
+            "{\"token\":",
+            Field::Token,
+            "}",
+            "mii...iiiii.........iiiiiii",
+        ),
+        (
+            Route::Accessor,
+            "{\"accessor\":",
+            Field::Accessor,
+            "}",
+            "mii...iiiii.........iiiiiii",
+        ),
+        (
+            Route::Increment,
+            "{\"increment\":",
+            Field::Increment,
+            "}",
+            ".iiiii..iii.ii..i..iiiiiiii",
+        ),
+        (
+            Route::TokenRenewal,
+            "{\"token\":",
+            Field::Token,
+            "}",
+            "mii...iiiii.........iiiiiii",
+        ),
+        (
+            Route::TokenRenewal,
+            "{\"token\":\"t\",\"increment\":",
+            Field::Increment,
+            "}",
+            ".iiiii..iii.ii..i..iiiiiiii",
+        ),
+        (
+            Route::Settings,
+            "{\"cas_required\":",
+            Field::CasRequired,
+            "}",
+            ".....iiiiiiiiiiiiiiiiiiiiii",
+        ),
+        (
+            Route::Settings,
+            "{\"max_versions\":",
+            Field::MaxVersions,
+            "}",
+            ".iiiii..i..iiiiii.iiiiiiiii",
+        ),
+        (
+            Route::Settings,
+            "{\"delete_version_after\":",
+            Field::DeleteVersionAfter,
+            "}",
+            ".iiiiiiiiiiiii.iiiiiiiiiiii",
+        ),
+        (
+            Route::Secret,
+            "{\"data\":",
+            Field::Options,
+            "}",
+            "dddddddddddddddddddddddd...",
+        ),
+        (
+            Route::Secret,
+            "{\"data\":{},\"options\":",
+            Field::Options,
+            "}",
+            ".iiiiiiiiiiiiiiiiiiiiiii...",
+        ),
+        (
+            Route::Secret,
+            "{\"data\":{},\"options\":{\"cas\":",
+            Field::Cas,
+            "}}",
+            ".iiiii..i..iiiiii.iiiiiiiii",
+        ),
+        (
+            Route::Versions,
+            "{\"versions\":",
+            Field::Versions,
+            "}",
+            "miiiiiiiiiimiiiii.iimi.iiii",
+        ),
+        (
+            Route::Policy,
+            "{\"policy\":",
+            Field::Policy,
+            "}",
+            "mii...iiiii.........iiiiiii",
+        ),
+    ];
+    for (route, before, field, after, outcomes) in rows {
+        let mut found = String::new(alloc);
+        for value in values {
+            let body = read_body(
+                alloc,
+                format!(in alloc; "{before}{value}{after}")?.as_bytes(),
+            )?;
+            found.push(char::from(outcome(refused(alloc, route, &body), field)))?;
+        }
+        assert_eq!(rt; found.as_str(), outcomes, "{before}");
+    }
+    Ok(())
+}
+
+/// The first bad member, in the order in which they are read, is the one that is refused.
+#[test]
+fn first_bad_members(rt: HostRuntime) -> Result<(), Fail> {
+    let alloc = rt.alloc();
+    let rows = [
+        (
+            Route::Creation,
+            "{\"type\":1,\"id\":\"x\",\"renewable\":0,\"period\":1}",
+            Reason::InvalidField(Field::Period),
+        ),
+        (
+            Route::Creation,
+            "{\"num_uses\":-1,\"ttl\":\"1d\",\"meta\":null}",
+            Reason::InvalidField(Field::Ttl),
+        ),
+        (
+            Route::Creation,
+            "{\"policies\":[1],\"meta\":[]}",
+            Reason::InvalidField(Field::Policies),
+        ),
+        (
+            Route::TokenRenewal,
+            "{\"increment\":-1}",
+            Reason::MissingField(Field::Token),
+        ),
+        (
+            Route::Settings,
+            "{\"max_versions\":-1,\"delete_version_after\":0}",
+            Reason::InvalidField(Field::MaxVersions),
+        ),
+        (Route::Secret, "{\"options\":1}", Reason::NoData),
+        (
+            Route::Versions,
+            "{\"versions\":\" , \"}",
+            Reason::MissingField(Field::Versions),
+        ),
+    ];
+    for (route, text, reason) in rows {
+        let body = read_body(alloc, text.as_bytes())?;
+        let want = Some(RequestError::Refused(Refusal::BadRequest(reason)));
+        assert!(rt; refused(alloc, route, &body) == want, "{text}");
+    }
+    Ok(())
+}
+
+/// Which bytes are bodies.
+#[test]
+fn bodies(rt: HostRuntime) -> Result<(), Fail> {
+    let alloc = rt.alloc();
+    let texts = [
+        ("", Some("{}")),
+        (" null\n", Some("{}")),
+        (" ", None),
+        ("[]", None),
+        ("1", None),
+        ("\"{}\"", None),
+        ("{\"a\":1}x", None),
+        ("{\"a\":-0}", None),
+        ("{\"a\":1.0}", None),
+        ("{\"a\":1e2}", None),
+        ("{\"a\":18446744073709551616}", None),
+        ("{\"a\":-9223372036854775809}", None),
+        ("{\"a\":[{\"b\":1.5}]}", None),
+        ("{\"a\":1.5,\"a\":2}", Some("{\"a\":2}")),
+        (
+            " {\"b\":[18446744073709551615, -9223372036854775808],\"10\":null,\"2\":\"\\u00e9\\u0001\\/\"} ",
+            Some(
+                "{\"10\":null,\"2\":\"é\\u0001/\",\"b\":[18446744073709551615,-9223372036854775808]}",
+            ),
+        ),
+    ];
+    for (text, want) in texts {
+        match (read_body(alloc, text.as_bytes()), want) {
+            (Ok(body), Some(want)) => {
+                assert!(rt; body.has_members() == (want != "{}"), "{text}");
+                assert_eq!(rt; body.into_text(alloc)?.as_str(), want);
+            }
+            (Err(error), None) => {
+                assert!(rt;
+                    error == RequestError::Refused(Refusal::BadRequest(Reason::InvalidJson)),
+                    "{text}"
+                );
+            }
+            _ => Err("another outcome")?,
+        }
+    }
+    assert!(rt; read_body(alloc, b"{\"a\":\"\xff\"}").is_err());
+    assert!(rt; read_body(alloc, nested(alloc, 126)?.as_bytes()).is_ok());
+    assert!(rt; read_body(alloc, nested(alloc, 127)?.as_bytes()).is_err());
+    Ok(())
+}
+
+/// An object with arrays in one another.
+fn nested(alloc: Global, levels: usize) -> Result<String, AllocError> {
+    let mut text = String::from_str(alloc, "{\"a\":")?;
+    for _ in 0..levels {
+        text.push_str("[")?;
+    }
+    for _ in 0..levels {
+        text.push_str("]")?;
+    }
+    text.push_str("}")?;
+    Ok(text)
+}
+
+#[test]
+fn trees(rt: HostRuntime) -> Result<(), Fail> {
+    let alloc = rt.alloc();
+    let tree = Tree::read(alloc, b"[1, {\"b\":true, \"a\":null}]")?.ok_or("no tree")?;
+    assert!(rt; tree.value().is_array());
+    assert_eq!(rt;
+        tree.to_text(alloc)?.as_str(),
+        "[1,{\"a\":null,\"b\":true}]"
+    );
+    assert!(rt; Tree::read(alloc, b"[1.5]")?.is_none());
+    assert!(rt; Tree::read(alloc, b"")?.is_none());
+    Ok(())
+}
+
+/// What the readers make of bodies that they read.
+#[test]
+fn values_of_members(rt: HostRuntime) -> Result<(), Fail> {
+    let alloc = rt.alloc();
+    let text =
+        "{\"policies\":\" a, b ,,c\",\"ttl\":\"1h30m\",\"explicit_max_ttl\":7,\"num_uses\":\"08\",\"no_parent\":\"true\",\
+        \"no_default_policy\":null,\"meta\":{\"b\":\"2\",\"a\":\"1\"},\"other\":[]}";
+    let creation = token_creation(alloc, &read_body(alloc, text.as_bytes())?)?;
+    let policies = creation.policies.as_slice();
+    assert!(rt; policies.len() == 3);
+    assert!(rt;
+        policies[0].as_str() == "a" && policies[1].as_str() == "b" && policies[2].as_str() == "c"
+    );
+    let meta = creation.meta.as_slice();
+    assert!(rt; meta.len() == 2 && meta[0].0.as_str() == "a" && meta[1].1.as_str() == "2");
+    assert!(rt; creation.ttl.count() == 5400 && creation.explicit_max_ttl.count() == 7);
+    assert!(rt; creation.num_uses == 8 && creation.no_parent && !creation.no_default_policy);
+    let body = read_body(
+        alloc,
+        b"{\"token\":\"t\",\"accessor\":\"\",\"increment\":\"5m\",\"policy\":\"p\",\"versions\":[\"1\",2]}",
+    )?;
+    assert_eq!(rt; token(alloc, &body)?.as_str(), "t");
+    assert_eq!(rt; accessor(alloc, &body)?.as_str(), "");
+    assert_eq!(rt; increment(alloc, &body)?.count(), 300);
+    let renewal = token_renewal(alloc, &body)?;
+    assert!(rt; renewal.token.as_str() == "t" && renewal.increment.count() == 300);
+    assert_eq!(rt; policy_text(alloc, &body)?.as_str(), "p");
+    assert!(rt; versions(alloc, &body)?.as_slice() == [1, 2].as_slice());
+    assert!(rt; body.members().len() == 5);
+    let body = read_body(
+        alloc,
+        b"{\"options\":{\"cas\":\"1\"},\"data\":{\"b\": 1, \"a\":[ ]},\"max_versions\":0}",
+    )?;
+    let written = secret_write(alloc, &body)?;
+    assert!(rt; written.object.as_str() == "{\"a\":[],\"b\":1}" && written.cas == Some(1));
+    let settings = mount_settings(alloc, &body)?;
+    assert!(rt; settings.cas_required == None && settings.max_versions == Some(0));
+    Ok(())
+}
+
+fn text(alloc: Global, s: &str) -> Result<TextBuf, AllocError> {
+    TextBuf::copied(alloc, s)
+}
+
+fn moment(seconds: u64) -> Result<Moment, Fail> {
+    Ok(Moment::new(seconds).ok_or("no moment")?)
+}
+
+fn version(version: u64, deleted: bool) -> Result<VersionObject, Fail> {
+    let created = moment(1000)?;
+    Ok(VersionObject {
+        created,
+        deleted: if deleted { Some(created) } else { None },
+        destroyed: false,
+        version,
+    })
+}
+
+#[test]
+fn printed_secrets(rt: HostRuntime) -> Result<(), Fail> {
+    let alloc = rt.alloc();
+    assert_eq!(rt;
+        version_object(alloc, &version(1, false)?)?.as_str(),
+        "{\"created_time\":\"1970-01-01T00:16:40Z\",\"custom_metadata\":null,\"deletion_time\":\"\",\"destroyed\":false,\"version\":1}"
+    );
+    assert_eq!(rt;
+        read_object(alloc, &None, &version(1, true)?)?.as_str(),
+        "{\"data\":null,\"metadata\":{\"created_time\":\"1970-01-01T00:16:40Z\",\"custom_metadata\":null,\
+        \"deletion_time\":\"1970-01-01T00:16:40Z\",\"destroyed\":false,\"version\":1}}"
+    );
+    let mut kept = Vec::new(alloc);
+    kept.push(version(2, true)?)?;
+    kept.push(version(10, false)?)?;
+    let key = KeyObject {
+        cas_required: false,
+        created: moment(1000)?,
+        current_version: 10,
+        max_versions: 0,
+        oldest_version: 2,
+        updated: moment(2000)?,
+        versions: Versions::new(kept),
+    };
+    assert_eq!(rt;
+        key_object(alloc, &key)?.as_str(),
+        "{\"cas_required\":false,\"created_time\":\"1970-01-01T00:16:40Z\",\"current_version\":10,\"custom_metadata\":null,\
+        \"delete_version_after\":\"0s\",\"max_versions\":0,\"oldest_version\":2,\"updated_time\":\"1970-01-01T00:33:20Z\",\
+        \"versions\":{\"10\":{\"created_time\":\"1970-01-01T00:16:40Z\",\"deletion_time\":\"\",\"destroyed\":false},\
+        \"2\":{\"created_time\":\"1970-01-01T00:16:40Z\",\"deletion_time\":\"1970-01-01T00:16:40Z\",\"destroyed\":false}}}"
+    );
+    assert_eq!(rt;
+        settings_object(alloc, true, 18446744073709551615)?.as_str(),
+        "{\"cas_required\":true,\"delete_version_after\":\"0s\",\"max_versions\":18446744073709551615}"
+    );
+    Ok(())
+}
+
+#[test]
+fn printed_tokens(rt: HostRuntime) -> Result<(), Fail> {
+    let alloc = rt.alloc();
+    let mut policies = Vec::new(alloc);
+    policies.push(text(alloc, "default")?)?;
+    policies.push(text(alloc, "p")?)?;
+    assert_eq!(rt;
+        keys_object(alloc, policies.as_slice())?.as_str(),
+        "{\"keys\":[\"default\",\"p\"]}"
+    );
+    let mut meta = Vec::new(alloc);
+    meta.push((text(alloc, "a\"")?, text(alloc, "1")?))?;
+    let auth = AuthObject {
+        accessor: text(alloc, "00000000-0000-0000-0000-000000000022")?,
+        client_token: text(alloc, "hvs.00000000-0000-0000-0000-000000000021")?,
+        lease_duration: 2764800,
+        metadata: Pairs::new(meta),
+        num_uses: 0,
+        orphan: false,
+        policies: Texts::new(policies),
+        renewable: true,
+    };
+    assert_eq!(rt;
+        auth_object(alloc, &auth)?.as_str(),
+        "{\"accessor\":\"00000000-0000-0000-0000-000000000022\",\"client_token\":\"hvs.00000000-0000-0000-0000-000000000021\",\
+        \"entity_id\":\"\",\"lease_duration\":2764800,\"metadata\":{\"a\\\"\":\"1\"},\"num_uses\":0,\"orphan\":false,\
+        \"policies\":[\"default\",\"p\"],\"renewable\":true,\"token_policies\":[\"default\",\"p\"],\"token_type\":\"service\"}"
+    );
+    let token = TokenObject {
+        accessor: text(alloc, "00000000-0000-0000-0000-000000000002")?,
+        issued: moment(1000)?,
+        creation_ttl: 0,
+        ends: EndTime::new(2765800),
+        explicit_max_ttl: 0,
+        id: text(alloc, "hvs.00000000-0000-0000-0000-000000000001")?,
+        meta: Pairs::new(Vec::new(alloc)),
+        num_uses: 0,
+        orphan: true,
+        policies: Texts::new(Vec::new(alloc)),
+        ttl: 2764800,
+    };
+    assert_eq!(rt;
+        token_object(alloc, &token)?.as_str(),
+        "{\"accessor\":\"00000000-0000-0000-0000-000000000002\",\"creation_time\":1000,\"creation_ttl\":0,\
+        \"expire_time\":\"1970-02-02T00:16:40Z\",\"explicit_max_ttl\":0,\"id\":\"hvs.00000000-0000-0000-0000-000000000001\",\
+        \"issue_time\":\"1970-01-01T00:16:40Z\",\"meta\":null,\"num_uses\":0,\"orphan\":true,\"policies\":[],\"renewable\":true,\
+        \"ttl\":2764800,\"type\":\"service\"}"
+    );
+    assert!(rt; EndTime::new(250002764801).is_none());
+    assert_eq!(rt;
+        policy_object(alloc, "p", "{\"path\":{}}")?.as_str(),
+        "{\"name\":\"p\",\"policy\":\"{\\\"path\\\":{}}\"}"
+    );
+    Ok(())
+}
+
+#[test]
+fn printed_replies(rt: HostRuntime) -> Result<(), Fail> {
+    let alloc = rt.alloc();
+    let request = "00000000-0000-0000-0000-000000000020";
+    let printed = reply_text(
+        alloc,
+        &plain_reply(alloc, request, text(alloc, "{\"k\":\"v\"}")?)?,
+    )?;
+    assert!(rt; printed.as_str().len() == 167);
+    assert_eq!(rt;
+        printed.as_str(),
+        "{\"auth\":null,\"data\":{\"k\":\"v\"},\"lease_duration\":0,\"lease_id\":\"\",\"renewable\":false,\
+        \"request_id\":\"00000000-0000-0000-0000-000000000020\",\"warnings\":null,\"wrap_info\":null}\n"
+    );
+    Ok(())
+}

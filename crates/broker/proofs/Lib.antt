@@ -1,14 +1,8 @@
 pub mod ClockCalls
 pub mod Clocks
-pub mod Determined
-pub mod DroppedRows
 pub mod Examples
 pub mod FirstRows
-pub mod ObjectCalls
-pub mod ObjectEdits
-pub mod ObjectKeys
-pub mod ObjectRows
-pub mod ObjectSound
+pub mod Cubbyholes
 pub mod Operations
 pub mod Routes
 pub mod Serving

@@ -1,4 +1,4 @@
--- Answers of the broker.
+-- Answers of the broker (Vault's documentation, "HTTP API"; the room is this project's).
 use Rattle.std.specs.Prelude.{◌≡◌, ◌+◌, ◌≤◌, length}
 use Rattle.broker_types.specs.Text.{Text}
 use Rattle.broker_types.specs.Refusal.{refusal_status, refusal_methods, refusal_text, errors_body}

@@ -1,4 +1,4 @@
--- The broker: three maps, with the clock, the used identifiers and the settings.
+-- The broker: three maps, with the clock, the used identifiers and the settings (this project's definition).
 use Rattle.std.specs.Prelude.{ℕ, ◌+◌, max, Bool, false, nat_lt, codes, ⊤}
 use Rattle.std.specs.Option.{option_map_or}
 use Rattle.broker_types.specs.Text.{Text}

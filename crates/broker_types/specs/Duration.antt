@@ -1,4 +1,5 @@
--- Texts of durations: groups of digits and a unit, or digits alone.
+-- Texts of durations: groups of digits and a unit, or digits alone (Vault's documentation, "duration format strings",
+-- with the units h, m and s).
 use Rattle.std.specs.Prelude.{◌≡◌, ◌≢◌, ◌≤◌, ◌⊎◌, ℕ, ◌+◌, ◌-◌, ◌*◌, ◌==◌, ◌&&◌, nat_le, List, [], ◌∷◌, ◌++◌, length}
 use Rattle.std.specs.Prelude.{not, if◌then◌else◌, Option, Some, None, option_and_then, unwrap_or, All, sum_by}
 use Rattle.std.specs.List.{list_all, flat_map}

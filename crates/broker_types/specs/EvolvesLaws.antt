@@ -1,4 +1,4 @@
--- What lasts as a broker evolves.
+-- Laws of how a broker evolves.
 use Rattle.std.proofs.Common.{sym, ◌∙◌, subst, inl, inr}
 use Rattle.std.proofs.lemmas.Option.{none-some}
 use Rattle.broker_types.specs.Text.{Text}

@@ -1,4 +1,4 @@
--- The first broker is sound.
+-- A law of the first broker: it is sound.
 use Rattle.std.specs.Prelude.{◌≡◌, ◌≢◌, ◌<◌, ◌≤◌, ◌^◌, ◌&&◌, ◌⊎◌, ℕ, [], ◌∷◌, Bool, true, false, cond, nat_lt, length}
 use Rattle.std.specs.Prelude.{drop, codes, Option, Some, None, option_map, option_and_then, is_none, IsUtf8, All, ◌==◌}
 use Rattle.std.specs.List.{list_all}

@@ -1,4 +1,4 @@
--- Identifiers are as many as words.
+-- Laws of identifiers: different words have different ones, each of 36 bytes.
 use Rattle.std.specs.Int.{byte_at, bytes_high_first, to_be_bytes, from_be_bytes, w128}
 use Rattle.std.proofs.Common.{◌≡◌, ℕ, zero, suc, ◌<◌, ◌^◌, List, [], length, get_or, Option, Some, unwrap_or, refl, sym}
 use Rattle.std.proofs.Common.{ap, ◌∙◌, inl, lit<, ◌/◌}

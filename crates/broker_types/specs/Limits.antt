@@ -1,4 +1,4 @@
--- The limits of this broker's numbers.
+-- The limits of this broker's numbers (this project's, but for the first).
 use Rattle.std.specs.Prelude.{ℕ}
 
 -- the furthest that the end of a token, a lease or a waiting response is set ahead, in seconds: 32 days (Vault's

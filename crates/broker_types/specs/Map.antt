@@ -1,4 +1,4 @@
--- Finite maps from texts.
+-- Finite maps from texts, in the order of their bytes (this project's definition, on std's finite maps).
 use Rattle.std.specs.Prelude.{List, Bool, if◌then◌else◌, Option, map}
 use Rattle.std.specs.FinMap as fin
 use Rattle.std.specs.FinMap.{FinMap}

@@ -1,4 +1,4 @@
--- What finite maps from texts have at each key.
+-- Laws of finite maps from texts: what they have at each key.
 use Rattle.std.specs.Prelude.{◌≡◌, ◌&&◌, T, List, [], ◌∷◌, Bool, true, false, cond, if◌then◌else◌, Some, None}
 use Rattle.std.specs.Prelude.{option_map}
 use Rattle.std.specs.Cmp.Lexicographic.{nat_list_cmp_total}

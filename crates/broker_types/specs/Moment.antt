@@ -1,4 +1,4 @@
--- Moments: whole seconds since 1970.
+-- Moments: whole seconds since 1970 (this project's definition).
 use Rattle.std.specs.Prelude.{ℕ}
 
 -- the greatest moment that is accepted, in the year 9892 (this project's limit)

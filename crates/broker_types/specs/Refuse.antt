@@ -1,4 +1,4 @@
--- Steps of a definition of which the first refusal is the answer, as `?` in code.
+-- Steps of a definition: the first refusal is the answer, as with `?` in code (this project's definition).
 use Rattle.std.specs.Prelude.{Bool, true, false, Option, Some, None, Result, Ok, Err, ⊤}
 use Rattle.broker_types.specs.declared.refusal.Refusal.{Refusal}
 

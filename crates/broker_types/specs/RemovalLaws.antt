@@ -1,4 +1,4 @@
--- What revocation and expiry leave: a broker that is sound where it was, and evolves.
+-- Laws of revocation and expiry: a sound broker stays sound, and evolves.
 use Rattle.std.specs.Prelude.{◌≡◌, ◌≢◌, ◌≤◌, ℕ, max, Bool, nat_lt, false, not, Option, Some, None}
 use Rattle.std.specs.Option.{option_map_or}
 use Rattle.std.proofs.Common.{refl, sym, ◌∙◌, ap, subst}

@@ -1,4 +1,4 @@
--- What a search among the entries of a map finds.
+-- Laws of searches among the entries of a map.
 use Rattle.std.specs.Prelude.{◌≡◌, List, [], ◌∷◌, Bool, true, false, cond, T, ◌&&◌, Option, Some, None, option_and_then}
 use Rattle.std.specs.Prelude.{if◌then◌else◌, All}
 use Rattle.std.specs.List.{find as first}

@@ -1,4 +1,5 @@
--- What spending a use, ending a spent caller and dropping a waiting response leave: a sound broker that evolves.
+-- Laws of spending a use, of ending a spent caller and of dropping a waiting response: a sound broker stays sound, and
+-- evolves.
 use Rattle.std.specs.Prelude.{◌≡◌, ◌≢◌, ◌==◌, if◌then◌else◌, true, false, not, Option, Some, None, option_map, ◌⊎◌, ◌<◌}
 use Rattle.std.specs.Prelude.{◌^◌, ◌-◌}
 use Rattle.std.specs.Option.{option_map_or}

@@ -1,4 +1,4 @@
--- Texts, as the lists of their bytes.
+-- Texts, as the lists of their bytes (this project's definition).
 use Rattle.std.specs.Prelude.{ℕ, List, Bool, bytes_eq}
 use Rattle.std.specs.declared.cmp.Ordering.{Ordering}
 use Rattle.std.specs.Ordering.{nat_cmp}

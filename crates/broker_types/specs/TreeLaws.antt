@@ -1,4 +1,4 @@
--- What a climb finds, and what leaves a tree of tokens a tree.
+-- Laws of lineages, revocation and expiry: what they find and leave, and that a tree of tokens stays a tree.
 use Rattle.std.specs.Prelude.{◌≡◌, ◌≢◌, ◌<◌, ◌⊎◌, ℕ, zero, suc, List, [], ◌∷◌, Bool, true, false, not, cond, ◌||◌}
 use Rattle.std.specs.Prelude.{nat_lt, if◌then◌else◌, Option, Some, None, is_none, length, option_map, option_and_then}
 use Rattle.std.specs.List.{list_any, list_all}

@@ -1,6 +1,6 @@
 -- Which faults a replay ends with.
 use Rattle.std.proofs.Common.{◌≡◌, ◌∙◌, ◌⊎◌, inl, inr, ℕ, Bool, IsTrue, refl, sym, subst}
-use Rattle.broker_types.specs.Fault.{IsWant, fault_number}
+use Rattle.broker_types.specs.Fault.{IsMemoryOrStorage, fault_number}
 use Rattle.broker_types.specs.declared.fault.Fault.{Fault}
 use Rattle.broker_types.specs.declared.fault.Fault.TheVariants.{Memory, Storage, Damaged, BadStart}
 use Rattle.brokerd.specs.Exits.{EndsBy, EndsByRead}
@@ -16,7 +16,7 @@ ends_by_read ReadFailed failed (Faulted n) (inr (inl start)) = inr (inl start)
 ends_by_read ReadFailed failed (Faulted n) (inr (inr write)) = inr (inr (inr write))
 
 -- a want that is none of storage is one of memory
-pub want_number : (fault : Fault) → IsWant fault → ¬ (fault ≡ Storage) → fault_number fault ≡ 1
+pub want_number : (fault : Fault) → IsMemoryOrStorage fault → ¬ (fault ≡ Storage) → fault_number fault ≡ 1
 want_number Memory want other = refl
 want_number Storage want other = absurd (other refl)
 want_number Damaged want other = absurd want

@@ -2,7 +2,7 @@
 use Rattle.std.specs.Prelude.{◌≡◌, ◌≤◌, ℕ, false, true, List, [], Option, Some, None, Result, Err, IfOk, IfErr, OnErr, IsOk, IsTrue, Vec}
 use Rattle.std.specs.declared.alloc.Global.{Global}
 use Rattle.broker_types.specs.Broker.{Broker}
-use Rattle.broker_types.specs.Fault.{IsWant}
+use Rattle.broker_types.specs.Fault.{IsMemoryOrStorage}
 use Rattle.broker_types.specs.declared.fault.Fault.{Fault}
 use Rattle.broker_types.specs.declared.fault.Fault.TheVariants.{Storage}
 use Rattle.broker_types.specs.declared.words.Words.{Words}
@@ -52,7 +52,7 @@ pub record IsLater (old new : Kept) : Type 0 where
 -- of a broker that stands memory or storage is wanting, and storage only where the store failed.
 pub record Keeps {A : Type 0} (old new : Kept) (r : Result A Fault) : Type 0 where
   pub kept : IsHonest new → IsTrue new.is_open → OnErr r (new.rows ≡ old.rows)
-  pub wants : IsHonest new → (b : Broker) → Holds old.rows b → IfErr r IsWant
+  pub wants : IsHonest new → (b : Broker) → Holds old.rows b → IfErr r IsMemoryOrStorage
   pub storage : r ≡ Err Storage → IsTrue new.has_failed
   pub later : IsLater old new
 

@@ -1,6 +1,6 @@
 ghost use Rattle.std.specs.Prelude.{◌≡◌, ◌⊎◌, IsTrue, [], IfOk, IfErr, MatchResult};
 ghost use Rattle.std.specs.List.{All};
-ghost use Rattle.broker_types.specs.Fault.{IsWant};
+ghost use Rattle.broker_types.specs.Fault.{IsMemoryOrStorage};
 ghost use Rattle.broker.specs.Kept.{IsHonest};
 ghost use Rattle.hub.specs.Listed.{IsListedReply};
 ghost use Rattle.hub.specs.Serving.{IsLater};
@@ -46,7 +46,7 @@ pub fn run<S: Store>(
 
     // On a broker's rows only memory or storage is wanting, and storage only where the store failed.
     ensures wants { IsHonest (shown S.seen hub.new) → IfErr result (λ stop.
-        (w : World) → StandsFor S.seen hub.old w → IsWant stop.2) }
+        (w : World) → StandsFor S.seen hub.old w → IsMemoryOrStorage stop.2) }
     ensures storage { IfErr result (λ stop.
         stop.2 ≡ Fault.Storage → IsTrue (shown S.seen hub.new).has_failed) }
     ensures later { IsLater (shown S.seen hub.old) (shown S.seen hub.new) }

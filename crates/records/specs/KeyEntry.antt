@@ -1,7 +1,9 @@
--- What the row of a key tells: the key without its versions and its settings.
-use Rattle.std.specs.Prelude.{ℕ}
+-- What the rows of a key and of a version tell.
+use Rattle.std.specs.Prelude.{ℕ, Bool, true, false, Option, Some, None}
+use Rattle.broker_types.specs.Text.{Text}
 use Rattle.broker_types.specs.Secret.{Key}
 
+-- the key without its versions and its settings
 pub record KeyEntry : Type 0 where
   pub current : ℕ
   pub created : ℕ
@@ -9,3 +11,8 @@ pub record KeyEntry : Type 0 where
 
 abbrev pub key_entry : Key → KeyEntry
 key_entry k = record { current = k.current; created = k.created; updated = k.updated }
+
+-- the secret of a version that is destroyed or not
+abbrev pub secret_in : Bool → Text → Option Text
+secret_in true t = None
+secret_in false t = Some t

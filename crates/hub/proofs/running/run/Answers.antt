@@ -4,7 +4,7 @@ use Rattle.std.proofs.lemmas.List.{map_push}
 use Rattle.std.proofs.lemmas.Result.{IfErr-at_err}
 use Rattle.std.proofs.lemmas.List.Elements.{All-nil, All-push}
 use Rattle.std.specs.List.{All}
-use Rattle.broker_types.specs.Fault.{IsWant}
+use Rattle.broker_types.specs.Fault.{IsMemoryOrStorage}
 use Rattle.std.specs.declared.alloc.Global.{Global}
 use Rattle.hub.specs.Listed.{IsListedReply}
 use Rattle.hub.specs.Standing.{shown}
@@ -37,7 +37,7 @@ pub returns-in-Err-feed-clause-wants : goal.returns-in-Err-feed-clause-wants
 returns-in-Err-feed-clause-wants g c = λ honest w stands.
     let before = honest_before (shown g.S.Store.seen c.loop-i.hub) (shown g.S.Store.seen c.feed.new.self) c.feed.ensures.keeps.later.doubts honest in
     let a = c.loop-i.invariant.answers before w stands in
-    IfErr-at_err IsWant c.in-Err-feed.is (c.feed.ensures.keeps.wants honest a.after.broker a.stands.store)
+    IfErr-at_err IsMemoryOrStorage c.in-Err-feed.is (c.feed.ensures.keeps.wants honest a.after.broker a.stands.store)
 
 pub loop-i-init : goal.loop-i-init
 loop-i-init g c = record {

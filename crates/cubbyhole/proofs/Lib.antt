@@ -1,0 +1,6 @@
+pub mod Edits
+pub mod Filed
+pub mod ObjectKeys
+pub mod ObjectRows
+pub mod ObjectsListed
+pub mod ObjectsTold

@@ -1,0 +1,52 @@
+-- The paths of a cubbyhole, and the keys of its rows.
+use Rattle.std.specs.Prelude.{◌≡◌, ◌||◌, List, [], ◌∷◌, ◌++◌, length, is_some, Bool, Option, Some, None, option_map, option_and_then}
+use Rattle.std.specs.List.{list_any}
+use Rattle.std.specs.Option.{option_map_or}
+use Rattle.std.specs.Ordering.{eq_by_cmp}
+use Rattle.std.specs.FinMap.{contains_key-keys}
+use Rattle.std.specs.Cmp.Lexicographic.{nat_list_cmp_total}
+use Rattle.std.proofs.Common.{refl, sym, ◌∙◌, ap, append_assoc}
+use Rattle.broker_types.specs.Text.{Text, text_cmp, same}
+use Rattle.broker_types.specs.TextLaws.{same-text_cmp}
+use Rattle.broker_types.specs.Map.{get, keys}
+use Rattle.broker_types.specs.Token.{Token}
+use Rattle.broker_types.specs.Broker.{Broker}
+use Rattle.records.specs.declared.kind.Kind.TheVariants as kind
+use Rattle.records.specs.declared.row.Row.{Row}
+use Rattle.records.specs.Children.{has, AreNames}
+use Rattle.records.specs.Parts.{of_cubbyholes, Tells}
+use Rattle.records.specs.RowForms.{cubby_row}
+use Rattle.records.specs.Rows.{token_len}
+use Rattle.records.specs.Splits.{slash}
+use Rattle.records.specs.Table.{table_of}
+use Rattle.records.specs.Transaction.{Rows}
+use Rattle.cubbyhole.specs.Cubbyhole.{object_at, paths}
+use Rattle.cubbyhole.specs.Objects.{object_key}
+use Rattle.cubbyhole.proofs.ObjectRows.{row_at}
+
+by_order : (q : Text) (ts : List Text) → has ts q ≡ list_any (eq_by_cmp text_cmp q) ts
+by_order q [] = refl
+by_order q (t ∷ ts) = λ i. same-text_cmp q t i || by_order q ts i
+
+-- a path is among those of the cubbyhole where there is an object
+has-paths : (b : Broker) (t path : Text) → is_some (object_at b t path) ≡ has (paths b t) path
+has-paths b t path = inner (get b.tokens t)
+  where
+    inner : (o : Option Token) → is_some (option_and_then (λ (x : Token). get x.cubbyhole path) o) ≡ has (option_map_or (λ (x : Token). keys x.cubbyhole) o []) path
+    inner None = refl
+    inner (Some x) = contains_key-keys x.cubbyhole path ∙ sym (by_order path (keys x.cubbyhole))
+
+-- a key of t's cubbyhole ends in the path
+pub key_joined : (t path : Text) → object_key t path ≡ object_key t [] ++ path
+key_joined t path = sym (append_assoc t (slash ∷ []) path)
+
+-- the rows of t's cubbyhole are named by its paths
+pub paths_name : (rows : Rows) (b : Broker) (t : Text) → Tells of_cubbyholes (table_of rows) b → length t ≡ token_len
+    → AreNames rows kind.Cubby (object_key t []) (paths b t)
+paths_name rows b t told len path =
+    ap (λ q. is_some (table_of rows kind.Cubby q)) (sym (key_joined t path))
+    ∙ ap is_some (told kind.Cubby (object_key t path) refl ∙ row_at b t path len) ∙ some-map (object_at b t path) ∙ has-paths b t path
+  where
+    some-map : (o : Option Text) → is_some (option_map (cubby_row t) o) ≡ is_some o
+    some-map None = refl
+    some-map (Some object) = refl

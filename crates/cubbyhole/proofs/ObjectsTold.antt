@@ -1,0 +1,54 @@
+-- Objects that rows tell.
+use Rattle.std.specs.Prelude.{◌≡◌, length, drop, Option, Some, None, option_map, option_and_then}
+use Rattle.std.proofs.Common.{refl, sym, ◌∙◌, ap, inl, inr}
+use Rattle.std.proofs.lemmas.Option.{none-some, same_Some}
+use Rattle.broker_types.specs.Text.{Text}
+use Rattle.broker_types.specs.Map.{get}
+use Rattle.broker_types.specs.Token.{Token}
+use Rattle.broker_types.specs.OptionLaws.{found_or_not}
+use Rattle.broker_types.specs.Broker.{Broker}
+use Rattle.broker_types.specs.Sound.{Forms, SoundTokens, IsShortText}
+use Rattle.records.specs.declared.kind.Kind.TheVariants as kind
+use Rattle.records.specs.declared.row.Row.{Row}
+use Rattle.records.specs.Parts.{of_cubbyholes, Tells}
+use Rattle.records.specs.RowForms.{cubby_row}
+use Rattle.records.specs.Rows.{token_len}
+use Rattle.records.specs.Spelling.{count}
+use Rattle.records.specs.Table.{Table}
+use Rattle.cubbyhole.specs.Cubbyhole.{object_at}
+use Rattle.cubbyhole.specs.Objects.{object_key, IsObjectAt}
+use Rattle.cubbyhole.proofs.ObjectRows.{row_at}
+
+-- the object after its length, and equal rows have equal objects
+after_length : (t x : Text) → drop 5 (cubby_row t x).body ≡ x
+unfolding count
+after_length t x = refl
+
+same_object : (t x y : Text) → cubby_row t x ≡ cubby_row t y → x ≡ y
+same_object t x y e = sym (after_length t x) ∙ ap (λ (r : Row). drop 5 r.body) e ∙ after_length t y
+
+-- what the broker has at the path is what the row there keeps
+pub object_told : (rows : Table) (b : Broker) (t path : Text) (object : Option Text) → Tells of_cubbyholes rows b → length t ≡ token_len
+    → IsObjectAt rows t path object → object ≡ object_at b t path
+object_told rows b t path object told len is = same_option object (object_at b t path) (sym is ∙ told kind.Cubby (object_key t path) refl ∙ row_at b t path len)
+  where
+    same_option : (o p : Option Text) → option_map (cubby_row t) o ≡ option_map (cubby_row t) p → o ≡ p
+    same_option None None e = refl
+    same_option None (Some y) e = absurd (none-some _ e)
+    same_option (Some x) None e = absurd (none-some _ (sym e))
+    same_option (Some x) (Some y) e = ap Some (same_object t x y (same_Some _ _ e))
+
+-- and where the broker is sound, a row that is there can be read
+pub object_kept : (forms : Forms) (rows : Table) (b : Broker) (t path : Text) (row : Row) → SoundTokens forms b.tokens → Tells of_cubbyholes rows b
+    → length t ≡ token_len → rows kind.Cubby (object_key t path) ≡ Some row → (object : Text) × IsShortText object × (row ≡ cubby_row t object)
+object_kept forms rows b t path row sound told len is = by_object (object_at b t path) refl (sym is ∙ told kind.Cubby (object_key t path) refl ∙ row_at b t path len)
+  where
+    short : (object : Text) → object_at b t path ≡ Some object → IsShortText object
+    short object e = elim (found_or_not (get b.tokens t)) [
+      | inl none ↦ absurd (none-some _ (sym (ap (option_and_then (λ (x : Token). get x.cubbyhole path)) none) ∙ e))
+      | inr x ↦ ((sound.each t x.0 x.1).cubbyhole path object (sym (ap (option_and_then (λ (x : Token). get x.cubbyhole path)) x.1) ∙ e)).1.short
+    ]
+
+    by_object : (o : Option Text) → object_at b t path ≡ o → Some row ≡ option_map (cubby_row t) o → (object : Text) × IsShortText object × (row ≡ cubby_row t object)
+    by_object None at e = absurd (none-some _ (sym e))
+    by_object (Some object) at e = (object, short object at, same_Some _ _ e)

@@ -1,0 +1,36 @@
+use Rattle.std.proofs.Common.{◌∙◌, ap, None}
+use Rattle.broker_types.specs.Text.{same}
+use Rattle.broker_types.specs.Map.{without}
+use Rattle.records.specs.declared.kind.Kind.TheVariants as kind
+use Rattle.records.specs.Table.{table_of, without_row}
+use Rattle.std.proofs.lemmas.Result.{on_ok_weaker}
+use Rattle.records.specs.TableLaws.{table_of-remove}
+use Rattle.cubbyhole.specs.Objects.{table, object_key}
+use Rattle.cubbyhole.proofs.Edits.{others_kept, tells_edited}
+use Rattle.cubbyhole.proofs.ObjectKeys.{key_under}
+use Rattle.cubbyhole.proofs.ObjectRows.{cubby-delete}
+use Rattle.cubbyhole.proofs.writing.delete.Goals as goal
+
+pub returns-clause-rows : goal.returns-clause-rows
+returns-clause-rows g c honest =
+    let old = g.T.RecordsTx.seen c.args.tx.now in
+    on_ok_weaker c.remove.result (λ removed.
+    ap table_of removed ∙ table_of-remove old.rows kind.Cubby c.as_str.result.now
+    ∙ ap (without_row (table old) kind.Cubby) (c.as_str.ensures.value ∙ c.in_ok-key.ensures)) (c.remove.ensures.rows honest)
+
+pub returns-clause-others : goal.returns-clause-others
+returns-clause-others g c honest =
+    let seen = g.T.RecordsTx.seen in
+    let t = c.args.token.now in
+    let path = c.args.path.now in
+    on_ok_weaker c.remove.result (λ rows.
+    others_kept t (λ q. same q (object_key t path)) None (table (seen c.args.tx.now)) (table (seen c.remove.new.self)) rows (key_under t path)) (returns-clause-rows g c honest)
+
+pub returns-clause-told : goal.returns-clause-told
+returns-clause-told g c honest part b told len =
+    let seen = g.T.RecordsTx.seen in
+    let t = c.args.token.now in
+    let path = c.args.path.now in
+    on_ok_weaker c.remove.result (λ rows.
+    tells_edited b t (λ m. without m path) (λ q. same q (object_key t path)) None (table (seen c.args.tx.now)) (table (seen c.remove.new.self)) rows
+    (cubby-delete b t len path) part told) (returns-clause-rows g c honest)

@@ -1,0 +1,3 @@
+pub mod Cubbyhole
+pub mod CubbyholeLaws
+pub mod Objects

@@ -1,0 +1,56 @@
+-- Cubbyholes as rows: each object has one, at its token, a slash and its path (this project's row format).
+use Rattle.std.specs.Prelude.{◌≡◌, ◌++◌, List, [], ◌∷◌, true, false, length, Option, Some, option_map, ⊤}
+use Rattle.broker_types.specs.Text.{Text}
+use Rattle.broker_types.specs.Sound.{IsShortText}
+use Rattle.broker_types.specs.declared.fault.Fault.{Fault}
+use Rattle.broker_types.specs.declared.fault.Fault.TheVariants.{Memory, Storage, Damaged, BadStart}
+use Rattle.records.specs.declared.kind.Kind.{Kind}
+use Rattle.records.specs.declared.kind.Kind.TheVariants as kind
+use Rattle.records.specs.declared.row.Row.{Row}
+use Rattle.records.specs.Children.{folder, children, keys_under}
+use Rattle.records.specs.Reading.{IsSomeIn}
+use Rattle.records.specs.RowForms.{cubby_row}
+use Rattle.records.specs.Rows.{token_len}
+use Rattle.records.specs.Splits.{slash}
+use Rattle.records.specs.Table.{Table, table_of, is_under}
+use Rattle.records.specs.Transaction.{Seen, Rows}
+
+-- the rows that a transaction shows, as a table
+abbrev pub table : Seen → Table
+table s = table_of s.rows
+
+abbrev pub object_key : Text → Text → Text
+object_key t path = t ++ slash ∷ path
+
+-- the row at the path of t's cubbyhole is that of the object, or there is none
+abbrev pub IsObjectAt : Table → Text → Text → Option Text → Type 0
+IsObjectAt rows t path object = rows kind.Cubby (object_key t path) ≡ option_map (cubby_row t) object
+
+-- the row at the path of t's cubbyhole is no row of an object
+abbrev pub IsDamagedAt : Table → Text → Text → Type 0
+IsDamagedAt rows t path = (object : Option Text) → IsSomeIn IsShortText object → IsObjectAt rows t path object → ⊥
+
+-- memory ran out, the storage failed, or the row is damaged and the fact holds
+abbrev pub IsReadFault : Type 0 → Fault → Type 0
+IsReadFault P Memory = ⊤
+IsReadFault P Storage = ⊤
+IsReadFault P Damaged = P
+IsReadFault P BadStart = ⊥
+
+-- the children of a folder among the keys of t's cubbyhole
+abbrev pub children_in : Rows → Text → Text → List Text
+children_in rows t path =
+    children (object_key t (folder path)) (keys_under rows kind.Cubby (object_key t (folder path)))
+
+-- no row has changed but those of t's cubbyhole
+abbrev pub KeepsOtherOwners : Text → Table → Table → Type 0
+KeepsOtherOwners t old new = (k : Kind) (q : Text) → is_under kind.Cubby (object_key t []) k q ≡ false → new k q ≡ old k q
+
+-- a row of a cubbyhole has its token as its owner, and stands at the token, a slash and a path
+pub record IsFiled (q : Text) (row : Row) : Type 0 where
+  pub path : Text
+  pub owner : length row.owner ≡ token_len
+  pub key : q ≡ object_key row.owner path
+
+abbrev pub AreFiled : Table → Type 0
+AreFiled rows = (q : Text) (row : Row) → rows kind.Cubby q ≡ Some row → IsFiled q row

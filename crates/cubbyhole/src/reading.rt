@@ -1,0 +1,69 @@
+//! Cubbyholes, read.
+
+ghost use Rattle.std.specs.Prelude.{◌≡◌, length, IfOk, IfErr, OnOk};
+ghost use Rattle.broker_types.specs.Broker.{Broker};
+ghost use Rattle.broker_types.specs.Fault.{IsMemoryOrStorage};
+ghost use Rattle.broker_types.specs.Sound.{Forms, SoundTokens, IsShortText};
+ghost use Rattle.records.specs.Parts.{of_cubbyholes, Tells};
+ghost use Rattle.records.specs.Reading.{Reads, shown};
+ghost use Rattle.records.specs.RowForms.{cubby_row};
+ghost use Rattle.records.specs.Rows.{token_len};
+ghost use Rattle.records.specs.Transaction.{IsHonest, GoesOn, IsCall, is_storage};
+ghost use Rattle.cubbyhole.specs.Cubbyhole as cubbyhole;
+ghost use Rattle.cubbyhole.specs.Objects.{table, children_in, IsObjectAt, IsDamagedAt, IsReadFault};
+
+use crate::keys::{folder_key, object_key};
+use broker_types::{Fault, TextBuf};
+use records::{Kind, RecordsTx, Row, children_of, read_cubby};
+use std::alloc::Global;
+
+/// The compact text of the object that a row of the token's cubbyhole keeps. It fails as `Damaged` where
+/// the row is none of the token's cubbyhole.
+fn object_of<'r>(kept: &'r Row, token: &str) -> Result<&'r str, Fault>
+    ensures { Reads IsShortText (cubby_row token.now) kept.now (shown result (λ s. s.now)) }
+{
+    let owner = kept.owner.as_str();
+    if owner != token {
+        return Err(Fault::Damaged);
+    }
+    read_cubby(kept)
+}
+
+/// The compact text of the object at a path of a token's cubbyhole, if there is one. It fails as
+/// `Damaged` where the row at the path is none of the token's cubbyhole, when out of memory, or where the
+/// storage fails (Vault's documentation, "Cubbyhole secrets engine", read secret).
+pub fn read<T: RecordsTx>(alloc: Global, tx: &mut T, token: &str, path: &str) -> Result<Option<TextBuf>, Fault>
+    ensures found { IsHonest (T.seen tx.new) → IfOk result (IsObjectAt (table (T.seen tx.old)) token.now path.now) }
+    ensures told { IsHonest (T.seen tx.new) → (b : Broker) → Tells of_cubbyholes (table (T.seen tx.old)) b
+        → length token.now ≡ token_len → IfOk result (λ object. object ≡ cubbyhole.object_at b token.now path.now) }
+    ensures same { IsHonest (T.seen tx.new) → OnOk result ((T.seen tx.new).rows ≡ (T.seen tx.old).rows) }
+    ensures faults { IfErr result
+        (IsReadFault (IsHonest (T.seen tx.new) → IsDamagedAt (table (T.seen tx.old)) token.now path.now)) }
+    ensures undamaged { IsHonest (T.seen tx.new) → (forms : Forms) (b : Broker) → SoundTokens forms b.tokens
+        → Tells of_cubbyholes (table (T.seen tx.old)) b → length token.now ≡ token_len → IfErr result IsMemoryOrStorage }
+    ensures goes_on { GoesOn (T.seen tx.old) (T.seen tx.new) (is_storage result) }
+{
+    let key = object_key(alloc, token, path)?;
+    let Some(kept) = tx.get(Kind::Cubby, key.as_str())? else {
+        return Ok(None);
+    };
+    let object = object_of(&kept, token)?;
+    Ok(Some(TextBuf::copied(alloc, object)?))
+}
+
+/// The immediate children of a folder of a token's cubbyhole, in the order of their bytes, each once: names,
+/// and folders with a slash at their ends. The empty path is for the whole cubbyhole. There are none where
+/// nothing is in the folder. It fails only when out of memory, or where the storage fails (Vault's documentation,
+/// "Cubbyhole secrets engine", list secrets).
+pub fn list<T: RecordsTx>(alloc: Global, tx: &mut T, token: &str, path: &str) -> Result<Vec<TextBuf>, Fault>
+    ensures found { IsHonest (T.seen tx.new)
+        → IfOk result (λ names. names.items ≡ children_in (T.seen tx.old).rows token.now path.now) }
+    ensures told { IsHonest (T.seen tx.new) → (b : Broker) → Tells of_cubbyholes (table (T.seen tx.old)) b
+        → length token.now ≡ token_len → IfOk result (λ names. names.items ≡ cubbyhole.list b token.now path.now) }
+    ensures same { IsHonest (T.seen tx.new) → OnOk result ((T.seen tx.new).rows ≡ (T.seen tx.old).rows) }
+    ensures call { IsCall (T.seen tx.old) (T.seen tx.new) result }
+{
+    let key = folder_key(alloc, token, path)?;
+    let listed = tx.under(Kind::Cubby, key.as_str())?;
+    Ok(children_of(alloc, &listed, key.as_str())?)
+}

@@ -1,0 +1,89 @@
+use crate::{delete, drop_owner, list, read, write};
+use broker_types::{Bytes, Fault, TextBuf};
+use records::{Kind, ListRecords, ListTx, RecordsTx, Row};
+use std::test::Fail;
+
+const ROOT: &str = "hvs.00000000-0000-0000-0000-000000000001";
+
+const CHILD: &str = "hvs.00000000-0000-0000-0000-000000000015";
+
+/// A transaction in which the token has an object at each path, which says where it is.
+fn kept(rt: &HostRuntime, token: &str, paths: &[&str]) -> Result<ListTx, Fail> {
+    let alloc = rt.alloc();
+    let mut tx = ListRecords::new(alloc).begin()?;
+    for path in paths {
+        let object = format!(in alloc; "{{\"at\":\"{path}\"}}")?;
+        write(alloc, &mut tx, token, path, object.as_str())?;
+    }
+    Ok(tx)
+}
+
+/// Whether the children of a folder are these.
+fn lists(rt: &HostRuntime, tx: &mut ListTx, token: &str, path: &str, expected: &[&str]) -> Result<bool, Fail> {
+    let names = list(rt.alloc(), tx, token, path)?;
+    Ok(names.len() == expected.len() && names.iter().zip(expected).all(|(name, wanted)| name.as_str() == *wanted))
+}
+
+#[test]
+fn a_folder_lists_its_children(rt: HostRuntime) -> Result<(), Fail> {
+    let mut tx = kept(&rt, ROOT, &["a", "b/c"])?;
+    assert!(rt; lists(&rt, &mut tx, ROOT, "", &["a", "b/"])?);
+    Ok(())
+}
+
+#[test]
+fn a_path_and_a_folder_may_have_one_name(rt: HostRuntime) -> Result<(), Fail> {
+    let mut tx = kept(&rt, ROOT, &["a", "a/b", "a/b/c", "z"])?;
+    assert!(rt; lists(&rt, &mut tx, ROOT, "", &["a", "a/", "z"])?);
+    assert!(rt; lists(&rt, &mut tx, ROOT, "a", &["b", "b/"])?);
+    assert!(rt; lists(&rt, &mut tx, ROOT, "z", &[])?);
+    assert!(rt; lists(&rt, &mut tx, CHILD, "", &[])?);
+    Ok(())
+}
+
+/// Whether a path of the token's cubbyhole has this object.
+fn reads(rt: &HostRuntime, tx: &mut ListTx, token: &str, path: &str, expected: &str) -> Result<bool, Fail> {
+    let object = read(rt.alloc(), tx, token, path)?;
+    Ok(object.is_some_and(|object| object.as_str() == expected))
+}
+
+#[test]
+fn a_path_is_deleted_alone(rt: HostRuntime) -> Result<(), Fail> {
+    let alloc = rt.alloc();
+    let mut tx = kept(&rt, ROOT, &["a", "a/b", "z"])?;
+    delete(alloc, &mut tx, ROOT, "a")?;
+    delete(alloc, &mut tx, ROOT, "a")?;
+    write(alloc, &mut tx, ROOT, "z", "{\"new\":[1]}")?;
+    assert!(rt; read(alloc, &mut tx, ROOT, "a")?.is_none());
+    assert!(rt; reads(&rt, &mut tx, ROOT, "a/b", "{\"at\":\"a/b\"}")?);
+    assert!(rt; reads(&rt, &mut tx, ROOT, "z", "{\"new\":[1]}")?);
+    Ok(())
+}
+
+#[test]
+fn a_cubbyhole_goes_without_others(rt: HostRuntime) -> Result<(), Fail> {
+    let alloc = rt.alloc();
+    let mut tx = kept(&rt, CHILD, &["a", "a/b"])?;
+    write(alloc, &mut tx, ROOT, "a", "{\"x\":1}")?;
+    drop_owner(alloc, &mut tx, CHILD)?;
+    assert!(rt; read(alloc, &mut tx, CHILD, "a")?.is_none());
+    assert!(rt; read(alloc, &mut tx, CHILD, "a/b")?.is_none());
+    assert!(rt; reads(&rt, &mut tx, ROOT, "a", "{\"x\":1}")?);
+    Ok(())
+}
+
+#[test]
+fn a_damaged_row_is_told_where_it_is_read(rt: HostRuntime) -> Result<(), Fail> {
+    let alloc = rt.alloc();
+    let mut tx = kept(&rt, ROOT, &["b"])?;
+    let row = Row {
+        owner: TextBuf::copied(alloc, ROOT)?,
+        due: None,
+        body: Bytes::new(vec![in alloc; 9u8]?),
+    };
+    let key = "hvs.00000000-0000-0000-0000-000000000001/a";
+    tx.put(Kind::Cubby, key, row)?;
+    assert!(rt; matches!(read(alloc, &mut tx, ROOT, "a"), Err(Fault::Damaged)));
+    assert!(rt; reads(&rt, &mut tx, ROOT, "b", "{\"at\":\"b\"}")?);
+    Ok(())
+}

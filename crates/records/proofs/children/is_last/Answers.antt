@@ -1,0 +1,9 @@
+use Rattle.std.proofs.Common.{ap, sym, ◌∙◌}
+use Rattle.broker_types.specs.Text.{same}
+use Rattle.records.specs.Children.{is_text}
+use Rattle.records.proofs.children.is_last.Goals as goal
+
+pub returns-in-Some : goal.returns-in-Some
+unfolding same
+returns-in-Some c =
+    c.eq.ensures ∙ ap (λ x. same x c.args.text.now) c.as_str.ensures ∙ ap (is_text c.args.text.now) c.in-Some.ensures.value

@@ -1,0 +1,43 @@
+-- Values in options and results, where std has no law.
+use Rattle.std.specs.Prelude.{◌≡◌, Bool, true, false, if◌then◌else◌, Option, Some, None, Result, Ok, Err, option_map, option_and_then}
+use Rattle.std.proofs.Common.{refl, sym, ap}
+use Rattle.std.proofs.lemmas.Option.{none-some, same_Some}
+
+-- an option that has no value
+pub none_of : {X : Type 0} (o : Option X) → ((x : X) → o ≡ Some x → ⊥) → o ≡ None
+none_of None h = refl
+none_of (Some x) h = absurd (h x refl)
+
+pub ok_inj : {X E : Type 0} {x y : X} → ◌≡◌ {A = Result X E} (Ok x) (Ok y) → x ≡ y
+ok_inj {X = X} {E = E} {x = x} e = ap or_x e
+  where
+    or_x : Result X E → X
+    or_x (Ok y) = y
+    or_x (Err z) = x
+
+-- there is no value where there is no image of it
+pub no_value : {X Y : Type 0} (f : X → Y) (o : Option X) → option_map f o ≡ None → o ≡ None
+no_value f None e = refl
+no_value f (Some x) e = absurd (none-some _ (sym e))
+
+-- an image is that of a value
+pub a_value : {X Y : Type 0} (f : X → Y) (o : Option X) (y : Y)
+    → option_map f o ≡ Some y → (x : X) × (o ≡ Some x) × (y ≡ f x)
+a_value f None y e = absurd (none-some _ e)
+a_value f (Some x) y e = (x, refl, sym (same_Some _ _ e))
+
+-- a function of a value that a change of the value does not show
+pub mapped : {X A : Type 0} (g : X → A) (f : X → X) → ((x : X) → g (f x) ≡ g x) → (o : Option X)
+    → option_map g (option_map f o) ≡ option_map g o
+mapped g f h None = refl
+mapped g f h (Some x) = ap Some (h x)
+
+pub then_mapped : {X A : Type 0} (g : X → Option A) (f : X → X) → ((x : X) → g (f x) ≡ g x) → (o : Option X)
+    → option_and_then g (option_map f o) ≡ option_and_then g o
+then_mapped g f h None = refl
+then_mapped g f h (Some x) = h x
+
+pub unseen : {X A : Type 0} (g : X → A) (f : X → X) → ((x : X) → g (f x) ≡ g x) → (b : Bool) (x : X)
+    → g (if b then f x else x) ≡ g x
+unseen g f h true x = h x
+unseen g f h false x = refl

@@ -1,0 +1,26 @@
+-- Laws of the keys of versions, as statements.
+use Rattle.std.specs.Prelude.{◌≡◌, ◌<◌, ◌≤◌, ◌^◌, ◌∷◌, ◌++◌, ℕ, Some}
+use Rattle.std.specs.Ordering.{nat_cmp}
+use Rattle.broker_types.specs.Text.{Text, text_cmp}
+use Rattle.broker_types.specs.Limits.{greatest_version}
+use Rattle.broker_types.specs.Sound.{IsSecretName}
+use Rattle.records.specs.Rows.{padded, version_of_digits}
+use Rattle.records.specs.Splits.{line_feed, split_once}
+
+-- twenty digits tell the version that they are of
+abbrev pub DigitsTellTheVersion : Type 0
+DigitsTellTheVersion = (n : ℕ) → n ≤ greatest_version → version_of_digits (padded n) ≡ Some n
+
+-- and no other text does
+abbrev pub OnlyDigitsTellAVersion : Type 0
+OnlyDigitsTellAVersion =
+    (digits : Text) (n : ℕ) → version_of_digits digits ≡ Some n → (n ≤ greatest_version) × (digits ≡ padded n)
+
+-- the digits of versions are in the order of the versions
+abbrev pub DigitsAreInOrder : Type 0
+DigitsAreInOrder = (m n : ℕ) → m < 2 ^ 64 → n < 2 ^ 64 → text_cmp (padded m) (padded n) ≡ nat_cmp m n
+
+-- the name of a secret has no line feed, so a version's key is split after it
+abbrev pub NamesAreSplitOff : Type 0
+NamesAreSplitOff =
+    (q digits : Text) → IsSecretName q → split_once line_feed (q ++ line_feed ∷ digits) ≡ Some (q, digits)

@@ -1,0 +1,23 @@
+//! Rows taken out together.
+
+ghost use Rattle.std.specs.Prelude.{◌≡◌, OnOk};
+ghost use Rattle.records.specs.Table.{table_of, without_under};
+ghost use Rattle.records.specs.Transaction.{IsHonest, IsCall};
+
+use crate::kind::Kind;
+use crate::tx::RecordsTx;
+use broker_types::Fault;
+
+/// Takes out the rows of a kind whose keys begin with the prefix. It fails only when out of memory, or
+/// where the storage fails.
+pub fn remove_under<T: RecordsTx>(tx: &mut T, kind: Kind, prefix: &str) -> Result<(), Fault>
+    ensures rows { IsHonest (T.seen tx.new) → OnOk result
+        (table_of (T.seen tx.new).rows ≡ without_under (table_of (T.seen tx.old).rows) kind prefix.now) }
+    ensures call { IsCall (T.seen tx.old) (T.seen tx.new) result }
+{
+    let list = tx.under(kind, prefix)?;
+    for entry in &list {
+        tx.remove(entry.kind, entry.key.as_str())?;
+    }
+    Ok(())
+}

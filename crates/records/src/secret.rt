@@ -1,0 +1,84 @@
+//! Rows of versioned secrets and of their versions.
+
+ghost use Rattle.std.specs.Prelude.{◌≡◌, ◌<◌, ◌^◌, [], length, option_map, unwrap_or, IfOk};
+ghost use Rattle.records.specs.KeyEntry.{secret_in};
+ghost use Rattle.records.specs.RowForms.{key_entry_row, version_row};
+ghost use Rattle.records.specs.Reading.{Reads};
+ghost use Rattle.records.specs.Ranges.{IsKeyInRange, IsVersionInRange};
+
+use crate::field::UpTo;
+use crate::key_record::KeyRecord;
+use crate::row::Row;
+use crate::row_fields::{read_lone, write_row};
+use crate::text_field::ShortText;
+use crate::version_record::VersionRecord;
+use broker_types::Fault;
+use std::alloc::{AllocError, Global};
+
+type At = UpTo<250_000_000_000>;
+
+/// Current version, created, updated.
+type KeyForm = ((UpTo<999_999_999_999_999_999>, At), At);
+
+/// Created, deleted, whether it is destroyed, secret.
+type VersionForm<'r> = (((At, Option<At>), bool), ShortText<'r>);
+
+/// The key that a row keeps, without its versions. It fails as `Damaged` where the row is none of a key.
+pub fn read_key(kept: &Row) -> Result<KeyRecord, Fault>
+    ensures { Reads IsKeyInRange key_entry_row kept.now result }
+{
+    let ((current, created), updated) = read_lone::<(), KeyForm>((), kept)?;
+    Ok(KeyRecord {
+        current,
+        created,
+        updated,
+    })
+}
+
+/// The row of a key. It fails only where memory runs out.
+pub fn write_key(alloc: Global, key: &KeyRecord) -> Result<Row, AllocError>
+    ensures { IfOk result (λ kept. kept ≡ key_entry_row key.now) }
+{
+    let fields = ((key.current, key.created), key.updated);
+    write_row::<KeyForm>(alloc, "", None, &fields)
+}
+
+/// The secret of a version, which has none if it is destroyed.
+fn secret_of<'r>(is_destroyed: bool, object: &'r str) -> Option<&'r str>
+    ensures { option_map (λ s. s.now) result ≡ secret_in is_destroyed object.now }
+{
+    if is_destroyed { None } else { Some(object) }
+}
+
+/// The version that a row keeps. It fails as `Damaged` where the row is none of a version.
+pub fn read_version(kept: &Row) -> Result<VersionRecord<'_>, Fault>
+    ensures { Reads IsVersionInRange version_row kept.now result }
+{
+    let (((created, deleted), is_destroyed), object) =
+        read_lone::<(), VersionForm<'_>>((), kept)?;
+    if is_destroyed && !object.text.is_empty() {
+        return Err(Fault::Damaged);
+    }
+    let secret = secret_of(is_destroyed, object.text);
+    Ok(VersionRecord {
+        created,
+        deleted,
+        secret,
+    })
+}
+
+/// The row of a version. It fails only where memory runs out.
+pub fn write_version(alloc: Global, version: &VersionRecord<'_>) -> Result<Row, AllocError>
+    requires { length (unwrap_or version.now.secret []) < 2 ^ 32 }
+    ensures { IfOk result (λ kept. kept ≡ version_row version.now) }
+{
+    let object = ShortText {
+        text: version.secret.unwrap_or(""),
+    };
+    let is_destroyed = version.secret.is_none();
+    let fields = (
+        ((version.created, version.deleted), is_destroyed),
+        object,
+    );
+    write_row::<VersionForm<'_>>(alloc, "", None, &fields)
+}
