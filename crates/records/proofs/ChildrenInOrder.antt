@@ -1,5 +1,5 @@
 -- The children of keys in order are the set of them.
-use Rattle.std.specs.Prelude.{◌≡◌, ◌-◌, ◌⊎◌, ◌&&◌, ◌==◌, ℕ, List, [], ◌∷◌, ◌++◌, map, filter, drop, length, slice_get, nat_eq, Bool, true, false, cond, if◌then◌else◌, Some, T, ⊤}
+use Rattle.std.specs.Prelude.{◌≡◌, ◌-◌, ◌⊎◌, ◌==◌, List, [], ◌∷◌, ◌++◌, map, filter, drop, length, slice_get, nat_eq, Bool, true, false, cond, if◌then◌else◌, Some, T, ⊤}
 use Rattle.std.specs.declared.cmp.Ordering.{Ordering}
 use Rattle.std.specs.declared.cmp.Ordering.TheVariants.{Less, Equal, Greater}
 use Rattle.std.specs.List.{starts_with}
@@ -9,14 +9,14 @@ use Rattle.std.specs.Cmp.Lexicographic.{nat_list_cmp_total}
 use Rattle.std.specs.FinMap as fin
 use Rattle.std.specs.FinMap.{is_sorted, put}
 use Rattle.std.specs.FinMap.Entries.{below_all, by_order}
-use Rattle.std.proofs.Common.{refl, sym, ◌∙◌, ap, subst, append_assoc, arith, inl, inr, eqb→eq, length-append}
+use Rattle.std.proofs.Common.{refl, sym, ◌∙◌, ap, append_assoc, arith, inl, inr, length-append}
 use Rattle.std.proofs.Math.Seq.{get_or-append_seam}
-use Rattle.std.proofs.lemmas.Bool.{and_parts, false≢true, eqb-true}
+use Rattle.std.proofs.lemmas.Bool.{and_parts, false≢true}
 use Rattle.std.proofs.lemmas.List.{nil_from_length}
 use Rattle.std.proofs.lemmas.Option.{slice_get-get_or}
 use Rattle.broker_types.specs.Text.{Text, text_cmp, same}
 use Rattle.broker_types.specs.TextLaws.{same-text_cmp, same_self}
-use Rattle.records.specs.Children.{child, below, children, children_in_order, member, set_of, is_text, push_once, push_each}
+use Rattle.records.specs.Children.{child, below, children, children_in_order, member, set_of, is_text, push_each}
 use Rattle.records.specs.Splits.{slash}
 use Rattle.records.proofs.ChildLemmas.{begun}
 
@@ -134,7 +134,7 @@ module _ {X : Type 0} (prefix : Text) where
       let lows = and_parts _ _ low in
       let sorts = and_parts _ _ sorted in
       elim (starts_with nat_eq e.0 prefix) as (λ v. starts_with nat_eq e.0 prefix ≡ v
-          → Rises (child (drop (length prefix) last)) (map child (map (drop (length prefix)) (cond v (e.0 ∷ filter (λ q. starts_with nat_eq q prefix) (names_of es)) (filter (λ q. starts_with nat_eq q prefix) (names_of es)))))) [
+      → Rises (child (drop (length prefix) last)) (map child (map (drop (length prefix)) (cond v (e.0 ∷ filter (λ q. starts_with nat_eq q prefix) (names_of es)) (filter (λ q. starts_with nat_eq q prefix) (names_of es)))))) [
         | true ↦ λ is.
             (child_order (drop (length prefix) last) (drop (length prefix) e.0) (dropped_order prefix last e.0 begins is (less_true _ lows.0)), rises_below e.0 es is sorts.0 sorts.1)
         | false ↦ λ _. rises_below last es begins lows.1 sorts.1
@@ -145,8 +145,8 @@ module _ {X : Type 0} (prefix : Text) where
   children_ordered (e ∷ es) sorted =
       let sorts = and_parts _ _ sorted in
       elim (starts_with nat_eq e.0 prefix) as (λ v. starts_with nat_eq e.0 prefix ≡ v
-          → push_each [] (map child (map (drop (length prefix)) (cond v (e.0 ∷ filter (λ q. starts_with nat_eq q prefix) (names_of es)) (filter (λ q. starts_with nat_eq q prefix) (names_of es)))))
-          ≡ fin.keys (set_of (map child (map (drop (length prefix)) (cond v (e.0 ∷ filter (λ q. starts_with nat_eq q prefix) (names_of es)) (filter (λ q. starts_with nat_eq q prefix) (names_of es))))))) [
+      → push_each [] (map child (map (drop (length prefix)) (cond v (e.0 ∷ filter (λ q. starts_with nat_eq q prefix) (names_of es)) (filter (λ q. starts_with nat_eq q prefix) (names_of es)))))
+      ≡ fin.keys (set_of (map child (map (drop (length prefix)) (cond v (e.0 ∷ filter (λ q. starts_with nat_eq q prefix) (names_of es)) (filter (λ q. starts_with nat_eq q prefix) (names_of es))))))) [
         | true ↦ λ is. once_set (child (drop (length prefix) e.0)) (map child (below prefix (names_of es))) (rises_below e.0 es is sorts.0 sorts.1)
         | false ↦ λ _. children_ordered es sorts.1
       ] refl
