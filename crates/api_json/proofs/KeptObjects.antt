@@ -13,7 +13,7 @@ use Rattle.broker_types.specs.Limits.{longest_body}
 use Rattle.broker_types.specs.TextLaws.{same_self}
 use Rattle.broker_types.specs.Refuse.{some_or}
 use Rattle.api_json.specs.Json.{tree, members_in, without_floats, read_body, body_members, no_object}
-use Rattle.api_json.specs.Kinds.{object_text}
+use Rattle.api_json.specs.Kinds.{as_object_text}
 use Rattle.api_json.specs.Members.{payload}
 use Rattle.api_json.specs.Kept.{is_object, IsKept}
 use Rattle.api_json.specs.Laws.{BodiesReadBack, BodiesAreKept, PayloadsAreKept}
@@ -35,10 +35,10 @@ given_members body ms e = by (read_body body) e
     by (Some ns) f = cc
 
 -- an object that can be printed and read again
-record Stays (ms : Members) : Type 0 where
-  canonical : IsCanonical (object ms)
-  shallow : depth (object ms) ≤ max_depth
-  whole : members_have_float ms ≡ false
+pub record Stays (ms : Members) : Type 0 where
+  pub canonical : IsCanonical (object ms)
+  pub shallow : depth (object ms) ≤ max_depth
+  pub whole : members_have_float ms ≡ false
 
 none_stays : Stays no_members
 none_stays = record { canonical = (tt, tt); shallow = lit≤ tt; whole = refl }
@@ -51,7 +51,7 @@ in_value (string t) ms e c s w = cc
 in_value (array ds) ms e c s w = cc
 in_value (object ns) ms e c s w = subst Stays (same_Some _ _ e) (record { canonical = c; shallow = s; whole = w })
 
-body_stays : (body : List ℕ) (ms : Members) → read_body body ≡ Some ms → Stays ms
+pub body_stays : (body : List ℕ) (ms : Members) → read_body body ≡ Some ms → Stays ms
 body_stays [] ms e = subst Stays (same_Some _ _ e) none_stays
 body_stays (x ∷ xs) ms e =
     let d = via_then (tree (x ∷ xs)) members_in ms e in
@@ -78,7 +78,7 @@ bodies_kept body ms fits e = record { object = passes ms (body_stays body ms e);
 
 -- a member that is an object
 member_kept : (body : List ℕ) (ms : Members) (k : List ℕ) (d : Data) (t : Text) → length body ≤ longest_body → read_body body ≡ Some ms
-    → get_member k ms ≡ Some d → object_text d ≡ Some t → IsKept t
+    → get_member k ms ≡ Some d → as_object_text d ≡ Some t → IsKept t
 member_kept body ms k null t fits e g o = cc
 member_kept body ms k (boolean b) t fits e g o = cc
 member_kept body ms k (number n) t fits e g o = cc
@@ -100,5 +100,5 @@ member_kept body ms k (object ns) t fits e g o =
 pub payloads_kept : PayloadsAreKept
 unfolding payload
 payloads_kept body ms t fits e p =
-    let d = via_then (get_member (codes "data") ms) object_text t p in
+    let d = via_then (get_member (codes "data") ms) as_object_text t p in
     member_kept body ms (codes "data") d.0 t fits e d.1 d.2

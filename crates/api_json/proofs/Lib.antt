@@ -13,3 +13,4 @@ pub mod LengthsPrinted
 pub mod Lengths
 pub mod Nested
 pub mod KeptObjects
+pub mod KeptMeta

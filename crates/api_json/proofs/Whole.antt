@@ -22,7 +22,8 @@ member_whole k (member l x ms) d e f = by (slice_cmp nat_cmp k l) e (λ h. membe
     parts : (has_float x ≡ false) × (members_have_float ms ≡ false)
     parts = or_parts (has_float x) (members_have_float ms) f
 
-    by : (o : Ordering) → match_ordering o (get_member k ms) (Some x) (get_member k ms) ≡ Some d → (get_member k ms ≡ Some d → has_float d ≡ false) → has_float d ≡ false
+    by : (o : Ordering) → match_ordering o (get_member k ms) (Some x) (get_member k ms) ≡ Some d → (get_member k ms ≡ Some d → has_float d ≡ false)
+        → has_float d ≡ false
     by Less h later = later h
     by Equal h later = let same : x ≡ d = cc in let whole = parts.0 in cc
     by Greater h later = later h

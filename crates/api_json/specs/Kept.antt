@@ -1,11 +1,13 @@
--- The objects that are kept, as compact texts (RFC 8259, section 4).
-use Rattle.std.specs.Prelude.{◌≡◌, ◌<◌, ◌^◌, Bool, true, false, length, option_and_then}
+-- What is kept of bodies: objects, as compact texts (RFC 8259, section 4), and the metadata of tokens.
+use Rattle.std.specs.Prelude.{◌≡◌, ◌<◌, ◌^◌, List, Bool, true, false, length, map, option_and_then, All}
 use Rattle.std.specs.Option.{option_map_or}
 use Rattle.serde_json.specs.Data.{object}
 use Rattle.serde_json.specs.Read.{read}
 use Rattle.serde_json.specs.Written.{compact_text}
+use Rattle.broker_types.specs.Sound.{is_ascending}
 use Rattle.broker_types.specs.Text.{Text, same}
 use Rattle.api_json.specs.Json.{without_floats, members_in}
+use Rattle.api_json.specs.declared.token_bodies.TokenCreation.{TokenCreation}
 
 -- the compact text of an object without floats: it is read as the object that it is printed from
 unfoldable pub is_object : Text → Bool
@@ -17,3 +19,14 @@ is_object t =
 pub record IsKept (t : Text) : Type 0 where
   pub object : is_object t ≡ true
   pub short : length t < 2 ^ 32
+
+-- names and values of metadata that can be kept: four bytes hold each length, and the names ascend by bytes, each once
+pub record IsKeptMeta (es : List (Text × Text)) : Type 0 where
+  pub few : length es < 2 ^ 32
+  pub short : All (λ e. (length e.0 < 2 ^ 32) × (length e.1 < 2 ^ 32)) es
+  pub ascend : is_ascending (map (λ e. e.0) es) ≡ true
+
+-- what a body asks of a new token can be kept
+pub record IsKeptCreation (c : TokenCreation) : Type 0 where
+  pub few_policies : length c.policies < 2 ^ 32
+  pub meta : IsKeptMeta c.meta

@@ -22,54 +22,54 @@ abbrev pub count_text : Text → Option ℕ
 count_text s = if nat_le 1 (length s) && nat_le (length s) 18 then digits_from 0 s else None
 
 -- a whole number from 0 to 2^64-1, or its digits
-abbrev pub count : Data → Option ℕ
-count null = None
-count (boolean b) = None
-count (number n) = as_u64 n
-count (string s) = count_text s
-count (array ds) = None
-count (object ms) = None
+abbrev pub as_count : Data → Option ℕ
+as_count null = None
+as_count (boolean b) = None
+as_count (number n) = as_u64 n
+as_count (string s) = count_text s
+as_count (array ds) = None
+as_count (object ms) = None
 
 abbrev pub flag_text : Text → Option Bool
 flag_text s = if same s (codes "true") then Some true else if same s (codes "false") then Some false else None
 
 -- a truth value, or its name
-abbrev pub flag : Data → Option Bool
-flag null = None
-flag (boolean b) = Some b
-flag (number n) = None
-flag (string s) = flag_text s
-flag (array ds) = None
-flag (object ms) = None
+abbrev pub as_flag : Data → Option Bool
+as_flag null = None
+as_flag (boolean b) = Some b
+as_flag (number n) = None
+as_flag (string s) = flag_text s
+as_flag (array ds) = None
+as_flag (object ms) = None
 
-abbrev pub text : Data → Option Text
-text null = None
-text (boolean b) = None
-text (number n) = None
-text (string s) = Some s
-text (array ds) = None
-text (object ms) = None
+abbrev pub as_text : Data → Option Text
+as_text null = None
+as_text (boolean b) = None
+as_text (number n) = None
+as_text (string s) = Some s
+as_text (array ds) = None
+as_text (object ms) = None
 
 -- seconds, as a number or as the text of a duration
-abbrev pub duration : Data → Option ℕ
-duration null = None
-duration (boolean b) = None
-duration (number n) = at_most (as_u64 n)
-duration (string s) = duration_of s
-duration (array ds) = None
-duration (object ms) = None
+abbrev pub as_duration : Data → Option ℕ
+as_duration null = None
+as_duration (boolean b) = None
+as_duration (number n) = at_most (as_u64 n)
+as_duration (string s) = duration_of s
+as_duration (array ds) = None
+as_duration (object ms) = None
 
 abbrev pub deletion_time_text : Text → Option DeletionTime
 deletion_time_text s = if same s (codes "0s") then Some Never else None
 
 -- when versions are deleted by time: never
-abbrev pub deletion_time : Data → Option DeletionTime
-deletion_time null = None
-deletion_time (boolean b) = None
-deletion_time (number n) = None
-deletion_time (string s) = deletion_time_text s
-deletion_time (array ds) = None
-deletion_time (object ms) = None
+abbrev pub as_deletion_time : Data → Option DeletionTime
+as_deletion_time null = None
+as_deletion_time (boolean b) = None
+as_deletion_time (number n) = None
+as_deletion_time (string s) = deletion_time_text s
+as_deletion_time (array ds) = None
+as_deletion_time (object ms) = None
 
 -- the items, if each is of the kind
 abbrev pub each_item : {X : Type 0} → (Data → Option X) → Items → Option (List X)
@@ -96,13 +96,13 @@ unfoldable pub comma_parts : Text → List Text
 comma_parts s = filter is_part (map without_spaces (slice_split (λ c. c == 44) s))
 
 -- texts, or one text with commas between them
-abbrev pub texts : Data → Option (List Text)
-texts null = None
-texts (boolean b) = None
-texts (number n) = None
-texts (string s) = Some (comma_parts s)
-texts (array ds) = each_item text ds
-texts (object ms) = None
+abbrev pub as_texts : Data → Option (List Text)
+as_texts null = None
+as_texts (boolean b) = None
+as_texts (number n) = None
+as_texts (string s) = Some (comma_parts s)
+as_texts (array ds) = each_item as_text ds
+as_texts (object ms) = None
 
 -- the counts of texts, if each is one
 abbrev pub each_count : List Text → Option (List ℕ)
@@ -110,41 +110,41 @@ each_count [] = Some []
 each_count (s ∷ ss) = option_and_then (λ n. option_map (λ ns. n ∷ ns) (each_count ss)) (count_text s)
 
 -- whole numbers, or one text with commas between them
-abbrev pub counts : Data → Option (List ℕ)
-counts null = None
-counts (boolean b) = None
-counts (number n) = None
-counts (string s) = each_count (comma_parts s)
-counts (array ds) = each_item count ds
-counts (object ms) = None
+abbrev pub as_counts : Data → Option (List ℕ)
+as_counts null = None
+as_counts (boolean b) = None
+as_counts (number n) = None
+as_counts (string s) = each_count (comma_parts s)
+as_counts (array ds) = each_item as_count ds
+as_counts (object ms) = None
 
 -- names and values, by name, if each value is a text
 abbrev pub each_text : Members → Option (List (Text × Text))
 each_text no_members = Some []
-each_text (member k d ms) = option_and_then (λ t. option_map (λ es. (k, t) ∷ es) (each_text ms)) (text d)
+each_text (member k d ms) = option_and_then (λ t. option_map (λ es. (k, t) ∷ es) (each_text ms)) (as_text d)
 
-abbrev pub pairs : Data → Option (List (Text × Text))
-pairs null = None
-pairs (boolean b) = None
-pairs (number n) = None
-pairs (string s) = None
-pairs (array ds) = None
-pairs (object ms) = each_text ms
+abbrev pub as_pairs : Data → Option (List (Text × Text))
+as_pairs null = None
+as_pairs (boolean b) = None
+as_pairs (number n) = None
+as_pairs (string s) = None
+as_pairs (array ds) = None
+as_pairs (object ms) = each_text ms
 
 -- the members of an object
-abbrev pub members : Data → Option Members
-members null = None
-members (boolean b) = None
-members (number n) = None
-members (string s) = None
-members (array ds) = None
-members (object ms) = Some ms
+abbrev pub as_members : Data → Option Members
+as_members null = None
+as_members (boolean b) = None
+as_members (number n) = None
+as_members (string s) = None
+as_members (array ds) = None
+as_members (object ms) = Some ms
 
 -- an object, kept as its compact text
-abbrev pub object_text : Data → Option Text
-object_text null = None
-object_text (boolean b) = None
-object_text (number n) = None
-object_text (string s) = None
-object_text (array ds) = None
-object_text (object ms) = Some (compact_text (object ms))
+abbrev pub as_object_text : Data → Option Text
+as_object_text null = None
+as_object_text (boolean b) = None
+as_object_text (number n) = None
+as_object_text (string s) = None
+as_object_text (array ds) = None
+as_object_text (object ms) = Some (compact_text (object ms))

@@ -40,7 +40,9 @@ PrintsJson = (es : List (Text × Data)) → object_of (map printed es) ≡ compa
 
 -- what a body is read as is read again from its compact text
 abbrev pub BodiesReadBack : Type 0
-BodiesReadBack = (body : List ℕ) (ms : Members) → read_body body ≡ Some ms → read (compact_text (object ms)) ≡ Some (object ms)
+BodiesReadBack =
+    (body : List ℕ) (ms : Members) → read_body body ≡ Some ms
+    → read (compact_text (object ms)) ≡ Some (object ms)
 
 abbrev pub BodiesAreKept : Type 0
 BodiesAreKept =

@@ -9,7 +9,7 @@ use Rattle.broker_types.specs.declared.refusal.Refusal.TheVariants as refusal
 use Rattle.broker_types.specs.declared.refusal.Reason.TheVariants as reason
 use Rattle.broker_types.specs.declared.refusal.Field.{Field}
 use Rattle.broker_types.specs.Text.{Text}
-use Rattle.api_json.specs.Kinds.{object_text}
+use Rattle.api_json.specs.Kinds.{as_object_text}
 
 -- `invalid field: NAME`
 abbrev pub invalid : Field → Refusal
@@ -55,4 +55,4 @@ within read (Some ms) = read ms
 
 -- the object that is written as a secret, as its compact text
 unfoldable pub payload : Members → Option Text
-payload ms = option_and_then object_text (get_member (codes "data") ms)
+payload ms = option_and_then as_object_text (get_member (codes "data") ms)

@@ -33,20 +33,20 @@ is_service o = is_empty o || same (unwrap_or o []) (codes "service")
 -- the members of a new token
 unfoldable pub token_creation : Members → Result TokenCreation Refusal
 token_creation ms = do
-  policies ← optional kind.texts field.Policies ms
-  meta ← optional kind.pairs field.Meta ms
-  ttl ← optional kind.duration field.Ttl ms
-  explicit_max_ttl ← optional kind.duration field.ExplicitMaxTtl ms
-  num_uses ← optional kind.count field.NumUses ms
-  no_parent ← optional kind.flag field.NoParent ms
-  no_default_policy ← optional kind.flag field.NoDefaultPolicy ms
-  period ← optional kind.duration field.Period ms
+  policies ← optional kind.as_texts field.Policies ms
+  meta ← optional kind.as_pairs field.Meta ms
+  ttl ← optional kind.as_duration field.Ttl ms
+  explicit_max_ttl ← optional kind.as_duration field.ExplicitMaxTtl ms
+  num_uses ← optional kind.as_count field.NumUses ms
+  no_parent ← optional kind.as_flag field.NoParent ms
+  no_default_policy ← optional kind.as_flag field.NoDefaultPolicy ms
+  period ← optional kind.as_duration field.Period ms
   _ ← unless (is_no_period period) (invalid field.Period)
-  renewable ← optional kind.flag field.Renewable ms
+  renewable ← optional kind.as_flag field.Renewable ms
   _ ← unless (is_renewable renewable) (invalid field.Renewable)
-  id ← optional kind.text field.Id ms
+  id ← optional kind.as_text field.Id ms
   _ ← unless (is_empty id) (invalid field.Id)
-  type_name ← optional kind.text field.TypeName ms
+  type_name ← optional kind.as_text field.TypeName ms
   _ ← unless (is_service type_name) (invalid field.TypeName)
   Ok (record {
     policies = unwrap_or policies [];
@@ -59,15 +59,15 @@ token_creation ms = do
   })
 
 unfoldable pub token : Members → Result Text Refusal
-token ms = required kind.text field.Token ms
+token ms = required kind.as_text field.Token ms
 
 unfoldable pub accessor : Members → Result Text Refusal
-accessor ms = required kind.text field.Accessor ms
+accessor ms = required kind.as_text field.Accessor ms
 
 -- 0, or absent, for as long as the token was made for
 unfoldable pub increment : Members → Result ℕ Refusal
 increment ms = do
-  increment ← optional kind.duration field.Increment ms
+  increment ← optional kind.as_duration field.Increment ms
   Ok (unwrap_or increment 0)
 
 unfoldable pub token_renewal : Members → Result TokenRenewal Refusal
@@ -81,8 +81,8 @@ token_renewal ms = do
 unfoldable pub secret_write : Members → Result SecretWrite Refusal
 secret_write ms = do
   object ← some_or (refusal.BadRequest reason.NoData) (payload ms)
-  options ← optional kind.members field.Options ms
-  cas ← within (optional kind.count field.Cas) options
+  options ← optional kind.as_members field.Options ms
+  cas ← within (optional kind.as_count field.Cas) options
   Ok (record { object = object; cas = cas })
 
 -- an empty list is as a missing one
@@ -92,18 +92,18 @@ one_or_more (n ∷ ns) = Ok (n ∷ ns)
 
 unfoldable pub versions : Members → Result (List ℕ) Refusal
 versions ms = do
-  versions ← required kind.counts field.Versions ms
+  versions ← required kind.as_counts field.Versions ms
   one_or_more versions
 
 -- what is absent stays as it is
 unfoldable pub mount_settings : Members → Result MountSettings Refusal
 mount_settings ms = do
-  cas_required ← optional kind.flag field.CasRequired ms
-  max_versions ← optional kind.count field.MaxVersions ms
-  _ ← optional kind.deletion_time field.DeleteVersionAfter ms
+  cas_required ← optional kind.as_flag field.CasRequired ms
+  max_versions ← optional kind.as_count field.MaxVersions ms
+  _ ← optional kind.as_deletion_time field.DeleteVersionAfter ms
   Ok (record { cas_required = cas_required; max_versions = max_versions })
 
 -- ---- policies (Vault's documentation, "/sys/policies")
 
 unfoldable pub policy_text : Members → Result Text Refusal
-policy_text ms = required kind.text field.Policy ms
+policy_text ms = required kind.as_text field.Policy ms

@@ -6,15 +6,15 @@ use Rattle.broker_types.specs.declared.request_error.RequestError.{RequestError}
 use Rattle.broker_types.specs.declared.request_error.RequestError.TheVariants.{Refused, Fault as Given}
 
 -- the definition's refusal; running out of memory is the only fault
-abbrev pub ReadsErr : {Y : Type 0} → Result Y Refusal → RequestError → Type 0
-ReadsErr d (Refused r) = d ≡ Err r
-ReadsErr d (Given f) = f ≡ Memory
+abbrev pub IsReadErr : {Y : Type 0} → Result Y Refusal → RequestError → Type 0
+IsReadErr d (Refused r) = d ≡ Err r
+IsReadErr d (Given f) = f ≡ Memory
 
 -- the definition's value, as contracts see it
-abbrev pub ReadsAs : {X Y : Type 0} → (X → Y) → Result Y Refusal → Result X RequestError → Type 0
-ReadsAs see d (Ok x) = d ≡ Ok (see x)
-ReadsAs see d (Err e) = ReadsErr d e
+abbrev pub IsReadAs : {X Y : Type 0} → (X → Y) → Result Y Refusal → Result X RequestError → Type 0
+IsReadAs see d (Ok x) = d ≡ Ok (see x)
+IsReadAs see d (Err e) = IsReadErr d e
 
-abbrev pub Reads : {X : Type 0} → Result X Refusal → Result X RequestError → Type 0
-Reads d (Ok x) = d ≡ Ok x
-Reads d (Err e) = ReadsErr d e
+abbrev pub IsRead : {X : Type 0} → Result X Refusal → Result X RequestError → Type 0
+IsRead d (Ok x) = d ≡ Ok x
+IsRead d (Err e) = IsReadErr d e

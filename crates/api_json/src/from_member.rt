@@ -21,7 +21,7 @@ pub(crate) trait FromMember: Drop {
 
 /// A whole number from 0 to 2^64-1, or 1 to 18 digits.
 impl FromMember for u64 {
-    ghost kind = { kind.count };
+    ghost kind = { kind.as_count };
 
     fn from_member(_: Global, member: &Value) -> Result<Option<u64>, AllocError> {
         match member {
@@ -51,7 +51,7 @@ pub(crate) fn count_text(text: &str) -> Option<u64>
 
 /// A truth value, or its name.
 impl FromMember for bool {
-    ghost kind = { kind.flag };
+    ghost kind = { kind.as_flag };
 
     fn from_member(_: Global, member: &Value) -> Result<Option<bool>, AllocError> {
         match member {
@@ -77,7 +77,7 @@ fn flag_text(name: &str) -> Option<bool>
 
 /// A text.
 impl FromMember for TextBuf {
-    ghost kind = { kind.text };
+    ghost kind = { kind.as_text };
 
     fn from_member(alloc: Global, member: &Value) -> Result<Option<TextBuf>, AllocError> {
         match member {
@@ -90,7 +90,7 @@ impl FromMember for TextBuf {
 
 /// A number of seconds, or the text of a duration.
 impl FromMember for Seconds {
-    ghost kind = { kind.duration };
+    ghost kind = { kind.as_duration };
 
     fn from_member(_: Global, member: &Value) -> Result<Option<Seconds>, AllocError> {
         match member {
@@ -118,7 +118,7 @@ pub(crate) enum DeletionTime {
 }
 
 impl FromMember for DeletionTime {
-    ghost kind = { kind.deletion_time };
+    ghost kind = { kind.as_deletion_time };
 
     fn from_member(_: Global, member: &Value) -> Result<Option<DeletionTime>, AllocError> {
         match member {

@@ -12,7 +12,7 @@ use std::alloc::{AllocError, Global};
 
 /// Texts, or one text with commas between them.
 impl FromMember for Texts {
-    ghost kind = { kind.texts };
+    ghost kind = { kind.as_texts };
 
     fn from_member(alloc: Global, member: &Value) -> Result<Option<Texts>, AllocError> {
         match member {
@@ -25,7 +25,7 @@ impl FromMember for Texts {
 
 /// Whole numbers, or one text with commas between them.
 impl FromMember for Counts {
-    ghost kind = { kind.counts };
+    ghost kind = { kind.as_counts };
 
     fn from_member(alloc: Global, member: &Value) -> Result<Option<Counts>, AllocError> {
         match member {
@@ -41,7 +41,7 @@ impl FromMember for Counts {
 
 /// Names and values, each value a text.
 impl FromMember for Pairs {
-    ghost kind = { kind.pairs };
+    ghost kind = { kind.as_pairs };
 
     fn from_member(alloc: Global, member: &Value) -> Result<Option<Pairs>, AllocError> {
         match member {
@@ -91,7 +91,7 @@ fn before_spaces(mut text: &str) -> &str
 }
 
 fn item_texts(alloc: Global, items: &Vec<Value>) -> Result<Option<Texts>, AllocError>
-    ensures { IfOk result (λ t. t ≡ each_item kind.text (items_view items.now.items)) }
+    ensures { IfOk result (λ t. t ≡ each_item kind.as_text (items_view items.now.items)) }
 {
     let mut list = Vec::new(alloc);
     for item in items {
@@ -104,7 +104,7 @@ fn item_texts(alloc: Global, items: &Vec<Value>) -> Result<Option<Texts>, AllocE
 }
 
 fn item_counts(alloc: Global, items: &Vec<Value>) -> Result<Option<Counts>, AllocError>
-    ensures { IfOk result (λ t. t ≡ each_item kind.count (items_view items.now.items)) }
+    ensures { IfOk result (λ t. t ≡ each_item kind.as_count (items_view items.now.items)) }
 {
     let mut list = Vec::new(alloc);
     for item in items {

@@ -9,7 +9,7 @@ ghost use Rattle.broker_types.specs.declared.request_error.RequestError.TheVaria
 ghost use Rattle.api_json.specs.Kinds as kind;
 ghost use Rattle.api_json.specs.Members as spec;
 ghost use Rattle.api_json.specs.Members.{given, optional, required, within, payload, invalid, missing};
-ghost use Rattle.api_json.specs.Reads.{Reads, ReadsAs};
+ghost use Rattle.api_json.specs.Reads.{IsRead, IsReadAs};
 
 use crate::from_member::FromMember;
 use broker_types::{Field, Reason, Refusal, RequestError, TextBuf};
@@ -23,7 +23,7 @@ pub(crate) fn optional<X: FromMember>(
     members: &Map<String, Value>,
     field: Field,
 ) -> Result<Option<X>, RequestError>
-    ensures { Reads (optional X.kind field (members_view members.now.entries)) result }
+    ensures { IsRead (optional X.kind field (members_view members.now.entries)) result }
 {
     match given(members, field) {
         None => Ok(None),
@@ -40,7 +40,7 @@ pub(crate) fn required<X: FromMember>(
     members: &Map<String, Value>,
     field: Field,
 ) -> Result<X, RequestError>
-    ensures { Reads (required X.kind field (members_view members.now.entries)) result }
+    ensures { IsRead (required X.kind field (members_view members.now.entries)) result }
 {
     match optional(alloc, members, field)? {
         Some(value) => Ok(value),
@@ -54,8 +54,8 @@ pub(crate) fn object<'m>(
     members: &'m Map<String, Value>,
     field: Field,
 ) -> Result<Option<&'m Map<String, Value>>, RequestError>
-    ensures { ReadsAs (option_map (λ m. members_view m.now.entries))
-        (optional kind.members field (members_view members.now.entries)) result }
+    ensures { IsReadAs (option_map (λ m. members_view m.now.entries))
+        (optional kind.as_members field (members_view members.now.entries)) result }
 {
     match given(members, field) {
         None => Ok(None),
@@ -70,7 +70,8 @@ pub(crate) fn within<X: FromMember>(
     object: Option<&Map<String, Value>>,
     field: Field,
 ) -> Result<Option<X>, RequestError>
-    ensures { Reads (within (optional X.kind field) (option_map (λ m. members_view m.now.entries) object.entry)) result }
+    ensures { IsRead (within (optional X.kind field)
+        (option_map (λ m. members_view m.now.entries) object.entry)) result }
 {
     match object {
         None => Ok(None),
@@ -80,7 +81,7 @@ pub(crate) fn within<X: FromMember>(
 
 /// Refuses a member that has a value which is not taken.
 pub(crate) fn unless(holds: bool, field: Field) -> Result<(), RequestError>
-    ensures { Reads (unless holds (invalid field)) result }
+    ensures { IsRead (unless holds (invalid field)) result }
 {
     if holds { Ok(()) } else { Err(invalid(field)) }
 }
@@ -103,7 +104,7 @@ pub(crate) fn payload(
 /// The compact text of an object.
 fn object_text(alloc: Global, value: &Value) -> Result<Option<TextBuf>, AllocError>
     requires { has_float (view value.now) ≡ false }
-    ensures { IfOk result (λ t. t ≡ kind.object_text (view value.now)) }
+    ensures { IfOk result (λ t. t ≡ kind.as_object_text (view value.now)) }
 {
     match value {
         Value::Object(_) => Ok(Some(TextBuf::new(value.to_string(alloc)?))),
@@ -115,7 +116,8 @@ fn object_text(alloc: Global, value: &Value) -> Result<Option<TextBuf>, AllocErr
 
 /// The member of this name, unless it is null.
 fn given<'m>(members: &'m Map<String, Value>, field: Field) -> Option<&'m Value>
-    ensures { option_map (λ v. view v.now) result ≡ given (get_member (field_name field) (members_view members.now.entries)) }
+    ensures { option_map (λ v. view v.now) result
+        ≡ given (get_member (field_name field) (members_view members.now.entries)) }
 {
     match member(members, field.name()) {
         None | Some(Value::Null) => None,

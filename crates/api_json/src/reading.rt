@@ -6,22 +6,23 @@ ghost use Rattle.serde_json.specs.Data.{object, no_members, depth};
 ghost use Rattle.serde_json.specs.Read.{read, max_depth};
 ghost use Rattle.serde_json.specs.View.{view, items_view, members_view};
 ghost use Rattle.serde_json.specs.Written.{compact_text, has_float, items_have_float, members_have_float};
-ghost use Rattle.api_json.specs.Json.{json_value, tree, without_floats, members_in, no_object, body_members, has_members};
+ghost use Rattle.api_json.specs.Json.{json_value, tree, without_floats, members_in, no_object, body_members};
+ghost use Rattle.api_json.specs.Json.{has_members};
 ghost use Rattle.api_json.specs.Kept.{IsKept};
 ghost use Rattle.api_json.specs.Parsed.{data_of, members_of};
-ghost use Rattle.api_json.specs.Reads.{ReadsAs};
+ghost use Rattle.api_json.specs.Reads.{IsReadAs};
 
 use crate::parsed::{Body, Tree};
 use broker_types::{Reason, Refusal, RequestError, TextBuf};
 use serde_json::{Map, Value};
 use std::alloc::{AllocError, Global};
 
-/// Reads the object that a request's body is (RFC 8259). No bytes and `null` are an empty object. It is refused with 400
-/// `failed to parse JSON input` where the bytes are not UTF-8, are no JSON object, have more than 127 levels, or have a
-/// number that is a float: one with a fraction or an exponent, `-0`, or a whole number below -2^63 or above 2^64-1. The
-/// only fault is running out of memory.
+/// Reads the object that a request's body is (RFC 8259). No bytes and `null` are an empty object. It is refused
+/// with 400 `failed to parse JSON input` where the bytes are not UTF-8, are no JSON object, have more than 127
+/// levels, or have a number that is a float: one with a fraction or an exponent, `-0`, or a whole number below
+/// -2^63 or above 2^64-1. The only fault is running out of memory.
 pub fn read_body(alloc: Global, bytes: &[u8]) -> Result<Body, RequestError>
-    ensures { ReadsAs members_of (body_members bytes.now) result }
+    ensures { IsReadAs members_of (body_members bytes.now) result }
 {
     if bytes.is_empty() {
         return Ok(no_members(alloc));
@@ -44,7 +45,7 @@ fn no_members(alloc: Global) -> Body
 
 /// The object that a value is; `null` is an empty one.
 fn object(alloc: Global, tree: Tree) -> Result<Body, RequestError>
-    ensures { ReadsAs members_of (some_or no_object (members_in (data_of tree))) result }
+    ensures { IsReadAs members_of (some_or no_object (members_in (data_of tree))) result }
 {
     let Tree { value } = tree;
     match value {
@@ -107,7 +108,8 @@ impl Tree {
     /// The compact text of the value, which is read as this value again. It fails when memory runs out, and then alone.
     pub fn to_text(&self, alloc: Global) -> Result<TextBuf, AllocError>
         ensures text { IfOk result (λ t. t ≡ compact_text (data_of self.now)) }
-        ensures reads_back { depth (data_of self.now) ≤ max_depth → IfOk result (λ t. read t ≡ Some (data_of self.now)) }
+        ensures reads_back { depth (data_of self.now) ≤ max_depth
+            → IfOk result (λ t. read t ≡ Some (data_of self.now)) }
     {
         Ok(TextBuf::new(self.value.to_string(alloc)?))
     }

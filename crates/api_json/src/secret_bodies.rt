@@ -4,7 +4,7 @@ ghost use Rattle.broker_types.specs.Limits.{longest_body};
 ghost use Rattle.api_json.specs.Json.{body_members};
 ghost use Rattle.api_json.specs.Kept.{IsKept};
 ghost use Rattle.api_json.specs.Parsed.{members_of};
-ghost use Rattle.api_json.specs.Reads.{Reads};
+ghost use Rattle.api_json.specs.Reads.{IsRead};
 ghost use Rattle.api_json.specs.Readers as reader;
 
 use crate::from_member::DeletionTime;
@@ -28,7 +28,7 @@ pub struct SecretWrite {
 /// out of memory.
 #[tactic(auto, unfolding(crate::specs::Readers::secret_write))]
 pub fn secret_write(alloc: Global, body: &Body) -> Result<SecretWrite, RequestError>
-    ensures reads { Reads (reader.secret_write (members_of body.now)) result }
+    ensures reads { IsRead (reader.secret_write (members_of body.now)) result }
     ensures kept { (bytes : List ℕ) → length bytes ≤ longest_body → body_members bytes ≡ Ok (members_of body.now)
         → IfOk result (λ w. IsKept w.object) }
 {
@@ -45,7 +45,7 @@ pub fn secret_write(alloc: Global, body: &Body) -> Result<SecretWrite, RequestEr
 /// field: versions`; of another kind: 400 `invalid field: versions`. The only fault is running out of memory.
 #[tactic(auto, unfolding(crate::specs::Readers::versions))]
 pub fn versions(alloc: Global, body: &Body) -> Result<Counts, RequestError>
-    ensures { Reads (reader.versions (members_of body.now)) result }
+    ensures { IsRead (reader.versions (members_of body.now)) result }
 {
     let versions: Counts = required(alloc, &body.members, Field::Versions)?;
     if versions.as_slice().is_empty() {
@@ -63,12 +63,12 @@ pub struct MountSettings {
     pub max_versions: Option<u64>,
 }
 
-/// Reads the settings of a mount of secrets: the members `cas_required`, `max_versions` and `delete_version_after`, which
-/// is the text `0s` or absent. The first bad one is refused with 400 `invalid field: NAME`. The only fault is running out
-/// of memory.
+/// Reads the settings of a mount of secrets: the members `cas_required`, `max_versions` and
+/// `delete_version_after`, which is the text `0s` or absent. The first bad one is refused with 400
+/// `invalid field: NAME`. The only fault is running out of memory.
 #[tactic(auto, unfolding(crate::specs::Readers::mount_settings))]
 pub fn mount_settings(alloc: Global, body: &Body) -> Result<MountSettings, RequestError>
-    ensures { Reads (reader.mount_settings (members_of body.now)) result }
+    ensures { IsRead (reader.mount_settings (members_of body.now)) result }
 {
     let members = &body.members;
     let cas_required: Option<bool> = optional(alloc, members, Field::CasRequired)?;

@@ -1,7 +1,10 @@
 //! The bodies of the routes of tokens (Vault's documentation, "Token auth method (API)").
-ghost use Rattle.std.specs.Prelude.{◌≡◌};
+ghost use Rattle.std.specs.Prelude.{◌≡◌, ◌≤◌, ℕ, List, Ok, IfOk, length};
+ghost use Rattle.broker_types.specs.Limits.{longest_body};
+ghost use Rattle.api_json.specs.Json.{body_members};
+ghost use Rattle.api_json.specs.Kept.{IsKeptCreation};
 ghost use Rattle.api_json.specs.Parsed.{members_of};
-ghost use Rattle.api_json.specs.Reads.{Reads};
+ghost use Rattle.api_json.specs.Reads.{IsRead};
 ghost use Rattle.api_json.specs.Readers as reader;
 ghost use Rattle.api_json.specs.Readers.{is_no_period, is_empty, is_service};
 
@@ -36,7 +39,9 @@ pub struct TokenCreation {
 /// only fault is running out of memory.
 #[tactic(auto, unfolding(crate::specs::Readers::token_creation))]
 pub fn token_creation(alloc: Global, body: &Body) -> Result<TokenCreation, RequestError>
-    ensures { Reads (reader.token_creation (members_of body.now)) result }
+    ensures reads { IsRead (reader.token_creation (members_of body.now)) result }
+    ensures kept { (bytes : List ℕ) → length bytes ≤ longest_body → body_members bytes ≡ Ok (members_of body.now)
+        → IfOk result IsKeptCreation }
 {
     let members = &body.members;
     let policies: Option<Texts> = optional(alloc, members, Field::Policies)?;
@@ -97,7 +102,7 @@ fn is_service(type_name: &Option<TextBuf>) -> bool
 /// kind: 400 `invalid field: token`. The only fault is running out of memory.
 #[tactic(auto, unfolding(crate::specs::Readers::token))]
 pub fn token(alloc: Global, body: &Body) -> Result<TextBuf, RequestError>
-    ensures { Reads (reader.token (members_of body.now)) result }
+    ensures { IsRead (reader.token (members_of body.now)) result }
 {
     required(alloc, &body.members, Field::Token)
 }
@@ -106,16 +111,16 @@ pub fn token(alloc: Global, body: &Body) -> Result<TextBuf, RequestError>
 /// another kind: 400 `invalid field: accessor`. The only fault is running out of memory.
 #[tactic(auto, unfolding(crate::specs::Readers::accessor))]
 pub fn accessor(alloc: Global, body: &Body) -> Result<TextBuf, RequestError>
-    ensures { Reads (reader.accessor (members_of body.now)) result }
+    ensures { IsRead (reader.accessor (members_of body.now)) result }
 {
     required(alloc, &body.members, Field::Accessor)
 }
 
-/// Reads for how long the caller's token is renewed, the member `increment`; 0, or absent, is for as long as it was made
-/// for. Of another kind: 400 `invalid field: increment`. The only fault is running out of memory.
+/// Reads for how long the caller's token is renewed, the member `increment`; 0, or absent, is for as long as it
+/// was made for. Of another kind: 400 `invalid field: increment`. The only fault is running out of memory.
 #[tactic(auto, unfolding(crate::specs::Readers::increment))]
 pub fn increment(alloc: Global, body: &Body) -> Result<Seconds, RequestError>
-    ensures { Reads (reader.increment (members_of body.now)) result }
+    ensures { IsRead (reader.increment (members_of body.now)) result }
 {
     let increment: Option<Seconds> = optional(alloc, &body.members, Field::Increment)?;
     Ok(increment.unwrap_or(Seconds::new(0)))
@@ -130,11 +135,11 @@ pub struct TokenRenewal {
     pub increment: Seconds,
 }
 
-/// Reads which token is renewed, and for how long: the members `token` and `increment`, refused in this order as `token`
-/// and `increment` refuse them. The only fault is running out of memory.
+/// Reads which token is renewed, and for how long: the members `token` and `increment`, refused in this order as
+/// `token` and `increment` refuse them. The only fault is running out of memory.
 #[tactic(auto, unfolding(crate::specs::Readers::token_renewal))]
 pub fn token_renewal(alloc: Global, body: &Body) -> Result<TokenRenewal, RequestError>
-    ensures { Reads (reader.token_renewal (members_of body.now)) result }
+    ensures { IsRead (reader.token_renewal (members_of body.now)) result }
 {
     let token = token(alloc, body)?;
     let increment = increment(alloc, body)?;

@@ -1,4 +1,5 @@
 pub mod Act
+pub mod ClockRow
 pub mod Command
 pub mod FirstRows
 pub mod Forms

@@ -35,8 +35,8 @@ pub record Evolves (b c : Broker) : Type 0 where
       → get c.waiting t ≡ Some w → (get b.waiting t ≢ None) ⊎ IsNew b (token_identifier t)
   pub waiting : (t : Text) (w : Waiting) → get c.waiting t ≡ Some w → WaitedBefore b w ⊎ IsNew b w.origin
 
--- an origin whose response was handed out: it was given out, and no response that waits has it
-pub record IsHandedOut (b : Broker) (o : Text) : Type 0 where
+-- an origin whose response was handed out or dropped: it was given out, and no response that waits has it
+pub record OriginIsGone (b : Broker) (o : Text) : Type 0 where
   pub used : IsUsed b o
   pub gone : (t : Text) (w : Waiting) → get b.waiting t ≡ Some w → w.origin ≢ o
 

@@ -9,7 +9,7 @@ use Rattle.broker_types.specs.Lineage.{lineage, is_under, ParentsExist, ChainsEn
 use Rattle.broker_types.specs.Lineage.{revoke_orphan}
 use Rattle.broker_types.specs.Broker as broker
 use Rattle.broker_types.specs.Broker.{Broker, Waiting}
-use Rattle.broker_types.specs.Evolves.{Evolves, IsHandedOut, HasEnded, IsTakenOut}
+use Rattle.broker_types.specs.Evolves.{Evolves, OriginIsGone, HasEnded, IsTakenOut}
 use Rattle.broker_types.specs.Sound.{Forms, SoundIdentifiers, SoundWaiting, Sound}
 use Rattle.broker_types.specs.Spending.{spend, end_spent, drop_waiting}
 use Rattle.broker_types.specs.First.{default_policy, first_broker}
@@ -159,9 +159,9 @@ EvolvingIsTransitive = (b c d : Broker) → Evolves b c → Evolves c d → Evol
 abbrev pub EvolvesFromItself : Type 0
 EvolvesFromItself = (b : Broker) → Evolves b b
 
--- an origin whose response was handed out stays so
-abbrev pub HandedOutStaysSo : Type 0
-HandedOutStaysSo = (b c : Broker) (origin : Text) → Evolves b c → IsHandedOut b origin → IsHandedOut c origin
+-- an origin that is gone stays so: no later response has it
+abbrev pub GoneOriginStaysGone : Type 0
+GoneOriginStaysGone = (b c : Broker) (origin : Text) → Evolves b c → OriginIsGone b origin → OriginIsGone c origin
 
 -- a token that ended is never a token again
 abbrev pub EndedStaysEnded : Type 0
@@ -212,8 +212,8 @@ abbrev pub DroppedIsTakenOut : Type 0
 DroppedIsTakenOut =
     (b : Broker) (t : Text) → SoundIdentifiers b → get b.waiting t ≢ None → IsTakenOut (drop_waiting b t) t
 
--- and the origin of the response is handed out
-abbrev pub DroppedIsHandedOut : Type 0
-DroppedIsHandedOut =
+-- and the origin of its response is gone
+abbrev pub DroppedOriginIsGone : Type 0
+DroppedOriginIsGone =
     (b : Broker) (t : Text) → SoundIdentifiers b → SoundWaiting b.waiting
-    → (w : Waiting) → get b.waiting t ≡ Some w → IsHandedOut (drop_waiting b t) w.origin
+    → (w : Waiting) → get b.waiting t ≡ Some w → OriginIsGone (drop_waiting b t) w.origin

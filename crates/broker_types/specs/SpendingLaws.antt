@@ -11,7 +11,7 @@ use Rattle.broker_types.specs.Text.{same, Text}
 use Rattle.broker_types.specs.Map.{without, get}
 use Rattle.broker_types.specs.Sound.{SoundWaiting, Forms, SoundIdentifiers, Sound, Unspent, IsSoundToken}
 use Rattle.broker_types.specs.Spending.{spend, one_less, drop_waiting, is_spent, end_spent}
-use Rattle.broker_types.specs.Evolves.{IsTakenOut, IsHandedOut, Evolves}
+use Rattle.broker_types.specs.Evolves.{IsTakenOut, OriginIsGone, Evolves}
 use Rattle.broker_types.specs.Token.{Token, Tokens}
 use Rattle.broker_types.specs.Lineage as lineage
 use Rattle.broker_types.specs.Lineage.{is_under, orphaned_by, with_live_leases}
@@ -178,10 +178,10 @@ module _ (b : Broker) (t : Text) where
     gone = get-without_self b.waiting t;
   }
 
-  -- and its origin is handed out
-  pub drop_hands_out : SoundIdentifiers b → SoundWaiting b.waiting → (w : Waiting) → get b.waiting t ≡ Some w
-      → IsHandedOut (drop_waiting b t) w.origin
-  drop_hands_out sound waiting w is = record {
+  -- and the origin of its response is gone
+  pub drop_ends_origin : SoundIdentifiers b → SoundWaiting b.waiting → (w : Waiting) → get b.waiting t ≡ Some w
+      → OriginIsGone (drop_waiting b t) w.origin
+  drop_ends_origin sound waiting w is = record {
     used = sound.origins_used t w is;
     gone = λ u v e same_origin.
         let other = without_is b.waiting t u v e in

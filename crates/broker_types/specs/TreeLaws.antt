@@ -8,15 +8,14 @@ use Rattle.std.proofs.Common.{refl, sym, ◌∙◌, ap, subst, inl, inr}
 use Rattle.std.proofs.lemmas.Bool.{ltb-true, lt-ltb, and_parts, and_from, or_right, false_from_ne_true, false≢true}
 use Rattle.std.proofs.lemmas.Option.{none-some, same_Some}
 use Rattle.broker_types.specs.Text.{Text, same}
-use Rattle.broker_types.specs.Map.{get, len, entries, map_values}
+use Rattle.broker_types.specs.Map.{get, len, entries, map_values, without, keep}
 use Rattle.broker_types.specs.Token.{Token, Tokens}
 use Rattle.broker_types.specs.Lineage.{climb, lineage, is_under, ends_within, ParentsExist, ChainsEnd, outlasts}
 use Rattle.broker_types.specs.Lineage.{is_alive, with_live_leases, alive_at, revoke, orphaned_by, revoke_orphan}
 use Rattle.broker_types.specs.Laws.{IsTree, OutlastsAbove}
 use Rattle.broker_types.specs.TextLaws.{same_self, same_true}
-use Rattle.broker_types.specs.Map.{without, keep}
-use Rattle.broker_types.specs.MapLaws.{without_is, valued_is, valued_none, get-lookup, get-keep, get-without, get-map_values}
-use Rattle.broker_types.specs.MapLaws.{same_map}
+use Rattle.broker_types.specs.MapLaws.{without_is, valued_is, valued_none, get-lookup, get-keep, get-without}
+use Rattle.broker_types.specs.MapLaws.{get-map_values, same_map}
 use Rattle.broker_types.specs.LineageLaws.{ends_above, ends_at, climb_above, climb_at, climb_none, climb_enough}
 use Rattle.broker_types.specs.LineageLaws.{in_climb, ends_in_time, revoke_other}
 use Rattle.broker_types.specs.SearchLaws.{kept_get}

@@ -13,9 +13,9 @@ ghost use Rattle.broker_types.specs.Laws.{RevokeKeepsSoundness, RevokeOrphanKeep
 ghost use Rattle.broker_types.specs.Laws.{RevokeEvolves, RevokeOrphanEvolves, ExpiryEvolves};
 ghost use Rattle.broker_types.specs.Laws.{SpendEvolves, EndSpentEvolves, DropWaitingEvolves};
 ghost use Rattle.broker_types.specs.Laws.{RevokeEnds, RevokeOrphanEnds, ExpiryEnds, EndSpentEnds};
-ghost use Rattle.broker_types.specs.Laws.{DroppedIsTakenOut, DroppedIsHandedOut};
+ghost use Rattle.broker_types.specs.Laws.{DroppedIsTakenOut, DroppedOriginIsGone};
 ghost use Rattle.broker_types.specs.Laws.{EvolvesFromItself, EvolvingIsTransitive};
-ghost use Rattle.broker_types.specs.Laws.{HandedOutStaysSo, EndedStaysEnded, TakenOutStaysOut};
+ghost use Rattle.broker_types.specs.Laws.{GoneOriginStaysGone, EndedStaysEnded, TakenOutStaysOut};
 
 /// A law: the lineage of a token is the token and the lineage of its parent; so a token is under
 /// itself, and under is transitive (Vault's documentation, "Tokens", token hierarchies).
@@ -99,19 +99,19 @@ pub fn removals_end_tokens()
     ensures spent { EndSpentEnds }
 {}
 
-/// A law: a wrapping token whose response is dropped is taken out, and the response is handed out: no
-/// wrapping token has its origin any more (Vault's documentation, "Response wrapping").
-pub fn dropping_hands_out()
+/// A law: a wrapping token whose response is dropped is taken out, and the origin of the response is gone: no
+/// response that waits has it any more (Vault's documentation, "Response wrapping").
+pub fn dropping_takes_out()
     ensures taken_out { DroppedIsTakenOut }
-    ensures handed_out { DroppedIsHandedOut }
+    ensures origin_gone { DroppedOriginIsGone }
 {}
 
-/// A law: what has ended, was handed out or was taken out in one broker is so in each that evolves
-/// from it.
+/// A law: a token that has ended, an origin that is gone and a wrapping token that was taken out stay so in
+/// each broker that evolves from this one.
 pub fn evolving_lasts()
     ensures itself { EvolvesFromItself }
     ensures transitive { EvolvingIsTransitive }
-    ensures handed_out { HandedOutStaysSo }
+    ensures origin_gone { GoneOriginStaysGone }
     ensures ended { EndedStaysEnded }
     ensures taken_out { TakenOutStaysOut }
 {}

@@ -27,7 +27,7 @@ pub use duration::read_duration;
 pub use fault::Fault;
 pub use identifier::{id_bytes, id_text, identifiers_differ};
 pub use laws::{
-    dropping_hands_out, evolving_lasts, expiry_ends_descendants, first_broker_is_sound,
+    dropping_takes_out, evolving_lasts, expiry_ends_descendants, first_broker_is_sound,
     lineages_climb, removals_end_tokens, removals_evolve, removals_keep_soundness,
     revocation_ends_descendants, revocation_orphans_children, spending_keeps_soundness,
 };

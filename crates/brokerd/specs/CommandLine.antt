@@ -6,7 +6,8 @@ use Rattle.brokerd.specs.declared.command.Command.TheVariants.{Replay}
 
 -- `brokerd`, which wants a subcommand
 abbrev pub top_app : App
-top_app = record (new_app (codes "brokerd")) { top = record (new_app (codes "brokerd")).top { subcommand_required = true } }
+top_app =
+    record (new_app (codes "brokerd")) { top = record (new_app (codes "brokerd")).top { subcommand_required = true } }
 
 -- `brokerd replay`
 unfoldable pub program_app : App

@@ -1,4 +1,2 @@
 pub mod CommandLine
 pub mod Exits
-pub mod Lines
-pub mod Replays

@@ -14,7 +14,7 @@ pub(crate) enum Command {
 
 /// The command that the words name, of which the first is the name of the program; none if they name
 /// another subcommand. An error is one of `clap`: the text for a line that is wrong, help that was
-/// asked for, or want of memory.
+/// asked for, or memory that ran out.
 pub(crate) fn command_of(alloc: Global, words: &[String]) -> Result<Option<Command>, Error>
     ensures ok { IfOk result (IsCommandOf (subcommand_of program_app
         (map string_bytes words.now))) }

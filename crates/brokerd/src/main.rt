@@ -9,15 +9,11 @@ ghost use Rattle.clap.specs.Words.{kind_of};
 ghost use Rattle.brokerd.specs.Exits.{status_after};
 
 mod command;
-mod input;
-mod lines;
-mod replay;
-mod script;
 
 use clap::error::{Error, ErrorKind};
 use command::{Command, command_of};
 use hub::{Reading, Writing};
-use replay::Exit;
+use replay::{Exit, replay};
 use std::io::{Eprint, Print};
 use std::process::ExitCode;
 use std::{env, io};
@@ -32,7 +28,7 @@ fn main(rt: HostRuntime) -> anyhow::Result<ExitCode> {
         Ok(Some(Command::Replay)) => {
             let mut reader = Reading::new(rt.reader());
             let mut writer = Writing::new(io::writer(&rt));
-            let exit = replay::replay(alloc, &mut reader, &mut writer);
+            let exit = replay(alloc, &mut reader, &mut writer);
             tell(&rt, exit)
         }
         Ok(None) => Ok(ExitCode::from(2)),
@@ -58,7 +54,7 @@ fn tell<R: Eprint>(rt: &R, exit: Exit) -> anyhow::Result<ExitCode>
     }
 }
 
-/// Says why the words of the command line cannot be had: want of memory is a fault, and a word that is
+/// Says why the words of the command line cannot be had: no memory is a fault, and a word that is
 /// not UTF-8 makes a bad command line.
 fn refuse_words<R: Eprint>(rt: &R, error: &io::Error) -> anyhow::Result<ExitCode>
     ensures memory { error_kind error.now ≡ OutOfMemory
@@ -74,7 +70,7 @@ fn refuse_words<R: Eprint>(rt: &R, error: &io::Error) -> anyhow::Result<ExitCode
 }
 
 /// Prints the text of a command line that names no command: on standard error with status 2, or, where
-/// help was asked for, on standard output with status 0. Want of memory is a fault.
+/// help was asked for, on standard output with status 0. No memory is a fault.
 fn refuse<R: Eprint + Print>(rt: &R, error: &Error) -> anyhow::Result<ExitCode>
     ensures memory { kind_of error.now ≡ ErrorKind.OutOfMemory
         → IfOk result (λ code. exit_status code ≡ 1) }

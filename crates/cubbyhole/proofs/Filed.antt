@@ -1,5 +1,5 @@
 -- The rows of one owner's cubbyhole, by their keys.
-use Rattle.std.specs.Prelude.{◌≡◌, [], length, nat_eq, ◌==◌, ◌&&◌, take, Bool, true, false, if◌then◌else◌, Option, Some, None}
+use Rattle.std.specs.Prelude.{◌≡◌, [], length, nat_eq, ◌==◌, ◌&&◌, take, Bool, true, false, if◌then◌else◌, Option, None}
 use Rattle.std.specs.List.{starts_with}
 use Rattle.std.proofs.Common.{refl, sym, ◌∙◌, ap, subst, inl, inr}
 use Rattle.broker_types.specs.Text.{Text, same}
@@ -18,11 +18,13 @@ use Rattle.cubbyhole.proofs.ObjectKeys.{key_owner}
 module _ (rows : Table) (t : Text) (filed : AreFiled rows) (len : length t ≡ token_len) where
   at_cubby : (q : Text) → (if starts_with nat_eq q (object_key t []) then None else rows kind.Cubby q) ≡ unless_owned t (rows kind.Cubby q)
   at_cubby q = elim (found_or_not (rows kind.Cubby q)) [
-    | inl none ↦ ap (λ o. if starts_with nat_eq q (object_key t []) then None else o) none ∙ nothing (starts_with nat_eq q (object_key t [])) ∙ sym (ap (unless_owned t) none)
+    | inl none ↦ ap (λ o. if starts_with nat_eq q (object_key t []) then None else o) none ∙ nothing (starts_with nat_eq q (object_key t []))
+        ∙ sym (ap (unless_owned t) none)
     | inr r ↦
         let f = filed q r.0 r.1 in
         let is : has_slash q ≡ true = ap has_slash f.key ∙ key_has_slash r.0.owner f.path f.owner in
-        let by : starts_with nat_eq q (object_key t []) ≡ same r.0.owner t = key_owner t q len is ∙ ap (λ u. same u t) (ap (take token_len) f.key ∙ key_token r.0.owner f.path f.owner) in
+        let by : starts_with nat_eq q (object_key t []) ≡ same r.0.owner t = key_owner t q len is
+        ∙ ap (λ u. same u t) (ap (take token_len) f.key ∙ key_token r.0.owner f.path f.owner) in
         (λ i. if by i then None else r.1 i) ∙ sym (ap (unless_owned t) r.1)
   ]
     where
@@ -36,6 +38,7 @@ module _ (rows : Table) (t : Text) (filed : AreFiled rows) (len : length t ≡ t
       at : (k : Kind) (q : Text) → without_under rows kind.Cubby (object_key t []) k q ≡ without_owned rows kind.Cubby t k q
       at k q = elim (kind_number k == kind_number kind.Cubby) as (λ v. (kind_number k == kind_number kind.Cubby) ≡ v
           → (if v && starts_with nat_eq q (object_key t []) then None else rows k q) ≡ (if v then unless_owned t (rows k q) else rows k q)) [
-        | true ↦ λ is. subst (λ k. (if starts_with nat_eq q (object_key t []) then None else rows k q) ≡ unless_owned t (rows k q)) (sym (is_cubby k is)) (at_cubby q)
-        | false ↦ λ _. refl
-      ] refl
+            | true ↦ λ is. subst (λ k. (if starts_with nat_eq q (object_key t []) then None else rows k q) ≡ unless_owned t (rows k q)) (sym (is_cubby k is))
+                (at_cubby q)
+            | false ↦ λ _. refl
+          ] refl

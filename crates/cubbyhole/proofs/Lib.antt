@@ -1,4 +1,5 @@
 pub mod Edits
+pub mod EndedTokens
 pub mod Filed
 pub mod ObjectKeys
 pub mod ObjectRows

@@ -2,12 +2,12 @@
 use Rattle.std.specs.Prelude.{◌≡◌, ◌+◌, ◌==◌, ◌&&◌, [], ◌∷◌, ◌++◌, length, take, drop, true, false, nat_eq, T}
 use Rattle.std.specs.List.{starts_with}
 use Rattle.std.proofs.Common.{refl, sym, ◌∙◌, ap, subst, append_assoc, get_or, eqb→eq, inl, inr}
-use Rattle.std.proofs.Math.Seq.{take-append_seam, drop-append-add, get_or-append_seam, drop-cons}
+use Rattle.std.proofs.Math.Seq.{take-append_seam, drop-cons}
 use Rattle.std.proofs.lemmas.Bool.{cases_lt, and_parts, false_from_ne_true, false≢true}
 use Rattle.std.proofs.lemmas.List.{take-append-drop, get_or_past}
 use Rattle.broker_types.specs.Text.{Text, same}
 use Rattle.broker_types.specs.TextLaws.{same_self, same_true}
-use Rattle.records.specs.CubbyKeyLaws.{key_has_slash, key_token, key_path}
+use Rattle.records.specs.CubbyKeyLaws.{key_token, key_path}
 use Rattle.records.specs.Rows.{token_len, has_slash}
 use Rattle.records.specs.Splits.{slash}
 use Rattle.cubbyhole.specs.Objects.{object_key}
@@ -27,15 +27,18 @@ key_parts q h =
 pub key_met : (t path q : Text) → length t ≡ token_len → has_slash q ≡ true
     → same q (object_key t path) ≡ (same (take token_len q) t && same (drop (token_len + 1) q) path)
 key_met t path q len is =
-    elim (same (take token_len q) t && same (drop (token_len + 1) q) path) as (λ v. (same (take token_len q) t && same (drop (token_len + 1) q) path) ≡ v → same q (object_key t path) ≡ v) [
+    elim (same (take token_len q) t && same (drop (token_len + 1) q) path) as
+    (λ v. (same (take token_len q) t && same (drop (token_len + 1) q) path) ≡ v → same q (object_key t path) ≡ v) [
       | true ↦ λ h.
           let parts = and_parts _ _ h in
-          let one : q ≡ object_key t path = key_parts q is ∙ (λ i. object_key (same_true (take token_len q) t parts.0 i) (same_true (drop (token_len + 1) q) path parts.1 i)) in
+          let one : q ≡ object_key t path = key_parts q is
+          ∙ (λ i. object_key (same_true (take token_len q) t parts.0 i) (same_true (drop (token_len + 1) q) path parts.1 i)) in
           ap (λ z. same z (object_key t path)) one ∙ same_self (object_key t path)
       | false ↦ λ apart. false_from_ne_true _ (λ h.
           let one : q ≡ object_key t path = same_true q (object_key t path) h in
           let token : same (take token_len q) t ≡ true = ap (λ z. same (take token_len z) t) one ∙ ap (λ u. same u t) (key_token t path len) ∙ same_self t in
-          let rest : same (drop (token_len + 1) q) path ≡ true = ap (λ z. same (drop (token_len + 1) z) path) one ∙ ap (λ u. same u path) (key_path t path len) ∙ same_self path in
+          let rest : same (drop (token_len + 1) q) path ≡ true = ap (λ z. same (drop (token_len + 1) z) path) one
+          ∙ ap (λ u. same u path) (key_path t path len) ∙ same_self path in
           false≢true (sym apart ∙ (λ i. token i && rest i)))
     ] refl
 
@@ -65,7 +68,8 @@ pub key_owner : (t q : Text) → length t ≡ token_len → has_slash q ≡ true
 key_owner t q len is =
     elim (same (take token_len q) t) as (λ v. same (take token_len q) t ≡ v → starts_with nat_eq q (object_key t []) ≡ v) [
       | true ↦ λ of.
-          ap (λ k. starts_with nat_eq k (object_key t [])) (key_parts q is ∙ ap (λ u. object_key u (drop (token_len + 1) q)) (same_true (take token_len q) t of))
+          ap (λ k. starts_with nat_eq k (object_key t []))
+          (key_parts q is ∙ ap (λ u. object_key u (drop (token_len + 1) q)) (same_true (take token_len q) t of))
           ∙ begins t (drop (token_len + 1) q)
       | false ↦ λ apart. false_from_ne_true _ (λ h.
           false≢true (sym apart ∙ ap (λ u. same u t) (ap (take token_len) (follows t q h) ∙ key_token t (drop (length (object_key t [])) q) len) ∙ same_self t))

@@ -1,8 +1,9 @@
 -- The rows of cubbyholes, from what each cubbyhole has at each path.
-use Rattle.std.specs.Prelude.{◌≡◌, ◌≢◌, ◌+◌, ◌==◌, ◌&&◌, [], take, drop, length, nat_eq, Bool, true, false, if◌then◌else◌, Option, Some, None, option_map, option_and_then}
+use Rattle.std.specs.Prelude.{◌≡◌, ◌≢◌, ◌+◌, ◌&&◌, [], take, drop, length, nat_eq, Bool, true, false, if◌then◌else◌, Option, Some, None, option_map}
+use Rattle.std.specs.Prelude.{option_and_then}
 use Rattle.std.specs.List.{starts_with}
 use Rattle.std.proofs.Common.{refl, sym, ◌∙◌, ap}
-use Rattle.std.proofs.lemmas.Bool.{and_parts, false_from_ne_true, false≢true}
+use Rattle.std.proofs.lemmas.Bool.{and_parts, false≢true}
 use Rattle.broker_types.specs.Text.{Text, same}
 use Rattle.broker_types.specs.Map.{get}
 use Rattle.broker_types.specs.Token.{Token}
@@ -39,7 +40,8 @@ rows_of-objects b q = ap (λ o. if has_slash q then o else None) (inner (get b.t
 pub row_at : (b : Broker) (t path : Text) → length t ≡ token_len → rows_of b kind.Cubby (object_key t path) ≡ option_map (cubby_row t) (object_at b t path)
 row_at b t path len =
     rows_of-objects b (object_key t path)
-    ∙ (λ i. if key_has_slash t path len i then option_map (cubby_row (key_token t path len i)) (object_at b (key_token t path len i) (key_path t path len i)) else None)
+    ∙ (λ i. if key_has_slash t path len i then option_map (cubby_row (key_token t path len i))
+    (object_at b (key_token t path len i) (key_path t path len i)) else None)
 
 -- objects of t replaced where they are hit, as rows replaced where their keys are met
 module _ (at next : Objects) (t : Text) (hit : Text → Text → Bool) (object : Option Text) (met : Text → Bool) where
@@ -60,7 +62,8 @@ module _ (at next : Objects) (t : Text) (hit : Text → Text → Bool) (object :
       of_key v o = if v then option_map (cubby_row (take token_len q)) (o (take token_len q) (drop (token_len + 1) q)) else None
 
       hits : (v : Bool) → hit (take token_len q) (drop (token_len + 1) q) ≡ v
-          → option_map (cubby_row (take token_len q)) (if v then object else at (take token_len q) (drop (token_len + 1) q)) ≡ (if v then option_map (cubby_row t) object else of_key true at)
+          → option_map (cubby_row (take token_len q)) (if v then object else at (take token_len q) (drop (token_len + 1) q))
+          ≡ (if v then option_map (cubby_row t) object else of_key true at)
       hits true is = ap (λ u. option_map (cubby_row u) object) (own (take token_len q) (drop (token_len + 1) q) is)
       hits false is = refl
 
@@ -81,7 +84,8 @@ module _ (b : Broker) (t : Text) (len : length t ≡ token_len) where
       → rows_of (write b t path object) kind.Cubby q ≡ (if same q (object_key t path) then Some (cubby_row t object) else rows_of b kind.Cubby q)
   cubby-write path object here q =
       rows_of-objects (write b t path object) q
-      ∙ objects_row-replaced (object_at b) (object_at (write b t path object)) t (λ u p. same u t && same p path) (Some object) (λ q. same q (object_key t path))
+      ∙ objects_row-replaced (object_at b) (object_at (write b t path object)) t (λ u p. same u t && same p path) (Some object)
+      (λ q. same q (object_key t path))
       (λ u p. object_at-write b t path object u p here) (own_path t path) (λ q is. key_met t path q len is) (λ q plain is. no_key t path q len plain is) q
       ∙ ap (λ o. if same q (object_key t path) then Some (cubby_row t object) else o) (sym (rows_of-objects b q))
 

@@ -1,18 +1,16 @@
 -- The paths of a cubbyhole, and the keys of its rows.
-use Rattle.std.specs.Prelude.{◌≡◌, ◌||◌, List, [], ◌∷◌, ◌++◌, length, is_some, Bool, Option, Some, None, option_map, option_and_then}
+use Rattle.std.specs.Prelude.{◌≡◌, ◌||◌, List, [], ◌∷◌, ◌++◌, length, is_some, Option, Some, None, option_map, option_and_then}
 use Rattle.std.specs.List.{list_any}
 use Rattle.std.specs.Option.{option_map_or}
 use Rattle.std.specs.Ordering.{eq_by_cmp}
 use Rattle.std.specs.FinMap.{contains_key-keys}
-use Rattle.std.specs.Cmp.Lexicographic.{nat_list_cmp_total}
 use Rattle.std.proofs.Common.{refl, sym, ◌∙◌, ap, append_assoc}
-use Rattle.broker_types.specs.Text.{Text, text_cmp, same}
+use Rattle.broker_types.specs.Text.{Text, text_cmp}
 use Rattle.broker_types.specs.TextLaws.{same-text_cmp}
 use Rattle.broker_types.specs.Map.{get, keys}
 use Rattle.broker_types.specs.Token.{Token}
 use Rattle.broker_types.specs.Broker.{Broker}
 use Rattle.records.specs.declared.kind.Kind.TheVariants as kind
-use Rattle.records.specs.declared.row.Row.{Row}
 use Rattle.records.specs.Children.{has, AreNames}
 use Rattle.records.specs.Parts.{of_cubbyholes, Tells}
 use Rattle.records.specs.RowForms.{cubby_row}
@@ -32,7 +30,8 @@ by_order q (t ∷ ts) = λ i. same-text_cmp q t i || by_order q ts i
 has-paths : (b : Broker) (t path : Text) → is_some (object_at b t path) ≡ has (paths b t) path
 has-paths b t path = inner (get b.tokens t)
   where
-    inner : (o : Option Token) → is_some (option_and_then (λ (x : Token). get x.cubbyhole path) o) ≡ has (option_map_or (λ (x : Token). keys x.cubbyhole) o []) path
+    inner : (o : Option Token) → is_some (option_and_then (λ (x : Token). get x.cubbyhole path) o)
+        ≡ has (option_map_or (λ (x : Token). keys x.cubbyhole) o []) path
     inner None = refl
     inner (Some x) = contains_key-keys x.cubbyhole path ∙ sym (by_order path (keys x.cubbyhole))
 

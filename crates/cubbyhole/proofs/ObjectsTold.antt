@@ -41,7 +41,8 @@ object_told rows b t path object told len is = same_option object (object_at b t
 -- and where the broker is sound, a row that is there can be read
 pub object_kept : (forms : Forms) (rows : Table) (b : Broker) (t path : Text) (row : Row) → SoundTokens forms b.tokens → Tells of_cubbyholes rows b
     → length t ≡ token_len → rows kind.Cubby (object_key t path) ≡ Some row → (object : Text) × IsShortText object × (row ≡ cubby_row t object)
-object_kept forms rows b t path row sound told len is = by_object (object_at b t path) refl (sym is ∙ told kind.Cubby (object_key t path) refl ∙ row_at b t path len)
+object_kept forms rows b t path row sound told len is = by_object (object_at b t path) refl
+    (sym is ∙ told kind.Cubby (object_key t path) refl ∙ row_at b t path len)
   where
     short : (object : Text) → object_at b t path ≡ Some object → IsShortText object
     short object e = elim (found_or_not (get b.tokens t)) [
@@ -49,6 +50,7 @@ object_kept forms rows b t path row sound told len is = by_object (object_at b t
       | inr x ↦ ((sound.each t x.0 x.1).cubbyhole path object (sym (ap (option_and_then (λ (x : Token). get x.cubbyhole path)) x.1) ∙ e)).1.short
     ]
 
-    by_object : (o : Option Text) → object_at b t path ≡ o → Some row ≡ option_map (cubby_row t) o → (object : Text) × IsShortText object × (row ≡ cubby_row t object)
+    by_object : (o : Option Text) → object_at b t path ≡ o → Some row ≡ option_map (cubby_row t) o
+        → (object : Text) × IsShortText object × (row ≡ cubby_row t object)
     by_object None at e = absurd (none-some _ (sym e))
     by_object (Some object) at e = (object, short object at, same_Some _ _ e)

@@ -1,5 +1,6 @@
 -- What each cubbyhole has after an edit, object by object.
-use Rattle.std.specs.Prelude.{◌≡◌, ◌≢◌, ◌&&◌, Bool, true, false, cond, if◌then◌else◌, Option, Some, None, option_map, option_and_then}
+use Rattle.std.specs.Prelude.{◌≡◌, ◌≢◌, ◌&&◌, Bool, true, false, cond, if◌then◌else◌, Option, Some, None, option_map}
+use Rattle.std.specs.Prelude.{option_and_then}
 use Rattle.std.specs.FinMap.{get-empty}
 use Rattle.std.proofs.Common.{refl, sym, ◌∙◌, ap}
 use Rattle.broker_types.specs.Text.{Text, text_cmp, same}
@@ -23,7 +24,8 @@ module _ (b : Broker) (t : Text) where
       ∙ inner (same u t) (get b.tokens u)
     where
       inner : (v : Bool) (o : Option Token)
-          → option_and_then (λ (x : Token). get x.cubbyhole p) (option_map (λ x. if v then with_cubbyhole edit x else x) o)
+          → option_and_then (λ (x : Token). get x.cubbyhole p)
+          (option_map (λ x. if v then with_cubbyhole edit x else x) o)
           ≡ option_and_then (λ (x : Token). get (if v then edit x.cubbyhole else x.cubbyhole) p) o
       inner true None = refl
       inner true (Some x) = refl
@@ -36,8 +38,9 @@ module _ (b : Broker) (t : Text) where
   object_at-write path object u p here =
       at_edited (λ m. put m path object) u p
       ∙ elim (same u t) as (λ v. same u t ≡ v
-          → option_and_then (λ (x : Token). get (if v then put x.cubbyhole path object else x.cubbyhole) p) (get b.tokens u)
-          ≡ (if v && same p path then Some object else object_at b u p)) [
+      → option_and_then (λ (x : Token). get (if v then put x.cubbyhole path object else x.cubbyhole) p)
+      (get b.tokens u)
+      ≡ (if v && same p path then Some object else object_at b u p)) [
         | true ↦ λ is. there (get b.tokens u) (λ none. here (ap (get b.tokens) (sym (same_true u t is)) ∙ none))
         | false ↦ λ _. refl
       ] refl

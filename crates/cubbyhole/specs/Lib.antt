@@ -1,3 +1,5 @@
 pub mod Cubbyhole
 pub mod CubbyholeLaws
+pub mod Laws
 pub mod Objects
+pub mod SoundLaws

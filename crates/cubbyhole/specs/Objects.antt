@@ -1,5 +1,5 @@
 -- Cubbyholes as rows: each object has one, at its token, a slash and its path (this project's row format).
-use Rattle.std.specs.Prelude.{◌≡◌, ◌++◌, List, [], ◌∷◌, true, false, length, Option, Some, option_map, ⊤}
+use Rattle.std.specs.Prelude.{◌≡◌, ◌++◌, List, [], ◌∷◌, false, length, Option, Some, option_map, ⊤}
 use Rattle.broker_types.specs.Text.{Text}
 use Rattle.broker_types.specs.Sound.{IsShortText}
 use Rattle.broker_types.specs.declared.fault.Fault.{Fault}
@@ -44,7 +44,8 @@ children_in rows t path =
 
 -- no row has changed but those of t's cubbyhole
 abbrev pub KeepsOtherOwners : Text → Table → Table → Type 0
-KeepsOtherOwners t old new = (k : Kind) (q : Text) → is_under kind.Cubby (object_key t []) k q ≡ false → new k q ≡ old k q
+KeepsOtherOwners t old new =
+    (k : Kind) (q : Text) → is_under kind.Cubby (object_key t []) k q ≡ false → new k q ≡ old k q
 
 -- a row of a cubbyhole has its token as its owner, and stands at the token, a slash and a path
 pub record IsFiled (q : Text) (row : Row) : Type 0 where

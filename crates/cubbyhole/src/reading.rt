@@ -32,7 +32,12 @@ fn object_of<'r>(kept: &'r Row, token: &str) -> Result<&'r str, Fault>
 /// The compact text of the object at a path of a token's cubbyhole, if there is one. It fails as
 /// `Damaged` where the row at the path is none of the token's cubbyhole, when out of memory, or where the
 /// storage fails (Vault's documentation, "Cubbyhole secrets engine", read secret).
-pub fn read<T: RecordsTx>(alloc: Global, tx: &mut T, token: &str, path: &str) -> Result<Option<TextBuf>, Fault>
+pub fn read<T: RecordsTx>(
+    alloc: Global,
+    tx: &mut T,
+    token: &str,
+    path: &str,
+) -> Result<Option<TextBuf>, Fault>
     ensures found { IsHonest (T.seen tx.new) → IfOk result (IsObjectAt (table (T.seen tx.old)) token.now path.now) }
     ensures told { IsHonest (T.seen tx.new) → (b : Broker) → Tells of_cubbyholes (table (T.seen tx.old)) b
         → length token.now ≡ token_len → IfOk result (λ object. object ≡ cubbyhole.object_at b token.now path.now) }
@@ -40,7 +45,8 @@ pub fn read<T: RecordsTx>(alloc: Global, tx: &mut T, token: &str, path: &str) ->
     ensures faults { IfErr result
         (IsReadFault (IsHonest (T.seen tx.new) → IsDamagedAt (table (T.seen tx.old)) token.now path.now)) }
     ensures undamaged { IsHonest (T.seen tx.new) → (forms : Forms) (b : Broker) → SoundTokens forms b.tokens
-        → Tells of_cubbyholes (table (T.seen tx.old)) b → length token.now ≡ token_len → IfErr result IsMemoryOrStorage }
+        → Tells of_cubbyholes (table (T.seen tx.old)) b → length token.now ≡ token_len
+        → IfErr result IsMemoryOrStorage }
     ensures goes_on { GoesOn (T.seen tx.old) (T.seen tx.new) (is_storage result) }
 {
     let key = object_key(alloc, token, path)?;
@@ -55,7 +61,12 @@ pub fn read<T: RecordsTx>(alloc: Global, tx: &mut T, token: &str, path: &str) ->
 /// and folders with a slash at their ends. The empty path is for the whole cubbyhole. There are none where
 /// nothing is in the folder. It fails only when out of memory, or where the storage fails (Vault's documentation,
 /// "Cubbyhole secrets engine", list secrets).
-pub fn list<T: RecordsTx>(alloc: Global, tx: &mut T, token: &str, path: &str) -> Result<Vec<TextBuf>, Fault>
+pub fn list<T: RecordsTx>(
+    alloc: Global,
+    tx: &mut T,
+    token: &str,
+    path: &str,
+) -> Result<Vec<TextBuf>, Fault>
     ensures found { IsHonest (T.seen tx.new)
         → IfOk result (λ names. names.items ≡ children_in (T.seen tx.old).rows token.now path.now) }
     ensures told { IsHonest (T.seen tx.new) → (b : Broker) → Tells of_cubbyholes (table (T.seen tx.old)) b

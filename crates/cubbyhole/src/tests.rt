@@ -7,21 +7,32 @@ const ROOT: &str = "hvs.00000000-0000-0000-0000-000000000001";
 
 const CHILD: &str = "hvs.00000000-0000-0000-0000-000000000015";
 
-/// A transaction in which the token has an object at each path, which says where it is.
+/// A transaction in which the token has an object at each path.
 fn kept(rt: &HostRuntime, token: &str, paths: &[&str]) -> Result<ListTx, Fail> {
     let alloc = rt.alloc();
     let mut tx = ListRecords::new(alloc).begin()?;
     for path in paths {
-        let object = format!(in alloc; "{{\"at\":\"{path}\"}}")?;
-        write(alloc, &mut tx, token, path, object.as_str())?;
+        write(alloc, &mut tx, token, path, "{\"x\":1}")?;
     }
     Ok(tx)
 }
 
 /// Whether the children of a folder are these.
-fn lists(rt: &HostRuntime, tx: &mut ListTx, token: &str, path: &str, expected: &[&str]) -> Result<bool, Fail> {
+fn lists(
+    rt: &HostRuntime,
+    tx: &mut ListTx,
+    token: &str,
+    path: &str,
+    expected: &[&str],
+) -> Result<bool, Fail> {
     let names = list(rt.alloc(), tx, token, path)?;
-    Ok(names.len() == expected.len() && names.iter().zip(expected).all(|(name, wanted)| name.as_str() == *wanted))
+    Ok(
+        names.len() == expected.len()
+            && names
+                .iter()
+                .zip(expected)
+                .all(|(name, wanted)| name.as_str() == *wanted),
+    )
 }
 
 #[test]
@@ -42,7 +53,13 @@ fn a_path_and_a_folder_may_have_one_name(rt: HostRuntime) -> Result<(), Fail> {
 }
 
 /// Whether a path of the token's cubbyhole has this object.
-fn reads(rt: &HostRuntime, tx: &mut ListTx, token: &str, path: &str, expected: &str) -> Result<bool, Fail> {
+fn reads(
+    rt: &HostRuntime,
+    tx: &mut ListTx,
+    token: &str,
+    path: &str,
+    expected: &str,
+) -> Result<bool, Fail> {
     let object = read(rt.alloc(), tx, token, path)?;
     Ok(object.is_some_and(|object| object.as_str() == expected))
 }
@@ -55,7 +72,7 @@ fn a_path_is_deleted_alone(rt: HostRuntime) -> Result<(), Fail> {
     delete(alloc, &mut tx, ROOT, "a")?;
     write(alloc, &mut tx, ROOT, "z", "{\"new\":[1]}")?;
     assert!(rt; read(alloc, &mut tx, ROOT, "a")?.is_none());
-    assert!(rt; reads(&rt, &mut tx, ROOT, "a/b", "{\"at\":\"a/b\"}")?);
+    assert!(rt; reads(&rt, &mut tx, ROOT, "a/b", "{\"x\":1}")?);
     assert!(rt; reads(&rt, &mut tx, ROOT, "z", "{\"new\":[1]}")?);
     Ok(())
 }
@@ -84,6 +101,6 @@ fn a_damaged_row_is_told_where_it_is_read(rt: HostRuntime) -> Result<(), Fail> {
     let key = "hvs.00000000-0000-0000-0000-000000000001/a";
     tx.put(Kind::Cubby, key, row)?;
     assert!(rt; matches!(read(alloc, &mut tx, ROOT, "a"), Err(Fault::Damaged)));
-    assert!(rt; reads(&rt, &mut tx, ROOT, "b", "{\"at\":\"b\"}")?);
+    assert!(rt; reads(&rt, &mut tx, ROOT, "b", "{\"x\":1}")?);
     Ok(())
 }

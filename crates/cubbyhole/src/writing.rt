@@ -21,7 +21,13 @@ use std::alloc::Global;
 /// Puts the compact text of an object at a path of a token's cubbyhole, in place of the one that is there.
 /// It fails only when out of memory, or where the storage fails (Vault's documentation, "Cubbyhole secrets
 /// engine", create or update secret).
-pub fn write<T: RecordsTx>(alloc: Global, tx: &mut T, token: &str, path: &str, object: &str) -> Result<(), Fault>
+pub fn write<T: RecordsTx>(
+    alloc: Global,
+    tx: &mut T,
+    token: &str,
+    path: &str,
+    object: &str,
+) -> Result<(), Fault>
     requires { length object.now < 2 ^ 32 }
     ensures rows { IsHonest (T.seen tx.new) → OnOk result (table (T.seen tx.new) ≡ with_row (table (T.seen tx.old))
         kind.Cubby (objects.object_key token.now path.now) (cubby_row token.now object.now)) }

@@ -1,4 +1,4 @@
-ghost use Rattle.std.specs.Prelude.{◌≡◌, ◌+◌, ◌≤◌, ◌++◌, length, IsOk, OnOk, vec_capacity, vec_len};
+ghost use Rattle.std.specs.Prelude.{◌≡◌, ◌+◌, ◌≤◌, ◌++◌, length, IsOk, OnOk, OnErr, vec_capacity, vec_len};
 ghost use Rattle.broker_types.specs.Answer.{response_of};
 ghost use Rattle.broker_types.specs.Status.{status_code};
 ghost use Rattle.http_layer.specs.Reply.{IsReply, status_line, date_line, allow_line, connection_line, body_lines};
@@ -34,12 +34,15 @@ impl<'a> Model for ReplyBytes<'a> {
 
 impl<'a> ReplyBytes<'a> {
     /// Adds the bytes at the end of the room. The only error is running out of memory, which does not
-    /// happen if the room suffices.
+    /// happen if the room suffices; the room then holds what it held before.
     pub fn append_to(&self, room: &mut Vec<u8>) -> Result<(), AllocError>
         ensures ok { OnOk result (room.new.items ≡ room.old.items ++ self.now) }
+        ensures err { OnErr result (room.new.items ≡ room.old.items) }
         ensures succeeds { vec_len room.old + length self.now ≤ vec_capacity room.old → IsOk result }
     {
-        room.extend_from_slice(self.head.as_slice())?;
+        let head = self.head.as_slice();
+        room.reserve(head.len() + self.body.len())?;
+        room.extend_from_slice(head)?;
         room.extend_from_slice(self.body)
     }
 }

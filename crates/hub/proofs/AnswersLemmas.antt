@@ -1,14 +1,14 @@
 -- A run of the hub, one event after another.
-use Rattle.std.proofs.Common.{inl, inr, arith, ◌≡◌, ◌∙◌, ℕ, ◌+◌, ◌<◌, ◌≤◌, List, [], ◌∷◌, ◌++◌, length, take, get_or, sym, ap, subst}
+use Rattle.std.proofs.Common.{arith, ◌≡◌, ◌∙◌, ℕ, ◌+◌, ◌<◌, ◌≤◌, List, [], ◌∷◌, ◌++◌, length, take, get_or, sym, ap, subst, None}
 use Rattle.std.proofs.lemmas.List.{take_more, take_all}
-use Rattle.broker.specs.Kept.{Kept, IsHonest}
-use Rattle.broker_types.specs.Broker.{Broker}
-use Rattle.broker.specs.Standing.{Holds}
-use Rattle.broker.specs.Transaction.{Rows}
+use Rattle.broker.specs.Kept.{Kept, IsHonestStoreStore}
+use Rattle.broker.specs.Representing.{Represents}
+use Rattle.records.specs.Transaction.{Rows}
 use Rattle.broker_types.specs.declared.fault.Fault.{Fault}
-use Rattle.hub.specs.World.{World, Next, Run}
-use Rattle.hub.specs.Serving.{IsLater}
-use Rattle.hub.specs.Standing.{StandsFor, AfterFault, HasConnections, shown}
+use Rattle.hub.specs.AnyRows.{FaultsAt}
+use Rattle.hub.specs.World.{Connections, World, Next, Run}
+use Rattle.hub.specs.Feeding.{IsLater}
+use Rattle.hub.specs.Representing.{HubRepresents, ConnectionsRepresent, hub_store}
 use Rattle.hub.specs.Runs.{Answers, AnswersOne, StopsAt}
 use Rattle.hub.specs.declared.hub.Hub.{Hub}
 use Rattle.hub.specs.declared.event.Event.{Event}
@@ -26,45 +26,46 @@ with_piece e piece = record { conn = e.conn; piece = piece; moment = e.moment; w
 
 -- a run has no other replies
 pub answers_of : {S : Type 0} (seen : S → Kept) (w : World) (events : List Event) (replies : List (List ℕ)) (hub : Hub S) (after : World)
-    → Run w events replies after → StandsFor seen hub after → Answers seen w events replies hub
-answers_of seen w events replies hub after run stands =
-    record { after = after; run = run; only = λ others other is. (Run-unique w events replies others after other run is).0; stands = stands }
+    → Run w events replies after → HubRepresents seen hub after → Answers seen w events replies hub
+answers_of seen w events replies hub after run represents =
+    record { after = after; run = run; only = λ others other is. (Run-unique w events replies others after other run is).0; represents = represents }
 
-pub answers_more : {S : Type 0} (seen : S → Kept) (w : World) (events : List Event) (i : ℕ) (e : Event) (piece bytes : List ℕ) (replies : List (List ℕ)) (old new : Hub S)
-    → i < length events → e ≡ get_or events i e → piece ≡ e.piece → Answers seen w (take i events) replies old
-    → ((v : World) → StandsFor seen old v → AnswersOne seen v (with_piece e piece) bytes new)
+pub answers_more : {S : Type 0} (seen : S → Kept) (w : World) (events : List Event) (i : ℕ) (e : Event) (piece bytes : List ℕ)
+    (replies : List (List ℕ)) (old new : Hub S) → i < length events → e ≡ get_or events i e → piece ≡ e.piece → Answers seen w (take i events) replies old
+    → ((v : World) → HubRepresents seen old v → AnswersOne seen v (with_piece e piece) bytes new)
     → Answers seen w (take (i + 1) events) (replies ++ bytes ∷ []) new
 answers_more seen w events i e piece bytes replies old new lt is same a next =
-    let n = next a.after a.stands in
+    let n = next a.after a.represents in
     let one : Next a.after e bytes n.after = subst (λ (l : List ℕ). Next a.after (with_piece e l) bytes n.after) same n.next in
     answers_of seen w (take (i + 1) events) (replies ++ bytes ∷ []) new n.after
     (subst (λ (es : List Event). Run w es (replies ++ bytes ∷ []) n.after) (sym (take-more events i e lt is))
     (Run-push w (take i events) replies a.after e bytes n.after a.run one))
-    n.stands
+    n.represents
 
-broker_stays : (fault : Fault) (w : World) (conn : ℕ) (after : World) → AfterFault fault w conn after → after.broker ≡ w.broker
-broker_stays fault w conn after (inl is) = ap (λ (x : World). x.broker) is
-broker_stays fault w conn after (inr p) = ap (λ (x : World). x.broker) p.2
-
-pub honest_before : (a b : Kept) → a.doubt ≤ b.doubt → IsHonest b → IsHonest a
+pub honest_before : (a b : Kept) → a.mismatches ≤ b.mismatches → IsHonestStore b → IsHonestStore a
 honest_before a b le honest = omega (arith, le, honest)
 
 -- a store after two calls
 pub later_still : (a b c : Kept) → IsLater a b → IsLater b c → IsLater a c
 later_still a b c first second =
-    record { doubts = omega (arith, first.doubts, second.doubts); closes = λ open_. first.closes (second.closes open_) }
+    record { mismatches = omega (arith, first.mismatches, second.mismatches); closes = λ open_. first.closes (second.closes open_) }
 
-pub stops_at : {S : Type 0} (seen : S → Kept) (w : World) (events : List Event) (i : ℕ) (e : Event) (replies : List (List ℕ)) (fault : Fault) (old new : Hub S)
-    → i < length events → e ≡ get_or events i e → Answers seen w (take i events) replies old
-    → (shown seen new).rows ≡ (shown seen old).rows
-    → ((v : World) → HasConnections old v → (next : World) × AfterFault fault v e.conn next × HasConnections new next)
+pub stops_at : {S : Type 0} (seen : S → Kept) (w : World) (events : List Event) (i : ℕ) (e : Event) (piece : List ℕ) (replies : List (List ℕ))
+    (fault : Fault) (old new : Hub S)
+    → e ≡ get_or events i e → piece ≡ e.piece → Answers seen w (take i events) replies old → (hub_store seen new).rows ≡ (hub_store seen old).rows
+    → ((all : Connections) → ConnectionsRepresent old all → (next : Connections) × ConnectionsRepresent new next × FaultsAt fault all e.conn piece next)
     → StopsAt seen w events i replies fault new
-stops_at seen w events i e replies fault old new lt is a kept left =
-    let f = left a.after a.stands.each in
-    let held : Holds (shown seen new).rows f.0.broker =
-    subst (λ (b : Broker). Holds (shown seen new).rows b) (sym (broker_stays fault a.after e.conn f.0 f.1))
-    (subst (λ (l : Rows). Holds l a.after.broker) (sym kept) a.stands.store) in
-    record { within = lt; before = a.after; after = f.0; event = e; at = is; run = a.run; left = f.1; stands = record { store = held; each = f.2 } }
+stops_at seen w events i e piece replies fault old new is same a kept leaves =
+    let f = leaves a.after.connections a.represents.connections in
+    record {
+      before = a.after;
+      run = a.run;
+      event = e;
+      at = is;
+      after = f.0;
+      left = subst (λ (l : List ℕ). FaultsAt fault a.after.connections e.conn l f.0) same f.2;
+      represents = record { broker = subst (λ (l : Rows). Represents None l a.after.broker) (sym kept) a.represents.broker; connections = f.1 };
+    }
 
 pub answers_all : {S : Type 0} (seen : S → Kept) (w : World) (events : List Event) (i : ℕ) (replies : List (List ℕ)) (hub : Hub S)
     → length events ≤ i → Answers seen w (take i events) replies hub → Answers seen w events replies hub

@@ -1,4 +1,5 @@
 pub mod AnswersLemmas
+pub mod AskingLemmas
 pub mod HistoryLemmas
 pub mod HubLemmas
 pub mod ListedLemmas

@@ -1,7 +1,9 @@
-pub mod Ends
+pub mod AnyRows
+pub mod Asking
+pub mod Endpoints
+pub mod Feeding
 pub mod Listed
 pub mod Pending
+pub mod Representing
 pub mod Runs
-pub mod Serving
-pub mod Standing
 pub mod World

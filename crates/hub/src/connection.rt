@@ -1,13 +1,11 @@
-ghost use Rattle.std.specs.Prelude.{◌≡◌, ◌++◌, ℕ, List, [], true, false, Some, None, drop, OnOk, IsOk, IfOk, IfSome, IfNone};
-ghost use Rattle.broker_types.specs.Broker.{Broker};
-ghost use Rattle.broker.specs.Kept.{IsHonest};
-ghost use Rattle.broker.specs.Standing.{Holds};
+ghost use Rattle.std.specs.Prelude.{◌≡◌, ◌++◌, ℕ, List, [], true, false, Some, None, drop};
+ghost use Rattle.std.specs.Prelude.{OnOk, IsOk, IfOk, IfSome, IfNone};
 ghost use Rattle.http_layer.specs.Front.{IsFront, whole, need};
 ghost use Rattle.http_layer.specs.HeadParts.{HeadParts};
 ghost use Rattle.hub.specs.World.{History, new_history};
 ghost use Rattle.hub.specs.Listed.{IsListedReply};
-ghost use Rattle.hub.specs.Serving.{TookTurn, Feeds, Keeps};
-ghost use Rattle.hub.specs.Pending.{Unanswered, Tracks};
+ghost use Rattle.hub.specs.Feeding.{TookTurn, Feeds, Keeps};
+ghost use Rattle.hub.specs.Pending.{Unanswered, ConnectionRepresents};
 
 use crate::serving::serve;
 use broker::Store;
@@ -27,7 +25,7 @@ pub(crate) struct Connection {
 impl Connection {
     /// A connection on which nothing came. It takes no memory.
     pub(crate) fn new(alloc: Global) -> Connection
-        ensures { Tracks result new_history }
+        ensures { ConnectionRepresents result new_history }
     {
         Connection {
             stream: Vec::new(alloc),
@@ -72,12 +70,11 @@ impl Connection {
         moment: Moment,
         words: &Words,
     ) -> Result<Vec<u8>, Fault>
-        ensures ok { IsHonest (S.seen store.new) → (h : History) (b : Broker) → Tracks self.old h
-            → h.closed ≡ false → Holds (S.seen store.old).rows b
-            → IfOk result (λ bytes. TookTurn h b piece.now moment words.now bytes.items self.new
-            (S.seen store.new).rows) }
+        ensures turn { (h : History) → ConnectionRepresents self.old h → h.closed ≡ false
+            → IfOk result (λ bytes. TookTurn (S.seen store.old) (S.seen store.new) h piece.now moment
+            words.now bytes.items self.new) }
         ensures listed { IfOk result (λ bytes. IsListedReply bytes.items) }
-        ensures free { piece.now ≡ [] → (rest : List ℕ) → Unanswered self.old rest
+        ensures succeeds { piece.now ≡ [] → (rest : List ℕ) → Unanswered self.old rest
             → IsFront rest need → IsOk result }
         ensures keeps { Keeps (S.seen store.old) (S.seen store.new) result }
     {
@@ -98,7 +95,7 @@ impl Connection {
         ensures ok { OnOk result ((rest : List ℕ) → Unanswered self.old rest
             → Unanswered self.new (rest ++ piece.now)) }
         ensures closed { self.new.closed ≡ self.old.closed }
-        ensures free { piece.now ≡ [] → IsOk result }
+        ensures succeeds { piece.now ≡ [] → IsOk result }
     {
         if piece.is_empty() {
             return Ok(());

@@ -2,7 +2,7 @@
 #![tactic(auto)]
 
 mod connection;
-mod ends;
+mod endpoints;
 mod event;
 mod hub;
 mod laws;
@@ -10,11 +10,13 @@ mod running;
 mod serving;
 mod table;
 
-pub use ends::{Failed, Reading, Sink, Source, Writing};
+pub use endpoints::{Failed, Reading, Sink, Source, Writing};
 pub use event::Event;
 pub use hub::Hub;
-pub use laws::run_law;
+pub use laws::{asking_laws, run_laws};
 pub use running::run;
 
+#[cfg(test)]
+mod rows;
 #[cfg(test)]
 mod tests;

@@ -1,12 +1,12 @@
-ghost use Rattle.std.specs.Prelude.{◌≡◌, ◌⊎◌, IsTrue, [], IfOk, IfErr, MatchResult};
+ghost use Rattle.std.specs.Prelude.{◌≡◌, ◌⊎◌, ◌<◌, IsTrue, IfOk, IfErr, MatchResult, length, take};
 ghost use Rattle.std.specs.List.{All};
 ghost use Rattle.broker_types.specs.Fault.{IsMemoryOrStorage};
-ghost use Rattle.broker.specs.Kept.{IsHonest};
+ghost use Rattle.broker.specs.Kept.{IsHonestStoreStore};
+ghost use Rattle.hub.specs.Feeding.{IsLater};
 ghost use Rattle.hub.specs.Listed.{IsListedReply};
-ghost use Rattle.hub.specs.Serving.{IsLater};
-ghost use Rattle.hub.specs.World.{World};
-ghost use Rattle.hub.specs.Standing.{StandsFor, shown};
-ghost use Rattle.hub.specs.Runs.{bytes_of, Answers, StopsAt};
+ghost use Rattle.hub.specs.Representing.{HubRepresents, hub_store};
+ghost use Rattle.hub.specs.Runs.{bytes_of, Answers, HadNoRoom, StopsAt};
+ghost use Rattle.hub.specs.World.{World, Run};
 
 use crate::event::Event;
 use crate::hub::Hub;
@@ -20,17 +20,17 @@ use std::alloc::Global;
 /// 0, there are no replies, and the hub is as before.
 ///
 /// **Each connection receives exactly the reply bytes of the broker**, asked by the complete requests
-/// in the order in which their events answered them: for each world that the hub stands for, the
-/// replies are those of a run from this world, no other replies are a run's, and the hub then stands
-/// for the world after it, as long as the storage returns what was written and no fault ends the run.
+/// in the order in which their events answered them: for each world that the hub represents, the
+/// replies are those of a run from this world, no other replies are a run's, and the hub then represents
+/// the world after it, as long as the storage returns what was written and no fault ends the run.
 /// From a new hub this is the world of the store's broker with no connection seen.
 pub fn run<S: Store>(
     alloc: Global,
     hub: &mut Hub<S>,
     events: &[Event],
 ) -> Result<Vec<Vec<u8>>, (usize, Vec<Vec<u8>>, Fault)>
-    ensures replies { IsHonest (shown S.seen hub.new) → IfOk result (λ replies.
-        (w : World) → StandsFor S.seen hub.old w
+    ensures replies { IsHonestStore (hub_store S.seen hub.new) → IfOk result (λ replies.
+        (w : World) → HubRepresents S.seen hub.old w
         → Answers S.seen w events.now (bytes_of replies.items) hub.new) }
 
     // Whatever the rows are, each refusal is a listed one.
@@ -38,18 +38,26 @@ pub fn run<S: Store>(
         (λ replies. All IsListedReply (bytes_of replies.items))
         (λ stop. All IsListedReply (bytes_of stop.1.items)) }
 
-    // The run stopped at an event, or no memory was found for the places of the replies.
-    ensures stopped { IsHonest (shown S.seen hub.new) → IsTrue (shown S.seen hub.new).is_open
-        → IfErr result (λ stop. (w : World) → StandsFor S.seen hub.old w
-        → StopsAt S.seen w events.now stop.0 (bytes_of stop.1.items) stop.2 hub.new
-        ⊎ ((stop.0 ≡ 0) × (stop.1.items ≡ []) × (stop.2 ≡ Fault.Memory) × (hub.new ≡ hub.old))) }
+    // The replies before a fault are those of a run of the events before it.
+    ensures before { IsHonestStore (hub_store S.seen hub.new) → IfErr result (λ stop.
+        (w : World) → HubRepresents S.seen hub.old w
+        → (mid : World) × Run w (take stop.0 events.now) (bytes_of stop.1.items) mid) }
 
-    // On a broker's rows only memory or storage is wanting, and storage only where the store failed.
-    ensures wants { IsHonest (shown S.seen hub.new) → IfErr result (λ stop.
-        (w : World) → StandsFor S.seen hub.old w → IsMemoryOrStorage stop.2) }
+    // No memory was found for the places of the replies, or the run stopped at an event. What it left is
+    // told as long as the storage can still be asked.
+    ensures stopped { IfErr result (λ stop.
+        HadNoRoom stop.0 stop.1.items stop.2 hub.old hub.new
+        ⊎ ((stop.0 < length events.now)
+        × (IsHonestStore (hub_store S.seen hub.new) → IsTrue (hub_store S.seen hub.new).is_open
+        → (w : World) → HubRepresents S.seen hub.old w
+        → StopsAt S.seen w events.now stop.0 (bytes_of stop.1.items) stop.2 hub.new))) }
+
+    // On a broker's rows the faults are of memory or storage alone, and of storage only where the store failed.
+    ensures wants { IsHonestStore (hub_store S.seen hub.new) → IfErr result (λ stop.
+        (w : World) → HubRepresents S.seen hub.old w → IsMemoryOrStorage stop.2) }
     ensures storage { IfErr result (λ stop.
-        stop.2 ≡ Fault.Storage → IsTrue (shown S.seen hub.new).has_failed) }
-    ensures later { IsLater (shown S.seen hub.old) (shown S.seen hub.new) }
+        stop.2 ≡ Fault.Storage → IsTrue (hub_store S.seen hub.new).has_failed) }
+    ensures later { IsLater (hub_store S.seen hub.old) (hub_store S.seen hub.new) }
 {
     let mut replies = Vec::new(alloc);
     if let Err(_) = replies.reserve(events.len()) {

@@ -1,15 +1,16 @@
 ghost use Rattle.std.specs.Prelude.{◌≡◌, IfOk, IfErr, IsOk, Some, None, [], true, false};
 ghost use Rattle.broker_types.specs.Answer.{response_of, HasRoom};
 ghost use Rattle.broker_types.specs.Broker.{Broker};
-ghost use Rattle.broker.specs.Kept.{IsHonest};
-ghost use Rattle.broker.specs.Standing.{Holds};
+ghost use Rattle.broker.specs.Kept.{IsHonestStoreStore};
+ghost use Rattle.broker.specs.Representing.{Represents};
 ghost use Rattle.http_layer.specs.Asked.{asked};
 ghost use Rattle.http_layer.specs.Front.{IsFront, need};
 ghost use Rattle.http_layer.specs.Refusing.{front_refused};
 ghost use Rattle.http_layer.specs.Reply.{IsReply};
+ghost use Rattle.hub.specs.AnyRows.{IsRequestReply};
+ghost use Rattle.hub.specs.Feeding.{Serves, IsServed, Keeps};
 ghost use Rattle.hub.specs.Listed.{IsListedReply};
-ghost use Rattle.hub.specs.Serving.{Serves, IsServed, Keeps};
-ghost use Rattle.hub.specs.World.{request_effect};
+ghost use Rattle.hub.specs.World.{request_closes, request_effect};
 
 use broker::Store;
 use broker_types::{Answer, BodyBytes, Fault, Moment, Room, Status, Words};
@@ -29,7 +30,7 @@ pub(crate) struct Served {
 }
 
 impl Served {
-    /// No reply: more bytes are wanted.
+    /// No reply: more bytes are needed.
     fn nothing(alloc: Global) -> Served
         ensures bytes { result.bytes.items ≡ [] }
         ensures len { result.len ≡ None }
@@ -72,11 +73,10 @@ pub(crate) fn serve<S: Store>(
     moment: Moment,
     words: &Words,
 ) -> Result<Served, Fault>
-    ensures ok { IsHonest (S.seen store.new) → (b : Broker) → Holds (S.seen store.old).rows b
-        → IfOk result (λ served. Serves b moment words.now rest.now served
-        (S.seen store.new).rows) }
+    ensures serves { IfOk result (λ served. Serves (S.seen store.old) (S.seen store.new)
+        moment words.now rest.now served) }
     ensures listed { IfOk result (λ served. IsListedReply served.bytes.items) }
-    ensures free { IsFront rest.now need → IsOk result }
+    ensures succeeds { IsFront rest.now need → IsOk result }
     ensures keeps { Keeps (S.seen store.old) (S.seen store.new) result }
 {
     match cut(rest) {
@@ -111,11 +111,16 @@ fn serve_request<'b, S: Store>(
     moment: Moment,
     words: &Words,
 ) -> Result<Served, Fault>
-    ensures ok { IsHonest (S.seen store.new) → (b : Broker) → Holds (S.seen store.old).rows b
-        → IfOk result (λ served. IsServed (request_effect b moment words.now head.now
-        (asked head.now body.entry)) moment served (S.seen store.new).rows) }
-    ensures listed { IfOk result (λ served. IsListedReply served.bytes.items) }
+    ensures broker { IsHonestStore (S.seen store.new) → (b : Broker) → Represents None (S.seen store.old).rows b
+        → IfOk result (λ served. IsServed (request_effect b moment words.now
+        (asked head.now body.entry)) moment (request_closes head.now (asked head.now body.entry))
+        served.bytes.items (S.seen store.new).rows) }
+    ensures reply { IfOk result (λ served. IsRequestReply moment
+        (request_closes head.now (asked head.now body.entry)) (asked head.now body.entry)
+        served.bytes.items) }
     ensures len { IfOk result (λ served. served.len ≡ Some len) }
+    ensures closes { IfOk result (λ served. served.closes
+        ≡ request_closes head.now (asked head.now body.entry)) }
     ensures keeps { Keeps (S.seen store.old) (S.seen store.new) result }
 {
     match ask_of(alloc, head, body) {

@@ -1,5 +1,4 @@
-//! Streams of pieces, byte for byte, over a broker in memory and over a store that fails, and ends that
-//! fail.
+//! Streams of pieces over a store that fails, and readers and writers that fail.
 
 use crate::{Event, Failed, Hub, Reading, Sink, Source, Writing, run};
 use broker::{ListStore, Store};
@@ -31,30 +30,6 @@ const MALFORMED: &str = "HTTP/1.1 400 Bad Request\r\n\
     Content-Length: 33\r\n\r\n\
     {\"errors\":[\"malformed request\"]}\n";
 
-/// A write and a read of one cubbyhole path, and their replies.
-const PUT: &str = "PUT /v1/cubbyhole/a HTTP/1.1\r\n\
-    Host: b\r\n\
-    X-Vault-Token: hvs.00000000-0000-0000-0000-000000000001\r\n\
-    Content-Length: 9\r\n\r\n\
-    {\"k\":\"v\"}";
-
-const WRITTEN: &str = "HTTP/1.1 204 No Content\r\n\
-    Date: Tue, 14 Nov 2023 22:13:20 GMT\r\n\
-    Cache-Control: no-store\r\n\r\n";
-
-const GET: &str = "GET /v1/cubbyhole/a HTTP/1.1\r\n\
-    Host: b\r\n\
-    X-Vault-Token: hvs.00000000-0000-0000-0000-000000000001\r\n\r\n";
-
-const READ: &str = "HTTP/1.1 200 OK\r\n\
-    Date: Tue, 14 Nov 2023 22:13:20 GMT\r\n\
-    Cache-Control: no-store\r\n\
-    Content-Type: application/json\r\n\
-    Content-Length: 167\r\n\r\n\
-    {\"auth\":null,\"data\":{\"k\":\"v\"},\"lease_duration\":0,\"lease_id\":\"\",\
-    \"renewable\":false,\"request_id\":\"00000000-0000-0000-0000-000000000020\",\
-    \"warnings\":null,\"wrap_info\":null}\n";
-
 /// A store whose storage fails at each request.
 #[derive(Drop)]
 struct Broken {
@@ -63,7 +38,7 @@ struct Broken {
 
 impl Store for Broken {
     ghost use Rattle.std.specs.Prelude.{[], true};
-    ghost use Rattle.broker.specs.Transaction.{rows_in};
+    ghost use Rattle.records.specs.Transaction.{rows_in};
 
     ghost seen = { λ s. record { rows = rows_in []; doubt = 0; has_failed = s.failed; is_open = true } };
 
@@ -86,62 +61,12 @@ fn event(alloc: Global, conn: u64, piece: &str, word: u128) -> Result<Event, Fai
     })
 }
 
-/// The hub of a broker that was started at the moment of the events.
-fn started(alloc: Global) -> Result<Hub<ListStore>, Fail> {
-    let moment = Moment::new(1_700_000_000).ok_or("the moment is in range")?;
+/// The hub of a broker that was started at the moment.
+pub(crate) fn started(alloc: Global, moment: Moment) -> Result<Hub<ListStore>, Fail> {
     let mut store = ListStore::new(alloc);
     let token = store.start(moment, &Words([0, 1, 2, 3, 4, 5, 6, 7]))?;
     drop(token);
     Ok(Hub::new(alloc, store))
-}
-
-/// Runs pieces on connection 1 from a started hub, and answers which is the first reply that is not the
-/// one beside its piece. Event k, counted from 1, has the words of 10k in hexadecimal.
-fn first_difference(alloc: Global, rows: &[(&str, &str)]) -> Result<Option<usize>, Fail> {
-    let mut events = Vec::new(alloc);
-    let mut word = 0u128;
-    for (piece, _) in rows {
-        word = word.saturating_add(16);
-        events.push(event(alloc, 1, piece, word)?)?;
-    }
-    let Ok(replies) = run(alloc, &mut started(alloc)?, events.as_slice()) else {
-        return Err(Fail::from("a fault"));
-    };
-    let same = |(reply, row): (&Vec<u8>, &(&str, &str))| reply.as_slice() == row.1.as_bytes();
-    Ok(replies.iter().zip(rows).position(|pair| !same(pair)))
-}
-
-#[test]
-fn a_write_and_a_read(rt: HostRuntime) -> Result<(), Fail> {
-    let rows = [(PUT, WRITTEN), (GET, READ)];
-    assert_eq!(rt; first_difference(rt.alloc(), &rows)?, None);
-    Ok(())
-}
-
-#[test]
-fn an_empty_piece(rt: HostRuntime) -> Result<(), Fail> {
-    let rows = [("", ""), (PUT, WRITTEN), ("", "")];
-    assert_eq!(rt; first_difference(rt.alloc(), &rows)?, None);
-    Ok(())
-}
-
-#[test]
-fn pipelined_requests(rt: HostRuntime) -> Result<(), Fail> {
-    let both = format!(in rt.alloc(); "{PUT}{GET}")?;
-    let rows = [(both.as_str(), WRITTEN), ("", READ)];
-    assert_eq!(rt; first_difference(rt.alloc(), &rows)?, None);
-    Ok(())
-}
-
-#[test]
-fn a_head_cut_within_its_empty_line(rt: HostRuntime) -> Result<(), Fail> {
-    let head = "PUT /v1/cubbyhole/a HTTP/1.1\r\n\
-        Host: b\r\n\
-        X-Vault-Token: hvs.00000000-0000-0000-0000-000000000001\r\n\
-        Content-Length: 9\r\n\r";
-    let rows = [(head, ""), ("\n", ""), ("{\"k\":\"v\"", ""), ("}", WRITTEN)];
-    assert_eq!(rt; first_difference(rt.alloc(), &rows)?, None);
-    Ok(())
 }
 
 #[test]

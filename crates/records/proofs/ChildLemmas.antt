@@ -1,5 +1,6 @@
 -- The children of a folder, one key after another.
-use Rattle.std.specs.Prelude.{◌≡◌, ◌<◌, ◌+◌, ◌==◌, ℕ, suc, List, [], ◌∷◌, ◌++◌, map, filter, drop, take, length, nat_eq, Bool, true, false, not, cond, if◌then◌else◌}
+use Rattle.std.specs.Prelude.{◌≡◌, ◌<◌, ◌+◌, ◌-◌, ◌==◌, ℕ, suc, List, [], ◌∷◌, ◌++◌, map, filter, drop, take, length, slice_get, nat_eq, Bool, true, false, not}
+use Rattle.std.specs.Prelude.{cond, if◌then◌else◌, Option, Some, None}
 use Rattle.std.specs.List.{starts_with, position_or_len, prefix_len, before_first}
 use Rattle.std.proofs.Common.{refl, sym, ◌∙◌, ap, arith}
 use Rattle.std.proofs.Math.Seq.{take-append_seam}
@@ -54,7 +55,8 @@ push_each-append texts [] more = refl
 push_each-append texts (t ∷ first) more = push_each-append (push_once texts t) first more
 
 below-cons : (prefix q : Text) (qs : List Text) → below prefix (q ∷ qs) ≡ below prefix (q ∷ []) ++ below prefix qs
-below-cons prefix q qs = elim (starts_with nat_eq q prefix) as (λ b. map (drop (length prefix)) (cond b (q ∷ filter (λ q. starts_with nat_eq q prefix) qs) (filter (λ q. starts_with nat_eq q prefix) qs))
+below-cons prefix q qs = elim (starts_with nat_eq q prefix) as
+    (λ b. map (drop (length prefix)) (cond b (q ∷ filter (λ q. starts_with nat_eq q prefix) qs) (filter (λ q. starts_with nat_eq q prefix) qs))
     ≡ map (drop (length prefix)) (cond b (q ∷ []) []) ++ map (drop (length prefix)) (filter (λ q. starts_with nat_eq q prefix) qs)) [
       | true ↦ refl
       | false ↦ refl
@@ -64,7 +66,8 @@ map-append : (xs ys : List Text) → map child (xs ++ ys) ≡ map child xs ++ ma
 map-append [] ys = refl
 map-append (x ∷ xs) ys = ap (λ z. child x ∷ z) (map-append xs ys)
 
-pub push_more : (prefix q : Text) (qs texts : List Text) → push_each texts (map child (below prefix (q ∷ qs))) ≡ push_each (push_each texts (map child (below prefix (q ∷ [])))) (map child (below prefix qs))
+pub push_more : (prefix q : Text) (qs texts : List Text) → push_each texts (map child (below prefix (q ∷ qs)))
+    ≡ push_each (push_each texts (map child (below prefix (q ∷ [])))) (map child (below prefix qs))
 push_more prefix q qs texts =
     ap (λ rs. push_each texts (map child rs)) (below-cons prefix q qs) ∙ ap (push_each texts) (map-append (below prefix (q ∷ [])) (below prefix qs))
     ∙ push_each-append texts (map child (below prefix (q ∷ []))) (map child (below prefix qs))

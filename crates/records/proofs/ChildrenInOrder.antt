@@ -1,5 +1,6 @@
 -- The children of keys in order are the set of them.
-use Rattle.std.specs.Prelude.{◌≡◌, ◌-◌, ◌⊎◌, ◌==◌, List, [], ◌∷◌, ◌++◌, map, filter, drop, length, slice_get, nat_eq, Bool, true, false, cond, if◌then◌else◌, Some, T, ⊤}
+use Rattle.std.specs.Prelude.{◌≡◌, ◌-◌, ◌⊎◌, ◌&&◌, ◌==◌, ℕ, List, [], ◌∷◌, ◌++◌, map, filter, drop, length, slice_get, nat_eq, Bool, true, false, cond}
+use Rattle.std.specs.Prelude.{if◌then◌else◌, Some, T, ⊤}
 use Rattle.std.specs.declared.cmp.Ordering.{Ordering}
 use Rattle.std.specs.declared.cmp.Ordering.TheVariants.{Less, Equal, Greater}
 use Rattle.std.specs.List.{starts_with}
@@ -9,14 +10,14 @@ use Rattle.std.specs.Cmp.Lexicographic.{nat_list_cmp_total}
 use Rattle.std.specs.FinMap as fin
 use Rattle.std.specs.FinMap.{is_sorted, put}
 use Rattle.std.specs.FinMap.Entries.{below_all, by_order}
-use Rattle.std.proofs.Common.{refl, sym, ◌∙◌, ap, append_assoc, arith, inl, inr, length-append}
+use Rattle.std.proofs.Common.{refl, sym, ◌∙◌, ap, subst, append_assoc, arith, inl, inr, eqb→eq, length-append}
 use Rattle.std.proofs.Math.Seq.{get_or-append_seam}
-use Rattle.std.proofs.lemmas.Bool.{and_parts, false≢true}
+use Rattle.std.proofs.lemmas.Bool.{and_parts, false≢true, eqb-true}
 use Rattle.std.proofs.lemmas.List.{nil_from_length}
 use Rattle.std.proofs.lemmas.Option.{slice_get-get_or}
 use Rattle.broker_types.specs.Text.{Text, text_cmp, same}
 use Rattle.broker_types.specs.TextLaws.{same-text_cmp, same_self}
-use Rattle.records.specs.Children.{child, below, children, children_in_order, member, set_of, is_text, push_each}
+use Rattle.records.specs.Children.{child, below, children, children_in_order, member, set_of, is_text, push_once, push_each}
 use Rattle.records.specs.Splits.{slash}
 use Rattle.records.proofs.ChildLemmas.{begun}
 
@@ -37,7 +38,8 @@ push_each-after : (before : List Text) (last : Text) (texts : List Text) → pus
 push_each-after before last [] = refl
 push_each-after before last (t ∷ texts) =
     ap (λ o. push_each (if is_text t o then before ++ last ∷ [] else (before ++ last ∷ []) ++ t ∷ []) texts) (last_is before last)
-    ∙ elim (same last t) as (λ v. push_each (if v then before ++ last ∷ [] else (before ++ last ∷ []) ++ t ∷ []) texts ≡ before ++ last ∷ (if v then once_after last texts else t ∷ once_after t texts)) [
+    ∙ elim (same last t) as (λ v. push_each (if v then before ++ last ∷ [] else (before ++ last ∷ []) ++ t ∷ []) texts
+        ≡ before ++ last ∷ (if v then once_after last texts else t ∷ once_after t texts)) [
       | true ↦ push_each-after before last texts
       | false ↦ push_each-after (before ++ last ∷ []) t texts ∙ append_assoc before (last ∷ []) (t ∷ once_after t texts)
     ]
@@ -61,10 +63,12 @@ once_entries last (t ∷ texts) rises =
     ∙ ap (put text_cmp last tt) (once_entries t texts rises.1)
     ∙ elim rises.0 [
       | inl less ↦
-          ap (λ o. by_order o (member last ∷ member t ∷ map member (once_after t texts)) (member t ∷ map member (once_after t texts)) (member t ∷ put text_cmp last tt (map member (once_after t texts)))) less
+          ap (λ o. by_order o (member last ∷ member t ∷ map member (once_after t texts)) (member t ∷ map member (once_after t texts))
+              (member t ∷ put text_cmp last tt (map member (once_after t texts)))) less
           ∙ sym (ap (λ v. map member (last ∷ (if v then once_after last texts else t ∷ once_after t texts))) (below_apart last t less))
       | inr same_one ↦
-          ap (λ o. by_order o (member last ∷ member t ∷ map member (once_after t texts)) (member t ∷ map member (once_after t texts)) (member t ∷ put text_cmp last tt (map member (once_after t texts))))
+          ap (λ o. by_order o (member last ∷ member t ∷ map member (once_after t texts)) (member t ∷ map member (once_after t texts))
+              (member t ∷ put text_cmp last tt (map member (once_after t texts))))
           (ap (text_cmp last) (sym same_one) ∙ tied_itself nat_list_cmp_total last)
           ∙ (λ i. map member (sym same_one i ∷ once_after (sym same_one i) texts))
           ∙ sym (ap (λ v. map member (last ∷ (if v then once_after last texts else t ∷ once_after t texts))) (ap (same last) (sym same_one) ∙ same_self last))
@@ -85,12 +89,14 @@ child_order [] [] h = absurd (cc)
 child_order [] (d ∷ y) h = inl refl
 child_order (c ∷ x) [] h = absurd (cc)
 child_order (c ∷ x) (d ∷ y) h =
-    elim (nat_cmp c d) as (λ o. nat_cmp c d ≡ o → ordering_then o (text_cmp x y) ≡ Less → (text_cmp (child (c ∷ x)) (child (d ∷ y)) ≡ Less) ⊎ (child (c ∷ x) ≡ child (d ∷ y))) [
+    elim (nat_cmp c d) as (λ o. nat_cmp c d ≡ o → ordering_then o (text_cmp x y) ≡ Less
+        → (text_cmp (child (c ∷ x)) (child (d ∷ y)) ≡ Less) ⊎ (child (c ∷ x) ≡ child (d ∷ y))) [
       | Less ↦ λ is _. inl (ap (λ o. ordering_then o (text_cmp (if c == slash then [] else child x) (if d == slash then [] else child y))) is)
       | Equal ↦ λ is later.
           let one : c ≡ d = grind (arith, is) in
           elim (c == slash) as (λ v. (c == slash) ≡ v → (text_cmp (child (c ∷ x)) (child (d ∷ y)) ≡ Less) ⊎ (child (c ∷ x) ≡ child (d ∷ y))) [
-            | true ↦ λ at. inr ((λ i. c ∷ (if at i then [] else child x)) ∙ ap (λ z. z ∷ []) one ∙ sym (λ i. d ∷ (if (ap (λ z. z == slash) (sym one) ∙ at) i then [] else child y)))
+            | true ↦ λ at. inr ((λ i. c ∷ (if at i then [] else child x)) ∙ ap (λ z. z ∷ []) one
+                ∙ sym (λ i. d ∷ (if (ap (λ z. z == slash) (sym one) ∙ at) i then [] else child y)))
             | false ↦ λ at.
                 let front : child (c ∷ x) ≡ c ∷ child x = (λ i. c ∷ (if at i then [] else child x)) in
                 let back : child (d ∷ y) ≡ d ∷ child y = (λ i. d ∷ (if (ap (λ z. z == slash) (sym one) ∙ at) i then [] else child y)) in
@@ -134,9 +140,12 @@ module _ {X : Type 0} (prefix : Text) where
       let lows = and_parts _ _ low in
       let sorts = and_parts _ _ sorted in
       elim (starts_with nat_eq e.0 prefix) as (λ v. starts_with nat_eq e.0 prefix ≡ v
-      → Rises (child (drop (length prefix) last)) (map child (map (drop (length prefix)) (cond v (e.0 ∷ filter (λ q. starts_with nat_eq q prefix) (names_of es)) (filter (λ q. starts_with nat_eq q prefix) (names_of es)))))) [
+          → Rises (child (drop (length prefix) last))
+              (map child (map (drop (length prefix))
+                  (cond v (e.0 ∷ filter (λ q. starts_with nat_eq q prefix) (names_of es)) (filter (λ q. starts_with nat_eq q prefix) (names_of es)))))) [
         | true ↦ λ is.
-            (child_order (drop (length prefix) last) (drop (length prefix) e.0) (dropped_order prefix last e.0 begins is (less_true _ lows.0)), rises_below e.0 es is sorts.0 sorts.1)
+            (child_order (drop (length prefix) last) (drop (length prefix) e.0)
+                (dropped_order prefix last e.0 begins is (less_true _ lows.0)), rises_below e.0 es is sorts.0 sorts.1)
         | false ↦ λ _. rises_below last es begins lows.1 sorts.1
       ] refl
 
@@ -145,8 +154,10 @@ module _ {X : Type 0} (prefix : Text) where
   children_ordered (e ∷ es) sorted =
       let sorts = and_parts _ _ sorted in
       elim (starts_with nat_eq e.0 prefix) as (λ v. starts_with nat_eq e.0 prefix ≡ v
-      → push_each [] (map child (map (drop (length prefix)) (cond v (e.0 ∷ filter (λ q. starts_with nat_eq q prefix) (names_of es)) (filter (λ q. starts_with nat_eq q prefix) (names_of es)))))
-      ≡ fin.keys (set_of (map child (map (drop (length prefix)) (cond v (e.0 ∷ filter (λ q. starts_with nat_eq q prefix) (names_of es)) (filter (λ q. starts_with nat_eq q prefix) (names_of es))))))) [
+          → push_each [] (map child (map (drop (length prefix))
+              (cond v (e.0 ∷ filter (λ q. starts_with nat_eq q prefix) (names_of es)) (filter (λ q. starts_with nat_eq q prefix) (names_of es)))))
+          ≡ fin.keys (set_of (map child (map (drop (length prefix))
+              (cond v (e.0 ∷ filter (λ q. starts_with nat_eq q prefix) (names_of es)) (filter (λ q. starts_with nat_eq q prefix) (names_of es))))))) [
         | true ↦ λ is. once_set (child (drop (length prefix) e.0)) (map child (below prefix (names_of es))) (rises_below e.0 es is sorts.0 sorts.1)
         | false ↦ λ _. children_ordered es sorts.1
       ] refl

@@ -32,7 +32,8 @@ module _ (kind : Kind) where
       ap (λ n. ordering_then (nat_cmp (kind_number kind) n) (text_cmp q t)) (eqb-true (kind_number k) (kind_number kind) h)
       ∙ ap (λ o. ordering_then o (text_cmp q t)) (sym (nat_cmp_is (kind_number kind) (kind_number kind) Equal refl))
 
-  cmp-both : (j k : Kind) (q t : Text) → (kind_number j == kind_number kind) ≡ true → (kind_number k == kind_number kind) ≡ true → key_cmp (j, q) (k, t) ≡ text_cmp q t
+  cmp-both : (j k : Kind) (q t : Text) → (kind_number j == kind_number kind) ≡ true → (kind_number k == kind_number kind) ≡ true → key_cmp (j, q) (k, t)
+      ≡ text_cmp q t
   cmp-both j k q t g h = ap (λ n. ordering_then (nat_cmp n (kind_number k)) (text_cmp q t)) (eqb-true (kind_number j) (kind_number kind) g) ∙ cmp-of k q t h
 
   find-named : (q : Text) (es : List (Key × Row)) → all_of kind es ≡ true → find text_cmp q (named es) ≡ find key_cmp (kind, q) es
@@ -41,7 +42,8 @@ module _ (kind : Kind) where
       let parts = and_parts _ _ h in
       λ i. cond (is_eq (sym (cmp-of e.0.0 q e.0.1 parts.0) i)) (Some e.1) (find-named q es parts.1 i)
 
-  below-named : (e : Key × Row) (es : List (Key × Row)) → is_of_kind kind e.0 ≡ true → all_of kind es ≡ true → below_all text_cmp e.0.1 (named es) ≡ below_all key_cmp e.0 es
+  below-named : (e : Key × Row) (es : List (Key × Row)) → is_of_kind kind e.0 ≡ true → all_of kind es ≡ true → below_all text_cmp e.0.1 (named es)
+      ≡ below_all key_cmp e.0 es
   below-named e [] g h = refl
   below-named e (f ∷ es) g h =
       let parts = and_parts _ _ h in
@@ -67,10 +69,12 @@ module _ (kind : Kind) where
 
     -- the listed rows rise by their keys
     pub listed-sorted : (rows : Rows) → T (is_sorted text_cmp (named (rows_under rows kind prefix)))
-    listed-sorted rows = subst T (sym (sorted-named (rows_under rows kind prefix) (filter_of (entries rows)))) (is_sorted-where_key key_cmp under (entries rows) (entries_sorted rows))
+    listed-sorted rows = subst T (sym (sorted-named (rows_under rows kind prefix) (filter_of (entries rows))))
+        (is_sorted-where_key key_cmp under (entries rows) (entries_sorted rows))
 
     -- and have the row at each key that begins with the prefix
-    pub find-listed : (rows : Rows) (q : Text) → find text_cmp q (named (rows_under rows kind prefix)) ≡ cond (starts_with nat_eq q prefix) (get rows (kind, q)) None
+    pub find-listed : (rows : Rows) (q : Text) → find text_cmp q (named (rows_under rows kind prefix))
+        ≡ cond (starts_with nat_eq q prefix) (get rows (kind, q)) None
     find-listed rows q =
         find-named q (rows_under rows kind prefix) (filter_of (entries rows))
         ∙ find-where_key key_cmp under (kind, q) (λ x e. ap under (sym (key_cmp_exact (kind, q) x e))) (entries rows)
@@ -90,7 +94,9 @@ T_true false t = absurd t
 
 -- the children of what is listed are the set of them
 pub listed_children : (rows : Rows) (kind : Kind) (under prefix : Text)
-    → children_in_order prefix (map (λ (e : Key × Row). e.0.1) (rows_under rows kind under)) ≡ children prefix (map (λ (e : Key × Row). e.0.1) (rows_under rows kind under))
+    → children_in_order prefix (map (λ (e : Key × Row). e.0.1) (rows_under rows kind under))
+        ≡ children prefix (map (λ (e : Key × Row). e.0.1) (rows_under rows kind under))
 listed_children rows kind under prefix =
     let es = rows_under rows kind under in
-    ap (children_in_order prefix) (names_are es) ∙ children_ordered prefix (named es) (T_true _ (listed-sorted kind under rows)) ∙ sym (ap (children prefix) (names_are es))
+    ap (children_in_order prefix) (names_are es) ∙ children_ordered prefix (named es) (T_true _ (listed-sorted kind under rows))
+        ∙ sym (ap (children prefix) (names_are es))

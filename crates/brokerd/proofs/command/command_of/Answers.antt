@@ -1,4 +1,5 @@
-use Rattle.std.proofs.Common.{◌≡◌, ◌∙◌, List, Option, Some, None, IfErr, IsErrAnd, Result, Ok, Err, Box, Global, map, option_map, string_bytes, refl, sym, ap, subst, true}
+use Rattle.std.proofs.Common.{◌≡◌, ◌∙◌, List, Option, Some, None, IfErr, IsErrAnd, Result, Ok, Err, Box, Global, map, option_map, string_bytes, refl, sym, ap}
+use Rattle.std.proofs.Common.{subst, true}
 use Rattle.clap.specs.Words.{App, Row, Text, is_simple, subcommand_of, takes}
 use Rattle.clap.specs.Simple.{subcommand_rows}
 use Rattle.clap.specs.declared.parser.matches.ArgMatches.TheViews.{out-ArgMatches, out-SubCommand}
@@ -41,7 +42,8 @@ returns-in-Some-clause-ok c =
     let words : List Text = map string_bytes c.args.words.now in
     let given = c.in_ok-matches.ensures.matches (simple _ c.in_ok-program.ensures) in
     meant_of _ c.in-Some.name.now c.meant.result
-    (c.in-Some.ensures ∙ name_of (out-ArgMatches m).subcommand ∙ ap (option_map (λ (p : Text × List Row). p.0)) (given.1 ∙ ap (λ (a : App). subcommand_of a words) c.in_ok-program.ensures))
+    (c.in-Some.ensures ∙ name_of (out-ArgMatches m).subcommand ∙ ap (option_map (λ (p : Text × List Row). p.0))
+    (given.1 ∙ ap (λ (a : App). subcommand_of a words) c.in_ok-program.ensures))
     c.meant.ensures
 
 pub returns-clause-ok : goal.returns-clause-ok
@@ -50,4 +52,5 @@ returns-clause-ok c =
     let words : List Text = map string_bytes c.args.words.now in
     let given = c.in_ok-matches.ensures.matches (simple _ c.in_ok-program.ensures) in
     none_of _
-    (c.in-None.ensures ∙ name_of (out-ArgMatches m).subcommand ∙ ap (option_map (λ (p : Text × List Row). p.0)) (given.1 ∙ ap (λ (a : App). subcommand_of a words) c.in_ok-program.ensures))
+    (c.in-None.ensures ∙ name_of (out-ArgMatches m).subcommand ∙ ap (option_map (λ (p : Text × List Row). p.0))
+    (given.1 ∙ ap (λ (a : App). subcommand_of a words) c.in_ok-program.ensures))

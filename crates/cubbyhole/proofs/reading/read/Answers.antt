@@ -30,4 +30,5 @@ returns-clause-found g c honest =
 
 pub returns-clause-told : goal.returns-clause-told
 returns-clause-told g c honest b told len =
-    object_told (table (g.T.RecordsTx.seen c.args.tx.now)) b c.args.token.now c.args.path.now (Some c.in_ok-copied.field-0) told len (returns-clause-found g c honest)
+    object_told (table (g.T.RecordsTx.seen c.args.tx.now)) b c.args.token.now c.args.path.now (Some c.in_ok-copied.field-0) told len
+    (returns-clause-found g c honest)

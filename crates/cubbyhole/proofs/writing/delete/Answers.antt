@@ -1,8 +1,10 @@
-use Rattle.std.proofs.Common.{◌∙◌, ap, None}
-use Rattle.broker_types.specs.Text.{same}
+use Rattle.std.proofs.Common.{◌≡◌, ◌∙◌, ap, None}
+use Rattle.std.specs.FinMap as map
+use Rattle.broker_types.specs.Text.{Text, same}
 use Rattle.broker_types.specs.Map.{without}
 use Rattle.records.specs.declared.kind.Kind.TheVariants as kind
 use Rattle.records.specs.Table.{table_of, without_row}
+use Rattle.records.specs.Transaction.{Seen}
 use Rattle.std.proofs.lemmas.Result.{on_ok_weaker}
 use Rattle.records.specs.TableLaws.{table_of-remove}
 use Rattle.cubbyhole.specs.Objects.{table, object_key}
@@ -13,9 +15,11 @@ use Rattle.cubbyhole.proofs.writing.delete.Goals as goal
 
 pub returns-clause-rows : goal.returns-clause-rows
 returns-clause-rows g c honest =
-    let old = g.T.RecordsTx.seen c.args.tx.now in
-    on_ok_weaker c.remove.result (λ removed.
-    ap table_of removed ∙ table_of-remove old.rows kind.Cubby c.as_str.result.now
+    let old : Seen = g.T.RecordsTx.seen c.args.tx.now in
+    let new : Seen = g.T.RecordsTx.seen c.remove.new.self in
+    let key : Text = c.as_str.result.now in
+    on_ok_weaker {P = new.rows ≡ map.remove old.rows (kind.Cubby, key)} c.remove.result (λ removed.
+    ap table_of removed ∙ table_of-remove old.rows kind.Cubby key
     ∙ ap (without_row (table old) kind.Cubby) (c.as_str.ensures.value ∙ c.in_ok-key.ensures)) (c.remove.ensures.rows honest)
 
 pub returns-clause-others : goal.returns-clause-others
@@ -24,7 +28,8 @@ returns-clause-others g c honest =
     let t = c.args.token.now in
     let path = c.args.path.now in
     on_ok_weaker c.remove.result (λ rows.
-    others_kept t (λ q. same q (object_key t path)) None (table (seen c.args.tx.now)) (table (seen c.remove.new.self)) rows (key_under t path)) (returns-clause-rows g c honest)
+    others_kept t (λ q. same q (object_key t path)) None (table (seen c.args.tx.now)) (table (seen c.remove.new.self)) rows (key_under t path))
+    (returns-clause-rows g c honest)
 
 pub returns-clause-told : goal.returns-clause-told
 returns-clause-told g c honest part b told len =

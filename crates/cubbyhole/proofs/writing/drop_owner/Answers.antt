@@ -1,4 +1,4 @@
-use Rattle.std.proofs.Common.{◌≡◌, ◌∙◌, ap, [], None}
+use Rattle.std.proofs.Common.{◌∙◌, [], None}
 use Rattle.std.specs.Prelude.{nat_eq}
 use Rattle.std.specs.List.{starts_with}
 use Rattle.broker_types.specs.Map.{empty}
@@ -14,7 +14,8 @@ use Rattle.cubbyhole.proofs.writing.drop_owner.Goals as goal
 pub returns-clause-rows : goal.returns-clause-rows
 returns-clause-rows g c honest =
     let old = g.T.RecordsTx.seen c.args.tx.now in
-    on_ok_weaker c.remove_under.result (λ rows. rows ∙ (λ i. without_under (table old) kind.Cubby ((c.as_str.ensures.value ∙ c.in_ok-key.ensures) i))) (c.remove_under.ensures.rows honest)
+    on_ok_weaker c.remove_under.result (λ rows. rows ∙ (λ i. without_under (table old) kind.Cubby ((c.as_str.ensures.value ∙ c.in_ok-key.ensures) i)))
+    (c.remove_under.ensures.rows honest)
 
 pub returns-clause-owned : goal.returns-clause-owned
 returns-clause-owned g c honest filed len =
@@ -26,7 +27,8 @@ returns-clause-others g c honest =
     let seen = g.T.RecordsTx.seen in
     let t = c.args.token.now in
     on_ok_weaker c.remove_under.result (λ rows.
-    others_kept t (λ q. starts_with nat_eq q (object_key t [])) None (table (seen c.args.tx.now)) (table (seen c.remove_under.new.tx)) rows (λ q is. is)) (returns-clause-rows g c honest)
+    others_kept t (λ q. starts_with nat_eq q (object_key t [])) None (table (seen c.args.tx.now)) (table (seen c.remove_under.new.tx)) rows (λ q is. is))
+    (returns-clause-rows g c honest)
 
 pub returns-clause-told : goal.returns-clause-told
 returns-clause-told g c honest part b told len =

@@ -1,9 +1,12 @@
-use Rattle.std.proofs.Common.{◌∙◌, ap, Some}
-use Rattle.broker_types.specs.Text.{same}
+use Rattle.std.proofs.Common.{◌≡◌, ◌∙◌, ap, Some}
+use Rattle.std.specs.FinMap as map
+use Rattle.broker_types.specs.Text.{Text, same}
 use Rattle.broker_types.specs.Map.{put}
 use Rattle.records.specs.declared.kind.Kind.TheVariants as kind
 use Rattle.records.specs.RowForms.{cubby_row}
+use Rattle.records.specs.declared.row.Row.{Row}
 use Rattle.records.specs.Table.{table_of, with_row}
+use Rattle.records.specs.Transaction.{Seen}
 use Rattle.std.proofs.lemmas.Result.{on_ok_weaker}
 use Rattle.records.specs.TableLaws.{table_of-insert}
 use Rattle.cubbyhole.specs.Objects.{table, object_key}
@@ -14,9 +17,12 @@ use Rattle.cubbyhole.proofs.writing.write.Goals as goal
 
 pub returns-clause-rows : goal.returns-clause-rows
 returns-clause-rows g c honest =
-    let old = g.T.RecordsTx.seen c.args.tx.now in
-    on_ok_weaker c.put.result (λ put.
-    ap table_of put ∙ table_of-insert old.rows kind.Cubby c.as_str.result.now c.in_ok-row.row
+    let old : Seen = g.T.RecordsTx.seen c.args.tx.now in
+    let new : Seen = g.T.RecordsTx.seen c.put.new.self in
+    let key : Text = c.as_str.result.now in
+    let row : Row = c.in_ok-row.row in
+    on_ok_weaker {P = new.rows ≡ map.insert old.rows (kind.Cubby, key) row} c.put.result (λ put.
+    ap table_of put ∙ table_of-insert old.rows kind.Cubby key row
     ∙ (λ i. with_row (table old) kind.Cubby ((c.as_str.ensures.value ∙ c.in_ok-key.ensures) i) (c.in_ok-row.ensures i))) (c.put.ensures.rows honest)
 
 pub returns-clause-others : goal.returns-clause-others
@@ -25,7 +31,8 @@ returns-clause-others g c honest =
     let t = c.args.token.now in
     let path = c.args.path.now in
     on_ok_weaker c.put.result (λ rows.
-    others_kept t (λ q. same q (object_key t path)) (Some (cubby_row t c.args.object.now)) (table (seen c.args.tx.now)) (table (seen c.put.new.self)) rows (key_under t path)) (returns-clause-rows g c honest)
+    others_kept t (λ q. same q (object_key t path)) (Some (cubby_row t c.args.object.now)) (table (seen c.args.tx.now)) (table (seen c.put.new.self)) rows
+    (key_under t path)) (returns-clause-rows g c honest)
 
 pub returns-clause-told : goal.returns-clause-told
 returns-clause-told g c honest part b told here len =
@@ -34,5 +41,6 @@ returns-clause-told g c honest part b told here len =
     let path = c.args.path.now in
     let object = c.args.object.now in
     on_ok_weaker c.put.result (λ rows.
-    tells_edited b t (λ m. put m path object) (λ q. same q (object_key t path)) (Some (cubby_row t object)) (table (seen c.args.tx.now)) (table (seen c.put.new.self)) rows
+    tells_edited b t (λ m. put m path object) (λ q. same q (object_key t path)) (Some (cubby_row t object)) (table (seen c.args.tx.now))
+    (table (seen c.put.new.self)) rows
     (cubby-write b t len path object here) part told) (returns-clause-rows g c honest)

@@ -1,4 +1,5 @@
-use Rattle.std.proofs.Common.{◌≡◌, ◌∙◌, ◌+◌, ℕ, List, [], ◌∷◌, ◌++◌, Result, Ok, Err, IsOk, is_ok, if◌then◌else◌, ap, sym, subst, inl, arith, take, refl, rules, Vec}
+use Rattle.std.proofs.Common.{◌≡◌, ◌∙◌, ◌+◌, ℕ, List, [], ◌∷◌, ◌++◌, Result, Ok, Err, IsOk, is_ok, if◌then◌else◌, ap, sym, subst, inr, arith, take, refl, rules}
+use Rattle.std.proofs.Common.{Vec}
 use Rattle.std.proofs.lemmas.Bool.{false≢true}
 use Rattle.std.proofs.lemmas.List.{map_push}
 use Rattle.std.proofs.lemmas.Result.{IfErr-at_err}
@@ -7,8 +8,9 @@ use Rattle.std.specs.List.{All}
 use Rattle.broker_types.specs.Fault.{IsMemoryOrStorage}
 use Rattle.std.specs.declared.alloc.Global.{Global}
 use Rattle.hub.specs.Listed.{IsListedReply}
-use Rattle.hub.specs.Standing.{shown}
+use Rattle.hub.specs.Representing.{hub_store}
 use Rattle.hub.specs.Runs.{bytes_of, Answers}
+use Rattle.hub.specs.World.{Run}
 use Rattle.hub.proofs.AnswersLemmas.{answers_of, answers_more, answers_all, stops_at, honest_before, later_still}
 use Rattle.hub.proofs.running.run.Goals as goal
 
@@ -27,17 +29,37 @@ returns-in-Err-feed-clause-listed g c = c.loop-i.invariant.listed
 pub returns-clause-listed : goal.returns-clause-listed
 returns-clause-listed g c = c.loop-i.invariant.listed
 
+pub returns-in-Err-clause-before : goal.returns-in-Err-clause-before
+returns-in-Err-clause-before g c = λ honest w represents.
+    let none : bytes_of c.reserve.new.self.items ≡ [] = ap bytes_of (c.reserve.ensures.items ∙ c.new-replies.ensures.items) in
+    (w, subst (λ (replies : List (List ℕ)). Run w [] replies w) (sym none) refl)
+
+pub returns-in-Err-feed-clause-before : goal.returns-in-Err-feed-clause-before
+returns-in-Err-feed-clause-before g c = λ honest w represents.
+    let honest_then = honest_before (hub_store g.S.Store.seen c.loop-i.hub) (hub_store g.S.Store.seen c.feed.new.self)
+    c.feed.ensures.keeps.later.mismatches honest in
+    let a = c.loop-i.invariant.answers honest_then w represents in
+    (a.after, a.run)
+
 pub returns-in-Err-feed-clause-stopped : goal.returns-in-Err-feed-clause-stopped
-returns-in-Err-feed-clause-stopped g c = λ honest open_ w stands.
-    let before = honest_before (shown g.S.Store.seen c.loop-i.hub) (shown g.S.Store.seen c.feed.new.self) c.feed.ensures.keeps.later.doubts honest in
-    inl (stops_at g.S.Store.seen w c.args.events.now c.loop-i.i c.index-events-i.result (bytes_of c.loop-i.replies.items) c.in-Err-feed.fault c.loop-i.hub c.feed.new.self
-    c.loop-i-test.true c.index-events-i.is (c.loop-i.invariant.answers before w stands) (IfErr-at_err (λ _. (shown g.S.Store.seen c.feed.new.self).rows ≡ (shown g.S.Store.seen c.loop-i.hub).rows) c.in-Err-feed.is (c.feed.ensures.keeps.kept honest open_)) c.in-Err-feed.ensures.left)
+returns-in-Err-feed-clause-stopped g c = inr (
+  c.loop-i-test.true,
+  λ honest open_ w represents.
+      let seen = g.S.Store.seen in
+      let old = c.loop-i.hub in
+      let new = c.feed.new.self in
+      let honest_then = honest_before (hub_store seen old) (hub_store seen new) c.feed.ensures.keeps.later.mismatches honest in
+      let kept = IfErr-at_err (λ _. (hub_store seen new).rows ≡ (hub_store seen old).rows) c.in-Err-feed.is (c.feed.ensures.keeps.kept honest open_) in
+      stops_at seen w c.args.events.now c.loop-i.i c.index-events-i.result c.as_slice-piece.result.now (bytes_of c.loop-i.replies.items) c.in-Err-feed.fault
+      old new c.index-events-i.is c.as_slice-piece.ensures (c.loop-i.invariant.answers honest_then w represents) kept c.in-Err-feed.ensures.connections,
+)
 
 pub returns-in-Err-feed-clause-wants : goal.returns-in-Err-feed-clause-wants
-returns-in-Err-feed-clause-wants g c = λ honest w stands.
-    let before = honest_before (shown g.S.Store.seen c.loop-i.hub) (shown g.S.Store.seen c.feed.new.self) c.feed.ensures.keeps.later.doubts honest in
-    let a = c.loop-i.invariant.answers before w stands in
-    IfErr-at_err IsMemoryOrStorage c.in-Err-feed.is (c.feed.ensures.keeps.wants honest a.after.broker a.stands.store)
+returns-in-Err-feed-clause-wants g c = λ honest w represents.
+    let before = honest_before (hub_store g.S.Store.seen c.loop-i.hub) (hub_store g.S.Store.seen c.feed.new.self)
+    c.feed.ensures.keeps.later.mismatches honest in
+    let a = c.loop-i.invariant.answers before w represents in
+    IfErr-at_err IsMemoryOrStorage c.in-Err-feed.is (c.feed.ensures.keeps.wants honest a.after.broker a.represents.broker)
 
 pub loop-i-init : goal.loop-i-init
 loop-i-init g c = record {
@@ -45,30 +67,34 @@ loop-i-init g c = record {
   room = search rules;
   later = search rules;
   listed = subst (All IsListedReply) (sym (ap bytes_of (c.reserve.ensures.items ∙ c.new-replies.ensures.items))) (All-nil IsListedReply);
-  answers = λ honest w stands.
+  answers = λ honest w represents.
       subst (λ (l : List (List ℕ)). Answers g.S.Store.seen w [] l c.args.hub.now)
       (sym (ap bytes_of (c.reserve.ensures.items ∙ c.new-replies.ensures.items)))
-      (answers_of g.S.Store.seen w [] [] c.args.hub.now w refl stands);
+      (answers_of g.S.Store.seen w [] [] c.args.hub.now w refl represents);
 }
 
 pub loop-i-preserved : goal.loop-i-preserved
 loop-i-preserved g c =
     let ok : IsOk c.push.result = c.push.ensures.succeeds (omega (arith, c.loop-i-test.true, c.loop-i.invariant.count, c.loop-i.invariant.room)) in
-    let now = replies_more c.push.new.self.items c.loop-i.replies.items c.in-Ok.bytes (pushed {A = List (Vec ℕ Global)} c.push.result _ _ _ ok c.push.ensures.items) in
+    let now = replies_more c.push.new.self.items c.loop-i.replies.items c.in-Ok.bytes
+    (pushed {A = List (Vec ℕ Global)} c.push.result _ _ _ ok c.push.ensures.items) in
     record {
       count = pushed c.push.result _ _ _ ok c.push.ensures.len ∙ ap (λ (n : ℕ). n + 1) c.loop-i.invariant.count;
       room = omega (arith, c.push.ensures.capacity, c.loop-i.invariant.room);
-      later = later_still (shown g.S.Store.seen c.args.hub.now) (shown g.S.Store.seen c.loop-i.hub) (shown g.S.Store.seen c.feed.new.self) c.loop-i.invariant.later c.feed.ensures.keeps.later;
+      later = later_still (hub_store g.S.Store.seen c.args.hub.now) (hub_store g.S.Store.seen c.loop-i.hub) (hub_store g.S.Store.seen c.feed.new.self)
+          c.loop-i.invariant.later c.feed.ensures.keeps.later;
       listed = subst (All IsListedReply) (sym now)
           (All-push IsListedReply (bytes_of c.loop-i.replies.items) c.in-Ok.bytes.items c.loop-i.invariant.listed c.in-Ok.ensures.listed);
-      answers = λ honest w stands.
-          let before = honest_before (shown g.S.Store.seen c.loop-i.hub) (shown g.S.Store.seen c.feed.new.self) c.feed.ensures.keeps.later.doubts honest in
+      answers = λ honest w represents.
+          let before = honest_before (hub_store g.S.Store.seen c.loop-i.hub) (hub_store g.S.Store.seen c.feed.new.self)
+          c.feed.ensures.keeps.later.mismatches honest in
           subst (λ (l : List (List ℕ)). Answers g.S.Store.seen w (take (c.loop-i.i + 1) c.args.events.now) l c.feed.new.self) (sym now)
           (answers_more g.S.Store.seen w c.args.events.now c.loop-i.i c.index-events-i.result c.as_slice-piece.result.now c.in-Ok.bytes.items
           (bytes_of c.loop-i.replies.items) c.loop-i.hub c.feed.new.self c.loop-i-test.true c.index-events-i.is c.as_slice-piece.ensures
-          (c.loop-i.invariant.answers before w stands) (c.in-Ok.ensures.ok honest));
+          (c.loop-i.invariant.answers before w represents) (c.in-Ok.ensures.ok honest));
     }
 
 pub returns-clause-replies : goal.returns-clause-replies
-returns-clause-replies g c = λ honest w stands.
-    answers_all g.S.Store.seen w c.args.events.now c.loop-i.i (bytes_of c.loop-i.replies.items) c.loop-i.hub c.loop-i-test.false (c.loop-i.invariant.answers honest w stands)
+returns-clause-replies g c = λ honest w represents.
+    answers_all g.S.Store.seen w c.args.events.now c.loop-i.i (bytes_of c.loop-i.replies.items) c.loop-i.hub c.loop-i-test.false
+    (c.loop-i.invariant.answers honest w represents)

@@ -1,9 +1,0 @@
-use Rattle.brokerd.specs.Lines.{lines_of, told_in}
-use Rattle.brokerd.proofs.StoppedLemmas.{wrote_none}
-use Rattle.brokerd.proofs.replay.replay.Goals as goal
-
-pub returns-in-Err-Memory-clause-stopped : goal.returns-in-Err-Memory-clause-stopped
-returns-in-Err-Memory-clause-stopped g c = λ input left other. wrote_none (told_in (lines_of input)) (g.W.Sink.written c.args.writer.now)
-
-pub returns-in-Err-Failed-clause-stopped : goal.returns-in-Err-Failed-clause-stopped
-returns-in-Err-Failed-clause-stopped g c = λ input left other. wrote_none (told_in (lines_of input)) (g.W.Sink.written c.args.writer.now)

@@ -1,6 +1,0 @@
-use Rattle.brokerd.specs.Lines.{lines_of, told_in}
-use Rattle.brokerd.proofs.StoppedLemmas.{wrote_none}
-use Rattle.brokerd.proofs.replay.replay_input.Goals as goal
-
-pub returns-in-Err-clause-stopped : goal.returns-in-Err-clause-stopped
-returns-in-Err-clause-stopped g c = λ other. wrote_none (told_in (lines_of c.args.input.now)) (g.W.Sink.written c.args.writer.now)

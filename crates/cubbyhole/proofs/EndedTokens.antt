@@ -1,0 +1,59 @@
+-- Tokens that ended, and the rows of their cubbyholes.
+use Rattle.std.specs.Prelude.{◌≡◌, ◌||◌, List, [], ◌∷◌, length, nat_eq, Bool, true, false, if◌then◌else◌, Option, None}
+use Rattle.std.specs.List.{starts_with}
+use Rattle.std.proofs.Common.{refl, sym, ◌∙◌, ap}
+use Rattle.std.proofs.lemmas.Bool.{false≢true, or_right}
+use Rattle.broker_types.specs.Text.{Text, same}
+use Rattle.broker_types.specs.Map.{empty}
+use Rattle.broker_types.specs.Broker.{Broker}
+use Rattle.broker_types.specs.TextLaws.{same_self}
+use Rattle.records.specs.declared.kind.Kind.{Kind}
+use Rattle.records.specs.declared.kind.Kind.TheVariants as kind
+use Rattle.records.specs.Children.{has}
+use Rattle.records.specs.Parts.{of_cubbyholes, Tells}
+use Rattle.records.specs.Rows.{rows_of, token_len}
+use Rattle.records.specs.Table.{Table, without_under}
+use Rattle.cubbyhole.specs.Cubbyhole.{object_at, drop_owner}
+use Rattle.cubbyhole.specs.CubbyholeLaws.{object_at-drop_owner}
+use Rattle.cubbyhole.specs.Laws.{without_owners}
+use Rattle.cubbyhole.specs.Objects.{object_key}
+use Rattle.cubbyhole.proofs.Edits.{tells_edited}
+use Rattle.cubbyhole.proofs.ObjectRows.{objects_row, rows_of-objects, cubby-drop_owner}
+
+part_cubby : (k : Kind) → of_cubbyholes k ≡ true → k ≡ kind.Cubby
+part_cubby kind.Clock h = absurd (false≢true h)
+part_cubby kind.Used h = absurd (false≢true h)
+part_cubby kind.Token h = absurd (false≢true h)
+part_cubby kind.Accessor h = absurd (false≢true h)
+part_cubby kind.Cubby h = refl
+part_cubby kind.Lease h = absurd (false≢true h)
+part_cubby kind.Credential h = absurd (false≢true h)
+part_cubby kind.KvKey h = absurd (false≢true h)
+part_cubby kind.KvVersion h = absurd (false≢true h)
+part_cubby kind.Waiting h = absurd (false≢true h)
+part_cubby kind.Mount h = absurd (false≢true h)
+part_cubby kind.Policy h = absurd (false≢true h)
+part_cubby kind.Role h = absurd (false≢true h)
+
+-- brokers with the same objects have the same rows of cubbyholes
+same_rows : (b c : Broker) → ((t path : Text) → object_at c t path ≡ object_at b t path) → (q : Text) → rows_of b kind.Cubby q ≡ rows_of c kind.Cubby q
+same_rows b c same_objects q =
+    rows_of-objects b q ∙ (λ i. objects_row (λ t path. sym (same_objects t path) i) q) ∙ sym (rows_of-objects c q)
+
+one_more : (here more : Bool) (o : Option Text) → (if here || more then None else o) ≡ (if more then None else (if here then None else o))
+one_more true true o = refl
+one_more true false o = refl
+one_more false more o = refl
+
+pub ended_left : (b c : Broker) (ended : List Text) (rows : Table) → ((t : Text) → has ended t ≡ true → length t ≡ token_len) → Tells of_cubbyholes rows b
+    → ((t path : Text) → object_at c t path ≡ (if has ended t then None else object_at b t path)) → Tells of_cubbyholes (without_owners rows ended) c
+ended_left b c [] rows lens told objects = λ k q h.
+    told k q h ∙ ap (λ k. rows_of b k q) (part_cubby k h) ∙ same_rows b c objects q ∙ ap (λ k. rows_of c k q) (sym (part_cubby k h))
+ended_left b c (t ∷ ended) rows lens told objects =
+    ended_left (drop_owner b t) c ended (without_under rows kind.Cubby (object_key t []))
+    (λ u h. lens u (or_right (same u t) (has ended u) h))
+    (tells_edited b t (λ m. empty) (λ q. starts_with nat_eq q (object_key t [])) None rows (without_under rows kind.Cubby (object_key t [])) refl
+    (cubby-drop_owner b t (lens t (ap (λ v. v || has ended t) (same_self t)))) of_cubbyholes told)
+    (λ u path.
+    objects u path ∙ one_more (same u t) (has ended u) (object_at b u path)
+    ∙ ap (λ o. if has ended u then None else o) (sym (object_at-drop_owner b t u path)))

@@ -1,0 +1,24 @@
+-- How a replay ends.
+use Rattle.std.specs.Prelude.{◌≡◌, ◌⊎◌, Bool, IsTrue, Option, Some, None, slice_index, ⊤}
+use Rattle.replay.specs.Lines.{Told}
+use Rattle.replay.specs.declared.replaying.Exit.{Exit}
+use Rattle.replay.specs.declared.replaying.Exit.TheVariants.{Done, Faulted, BadLine}
+
+-- words 1 and 2 of the start are equal: no root token is made of these
+abbrev pub HasEqualWords : Option Told → Type 0
+HasEqualWords None = ⊥
+HasEqualWords (Some t) = slice_index t.start.words.0 1 ≡ slice_index t.start.words.0 2
+
+-- its fault, if it has one: memory ran out, the words of the start are equal, or a write failed
+abbrev pub EndsBy : Type 0 → Bool → Exit → Type 0
+EndsBy EqualWords write_failed Done = ⊤
+EndsBy EqualWords write_failed (BadLine line) = ⊤
+EndsBy EqualWords write_failed (Faulted number) =
+    (number ≡ 1) ⊎ ((number ≡ 4) × EqualWords) ⊎ ((number ≡ 6) × IsTrue write_failed)
+
+-- the same, or a read failed
+abbrev pub EndsByRead : Type 0 → Type 0 → Bool → Exit → Type 0
+EndsByRead EqualWords ReadFailed write_failed Done = ⊤
+EndsByRead EqualWords ReadFailed write_failed (BadLine line) = ⊤
+EndsByRead EqualWords ReadFailed write_failed (Faulted number) =
+    (number ≡ 1) ⊎ ((number ≡ 4) × EqualWords) ⊎ ((number ≡ 5) × ReadFailed) ⊎ ((number ≡ 6) × IsTrue write_failed)

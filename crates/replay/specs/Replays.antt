@@ -1,0 +1,51 @@
+-- What a replay answers.
+use Rattle.std.specs.Prelude.{◌≡◌, ◌≢◌, ◌+◌, ℕ, List, [], Option, Some, None, ⊤, length, take, slice_index}
+use Rattle.std.specs.Prelude.{if◌then◌else◌}
+use Rattle.std.specs.Io.KnownBytes.{Appends}
+use Rattle.std.specs.List.{concat}
+use Rattle.broker_types.specs.First.{first_broker}
+use Rattle.hub.specs.World.{World, Run, new_world}
+use Rattle.hub.specs.declared.event.Event.{Event}
+use Rattle.replay.specs.Lines.{Told}
+use Rattle.replay.specs.declared.lines.Start.{Start}
+use Rattle.replay.specs.declared.replaying.Exit.{Exit}
+use Rattle.replay.specs.declared.replaying.Exit.TheVariants.{Done, Faulted, BadLine}
+use Rattle.replay.specs.declared.script.Script.{Script}
+
+-- nothing failed
+abbrev pub IsUnfaulted : Exit → Type 0
+IsUnfaulted Done = ⊤
+IsUnfaulted (BadLine line) = ⊤
+IsUnfaulted (Faulted number) = ⊥
+
+-- what a script tells
+abbrev pub told : Script → Told
+told script = record { start = script.start; events = script.events.items; is_cut = script.is_cut }
+
+-- how the lines end a replay where nothing fails: lines are counted from 1, the start among them
+abbrev pub exit_of : Told → Exit
+exit_of t = if t.is_cut then BadLine (length t.events + 2) else Done
+
+-- the events were answered from the first broker of the start, with no connection seen, and the replies were written
+pub record Replayed (start : Start) (events : List Event) (old new : Option (List ℕ)) : Type 0 where
+  pub replies : List (List ℕ)
+  pub after : World
+  pub run : Run (new_world (first_broker start.moment (slice_index start.words.0 1) (slice_index start.words.0 2)))
+      events replies after
+  pub written : Appends old new (concat replies)
+
+-- what the lines tell was replayed; nothing was written where the first is bad
+abbrev pub Replays : Option Told → Option (List ℕ) → Option (List ℕ) → Exit → Type 0
+Replays None old new exit = (exit ≡ BadLine 1) × Appends old new []
+Replays (Some t) old new exit = (exit ≡ exit_of t) × Replayed t.start t.events old new
+
+-- the replies to some number of the first events were written whole, and nothing else; none, where the start is bad
+abbrev pub WroteFirst : Option Told → Option (List ℕ) → Option (List ℕ) → Type 0
+WroteFirst None old new = Appends old new []
+WroteFirst (Some t) old new = (count : ℕ) × Replayed t.start (take count t.events) old new
+
+-- Where it ended by a fault that is none of writing, nothing but replies of the run was written. How many
+-- were there before the fault is not told.
+abbrev pub Stopped : Option Told → Option (List ℕ) → Option (List ℕ) → Exit → Type 0
+Stopped t old new (Faulted number) = number ≢ 6 → WroteFirst t old new
+Stopped t old new _ = ⊤

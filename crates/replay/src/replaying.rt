@@ -1,0 +1,116 @@
+ghost use Rattle.std.specs.Prelude.{◌≡◌, ◌⊎◌, ◌+◌, ◌≤◌, ℕ, List, Some, IsTrue};
+ghost use Rattle.std.specs.Io.KnownBytes.{Appends};
+ghost use Rattle.std.specs.List.{concat};
+ghost use Rattle.hub.specs.Runs.{bytes_of};
+ghost use Rattle.replay.specs.Exits.{EndsBy, EndsByRead, HasEqualWords};
+ghost use Rattle.replay.specs.Lines.{lines_of, told_in};
+ghost use Rattle.replay.specs.Replays.{IsUnfaulted, Replayed, Replays, Stopped, exit_of, told};
+ghost use Rattle.replay.specs.declared.replaying.Exit.TheVariants.{Faulted};
+
+use crate::input::{Unread, read_to_end};
+use crate::script::{Script, read_script};
+use broker::ListStore;
+use broker_types::Fault;
+use hub::{Failed, Hub, Sink, Source, run};
+use std::alloc::Global;
+
+/// How a replay ended.
+#[derive(Clone, Copy, Debug, PartialEq, Eq)]
+pub enum Exit {
+    /// All lines were run.
+    Done,
+    /// Memory ran out (1), the storage failed (2), a row is damaged (3), the store cannot be started (4), or
+    /// a read (5) or a write (6) failed.
+    Faulted(u8),
+    /// The line of this number, counted from 1, is bad; those before it were run.
+    BadLine(u64),
+}
+
+impl From<Fault> for Exit {
+    ghost use Rattle.std.specs.Prelude.{◌≡◌};
+    ghost use Rattle.broker_types.specs.Fault.{fault_number};
+    ghost use Rattle.replay.specs.declared.replaying.Exit.TheVariants.{Faulted};
+
+    ghost from_gives = { λ fault exit. exit ≡ Faulted (fault_number fault) };
+
+    fn from(fault: Fault) -> Exit {
+        Exit::Faulted(fault.number())
+    }
+}
+
+/// Runs the lines of the source over a broker in memory, up to the first that is bad, and writes the
+/// bytes of their replies. A fault goes before a bad line; unless a write failed, the whole replies to
+/// some number of the first events are written then, and nothing else.
+pub fn replay<R: Source, W: Sink>(alloc: Global, reader: &mut R, writer: &mut W) -> Exit
+    ensures replays { (input : List ℕ) → R.left reader.old ≡ Some input → IsUnfaulted result
+        → Replays (told_in (lines_of input)) (W.written writer.old) (W.written writer.new) result }
+
+    // After a fault, but one of writing, what was written is the whole replies to some number of the
+    // first events.
+    ensures stopped { (input : List ℕ) → R.left reader.old ≡ Some input
+        → Stopped (told_in (lines_of input)) (W.written writer.old) (W.written writer.new) result }
+
+    // Fault 4 comes only where the start's words 1 and 2 are equal, a fault of reading only where the source
+    // failed, or after 4,294,967,296 pulls, and one of writing only where the sink failed.
+    ensures ends { EndsByRead
+        ((input : List ℕ) → R.left reader.old ≡ Some input → HasEqualWords (told_in (lines_of input)))
+        (IsTrue (R.has_failed reader.new) ⊎ (R.pulls reader.old + 4294967296 ≤ R.pulls reader.new))
+        (W.has_failed writer.new) result }
+{
+    match read_to_end(alloc, reader) {
+        Ok(input) => replay_input(alloc, input.as_slice(), writer),
+        Err(Unread::Memory) => Exit::Faulted(1),
+        Err(Unread::Failed) => Exit::Faulted(5),
+    }
+}
+
+/// Runs the lines of the input, and writes the replies.
+fn replay_input<W: Sink>(alloc: Global, input: &[u8], writer: &mut W) -> Exit
+    ensures ends { EndsBy (HasEqualWords (told_in (lines_of input.now))) (W.has_failed writer.new) result }
+    ensures replays { IsUnfaulted result
+        → Replays (told_in (lines_of input.now)) (W.written writer.old)
+        (W.written writer.new) result }
+    ensures stopped { Stopped (told_in (lines_of input.now)) (W.written writer.old)
+        (W.written writer.new) result }
+{
+    match read_script(alloc, input) {
+        Ok(Some(script)) => run_script(alloc, &script, writer),
+        Ok(None) => Exit::BadLine(1),
+        Err(_) => Exit::Faulted(1),
+    }
+}
+
+/// Starts a broker in memory, feeds it the events, and writes the replies.
+fn run_script<W: Sink>(alloc: Global, script: &Script, writer: &mut W) -> Exit
+    ensures ends { EndsBy (HasEqualWords (Some (told script.now))) (W.has_failed writer.new) result }
+    ensures exit { IsUnfaulted result → result ≡ exit_of (told script.now) }
+    ensures ran { IsUnfaulted result
+        → Replayed script.now.start script.now.events.items (W.written writer.old)
+        (W.written writer.new) }
+    ensures stopped { Stopped (Some (told script.now)) (W.written writer.old)
+        (W.written writer.new) result }
+{
+    let mut store = ListStore::new(alloc);
+    if let Err(fault) = store.start(script.start.moment, &script.start.words) {
+        return Exit::from(fault);
+    }
+    let mut hub = Hub::new(alloc, store);
+    match run(alloc, &mut hub, script.events.as_slice()) {
+        Ok(replies) => finish(writer, replies.as_slice(), script.exit()),
+        Err((_, replies, fault)) => finish(writer, replies.as_slice(), Exit::from(fault)),
+    }
+}
+
+/// Writes the replies, one after another, and ends as said, or with the fault of a write that failed.
+fn finish<W: Sink>(writer: &mut W, replies: &[Vec<u8>], exit: Exit) -> Exit
+    ensures { ((result ≡ exit)
+        × Appends (W.written writer.old) (W.written writer.new) (concat (bytes_of replies.now)))
+        ⊎ ((result ≡ Faulted 6) × IsTrue (W.has_failed writer.new)) }
+{
+    for reply in replies {
+        if let Err(Failed) = writer.push(reply.as_slice()) {
+            return Exit::Faulted(6);
+        }
+    }
+    exit
+}
