@@ -1,11 +1,10 @@
 -- What a body brings for a token and for a policy can be kept.
-use Rattle.std.specs.Prelude.{◌≡◌, ◌<◌, ◌≤◌, ◌^◌, ◌+◌, ◌⊎◌, ◌==◌, ℕ, List, [], ◌∷◌, ◌++◌, length, map, filter, Bool, true, false}
-use Rattle.std.specs.Prelude.{Option, Some, None, Result, Ok, Err, IfOk, option_map, option_and_then, unwrap_or, if◌then◌else◌, All, ⊤}
+use Rattle.std.specs.Prelude.{◌≡◌, ◌<◌, ◌≤◌, ◌^◌, ◌+◌, ◌⊎◌, ◌==◌, ℕ, List, [], ◌∷◌, length, map, Bool, true, false}
+use Rattle.std.specs.Prelude.{Option, Some, None, Result, Ok, Err, IfOk, option_map, unwrap_or, All}
 use Rattle.std.specs.List.{slice_split}
 use Rattle.std.specs.Cmp.Lexicographic.{slice_cmp}
 use Rattle.std.specs.Ordering.{nat_cmp, ordering_reverse, is_lt}
-use Rattle.std.specs.declared.cmp.Ordering.{Ordering}
-use Rattle.std.specs.declared.cmp.Ordering.TheVariants.{Less, Greater}
+use Rattle.std.specs.declared.cmp.Ordering.TheVariants.{Greater}
 use Rattle.std.proofs.Common.{refl, sym, ap, ◌∙◌, subst, inl, inr, arith, lit<, length-append}
 use Rattle.std.proofs.lemmas.List.{length-map}
 use Rattle.std.proofs.lemmas.List.Elements.{All-nil, All-cons}
@@ -137,8 +136,11 @@ fits later (member k d ms) es e =
     let ih = fits true ms rest.0 rest.1 in
     let n = length (members_text later (member k d ms)) in
     let whole = length-member later k d ms in
-    subst (λ (xs : List (Text × Text)). Fits n xs) rest.2
-    (omega (arith, whole, ih.0), All-cons (Both n) (k, t.0) rest.0 (omega (arith, whole, quoted_longer k), omega (arith, whole, text_of d t.0 t.1)) (more n (length (members_text true ms)) rest.0 ih.1 (omega (arith, whole))))
+    subst (λ (xs : List (Text × Text)). Fits n xs) rest.2 (
+      omega (arith, whole, ih.0),
+      All-cons (Both n) (k, t.0) rest.0 (omega (arith, whole, quoted_longer k), omega (arith, whole, text_of d t.0 t.1))
+          (more n (length (members_text true ms)) rest.0 ih.1 (omega (arith, whole))),
+    )
 
 few_items : (ds : Items) (ts : List Text) → each_item kind.as_text ds ≡ Some ts → length ts ≤ length (items_text true ds)
 few_items no_items ts e = subst (λ (xs : List Text). length xs ≤ 1) (same_Some _ _ e) (omega arith)
@@ -189,7 +191,8 @@ few_policies body ms f o fit e h = by (of_member kind.as_texts f (get_member (fi
 none_kept : IsKeptMeta []
 none_kept = record { few = lit< tt; short = All-nil _; ascend = refl }
 
-object_kept : (n : ℕ) (d : Data) (es : List (Text × Text)) → kind.as_pairs d ≡ Some es → IsCanonical d → length (compact_text d) ≤ n → n < 2 ^ 32 → IsKeptMeta es
+object_kept : (n : ℕ) (d : Data) (es : List (Text × Text)) → kind.as_pairs d ≡ Some es → IsCanonical d
+    → length (compact_text d) ≤ n → n < 2 ^ 32 → IsKeptMeta es
 unfolding Fits Both Ordered
 object_kept n null es e c h s = cc
 object_kept n (boolean b) es e c h s = cc
@@ -213,7 +216,8 @@ meta_kept body ms f o fit e h = by (of_member kind.as_pairs f (get_member (field
     by (inl none) = subst (λ (x : Option (List (Text × Text))). IsKeptMeta (unwrap_or x [])) (sym none) none_kept
     by (inr t) =
         subst (λ (x : Option (List (Text × Text))). IsKeptMeta (unwrap_or x [])) (sym t.4)
-        (object_kept (length (compact_text (object ms))) t.0 t.1 t.3 (member_canonical (field_name f) ms t.0 (body_stays body ms e).canonical.0 t.2) (member_length (field_name f) ms t.0 t.2) (short_object body ms e fit))
+        (object_kept (length (compact_text (object ms))) t.0 t.1 t.3 (member_canonical (field_name f) ms t.0 (body_stays body ms e).canonical.0 t.2)
+        (member_length (field_name f) ms t.0 t.2) (short_object body ms e fit))
 
 asked : (o : Option Text) (f : Field) (t : Text) → some_or (missing f) o ≡ Ok t → o ≡ Some t
 asked None f t e = cc
