@@ -7,7 +7,7 @@ use Rattle.broker_types.specs.Fault.{IsMemoryOrStorage}
 use Rattle.broker_types.specs.declared.fault.Fault.{Fault}
 use Rattle.broker_types.specs.declared.fault.Fault.TheVariants.{Storage}
 use Rattle.broker_types.specs.declared.words.Words.{Words}
-use Rattle.broker.specs.Kept.{Kept, IsHonestStoreStore}
+use Rattle.broker.specs.Kept.{Kept, IsHonestStore}
 use Rattle.broker.specs.Representing.{Represents}
 use Rattle.records.specs.Transaction.{Rows}
 use Rattle.http_layer.specs.Front.{Front, need, refused_with, whole, IsFront}

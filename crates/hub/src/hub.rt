@@ -16,7 +16,7 @@ pub struct Hub<S: Store> {
 impl<S: Store> Hub<S> {
     ghost use Rattle.std.specs.Prelude.{◌≡◌, ◌≢◌, ℕ, List, [], Some, IfOk, IfErr, IsOk, true};
     ghost use Rattle.broker_types.specs.Broker.{Broker};
-    ghost use Rattle.broker.specs.Kept.{IsHonestStoreStore};
+    ghost use Rattle.broker.specs.Kept.{IsHonestStore};
     ghost use Rattle.broker.specs.Representing.{Represents};
     ghost use Rattle.hub.specs.AnyRows.{EventGives};
     ghost use Rattle.hub.specs.Feeding.{Feeds, Keeps};
