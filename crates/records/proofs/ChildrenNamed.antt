@@ -6,14 +6,13 @@ use Rattle.std.specs.Cmp.Lexicographic.{nat_list_cmp_total}
 use Rattle.std.specs.FinMap as fin
 use Rattle.std.specs.FinMap.Entries.{is_some-find}
 use Rattle.std.proofs.Common.{refl, sym, ◌∙◌, ap, append_assoc}
-use Rattle.std.proofs.lemmas.Bool.{and_parts, and_from, or_right, false≢true, false_from_ne_true}
+use Rattle.std.proofs.lemmas.Bool.{and_parts, and_from, or_right, false≢true}
 use Rattle.std.proofs.Math.Seq.{drop-append_seam}
 use Rattle.broker_types.specs.Text.{Text, text_cmp, same}
 use Rattle.broker_types.specs.TextLaws.{same-text_cmp, same_self, same_true}
 use Rattle.broker_types.specs.MapLaws.{same_map}
 use Rattle.records.specs.declared.kind.Kind.{Kind}
 use Rattle.records.specs.declared.row.Row.{Row}
-use Rattle.records.specs.Kind.{Key}
 use Rattle.records.specs.Children.{child, below, children, member, set_of, has, keys_under, AreNames}
 use Rattle.records.specs.Transaction.{Rows, rows_under}
 use Rattle.records.proofs.ChildLemmas.{begun, begins_with}

@@ -1,9 +1,9 @@
 -- Sound brokers with equal rows are equal.
-use Rattle.std.specs.Prelude.{◌≡◌, ◌≢◌, ◌≤◌, ◌+◌, length, ℕ, [], ◌∷◌, ◌++◌, take, drop, not, Bool, true, false, is_none, if◌then◌else◌, Option, Some, None, option_map, option_and_then}
+use Rattle.std.specs.Prelude.{◌≡◌, ◌≤◌, ◌+◌, length, ℕ, [], ◌∷◌, ◌++◌, take, drop, not, true, is_none, if◌then◌else◌, Option, Some, None, option_map, option_and_then}
 use Rattle.std.specs.Cmp.{nat_cmp_total}
 use Rattle.std.specs.FinMap as fin
 use Rattle.std.specs.FinMap.{nat_cmp-IsAntisymmetric}
-use Rattle.std.proofs.Common.{refl, sym, ◌∙◌, ap, subst, inl, inr}
+use Rattle.std.proofs.Common.{refl, sym, ◌∙◌, ap, inl, inr}
 use Rattle.std.proofs.Math.Nat.{le_trans}
 use Rattle.std.proofs.lemmas.Bool.{false≢true}
 use Rattle.std.proofs.lemmas.Option.{none-some, same_Some}
@@ -22,11 +22,11 @@ use Rattle.broker_types.specs.SearchLaws.{first_where_is, first_where_only}
 use Rattle.records.specs.declared.kind.Kind.{Kind}
 use Rattle.records.specs.declared.kind.Kind.TheVariants as kind
 use Rattle.records.specs.declared.row.Row.{Row}
-use Rattle.records.specs.Splits.{slash, line_feed, split_once}
+use Rattle.records.specs.Splits.{slash, line_feed}
 use Rattle.records.specs.SplitLaws.{split-lacking}
 use Rattle.records.specs.Table.{Table}
 use Rattle.records.specs.CubbyKeyLaws.{key_has_slash, key_token, key_path, length-token}
-use Rattle.records.specs.KeyEntry.{KeyEntry, key_entry}
+use Rattle.records.specs.KeyEntry.{key_entry}
 use Rattle.records.specs.RowForms.{used_row, token_row, cubby_row, lease_row, key_row, version_row, waiting_row, mount_row, policy_row, role_row}
 use Rattle.records.specs.Rows.{rows_of, token_len, object_row, has_lease, padded, version_key, version_at, version_row_of}
 use Rattle.records.specs.ValueLaws.{a_value}

@@ -43,7 +43,7 @@ key_cmp_total = then_total (on_total (λ k. kind_number k.0) nat_cmp_total) (on_
 pub key_cmp_exact : IsAntisymmetric key_cmp
 key_cmp_exact a b h =
     let same =
-        exact_pairs nat_cmp (slice_cmp nat_cmp) exact_unsigned (slice_cmp-IsAntisymmetric nat_cmp-IsAntisymmetric)
-        (kind_number a.0, a.1) (kind_number b.0, b.1) h in
+    exact_pairs nat_cmp (slice_cmp nat_cmp) exact_unsigned (slice_cmp-IsAntisymmetric nat_cmp-IsAntisymmetric)
+    (kind_number a.0, a.1) (kind_number b.0, b.1) h in
     let kinds : a.0 ≡ b.0 = sym (kind_of-number a.0) ∙ ap (λ (p : ℕ × List ℕ). kind_of p.0) same ∙ kind_of-number b.0 in
     λ i. (kinds i, (same i).1)

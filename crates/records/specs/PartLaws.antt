@@ -1,5 +1,5 @@
 -- Which rows a part of a broker has: another value of the part leaves the rows of all other kinds.
-use Rattle.std.specs.Prelude.{◌≡◌, ℕ, Bool, true, false, ⊤, refl}
+use Rattle.std.specs.Prelude.{◌≡◌, ℕ, true, false, ⊤, refl}
 use Rattle.std.proofs.Common.{sym, ◌∙◌, ap}
 use Rattle.std.proofs.lemmas.Bool.{false≢true}
 use Rattle.broker_types.specs.Text.{Text}

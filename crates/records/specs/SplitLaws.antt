@@ -1,5 +1,5 @@
 -- Laws of texts split at a byte.
-use Rattle.std.specs.Prelude.{◌≡◌, ◌==◌, ◌&&◌, ℕ, [], ◌∷◌, ◌++◌, not, Bool, true, false, Some, None, option_map}
+use Rattle.std.specs.Prelude.{◌≡◌, ◌==◌, ◌&&◌, ℕ, [], ◌∷◌, ◌++◌, not, true, false, Some, None, option_map}
 use Rattle.std.proofs.Common.{refl, sym, ◌∙◌, ap}
 use Rattle.std.proofs.lemmas.Bool.{and_parts, not-true, eqb-true}
 use Rattle.std.proofs.lemmas.Option.{none-some, same_Some}
@@ -26,7 +26,7 @@ pub lacking_split : (c : ℕ) (q : Text) (p : Text × Text) → split_once c q �
 lacking_split c [] p h = absurd (none-some _ h)
 lacking_split c (x ∷ q) p h =
     elim (x == c) as (λ b. (x == c) ≡ b → split_step b x q (split_once c q) ≡ Some p
-        → (x ∷ q ≡ p.0 ++ c ∷ p.1) × (lacks c p.0 ≡ true)) [
+    → (x ∷ q ≡ p.0 ++ c ∷ p.1) × (lacks c p.0 ≡ true)) [
       | true ↦ λ is e.
           let at : x ≡ c = eqb-true x c is in
           let front : Text × Text = ([], q) in
@@ -36,7 +36,7 @@ lacking_split c (x ∷ q) p h =
           )
       | false ↦ λ is e.
           elim (split_once c q) as (λ o. split_once c q ≡ o → split_step false x q o ≡ Some p
-              → (x ∷ q ≡ p.0 ++ c ∷ p.1) × (lacks c p.0 ≡ true)) [
+          → (x ∷ q ≡ p.0 ++ c ∷ p.1) × (lacks c p.0 ≡ true)) [
             | None ↦ λ _ z. absurd (none-some _ z)
             | Some r ↦ λ found z.
                 let front : Text × Text = (x ∷ r.0, r.1) in

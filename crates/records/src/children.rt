@@ -47,7 +47,12 @@ fn push_once(texts: &mut Vec<TextBuf>, text: String) -> Result<(), AllocError>
 }
 
 /// Adds the child that a key belongs to, if the key begins with the prefix.
-fn push_child(alloc: Global, names: &mut Vec<TextBuf>, key: &str, prefix: &str) -> Result<(), AllocError>
+fn push_child(
+    alloc: Global,
+    names: &mut Vec<TextBuf>,
+    key: &str,
+    prefix: &str,
+) -> Result<(), AllocError>
     ensures { OnOk result (names.new.items ≡ push_each names.old.items (map child (below prefix.now (key.now ∷ [])))) }
 {
     if let Some(rest) = key.strip_prefix(prefix) {
@@ -61,7 +66,11 @@ fn push_child(alloc: Global, names: &mut Vec<TextBuf>, key: &str, prefix: &str) 
 /// slash at their ends. They are those of the keys that begin with the prefix, where the rows are listed
 /// under it. It fails only when out of memory (Vault's documentation, "KV secrets engine - version 2" and
 /// "Cubbyhole secrets engine", list secrets).
-pub fn children_of(alloc: Global, listed: &[Entry], prefix: &str) -> Result<Vec<TextBuf>, AllocError>
+pub fn children_of(
+    alloc: Global,
+    listed: &[Entry],
+    prefix: &str,
+) -> Result<Vec<TextBuf>, AllocError>
     ensures in_order { IfOk result
         (λ names. names.items ≡ children_in_order prefix.now (map (λ e. e.0.1) listed.now)) }
     ensures set { (rows : Rows) (kind : Kind) → listed.now ≡ rows_under rows kind prefix.now

@@ -54,8 +54,7 @@ fn secret_of<'r>(is_destroyed: bool, object: &'r str) -> Option<&'r str>
 pub fn read_version(kept: &Row) -> Result<VersionRecord<'_>, Fault>
     ensures { Reads IsVersionInRange version_row kept.now result }
 {
-    let (((created, deleted), is_destroyed), object) =
-        read_lone::<(), VersionForm<'_>>((), kept)?;
+    let (((created, deleted), is_destroyed), object) = read_lone::<(), VersionForm<'_>>((), kept)?;
     if is_destroyed && !object.text.is_empty() {
         return Err(Fault::Damaged);
     }
@@ -76,9 +75,6 @@ pub fn write_version(alloc: Global, version: &VersionRecord<'_>) -> Result<Row, 
         text: version.secret.unwrap_or(""),
     };
     let is_destroyed = version.secret.is_none();
-    let fields = (
-        ((version.created, version.deleted), is_destroyed),
-        object,
-    );
+    let fields = (((version.created, version.deleted), is_destroyed), object);
     write_row::<VersionForm<'_>>(alloc, "", None, &fields)
 }

@@ -1,5 +1,5 @@
 use Rattle.std.proofs.Common.{◌≡◌, ◌==◌, ◌++◌, ◌∷◌, [], ap, sym, ◌∙◌, length, arith}
-use Rattle.std.specs.List.{position_or_len, before_first}
+use Rattle.std.specs.List.{position_or_len}
 use Rattle.std.proofs.lemmas.Str.Pattern.{split_once_first}
 use Rattle.records.specs.Splits.{slash}
 use Rattle.records.proofs.ChildLemmas.{child-whole, child-folder}

@@ -1,4 +1,4 @@
-use Rattle.std.proofs.Common.{◌≡◌, [], drop, ap, sym, ◌∙◌}
+use Rattle.std.proofs.Common.{◌≡◌, [], drop, ap, ◌∙◌}
 use Rattle.std.specs.Prelude.{List, map}
 use Rattle.std.proofs.lemmas.List.{drop_all}
 use Rattle.records.specs.declared.row.Row.{Row}

@@ -1,6 +1,5 @@
-use Rattle.std.proofs.Common.{◌≡◌, ◌-◌, ◌++◌, ◌∷◌, [], List, true, false, length, ap, sym, ◌∙◌}
+use Rattle.std.proofs.Common.{◌≡◌, ◌-◌, ◌++◌, ◌∷◌, [], true, false, length, ap, sym, ◌∙◌}
 use Rattle.std.specs.Prelude.{if◌then◌else◌, slice_get, string_bytes}
-use Rattle.broker_types.specs.Text.{Text}
 use Rattle.records.specs.Children.{is_text}
 use Rattle.records.proofs.children.push_once.Goals as goal
 

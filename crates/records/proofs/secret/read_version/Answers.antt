@@ -1,4 +1,4 @@
-use Rattle.std.proofs.Common.{◌≡◌, [], length, refl, sym, ◌∙◌}
+use Rattle.std.proofs.Common.{refl, sym, ◌∙◌}
 use Rattle.std.proofs.lemmas.Bool.{eqb-true, false≢true}
 use Rattle.std.proofs.lemmas.List.{nil_from_length}
 use Rattle.std.proofs.lemmas.Result.{err_from_is_err_and}
@@ -27,11 +27,11 @@ returns c =
     let read = c.in_ok-created in
     let x : VersionFields = (((read.created, read.deleted), read.is_destroyed), read.object) in
     let none : HasNone x =
-        elim c.else-is_destroyed.branch [
-          | else-is_destroyed-via-then-is_destroyed+else-not-is_empty w ↦ λ e.
-              sym c.object.view_is ∙ nil_from_length c.object.inside.text.now (eqb-true _ 0 (sym w.is_empty.ensures ∙ w.if-not-is_empty.false))
-          | else-is_destroyed-via-else-is_destroyed w ↦ λ e. absurd (false≢true (sym w.if-is_destroyed.false ∙ e))
-        ] in
+    elim c.else-is_destroyed.branch [
+      | else-is_destroyed-via-then-is_destroyed+else-not-is_empty w ↦ λ e.
+          sym c.object.view_is ∙ nil_from_length c.object.inside.text.now (eqb-true _ 0 (sym w.is_empty.ensures ∙ w.if-not-is_empty.false))
+      | else-is_destroyed-via-else-is_destroyed w ↦ λ e. absurd (false≢true (sym w.if-is_destroyed.false ∙ e))
+    ] in
     reads_record version_converts c.args.kept.now x _
     (λ i. record { created = read.created; deleted = read.deleted; secret = (c.secret_of-secret.ensures ∙ (λ j. secret_in read.is_destroyed (c.object.view_is j))) i })
     (narrow_read HasNone x none read.ensures)
