@@ -1,4 +1,4 @@
--- The order of keys: it is total, and keys that compare alike are one.
+-- The order of keys: it is total, and keys that compare alike are one (this project's).
 use Rattle.std.specs.Prelude.{◌≡◌, ℕ, List, ◌==◌, if◌then◌else◌, refl}
 use Rattle.std.specs.Ordering.{nat_cmp}
 use Rattle.std.specs.Cmp.{IsTotalOrder, nat_cmp_total}

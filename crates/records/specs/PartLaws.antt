@@ -1,4 +1,4 @@
--- Which rows a part of a broker has: another value of the part leaves the rows of all other kinds.
+-- Which rows a part of a broker has: another value of the part leaves the rows of all other kinds (this project's).
 use Rattle.std.specs.Prelude.{◌≡◌, ℕ, true, false, ⊤, refl}
 use Rattle.std.proofs.Common.{sym, ◌∙◌, ap}
 use Rattle.std.proofs.lemmas.Bool.{false≢true}
