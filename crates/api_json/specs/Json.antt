@@ -10,7 +10,7 @@ use Rattle.broker_types.specs.declared.refusal.Refusal.{Refusal}
 use Rattle.broker_types.specs.declared.refusal.Refusal.TheVariants as refusal
 use Rattle.broker_types.specs.declared.refusal.Reason.TheVariants as reason
 
--- the value that bytes are: UTF-8, and JSON of at most 127 levels
+-- the value that bytes are: UTF-8, and JSON of at most 127 levels (RFC 8259, sections 2, 8.1 and 9)
 abbrev pub json_value : List ℕ → Option Data
 json_value bytes = if is_utf8 bytes then read bytes else None
 
@@ -23,7 +23,7 @@ without_floats d = if has_float d then None else Some d
 abbrev pub tree : List ℕ → Option Data
 tree bytes = option_and_then without_floats (json_value bytes)
 
--- the members of an object; `null` is an empty object
+-- the members of an object (RFC 8259, section 4); `null` is an empty object (this project's)
 abbrev pub members_in : Data → Option Members
 members_in null = Some no_members
 members_in (boolean b) = None
@@ -32,11 +32,12 @@ members_in (string s) = None
 members_in (array ds) = None
 members_in (object ms) = Some ms
 
--- the object that a body is; no bytes are an empty one
+-- the object that a body is (Vault's documentation, "HTTP API"); no bytes are an empty one (this project's)
 abbrev pub read_body : List ℕ → Option Members
 read_body [] = Some no_members
 read_body (x ∷ xs) = option_and_then members_in (tree (x ∷ xs))
 
+-- 400 `failed to parse JSON input`
 abbrev pub no_object : Refusal
 no_object = refusal.BadRequest reason.InvalidJson
 
@@ -44,6 +45,7 @@ no_object = refusal.BadRequest reason.InvalidJson
 abbrev pub body_members : List ℕ → Result Members Refusal
 body_members body = some_or no_object (read_body body)
 
+-- whether there is a member
 abbrev pub has_members : Members → Bool
 has_members no_members = false
 has_members (member k d ms) = true

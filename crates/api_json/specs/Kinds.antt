@@ -1,4 +1,5 @@
--- What a member of a body may hold, with its lenient readings (this profile's; Vault's documentation, "HTTP API").
+-- What a member of a body may hold, and the other forms that are accepted for it (this profile's; Vault's
+-- documentation, "HTTP API").
 use Rattle.std.specs.Prelude.{ℕ, ◌+◌, ◌-◌, ◌*◌, ◌&&◌, ◌==◌, nat_le, List, [], ◌∷◌, length, not, map, filter, reverse}
 use Rattle.std.specs.Prelude.{Bool, true, false, if◌then◌else◌, Option, Some, None, option_map, option_and_then, codes}
 use Rattle.std.specs.List.{slice_split}
@@ -30,6 +31,7 @@ as_count (string s) = count_text s
 as_count (array ds) = None
 as_count (object ms) = None
 
+-- `true` or `false`
 abbrev pub flag_text : Text → Option Bool
 flag_text s = if same s (codes "true") then Some true else if same s (codes "false") then Some false else None
 
@@ -42,6 +44,7 @@ as_flag (string s) = flag_text s
 as_flag (array ds) = None
 as_flag (object ms) = None
 
+-- a text
 abbrev pub as_text : Data → Option Text
 as_text null = None
 as_text (boolean b) = None
@@ -59,10 +62,11 @@ as_duration (string s) = duration_of s
 as_duration (array ds) = None
 as_duration (object ms) = None
 
+-- `0s`
 abbrev pub deletion_time_text : Text → Option DeletionTime
 deletion_time_text s = if same s (codes "0s") then Some Never else None
 
--- when versions are deleted by time: never
+-- after which time versions are deleted: only `0s`, which is never, is accepted
 abbrev pub as_deletion_time : Data → Option DeletionTime
 as_deletion_time null = None
 as_deletion_time (boolean b) = None
@@ -85,13 +89,15 @@ after_spaces (c ∷ cs) = if c == 32 then after_spaces cs else c ∷ cs
 abbrev pub before_spaces : Text → Text
 before_spaces s = reverse (after_spaces (reverse s))
 
+-- without the spaces around it
 abbrev pub without_spaces : Text → Text
 without_spaces s = before_spaces (after_spaces s)
 
+-- not empty
 abbrev pub is_part : Text → Bool
 is_part t = not (length t == 0)
 
--- what stands between commas, without the spaces around it and without empty parts
+-- what is between commas, without the spaces around it and without empty parts
 unfoldable pub comma_parts : Text → List Text
 comma_parts s = filter is_part (map without_spaces (slice_split (λ c. c == 44) s))
 
@@ -123,6 +129,7 @@ abbrev pub each_text : Members → Option (List (Text × Text))
 each_text no_members = Some []
 each_text (member k d ms) = option_and_then (λ t. option_map (λ es. (k, t) ∷ es) (each_text ms)) (as_text d)
 
+-- names and values, each value a text
 abbrev pub as_pairs : Data → Option (List (Text × Text))
 as_pairs null = None
 as_pairs (boolean b) = None

@@ -1,4 +1,4 @@
--- Laws of objects that are printed and of objects that are kept, as statements.
+-- Laws of objects that are printed and of objects that are kept, as statements (this project's; RFC 8259, section 4).
 use Rattle.std.specs.Prelude.{◌≡◌, ◌≤◌, ℕ, List, [], ◌∷◌, ◌++◌, length, map, Some}
 use Rattle.serde_json.specs.Data.{Data, object, Members, no_members, member}
 use Rattle.serde_json.specs.Read.{read}
@@ -12,6 +12,7 @@ use Rattle.api_json.specs.Printing.{object_of, quoted}
 
 -- ---- the same texts, written from the front
 
+-- the text after a comma, if there is any
 abbrev pub behind_comma : List ℕ → List ℕ
 behind_comma [] = []
 behind_comma (x ∷ xs) = 44 ∷ x ∷ xs
@@ -21,14 +22,16 @@ abbrev pub members_from_front : List (Text × Text) → List ℕ
 members_from_front [] = []
 members_from_front (m ∷ ms) = quoted m.0 ++ 58 ∷ m.1 ++ behind_comma (members_from_front ms)
 
--- in braces
+-- an object is its members from the front, in braces
 abbrev pub PrintsFromTheFront : Type 0
 PrintsFromTheFront = (ms : List (Text × Text)) → object_of ms ≡ 123 ∷ members_from_front ms ++ 125 ∷ []
 
+-- the members of an object, from a list
 abbrev pub as_members : List (Text × Data) → Members
 as_members [] = no_members
 as_members (e ∷ es) = member e.0 e.1 (as_members es)
 
+-- a member whose value is compact JSON
 abbrev pub printed : Text × Data → Text × Text
 printed e = (e.0, compact_text e.1)
 
@@ -44,11 +47,13 @@ BodiesReadBack =
     (body : List ℕ) (ms : Members) → read_body body ≡ Some ms
     → read (compact_text (object ms)) ≡ Some (object ms)
 
+-- its compact text can be kept
 abbrev pub BodiesAreKept : Type 0
 BodiesAreKept =
     (body : List ℕ) (ms : Members) → length body ≤ longest_body → read_body body ≡ Some ms
     → IsKept (compact_text (object ms))
 
+-- and so can that of the object that it brings as a secret
 abbrev pub PayloadsAreKept : Type 0
 PayloadsAreKept =
     (body : List ℕ) (ms : Members) (t : Text) → length body ≤ longest_body → read_body body ≡ Some ms

@@ -19,6 +19,7 @@ invalid f = refusal.BadRequest (reason.InvalidField f)
 abbrev pub missing : Field → Refusal
 missing f = refusal.BadRequest (reason.MissingField f)
 
+-- the value, unless it is null
 abbrev pub not_null : Data → Option Data
 not_null null = None
 not_null (boolean b) = Some (boolean b)
@@ -32,6 +33,7 @@ abbrev pub given : Option Data → Option Data
 given None = None
 given (Some d) = not_null d
 
+-- nothing, a value of the kind, or 400 `invalid field: NAME`
 abbrev pub of_kind : {X : Type 0} → (Data → Option X) → Field → Option Data → Result (Option X) Refusal
 of_kind kind f None = Ok None
 of_kind kind f (Some d) = do

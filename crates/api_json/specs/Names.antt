@@ -1,10 +1,10 @@
--- The names of members of printed objects.
+-- The names of members of printed objects (Vault's documentation, "HTTP API").
 use Rattle.std.specs.Prelude.{codes}
 use Rattle.broker_types.specs.Text.{Text}
 use Rattle.api_json.specs.declared.name.Name.{Name}
 use Rattle.api_json.specs.declared.name.Name.TheVariants as name
 
--- a name's text; it stays shut where members are written, since a proof reads each byte of an open one
+-- a name's text; it stays folded in lists of members, since a proof reads each byte of an unfolded one
 unfoldable pub name_text : Name → Text
 name_text name.Accessor = codes "accessor"
 name_text name.Auth = codes "auth"

@@ -109,6 +109,7 @@ settings_object cas_required max_versions =
 
 -- ---- lists of keys, and policies (Vault's documentation, "/sys/policies")
 
+-- a list of keys, in the order in which they are given
 unfoldable pub keys_object : List Text → Text
 keys_object keys = object_of ((name_text name.Keys, texts keys) ∷ [])
 

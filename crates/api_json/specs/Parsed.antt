@@ -1,4 +1,4 @@
--- What contracts see of values that were read.
+-- What contracts see of values that were read (this project's definition).
 use Rattle.serde_json.specs.Data.{Data, Members}
 use Rattle.serde_json.specs.View.{view, members_view}
 use Rattle.api_json.specs.declared.parsed.Tree.{Tree}

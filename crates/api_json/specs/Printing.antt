@@ -1,4 +1,4 @@
--- Objects and arrays as compact JSON text (RFC 8259), of parts that are JSON texts already.
+-- Objects and arrays as compact JSON text (RFC 8259, sections 4, 5 and 7), of parts that are JSON texts already.
 use Rattle.std.specs.Prelude.{ℕ, ◌==◌, ◌∷◌, ◌++◌, List, [], length, if◌then◌else◌, map, fold, Bool, true, false}
 use Rattle.std.specs.Prelude.{Option, Some, None, codes, decimal, unwrap_or}
 use Rattle.serde_json.specs.Data.{string}
@@ -11,7 +11,7 @@ use Rattle.broker_types.specs.Time.{time_text}
 unfoldable pub quoted : Text → Text
 quoted t = compact_text (string t)
 
--- what is written behind an opening bracket, and a comma before it where something stands there already
+-- what is written after an opening bracket, with a comma before it if something is there already
 unfoldable pub with_item : Text → Text → Text
 with_item begun v = begun ++ (if length begun == 1 then [] else 44 ∷ []) ++ v
 
@@ -19,12 +19,15 @@ with_item begun v = begun ++ (if length begun == 1 then [] else 44 ∷ []) ++ v
 unfoldable pub with_member : Text → Text × Text → Text
 with_member begun m = with_item begun (quoted m.0 ++ 58 ∷ m.1)
 
+-- an object of these members, in this order
 abbrev pub object_of : List (Text × Text) → Text
 object_of ms = fold with_member (123 ∷ []) ms ++ 125 ∷ []
 
+-- an array of these texts
 abbrev pub array_of : List Text → Text
 array_of vs = fold with_item (91 ∷ []) vs ++ 93 ∷ []
 
+-- `null`
 unfoldable pub null_text : Text
 null_text = codes "null"
 
@@ -32,11 +35,12 @@ null_text = codes "null"
 unfoldable pub count : ℕ → Text
 count n = decimal n
 
+-- `true` or `false`
 unfoldable pub bool_text : Bool → Text
 bool_text true = codes "true"
 bool_text false = codes "false"
 
--- a JSON text, and `null` where there is none
+-- a JSON text, and `null` if there is none
 unfoldable pub or_null : Option Text → Text
 or_null o = unwrap_or o null_text
 
@@ -44,17 +48,20 @@ or_null o = unwrap_or o null_text
 unfoldable pub time : ℕ → Text
 time n = quoted (time_text n)
 
+-- a time, or another JSON text
 unfoldable pub time_or : Text → Option ℕ → Text
 time_or other None = other
 time_or other (Some n) = time n
 
+-- an array of texts
 unfoldable pub texts : List Text → Text
 texts ts = array_of (map quoted ts)
 
--- an object of texts, and `null` where there is none
+-- a name, and its text as JSON
 abbrev pub pair : Text × Text → Text × Text
 pair e = (e.0, quoted e.1)
 
+-- an object of texts, and `null` if there is none
 unfoldable pub pairs : List (Text × Text) → Text
 pairs es = if length es == 0 then null_text else object_of (map pair es)
 

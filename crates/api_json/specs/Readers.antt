@@ -21,12 +21,15 @@ use Rattle.api_json.specs.declared.secret_bodies.MountSettings.{MountSettings}
 abbrev pub is_no_period : Option ℕ → Bool
 is_no_period o = unwrap_or o 0 == 0
 
+-- the token can be renewed; one that cannot is not served
 abbrev pub is_renewable : Option Bool → Bool
 is_renewable o = unwrap_or o true
 
+-- no text; an id of the caller's choice is not served
 abbrev pub is_empty : Option Text → Bool
 is_empty o = length (unwrap_or o []) == 0
 
+-- the type `service`, or none; no other type is served
 abbrev pub is_service : Option Text → Bool
 is_service o = is_empty o || same (unwrap_or o []) (codes "service")
 
@@ -58,18 +61,21 @@ token_creation ms = do
     no_default_policy = unwrap_or no_default_policy false;
   })
 
+-- the member `token`: the token that a body names
 unfoldable pub token : Members → Result Text Refusal
 token ms = required kind.as_text field.Token ms
 
+-- the member `accessor`: the accessor that a body names
 unfoldable pub accessor : Members → Result Text Refusal
 accessor ms = required kind.as_text field.Accessor ms
 
--- 0, or absent, for as long as the token was made for
+-- the member `increment`: 0, or absent, is for the time that the token was made for
 unfoldable pub increment : Members → Result ℕ Refusal
 increment ms = do
   increment ← optional kind.as_duration field.Increment ms
   Ok (unwrap_or increment 0)
 
+-- the members `token` and `increment`: which token is renewed, and for how long
 unfoldable pub token_renewal : Members → Result TokenRenewal Refusal
 token_renewal ms = do
   token ← token ms
@@ -78,6 +84,7 @@ token_renewal ms = do
 
 -- ---- secrets (Vault's documentation, "KV secrets engine - version 2 (API)")
 
+-- a secret that is written: the member `data`, and `cas` of the member `options`
 unfoldable pub secret_write : Members → Result SecretWrite Refusal
 secret_write ms = do
   object ← some_or (refusal.BadRequest reason.NoData) (payload ms)
@@ -85,17 +92,18 @@ secret_write ms = do
   cas ← within (optional kind.as_count field.Cas) options
   Ok (record { object = object; cas = cas })
 
--- an empty list is as a missing one
+-- an empty list is like a missing one
 abbrev pub one_or_more : List ℕ → Result (List ℕ) Refusal
 one_or_more [] = Err (missing field.Versions)
 one_or_more (n ∷ ns) = Ok (n ∷ ns)
 
+-- the member `versions`: one or more
 unfoldable pub versions : Members → Result (List ℕ) Refusal
 versions ms = do
   versions ← required kind.as_counts field.Versions ms
   one_or_more versions
 
--- what is absent stays as it is
+-- the settings of a mount of secrets; what is absent stays as it is
 unfoldable pub mount_settings : Members → Result MountSettings Refusal
 mount_settings ms = do
   cas_required ← optional kind.as_flag field.CasRequired ms
@@ -105,5 +113,6 @@ mount_settings ms = do
 
 -- ---- policies (Vault's documentation, "/sys/policies")
 
+-- the member `policy`: the text of a policy
 unfoldable pub policy_text : Members → Result Text Refusal
 policy_text ms = required kind.as_text field.Policy ms

@@ -1,4 +1,4 @@
--- What a reader gives: what its definition says, but where memory runs out.
+-- What a reader answers: what its definition says, unless memory runs out (this project's definition).
 use Rattle.std.specs.Prelude.{◌≡◌, Result, Ok, Err}
 use Rattle.broker_types.specs.declared.fault.Fault.TheVariants.{Memory}
 use Rattle.broker_types.specs.declared.refusal.Refusal.{Refusal}
@@ -15,6 +15,7 @@ abbrev pub IsReadAs : {X Y : Type 0} → (X → Y) → Result Y Refusal → Resu
 IsReadAs see d (Ok x) = d ≡ Ok (see x)
 IsReadAs see d (Err e) = IsReadErr d e
 
+-- the same, of a value that contracts see as it is
 abbrev pub IsRead : {X : Type 0} → Result X Refusal → Result X RequestError → Type 0
 IsRead d (Ok x) = d ≡ Ok x
 IsRead d (Err e) = IsReadErr d e

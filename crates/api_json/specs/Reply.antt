@@ -19,6 +19,8 @@ reply_members r =
     ∷ (name_text name.WrapInfo, or_null r.wrap_info)
     ∷ []
 
+-- the body of a reply: compact JSON with the members by name, and a line feed (Vault's documentation, "HTTP API"; the
+-- order is this project's)
 unfoldable pub reply_text : Reply → Text
 reply_text r = object_of (reply_members r) ++ 10 ∷ []
 

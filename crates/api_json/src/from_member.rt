@@ -1,4 +1,4 @@
-//! What a member of a body may hold, with its lenient readings.
+//! What a member of a body may hold, and the other forms that are accepted for it.
 ghost use Rattle.std.specs.Prelude.{◌≡◌, Option, IfOk};
 ghost use Rattle.serde_json.specs.Data.{Data};
 ghost use Rattle.serde_json.specs.View.{view};
@@ -14,7 +14,7 @@ use std::alloc::{AllocError, Global};
 pub(crate) trait FromMember: Drop {
     ghost kind: { Data → Option Self };
 
-    /// The value that a member holds, if it is of this kind. It fails when memory runs out, and then alone.
+    /// The value that a member holds, if it is of this kind. The only error is running out of memory.
     fn from_member(alloc: Global, member: &Value) -> Result<Option<Self>, AllocError>
         ensures { IfOk result (λ o. o ≡ kind (view member.now)) };
 }
@@ -111,7 +111,7 @@ fn seconds(count: Option<u64>) -> Option<Seconds>
     }
 }
 
-/// When versions are deleted by time: never, the text `0s`, is the only such time here.
+/// After which time versions are deleted: only the text `0s`, which is never, is accepted.
 #[derive(Clone, Copy, Debug, PartialEq, Eq)]
 pub(crate) enum DeletionTime {
     Never,

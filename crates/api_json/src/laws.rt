@@ -1,7 +1,7 @@
 //! Laws of printed and of kept objects, each the contract of a function that does nothing.
 ghost use Rattle.api_json.specs.Laws.{PrintsFromTheFront, PrintsJson, BodiesReadBack, BodiesAreKept, PayloadsAreKept};
 
-/// A law: an object is printed name by name between braces, and where the values of its members are compact JSON it is
+/// A law: an object is printed name by name between braces, and if the values of its members are compact JSON, it is
 /// the compact text of an object.
 pub fn objects_are_json()
     ensures front { PrintsFromTheFront }

@@ -52,7 +52,7 @@ impl FromMember for Pairs {
     }
 }
 
-/// What stands between commas, without the spaces around it and without empty parts.
+/// What is between commas, without the spaces around it and without empty parts.
 fn comma_parts(alloc: Global, list: &str) -> Result<Texts, AllocError>
     ensures { IfOk result (λ t. t ≡ comma_parts list.now) }
 {

@@ -34,7 +34,7 @@ pub(crate) fn optional<X: FromMember>(
     }
 }
 
-/// A member that must be there: where it is absent, 400 `missing field: NAME`.
+/// A member that must be there. If it is absent: 400 `missing field: NAME`.
 pub(crate) fn required<X: FromMember>(
     alloc: Global,
     members: &Map<String, Value>,
@@ -79,14 +79,14 @@ pub(crate) fn within<X: FromMember>(
     }
 }
 
-/// Refuses a member that has a value which is not taken.
+/// Refuses a member whose value is not accepted.
 pub(crate) fn unless(holds: bool, field: Field) -> Result<(), RequestError>
     ensures { IsRead (unless holds (invalid field)) result }
 {
     if holds { Ok(()) } else { Err(invalid(field)) }
 }
 
-/// The compact text of the object that the member `data` is.
+/// The member `data`, an object, as its compact text.
 #[tactic(auto, using(crate::proofs::Whole::member_whole), unfolding(crate::specs::Members::payload))]
 pub(crate) fn payload(
     alloc: Global,
@@ -131,7 +131,7 @@ fn member<'m>(members: &'m Map<String, Value>, name: &str) -> Option<&'m Value>
     members.get(name)
 }
 
-/// A member of another kind, or with a value that is not taken.
+/// A member of another kind, or with a value that is not accepted.
 fn invalid(field: Field) -> RequestError
     ensures { result ≡ Refused (invalid field) }
 {

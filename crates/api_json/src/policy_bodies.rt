@@ -11,7 +11,7 @@ use crate::parsed::Body;
 use broker_types::{Field, RequestError, TextBuf};
 use std::alloc::Global;
 
-/// Reads the text of a policy that is written, the member `policy`. Where it is absent: 400 `missing field: policy`; of
+/// Reads the text of a policy that is written, the member `policy`. If it is absent: 400 `missing field: policy`; of
 /// another kind: 400 `invalid field: policy`. The only fault is running out of memory.
 #[tactic(auto, unfolding(crate::specs::Readers::policy_text))]
 pub fn policy_text(alloc: Global, body: &Body) -> Result<TextBuf, RequestError>

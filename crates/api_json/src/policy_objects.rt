@@ -7,7 +7,7 @@ use crate::printing::ObjectText;
 use broker_types::TextBuf;
 use std::alloc::{AllocError, Global};
 
-/// Prints a policy: its name and its text. It fails when memory runs out, and then alone.
+/// Prints a policy: its name and its text. The only error is running out of memory.
 #[tactic(auto, unfolding(crate::specs::Objects::policy_object))]
 pub fn policy_object(alloc: Global, name: &str, policy: &str) -> Result<TextBuf, AllocError>
     ensures { IfOk result (λ t. t ≡ policy_object name.now policy.now) }

@@ -173,7 +173,7 @@ impl ObjectText {
     }
 }
 
-/// Appends what stands behind an opening bracket, with a comma before it unless it is the first.
+/// Appends what follows an opening bracket, with a comma before it unless it is the first.
 #[tactic(auto, unfolding(crate::specs::Printing::with_item))]
 fn push_item(begun: &mut String, value: &str) -> Result<(), AllocError>
     ensures { OnOk result (string_bytes begun.new ≡ with_item (string_bytes begun.old) value.now) }
@@ -206,7 +206,7 @@ pub(crate) fn texts(alloc: Global, values: &[TextBuf]) -> Result<TextBuf, AllocE
     Ok(TextBuf::new(text))
 }
 
-/// An object of texts, and `null` where there is none.
+/// An object of texts, and `null` if there is none.
 #[tactic(auto, unfolding(crate::specs::Printing::pairs, crate::specs::Printing::null_text))]
 pub(crate) fn pairs(alloc: Global, values: &[(TextBuf, TextBuf)]) -> Result<TextBuf, AllocError>
     ensures { IfOk result (λ t. t ≡ pairs values.now) }

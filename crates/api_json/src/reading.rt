@@ -17,10 +17,10 @@ use broker_types::{Reason, Refusal, RequestError, TextBuf};
 use serde_json::{Map, Value};
 use std::alloc::{AllocError, Global};
 
-/// Reads the object that a request's body is (RFC 8259). No bytes and `null` are an empty object. It is refused
-/// with 400 `failed to parse JSON input` where the bytes are not UTF-8, are no JSON object, have more than 127
-/// levels, or have a number that is a float: one with a fraction or an exponent, `-0`, or a whole number below
-/// -2^63 or above 2^64-1. The only fault is running out of memory.
+/// Reads a request's body, which must be an object (RFC 8259). No bytes and `null` are an empty object. It is refused
+/// with 400 `failed to parse JSON input` if the bytes are not UTF-8 or not a JSON object, have more than 127 levels, or
+/// have a number that is a float: one with a fraction or an exponent, `-0`, or a whole number below -2^63 or above
+/// 2^64-1. The only fault is running out of memory.
 pub fn read_body(alloc: Global, bytes: &[u8]) -> Result<Body, RequestError>
     ensures { IsReadAs members_of (body_members bytes.now) result }
 {
@@ -74,7 +74,7 @@ impl Body {
         !self.members.is_empty()
     }
 
-    /// The compact text of the object. It fails when memory runs out, and then alone.
+    /// The compact text of the object. The only error is running out of memory.
     pub fn into_text(self, alloc: Global) -> Result<TextBuf, AllocError>
         ensures text { IfOk result (λ t. t ≡ compact_text (object (members_of self))) }
         ensures kept { (bytes : List ℕ) → length bytes ≤ longest_body → body_members bytes ≡ Ok (members_of self)
@@ -86,8 +86,8 @@ impl Body {
 }
 
 impl Tree {
-    /// Reads the JSON value that bytes are (RFC 8259): none where they are not UTF-8, are no JSON, have more than 127
-    /// levels or a float. It fails when memory runs out, and then alone.
+    /// Reads bytes as a JSON value (RFC 8259): none if they are not UTF-8 or not JSON, or have more than 127 levels or
+    /// a float. The only error is running out of memory.
     pub fn read(alloc: Global, bytes: &[u8]) -> Result<Option<Tree>, AllocError>
         ensures { IfOk result (λ t. option_map data_of t ≡ tree bytes.now) }
     {
@@ -105,7 +105,7 @@ impl Tree {
         &self.value
     }
 
-    /// The compact text of the value, which is read as this value again. It fails when memory runs out, and then alone.
+    /// The compact text of the value, which is read as this value again. The only error is running out of memory.
     pub fn to_text(&self, alloc: Global) -> Result<TextBuf, AllocError>
         ensures text { IfOk result (λ t. t ≡ compact_text (data_of self.now)) }
         ensures reads_back { depth (data_of self.now) ≤ max_depth

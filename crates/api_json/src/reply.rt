@@ -7,8 +7,8 @@ use crate::printing::ObjectText;
 use broker_types::{Reply, TextBuf};
 use std::alloc::{AllocError, Global};
 
-/// Prints the body of a reply: compact JSON (RFC 8259), the members in the order of the bytes of their names, and
-/// a line feed. It fails when memory runs out, and then alone.
+/// Prints the body of a reply: compact JSON (RFC 8259), the members in the order of the bytes of their names, and a
+/// line feed. The only error is running out of memory.
 #[tactic(auto, unfolding(crate::specs::Reply::reply_text))]
 pub fn reply_text(alloc: Global, reply: &Reply) -> Result<TextBuf, AllocError>
     ensures { IfOk result (λ t. t ≡ reply_text reply.now) }
@@ -28,8 +28,8 @@ pub fn reply_text(alloc: Global, reply: &Reply) -> Result<TextBuf, AllocError>
     Ok(TextBuf::new(text))
 }
 
-/// A reply with no more than what was asked for, the compact text of an object. It fails when memory runs out, and then
-/// alone.
+/// A reply with no more than what was asked for, the compact text of an object. The only error is running out of
+/// memory.
 pub fn plain_reply(alloc: Global, request: &str, payload: TextBuf) -> Result<Reply, AllocError>
     ensures { IfOk result (λ r. r ≡ plain_reply request.now payload) }
 {

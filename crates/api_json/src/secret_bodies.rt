@@ -23,7 +23,7 @@ pub struct SecretWrite {
     pub cas: Option<u64>,
 }
 
-/// Reads a secret that is written: the member `data`, and `cas` of the member `options`. Where `data` is absent or no
+/// Reads a secret that is written: the member `data`, and `cas` of the member `options`. If `data` is absent or not an
 /// object: 400 `no data provided`; then 400 `invalid field: options` or `invalid field: cas`. The only fault is running
 /// out of memory.
 #[tactic(auto, unfolding(crate::specs::Readers::secret_write))]
@@ -41,7 +41,7 @@ pub fn secret_write(alloc: Global, body: &Body) -> Result<SecretWrite, RequestEr
     Ok(SecretWrite { object: text, cas })
 }
 
-/// Reads the versions that a body names, one or more: the member `versions`. Where it is absent or empty: 400 `missing
+/// Reads the versions that a body names, one or more: the member `versions`. If it is absent or empty: 400 `missing
 /// field: versions`; of another kind: 400 `invalid field: versions`. The only fault is running out of memory.
 #[tactic(auto, unfolding(crate::specs::Readers::versions))]
 pub fn versions(alloc: Global, body: &Body) -> Result<Counts, RequestError>
@@ -54,10 +54,10 @@ pub fn versions(alloc: Global, body: &Body) -> Result<Counts, RequestError>
     Ok(versions)
 }
 
-/// The settings of a mount of secrets that a body brings; what is none stays as it is.
+/// The settings of a mount of secrets in a body. An absent one stays as it is.
 #[derive(Clone, Copy, Debug, PartialEq, Eq)]
 pub struct MountSettings {
-    /// Whether each write has to name the version that it follows.
+    /// Whether each write must name the version that it follows.
     pub cas_required: Option<bool>,
     /// How many versions a key keeps; 0 for ten.
     pub max_versions: Option<u64>,

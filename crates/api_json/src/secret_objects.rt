@@ -10,7 +10,7 @@ use crate::version_list::{VersionObject, Versions};
 use broker_types::{Moment, TextBuf};
 use std::alloc::{AllocError, Global};
 
-/// Prints a version of a secret. It fails when memory runs out, and then alone.
+/// Prints a version of a secret. The only error is running out of memory.
 #[tactic(auto, unfolding(crate::specs::Objects::version_object))]
 pub fn version_object(alloc: Global, version: &VersionObject) -> Result<TextBuf, AllocError>
     ensures { IfOk result (λ t. t ≡ version_object version.now) }
@@ -24,8 +24,8 @@ pub fn version_object(alloc: Global, version: &VersionObject) -> Result<TextBuf,
         .finish()
 }
 
-/// Prints a version that is read: its object, a compact JSON text, and its metadata. An object that is deleted or
-/// destroyed is none, and prints as null. It fails when memory runs out, and then alone.
+/// Prints a version that is read: its object, a compact JSON text, and its metadata. The object of a deleted or
+/// destroyed version prints as null. The only error is running out of memory.
 #[tactic(auto, unfolding(crate::specs::Objects::read_object))]
 pub fn read_object(
     alloc: Global,
@@ -44,7 +44,7 @@ pub fn read_object(
 /// A key of secrets.
 #[derive(Drop)]
 pub struct KeyObject {
-    /// Whether each write has to name the version that it follows.
+    /// Whether each write must name the version that it follows.
     pub cas_required: bool,
     /// When its first version was written.
     pub created: Moment,
@@ -59,7 +59,7 @@ pub struct KeyObject {
     pub versions: Versions,
 }
 
-/// Prints a key of secrets with its versions. It fails when memory runs out, and then alone.
+/// Prints a key of secrets with its versions. The only error is running out of memory.
 #[tactic(auto, unfolding(crate::specs::Objects::key_object))]
 pub fn key_object(alloc: Global, key: &KeyObject) -> Result<TextBuf, AllocError>
     ensures { IfOk result (λ t. t ≡ key_object key.now) }
@@ -103,7 +103,7 @@ fn version_entry(alloc: Global, version: &VersionObject) -> Result<TextBuf, Allo
         .finish()
 }
 
-/// Prints a list of keys, in the order in which they are given. It fails when memory runs out, and then alone.
+/// Prints a list of keys, in the order in which they are given. The only error is running out of memory.
 #[tactic(auto, unfolding(crate::specs::Objects::keys_object))]
 pub fn keys_object(alloc: Global, keys: &[TextBuf]) -> Result<TextBuf, AllocError>
     ensures { IfOk result (λ t. t ≡ keys_object keys.now) }
@@ -111,7 +111,7 @@ pub fn keys_object(alloc: Global, keys: &[TextBuf]) -> Result<TextBuf, AllocErro
     ObjectText::new(alloc)?.texts(Name::Keys, keys)?.finish()
 }
 
-/// Prints the settings of a mount of secrets. It fails when memory runs out, and then alone.
+/// Prints the settings of a mount of secrets. The only error is running out of memory.
 #[tactic(auto, unfolding(crate::specs::Objects::settings_object))]
 pub fn settings_object(
     alloc: Global,

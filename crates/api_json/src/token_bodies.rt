@@ -98,8 +98,8 @@ fn is_service(type_name: &Option<TextBuf>) -> bool
     }
 }
 
-/// Reads the token that a body names, the member `token`. Where it is absent: 400 `missing field: token`; of another
-/// kind: 400 `invalid field: token`. The only fault is running out of memory.
+/// Reads the token that a body names, the member `token`. If it is absent: 400 `missing field: token`; of another kind:
+/// 400 `invalid field: token`. The only fault is running out of memory.
 #[tactic(auto, unfolding(crate::specs::Readers::token))]
 pub fn token(alloc: Global, body: &Body) -> Result<TextBuf, RequestError>
     ensures { IsRead (reader.token (members_of body.now)) result }
@@ -107,7 +107,7 @@ pub fn token(alloc: Global, body: &Body) -> Result<TextBuf, RequestError>
     required(alloc, &body.members, Field::Token)
 }
 
-/// Reads the accessor that a body names, the member `accessor`. Where it is absent: 400 `missing field: accessor`; of
+/// Reads the accessor that a body names, the member `accessor`. If it is absent: 400 `missing field: accessor`; of
 /// another kind: 400 `invalid field: accessor`. The only fault is running out of memory.
 #[tactic(auto, unfolding(crate::specs::Readers::accessor))]
 pub fn accessor(alloc: Global, body: &Body) -> Result<TextBuf, RequestError>
@@ -116,8 +116,8 @@ pub fn accessor(alloc: Global, body: &Body) -> Result<TextBuf, RequestError>
     required(alloc, &body.members, Field::Accessor)
 }
 
-/// Reads for how long the caller's token is renewed, the member `increment`; 0, or absent, is for as long as it
-/// was made for. Of another kind: 400 `invalid field: increment`. The only fault is running out of memory.
+/// Reads for how long the caller's token is renewed, the member `increment`; 0, or absent, is for the time that it was
+/// made for. Of another kind: 400 `invalid field: increment`. The only fault is running out of memory.
 #[tactic(auto, unfolding(crate::specs::Readers::increment))]
 pub fn increment(alloc: Global, body: &Body) -> Result<Seconds, RequestError>
     ensures { IsRead (reader.increment (members_of body.now)) result }
@@ -131,7 +131,7 @@ pub fn increment(alloc: Global, body: &Body) -> Result<Seconds, RequestError>
 pub struct TokenRenewal {
     /// The token.
     pub token: TextBuf,
-    /// 0 for as long as it was made for.
+    /// 0 for the time that it was made for.
     pub increment: Seconds,
 }
 

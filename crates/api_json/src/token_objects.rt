@@ -17,7 +17,7 @@ pub struct AuthObject {
     pub client_token: TextBuf,
     /// Seconds to its end; 0 without one.
     pub lease_duration: u64,
-    /// By name; none prints as null.
+    /// By name; an empty list prints as null.
     pub metadata: Pairs,
     /// The uses left; 0 without a limit, and for the last use.
     pub num_uses: u64,
@@ -29,7 +29,7 @@ pub struct AuthObject {
     pub renewable: bool,
 }
 
-/// Prints a token that was made or renewed. It fails when memory runs out, and then alone.
+/// Prints a token that was made or renewed. The only error is running out of memory.
 #[tactic(auto, unfolding(crate::specs::Objects::auth_object))]
 pub fn auth_object(alloc: Global, auth: &AuthObject) -> Result<TextBuf, AllocError>
     ensures { IfOk result (λ t. t ≡ auth_object auth.now) }
@@ -61,9 +61,9 @@ pub struct TokenObject {
     pub ends: Option<EndTime>,
     /// In seconds; 0 without one.
     pub explicit_max_ttl: u64,
-    /// The token; empty where it was looked up by its accessor.
+    /// The token; empty if it was looked up by its accessor.
     pub id: TextBuf,
-    /// By name; none prints as null.
+    /// By name; an empty list prints as null.
     pub meta: Pairs,
     /// The uses left; 0 without a limit, and for the last use.
     pub num_uses: u64,
@@ -75,7 +75,7 @@ pub struct TokenObject {
     pub ttl: u64,
 }
 
-/// Prints a token that is looked up. It fails when memory runs out, and then alone.
+/// Prints a token that is looked up. The only error is running out of memory.
 #[tactic(auto, unfolding(crate::specs::Objects::token_object))]
 pub fn token_object(alloc: Global, token: &TokenObject) -> Result<TextBuf, AllocError>
     ensures { IfOk result (λ t. t ≡ token_object token.now) }

@@ -1,4 +1,5 @@
--- Laws of a broker that has no token, lease, wrapping token or waiting response but those of the one before it.
+-- Laws of a broker that has no token, lease, wrapping token or waiting response but those of the one before it (this
+-- project's).
 use Rattle.std.specs.Prelude.{◌≡◌, ◌≢◌, ◌≤◌, ℕ, Bool, true, false, Option, Some, None, option_map, option_and_then, ◌<◌}
 use Rattle.std.specs.Prelude.{◌^◌}
 use Rattle.std.proofs.Common.{refl, sym, ◌∙◌, ap, inl, inr}

@@ -1,4 +1,4 @@
--- Laws of chains of parents, and of what is under a token.
+-- Laws of chains of parents, and of what is under a token (this project's).
 use Rattle.std.specs.Prelude.{◌≡◌, ◌≢◌, ℕ, zero, suc, List, [], ◌∷◌, true, false, not, cond, ◌||◌, Option, Some, None}
 use Rattle.std.specs.Prelude.{is_none, length, ◌≤◌, IsSome, Bool}
 use Rattle.std.specs.List.{list_any, IsDistinct, AllByRecursion}

@@ -1,4 +1,4 @@
--- Laws of searches among the entries of a map.
+-- Laws of searches among the entries of a map (this project's).
 use Rattle.std.specs.Prelude.{◌≡◌, List, [], ◌∷◌, Bool, true, false, cond, T, ◌&&◌, Option, Some, None, option_and_then}
 use Rattle.std.specs.Prelude.{if◌then◌else◌, All}
 use Rattle.std.specs.List.{find as first}

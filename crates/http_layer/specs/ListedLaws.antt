@@ -42,7 +42,7 @@ body_refuses p =
     cond_refuses IsFrontRefusal (is_served p) _ _
     (length_refuses (values_named (codes "content-length") p.fields)) bad_request_listed
 
--- where the front is refused, its status is a listed one
+-- if the front is refused, its status is a listed one
 abbrev Refuses : Front → Type 0
 Refuses need = Unit {0}
 Refuses (refused_with status) = IsFrontRefusal status

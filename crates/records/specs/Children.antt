@@ -15,7 +15,7 @@ abbrev pub folder : Text → Text
 folder [] = []
 folder (c ∷ path) = (c ∷ path) ++ slash ∷ []
 
--- the first part of a path: a folder with its slash, or the whole path where it has no slash
+-- the first part of a path: a folder with its slash, or the whole path if it has no slash
 abbrev pub child : Text → Text
 child [] = []
 child (c ∷ path) = c ∷ (if c == slash then [] else child path)
@@ -59,6 +59,7 @@ is_text t (Some x) = same x t
 abbrev pub push_once : List Text → Text → List Text
 push_once texts t = if is_text t (slice_get texts (length texts - 1)) then texts else texts ++ t ∷ []
 
+-- the texts after the others, each unless it is the last of those before it
 abbrev pub push_each : List Text → List Text → List Text
 push_each texts [] = texts
 push_each texts (t ∷ more) = push_each (push_once texts t) more

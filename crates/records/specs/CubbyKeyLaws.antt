@@ -1,4 +1,4 @@
--- The key of a cubbyhole's row tells its token and its path.
+-- The key of a cubbyhole's row says which token and which path it is of.
 use Rattle.std.specs.Prelude.{◌≡◌, ◌+◌, ◌==◌, ◌∷◌, ◌++◌, length, take, drop, codes, true}
 use Rattle.std.proofs.Common.{ap, subst, get_or, ◌∙◌}
 use Rattle.std.proofs.lemmas.List.{length-append}

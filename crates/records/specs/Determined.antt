@@ -1,4 +1,4 @@
--- What rows determine, as a statement.
+-- What rows determine, as a statement (this project's).
 use Rattle.std.specs.Prelude.{◌≡◌, Option}
 use Rattle.broker_types.specs.Text.{Text}
 use Rattle.broker_types.specs.Broker.{Broker}

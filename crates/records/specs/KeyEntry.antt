@@ -1,4 +1,4 @@
--- What the rows of a key and of a version tell.
+-- What the rows of a key and of a version say (this project's row format).
 use Rattle.std.specs.Prelude.{ℕ, Bool, true, false, Option, Some, None}
 use Rattle.broker_types.specs.Text.{Text}
 use Rattle.broker_types.specs.Secret.{Key}
@@ -9,6 +9,7 @@ pub record KeyEntry : Type 0 where
   pub created : ℕ
   pub updated : ℕ
 
+-- what the row of a key says
 abbrev pub key_entry : Key → KeyEntry
 key_entry k = record { current = k.current; created = k.created; updated = k.updated }
 

@@ -1,4 +1,4 @@
--- The order of keys: it is total, and keys that compare alike are one.
+-- The order of keys: it is total, and keys that compare alike are one (this project's).
 use Rattle.std.specs.Prelude.{◌≡◌, ℕ, List, ◌==◌, if◌then◌else◌, refl}
 use Rattle.std.specs.Ordering.{nat_cmp}
 use Rattle.std.specs.Cmp.{IsTotalOrder, nat_cmp_total}
@@ -11,7 +11,7 @@ use Rattle.records.specs.declared.kind.Kind.{Kind}
 use Rattle.records.specs.declared.kind.Kind.TheVariants as kind
 use Rattle.records.specs.Kind.{kind_number, key_cmp}
 
--- the kind that a number stands for, and the last for any other number
+-- the kind of a number, and the last one for any other number
 abbrev pub kind_of : ℕ → Kind
 kind_of n =
     if n == 1 then kind.Clock else (if n == 2 then kind.Used else (if n == 3 then kind.Token
@@ -36,6 +36,7 @@ kind_of-number kind.Mount = refl
 kind_of-number kind.Policy = refl
 kind_of-number kind.Role = refl
 
+-- the order of keys is total
 pub key_cmp_total : IsTotalOrder key_cmp
 key_cmp_total = then_total (on_total (λ k. kind_number k.0) nat_cmp_total) (on_total (λ k. k.1) nat_list_cmp_total)
 

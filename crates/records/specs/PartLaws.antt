@@ -1,4 +1,4 @@
--- Which rows a part of a broker has: another value of the part leaves the rows of all other kinds.
+-- Which rows a part of a broker has: another value of the part leaves the rows of all other kinds (this project's).
 use Rattle.std.specs.Prelude.{◌≡◌, ℕ, true, false, ⊤, refl}
 use Rattle.std.proofs.Common.{sym, ◌∙◌, ap}
 use Rattle.std.proofs.lemmas.Bool.{false≢true}
@@ -18,7 +18,7 @@ use Rattle.records.specs.Table.{Table}
 abbrev pub AgreeOutside : Part → Broker → Broker → Type 0
 AgreeOutside part b c = KeepsOthers part (rows_of b) (rows_of c)
 
--- where a table had the rows of b, and an operation made the part that of c and left the rest, it has the rows of c
+-- if a table had the rows of b, and an operation made the part that of c and left the rest, it has the rows of c
 pub joined_rows : (part : Part) (old new : Table) (b c : Broker) → old ≡ rows_of b → Tells part new c
     → KeepsOthers part old new → AgreeOutside part b c → new ≡ rows_of c
 joined_rows part old new b c was tells keeps agree = λ i k q. at k q i

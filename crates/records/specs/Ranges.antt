@@ -1,5 +1,5 @@
--- Which records of the broker rows can keep: numbers that no printer has to test again, and texts of a length that
--- their rows tell (this project's row format).
+-- Which records of the broker rows can keep: numbers that no printer must test again, and texts short enough for the
+-- length in their row (this project's row format).
 use Rattle.std.specs.Prelude.{◌≢◌, ◌<◌, ◌≤◌, ◌^◌, [], Some}
 use Rattle.broker_types.specs.Limits.{longest_ttl, greatest_version}
 use Rattle.broker_types.specs.Duration.{longest_duration}
@@ -12,7 +12,7 @@ use Rattle.records.specs.Fields.{IsLongText}
 use Rattle.records.specs.KeyEntry.{KeyEntry}
 use Rattle.records.specs.TokenEntry.{TokenEntry, IsPolicies, IsMeta}
 
--- no parent has an empty text
+-- a token that a row can hold; no parent has an empty text
 pub record IsTokenInRange (x : TokenEntry) : Type 0 where
   pub parent : x.parent ≢ Some []
   pub accessor : IsShortText x.accessor
@@ -25,6 +25,7 @@ pub record IsTokenInRange (x : TokenEntry) : Type 0 where
   pub uses_left : IsSomeIn IsWide x.uses_left
   pub meta : IsMeta x.meta
 
+-- a lease that a row can hold
 pub record IsLeaseInRange (l : Lease) : Type 0 where
   pub ends : IsEnd l.ends
   pub issued : IsMoment l.issued
@@ -33,16 +34,19 @@ pub record IsLeaseInRange (l : Lease) : Type 0 where
   pub renewed : IsSomeIn IsMoment l.renewed
   pub credential : IsShortText l.credential
 
+-- a key that a row can hold
 pub record IsKeyInRange (k : KeyEntry) : Type 0 where
   pub current : k.current ≤ greatest_version
   pub created : IsMoment k.created
   pub updated : IsMoment k.updated
 
+-- a version that a row can hold
 pub record IsVersionInRange (v : Version) : Type 0 where
   pub created : IsMoment v.created
   pub deleted : IsSomeIn IsMoment v.deleted
   pub secret : IsSomeIn IsShortText v.secret
 
+-- a waiting response that a row can hold
 pub record IsWaitingInRange (w : Waiting) : Type 0 where
   pub accessor : IsShortText w.accessor
   pub created : IsMoment w.created
@@ -51,9 +55,11 @@ pub record IsWaitingInRange (w : Waiting) : Type 0 where
   pub origin : IsShortText w.origin
   pub reply : IsLongText w.reply
 
+-- a mount that a row can hold
 abbrev pub IsMountInRange : Mount → Type 0
 IsMountInRange m = m.max_versions < 2 ^ 64
 
+-- a role that a row can hold
 pub record IsRoleInRange (r : Role) : Type 0 where
   pub ttl : r.ttl ≤ longest_duration
   pub max_ttl : r.max_ttl ≤ longest_duration

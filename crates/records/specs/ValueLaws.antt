@@ -1,4 +1,4 @@
--- Values in options and results, where std has no law.
+-- Values in options and results: laws that std does not have.
 use Rattle.std.specs.Prelude.{◌≡◌, Bool, true, false, if◌then◌else◌, Option, Some, None, Result, Ok, Err, option_map}
 use Rattle.std.specs.Prelude.{option_and_then}
 use Rattle.std.proofs.Common.{refl, sym, ap}
@@ -9,6 +9,7 @@ pub none_of : {X : Type 0} (o : Option X) → ((x : X) → o ≡ Some x → ⊥)
 none_of None h = refl
 none_of (Some x) h = absurd (h x refl)
 
+-- equal results have equal values
 pub ok_inj : {X E : Type 0} {x y : X} → ◌≡◌ {A = Result X E} (Ok x) (Ok y) → x ≡ y
 ok_inj {X = X} {E = E} {x = x} e = ap or_x e
   where
@@ -16,7 +17,7 @@ ok_inj {X = X} {E = E} {x = x} e = ap or_x e
     or_x (Ok y) = y
     or_x (Err z) = x
 
--- there is no value where there is no image of it
+-- if there is no image of a value, there is no value
 pub no_value : {X Y : Type 0} (f : X → Y) (o : Option X) → option_map f o ≡ None → o ≡ None
 no_value f None e = refl
 no_value f (Some x) e = absurd (none-some _ (sym e))
@@ -33,11 +34,13 @@ pub mapped : {X A : Type 0} (g : X → A) (f : X → X) → ((x : X) → g (f x)
 mapped g f h None = refl
 mapped g f h (Some x) = ap Some (h x)
 
+-- the same of a function that may have no value
 pub then_mapped : {X A : Type 0} (g : X → Option A) (f : X → X) → ((x : X) → g (f x) ≡ g x) → (o : Option X)
     → option_and_then g (option_map f o) ≡ option_and_then g o
 then_mapped g f h None = refl
 then_mapped g f h (Some x) = h x
 
+-- and of a value that may be changed
 pub unseen : {X A : Type 0} (g : X → A) (f : X → X) → ((x : X) → g (f x) ≡ g x) → (b : Bool) (x : X)
     → g (if b then f x else x) ≡ g x
 unseen g f h true x = h x

@@ -1,4 +1,4 @@
--- Laws of the keys of versions, as statements.
+-- Laws of the keys of versions, as statements (this project's).
 use Rattle.std.specs.Prelude.{◌≡◌, ◌<◌, ◌≤◌, ◌^◌, ◌∷◌, ◌++◌, ℕ, Some}
 use Rattle.std.specs.Ordering.{nat_cmp}
 use Rattle.broker_types.specs.Text.{Text, text_cmp}
@@ -7,7 +7,7 @@ use Rattle.broker_types.specs.Sound.{IsSecretName}
 use Rattle.records.specs.Rows.{padded, version_of_digits}
 use Rattle.records.specs.Splits.{line_feed, split_once}
 
--- twenty digits tell the version that they are of
+-- twenty digits say which version they are of
 abbrev pub DigitsTellTheVersion : Type 0
 DigitsTellTheVersion = (n : ℕ) → n ≤ greatest_version → version_of_digits (padded n) ≡ Some n
 

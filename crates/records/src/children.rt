@@ -11,7 +11,7 @@ use crate::entry::Entry;
 use broker_types::TextBuf;
 use std::alloc::{AllocError, Global};
 
-/// The first part of a path: a folder with its slash, or the whole path where it has no slash.
+/// The first part of a path: a folder with its slash, or the whole path if it has no slash.
 fn child_of(alloc: Global, path: &str) -> Result<String, AllocError>
     ensures { IfOk result (λ text. string_bytes text ≡ child path.now) }
 {
@@ -63,9 +63,9 @@ fn push_child(
 }
 
 /// The immediate children of a folder, in the order of their bytes, each once: names, and folders with a
-/// slash at their ends. They are those of the keys that begin with the prefix, where the rows are listed
-/// under it. It fails only when out of memory (Vault's documentation, "KV secrets engine - version 2" and
-/// "Cubbyhole secrets engine", list secrets).
+/// slash at their ends. They are those of the keys that begin with the prefix, if the rows are listed
+/// under it. The only error is running out of memory (Vault's documentation, "KV secrets engine -
+/// version 2" and "Cubbyhole secrets engine", list secrets).
 pub fn children_of(
     alloc: Global,
     listed: &[Entry],

@@ -9,7 +9,7 @@ pub fn rows_determine_the_broker()
     ensures { RowsDetermineTheBroker }
 {}
 
-/// A law: the key of a version's row tells its secret and its version, and the keys of one secret's
+/// A law: the key of a version's row says its secret and its version, and the keys of one secret's
 /// versions are in the order of the versions.
 pub fn versions_have_keys()
     ensures told { DigitsTellTheVersion }

@@ -1,4 +1,4 @@
-//! Rows taken out together.
+//! Rows removed together.
 
 ghost use Rattle.std.specs.Prelude.{◌≡◌, OnOk};
 ghost use Rattle.records.specs.Table.{table_of, without_under};
@@ -8,8 +8,8 @@ use crate::kind::Kind;
 use crate::tx::RecordsTx;
 use broker_types::Fault;
 
-/// Takes out the rows of a kind whose keys begin with the prefix. It fails only when out of memory, or
-/// where the storage fails.
+/// Removes the rows of a kind whose keys begin with the prefix. It fails only if memory runs out or the
+/// storage fails.
 pub fn remove_under<T: RecordsTx>(tx: &mut T, kind: Kind, prefix: &str) -> Result<(), Fault>
     ensures rows { IsHonest (T.seen tx.new) → OnOk result
         (table_of (T.seen tx.new).rows ≡ without_under (table_of (T.seen tx.old).rows) kind prefix.now) }

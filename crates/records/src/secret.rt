@@ -23,7 +23,7 @@ type KeyForm = ((UpTo<999_999_999_999_999_999>, At), At);
 /// Created, deleted, whether it is destroyed, secret.
 type VersionForm<'r> = (((At, Option<At>), bool), ShortText<'r>);
 
-/// The key that a row keeps, without its versions. It fails as `Damaged` where the row is none of a key.
+/// The key in a row, without its versions. It fails as `Damaged` if the row is not one of a key.
 pub fn read_key(kept: &Row) -> Result<KeyRecord, Fault>
     ensures { Reads IsKeyInRange key_entry_row kept.now result }
 {
@@ -35,7 +35,7 @@ pub fn read_key(kept: &Row) -> Result<KeyRecord, Fault>
     })
 }
 
-/// The row of a key. It fails only where memory runs out.
+/// The row of a key. The only error is running out of memory.
 pub fn write_key(alloc: Global, key: &KeyRecord) -> Result<Row, AllocError>
     ensures { IfOk result (λ kept. kept ≡ key_entry_row key.now) }
 {
@@ -50,7 +50,7 @@ fn secret_of<'r>(is_destroyed: bool, object: &'r str) -> Option<&'r str>
     if is_destroyed { None } else { Some(object) }
 }
 
-/// The version that a row keeps. It fails as `Damaged` where the row is none of a version.
+/// The version in a row. It fails as `Damaged` if the row is not one of a version.
 pub fn read_version(kept: &Row) -> Result<VersionRecord<'_>, Fault>
     ensures { Reads IsVersionInRange version_row kept.now result }
 {
@@ -66,7 +66,7 @@ pub fn read_version(kept: &Row) -> Result<VersionRecord<'_>, Fault>
     })
 }
 
-/// The row of a version. It fails only where memory runs out.
+/// The row of a version. The only error is running out of memory.
 pub fn write_version(alloc: Global, version: &VersionRecord<'_>) -> Result<Row, AllocError>
     requires { length (unwrap_or version.now.secret []) < 2 ^ 32 }
     ensures { IfOk result (λ kept. kept ≡ version_row version.now) }
