@@ -1,6 +1,6 @@
 #!/bin/bash
 # Runs `brokerd replay` on every row of tests/rows, and compares what it writes byte for byte, its exit
-# status and its standard error. The last line is 'N passed, M failed'; the status is 0 where nothing
+# status and its standard error. The last line is 'N passed, M failed'; the status is 0 if nothing
 # failed.
 set -u
 cd "$(dirname "$0")/.."
@@ -16,7 +16,7 @@ fail() {
     failed=$((failed + 1))
 }
 
-# Says what differs from the row: nothing where all is as it should be.
+# Says what differs from the row: nothing if all is as it should be.
 difference() {
     local name=$1 status=$2 word=$3 exit
     bin/brokerd replay < "$rows/$name.replay" > "$found/out" 2> "$found/err"

@@ -73,7 +73,7 @@ class Run:
         self.lines.append(text.encode())
 
     def event(self, piece, connection=1, moment=None, word=None):
-        """Adds an event, where there is room for one."""
+        """Adds an event, if there is room for one."""
         if self.room() <= 0:
             return
         if moment is None:
@@ -214,7 +214,7 @@ NO_TEXTS = ('"\n"', '"\x00"', '"\x1f"', '"\t"', '"\\x"', '"\\u12"', '"\\u12g4"',
 
 
 def refused_bodies(run):
-    """Bodies that are no JSON objects, or have floats, between good ones that must stand."""
+    """Bodies that are not JSON objects, or have floats, between good ones that must stay."""
     path = run.path()
     run.event(run.write(path, run.object_text(1)))
     while run.room() > 0:
@@ -250,7 +250,7 @@ def digits(run, *counts):
 
 
 def replaced_members(run):
-    """Members of one name: the last one stands, but what the reader refuses stays refused."""
+    """Members of one name: the last one counts, but what the reader refuses stays refused."""
     while run.room() > 0:
         path = run.path()
         first = run.pick(*NO_WHOLE_NUMBERS, "1", "null", nested(run, run.pick(125, 126, 127, 200)), '{"b":1.5}',
@@ -283,7 +283,7 @@ def depths(run):
 
 
 def odd_target(run):
-    """A target that may be a path, or none."""
+    """A target that may be a path, or not."""
     if run.chance(6):
         length = run.pick(511, 512, 512, 513, 513, 514)
         path = run.pick("cubbyhole/", "cubbyhole/a/", "cubbyhole/b/c/").ljust(length, "x")
@@ -301,7 +301,7 @@ def odd_target(run):
 
 
 def paths(run):
-    """Paths of every form: segments, final slashes, lengths, letters past ASCII, targets that are none."""
+    """Paths of every form: segments, final slashes, lengths, letters past ASCII, targets that are not valid."""
     while run.room() > 0:
         target = odd_target(run)
         if run.chance(2):
@@ -396,7 +396,7 @@ def odd_head(run, target="/v1/cubbyhole/a"):
 
 
 def heads(run):
-    """Heads that are none or nearly so, each on a connection of its own, and what comes behind them."""
+    """Heads that are not valid or nearly so, each on a connection of its own, and what comes behind them."""
     path = run.path()
     run.event(run.write(path, run.object_text(1)))
     connection = run.pick(1, GREATEST_CONNECTION - 20)
@@ -454,7 +454,7 @@ def many_fields(run):
 
 
 def body_lengths(run):
-    """Lengths that are not those of the body: what is over stands before the next request."""
+    """Lengths that are not those of the body: what is over comes before the next request."""
     path = run.path()
     for connection in range(1, run.size + 1):
         body = run.pick('{"a":1}', '{"é":"😀"}', '{"a":"\\u00e9"}', "", "{}", '{"a":{"b":[]}}')
@@ -685,7 +685,7 @@ UNSERVED_ROUTES = (
 
 
 def unserved_routes(run):
-    """Routes of the broker that are not served yet, and methods of the cubbyhole that are not."""
+    """Routes of the broker that are not served so far, and methods of the cubbyhole that are not."""
     path = run.path()
     run.event(run.write(path, run.object_text(1)))
     while run.room() > 0:
@@ -699,7 +699,7 @@ def unserved_routes(run):
 
 
 def unserved_targets(run):
-    """Queries, percent signs and fields that are not read yet."""
+    """Queries, percent signs and fields that are not read so far."""
     path = run.path()
     run.event(run.write(path, run.object_text(1)))
     while run.room() > 0:
@@ -740,7 +740,7 @@ def unserved_heads(run):
 
 
 def unserved_lines(run):
-    """Forms of a line that are not read yet make it bad."""
+    """Forms of a line that are not read so far make it bad."""
     while run.room() > 1:
         run.event(run.served())
     event = {"conn": 1, "moment": run.moment, "words": "0" * 32}
@@ -774,7 +774,7 @@ def inputs(seed):
 
 
 def text_or_base64(data):
-    """Bytes as a text where they are UTF-8, else as an object with their base64."""
+    """Bytes as a text if they are UTF-8, else as an object with their base64."""
     try:
         return data.decode()
     except UnicodeDecodeError:

@@ -5,7 +5,7 @@
 
 The program is called as `PROGRAM replay` with the run's input on its standard input. With names, only
 the runs whose names begin with one of them are tried. The last line is `N passed, M failed`; the status
-is 0 where nothing failed.
+is 0 if nothing failed.
 """
 
 import argparse
@@ -37,7 +37,7 @@ def stored_runs(names):
 
 
 def difference(what, expected, got):
-    """One line that tells where two outputs differ, or None where they are equal."""
+    """One line that says where two outputs differ, or None if they are equal."""
     if expected == got:
         return None
     place = len(os.path.commonprefix([expected, got]))
@@ -47,7 +47,7 @@ def difference(what, expected, got):
 
 
 def differences(program, run):
-    """How the program differs on a run: a list of lines, empty where it does not."""
+    """How the program differs on a run: a list of lines, empty if it does not."""
     try:
         done = subprocess.run([program, "replay"], input=data_of(run["stdin"]), capture_output=True, timeout=SECONDS)
     except subprocess.TimeoutExpired:
@@ -62,7 +62,7 @@ def differences(program, run):
 def try_all(program, runs):
     """The runs, each with how the program differs on it.
 
-    It is called once before, without a line: `bin/brokerd` builds itself where that was not done.
+    It is called once before, without a line: `bin/brokerd` builds itself if that was not done.
     """
     subprocess.run([program, "replay"], stdin=subprocess.DEVNULL, capture_output=True)
     with concurrent.futures.ThreadPoolExecutor(os.cpu_count()) as pool:

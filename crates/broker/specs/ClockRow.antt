@@ -23,9 +23,9 @@ IsNotBadStart fault = fault ≢ BadStart
 
 -- What a request answers over rows, whatever else they are.
 pub record NeedsClock {A : Type 0} (rows : Rows) (result : Result A Fault) : Type 0 where
-  -- it is answered only where the clock's row can be read
+  -- it is answered only if the clock's row can be read
   pub answered : IfOk result (λ a. HasClock rows)
-  -- `BadStart` comes only where the store was not started
+  -- `BadStart` comes only if the store was not started
   pub bad_start : result ≡ Err BadStart → HasNoClock rows
-  -- and there it is the only fault but for those of memory and storage
+  -- and then it is the only fault but for those of memory and storage
   pub not_started : HasNoClock rows → IfErr result (λ fault. (fault ≡ BadStart) ⊎ IsMemoryOrStorage fault)

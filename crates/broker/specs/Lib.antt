@@ -7,6 +7,7 @@ pub mod Kept
 pub mod Laws
 pub mod Listed
 pub mod Order
+pub mod ReadableRow
 pub mod Representing
 pub mod Request
 pub mod Responses

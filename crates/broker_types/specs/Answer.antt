@@ -13,6 +13,7 @@ pub record Response : Type 0 where
   pub methods : Methods
   pub text : Text
 
+-- what the answer says
 abbrev pub response_of : Answer → Response
 response_of a = record { status = a.status; methods = a.methods; text = a.text }
 
@@ -20,7 +21,7 @@ response_of a = record { status = a.status; methods = a.methods; text = a.text }
 abbrev pub HasRoom : Answer → Type 0
 HasRoom a = length a.text + 1024 ≤ a.room
 
--- what is answered to a refused request
+-- what is answered to a refused request (Vault's documentation, "HTTP API", error response)
 abbrev pub refused : Refusal → Response
 refused r = record { status = refusal_status r; methods = refusal_methods r; text = errors_body (refusal_text r) }
 

@@ -18,25 +18,29 @@ pub record Waiting : Type 0 where
   pub origin : Text
   pub reply : Text
 
--- what a mount is: versioned secrets, or the engine that issues credentials
+-- what a mount is: versioned secrets, or the engine that issues credentials (Vault's documentation, "Secrets engines";
+-- `issued` is this project's)
 pub data Engine : Type 0 where
   kv issued : Engine
 
+-- the name of its type
 abbrev pub engine_name : Engine → Text
 engine_name kv = codes "kv"
 engine_name issued = codes "issued"
 
+-- a mount: its engine and its settings
 pub record Mount : Type 0 where
   pub engine : Engine
   pub cas_required : Bool
   -- 0 for ten
   pub max_versions : ℕ
 
--- a role of the engine that issues credentials; 0 for none
+-- a role of the engine that issues credentials, with its lengths of time; 0 for none (this project's definition)
 pub record Role : Type 0 where
   pub ttl : ℕ
   pub max_ttl : ℕ
 
+-- the broker: its clock, the used identifiers, three maps (tokens, secrets, waiting responses), and its settings
 pub record Broker : Type 0 where
   -- the greatest moment of its start and of the requests that reached it
   pub clock : ℕ
@@ -54,11 +58,12 @@ pub record Broker : Type 0 where
   -- by name, as they were handed in
   pub policies : Map Text
 
--- when a waiting response ends
+-- when a waiting response ends (Vault's documentation, "Response wrapping")
 abbrev pub waiting_ends : Waiting → ℕ
 waiting_ends w = w.created + w.ttl
 
--- the broker at a moment: its clock does not go back, and what has ended by then is gone
+-- the broker at a moment: its clock does not go back, and what has ended by then is gone (Vault's documentation,
+-- "Lease, renew, and revoke")
 abbrev pub at_moment : Broker → ℕ → Broker
 at_moment b moment =
     let now = max b.clock moment in
@@ -68,10 +73,11 @@ at_moment b moment =
       waiting = keep (λ t. option_map_or (λ w. nat_lt now (waiting_ends w)) (get b.waiting t) false) b.waiting;
     }
 
--- the broker without the tokens under t; cubbyholes and leases go with their tokens
+-- the broker without the tokens under t; cubbyholes and leases go with their tokens (Vault's documentation, "Tokens",
+-- token hierarchies)
 abbrev pub revoke : Broker → Text → Broker
 revoke b t = record b { tokens = lineage.revoke b.tokens t }
 
--- the broker without t, whose children have no parent then
+-- the broker without t, whose children have no parent then (Vault's documentation, "Tokens", orphan tokens)
 abbrev pub revoke_orphan : Broker → Text → Broker
 revoke_orphan b t = record b { tokens = lineage.revoke_orphan b.tokens t }

@@ -1,4 +1,4 @@
--- Texts of durations: groups of digits and a unit, or digits alone (Vault's documentation, "duration format strings",
+-- Texts of durations: groups of digits and a unit, or digits alone (Vault's documentation, "Duration format strings",
 -- with the units h, m and s).
 use Rattle.std.specs.Prelude.{◌≡◌, ◌≢◌, ◌≤◌, ◌⊎◌, ℕ, ◌+◌, ◌-◌, ◌*◌, ◌==◌, ◌&&◌, nat_le, List, [], ◌∷◌, ◌++◌, length}
 use Rattle.std.specs.Prelude.{not, if◌then◌else◌, Option, Some, None, option_and_then, unwrap_or, All, sum_by}
@@ -39,7 +39,7 @@ with_unit s = if not (length s == 0) && list_all is_ascii_digit s then s ++ 115 
 abbrev pub longest_duration : ℕ
 longest_duration = 4294967295
 
--- none for a longer duration
+-- the seconds, unless they are more than that
 abbrev pub at_most : Option ℕ → Option ℕ
 at_most None = None
 at_most (Some n) = if nat_le n longest_duration then Some n else None
@@ -50,14 +50,17 @@ duration_of s = at_most (groups 0 None (with_unit s))
 
 -- ---- the same by its grammar (Vault's documentation, "duration format strings")
 
+-- hours, minutes or seconds
 pub data TimeUnit : Type 0 where
   hours minutes seconds : TimeUnit
 
+-- the letter of a unit: `h`, `m` or `s`
 abbrev pub unit_byte : TimeUnit → ℕ
 unit_byte hours = 104
 unit_byte minutes = 109
 unit_byte seconds = 115
 
+-- the seconds of a unit
 abbrev pub unit_seconds : TimeUnit → ℕ
 unit_seconds hours = 3600
 unit_seconds minutes = 60
@@ -68,12 +71,15 @@ pub record Group : Type 0 where
   pub digits : List ℕ
   pub unit : TimeUnit
 
+-- it has one digit or more, all decimal
 abbrev pub IsGroup : Group → Type 0
 IsGroup g = IsNumeral 10 g.digits
 
+-- the digits and the letter of the unit
 abbrev pub group_text : Group → List ℕ
 group_text g = g.digits ++ unit_byte g.unit ∷ []
 
+-- the number times the seconds of its unit
 abbrev pub group_seconds : Group → ℕ
 group_seconds g = digits_value 10 g.digits * unit_seconds g.unit
 
@@ -90,6 +96,7 @@ pub record IsSum (text : List ℕ) (n : ℕ) : Type 0 where
   pub joined : text ≡ flat_map group_text parts
   pub total : n ≡ sum_by group_seconds parts
 
+-- the empty text is 0 seconds
 abbrev pub IsEmptyText : List ℕ → ℕ → Type 0
 IsEmptyText text n = (text ≡ []) × (n ≡ 0)
 

@@ -7,7 +7,7 @@ use Rattle.broker_types.specs.Token.{Token, Lease}
 use Rattle.broker_types.specs.Broker.{Broker, Waiting}
 use Rattle.broker_types.specs.Places.{IsUsed, token_identifier, lease_identifier, lease_of}
 
--- the identifier was not given out yet
+-- the identifier was not given out before
 abbrev pub IsNew : Broker → Text → Type 0
 IsNew b i = get b.used i ≡ None
 
@@ -46,7 +46,7 @@ pub record HasEnded (b : Broker) (t : Text) : Type 0 where
   pub gone : get b.tokens t ≡ None
   pub not_waiting : get b.waiting t ≡ None
 
--- a wrapping token that was taken out
+-- a wrapping token that was taken out: it was given out, and nothing waits under it any more
 pub record IsTakenOut (b : Broker) (t : Text) : Type 0 where
   pub used : IsUsed b (token_identifier t)
   pub gone : get b.waiting t ≡ None

@@ -30,9 +30,11 @@ LineageOfChild =
     (ts : Tokens) (t p : Text) (x : Token) → ChainsEnd ts → get ts t ≡ Some x → x.parent ≡ Some p
     → lineage ts t ≡ t ∷ lineage ts p
 
+-- a token is under itself
 abbrev pub IsUnderItself : Type 0
 IsUnderItself = (ts : Tokens) (t : Text) → get ts t ≢ None → is_under ts t t ≡ true
 
+-- what is under a, which is under b, is under b
 abbrev pub UnderIsTransitive : Type 0
 UnderIsTransitive =
     (ts : Tokens) (t a b : Text) → ChainsEnd ts → is_under ts t a ≡ true → is_under ts a b ≡ true
@@ -44,6 +46,7 @@ UnderOfTokens = (ts : Tokens) (t a : Text) → is_under ts t a ≡ true → (get
 
 -- ---- revocation
 
+-- revoking an unknown token changes nothing
 abbrev pub RevokedUnknown : Type 0
 RevokedUnknown = (ts : Tokens) (t : Text) → get ts t ≡ None → revoke ts t ≡ ts
 
@@ -57,9 +60,11 @@ OthersAreAsBefore = (ts : Tokens) (t q : Text) → is_under ts q t ≡ false →
 
 -- ---- revocation of one token
 
+-- nor does revoking it alone
 abbrev pub OrphanedByUnknown : Type 0
 OrphanedByUnknown = (ts : Tokens) (t : Text) → ParentsExist ts → get ts t ≡ None → revoke_orphan ts t ≡ ts
 
+-- a token that is revoked alone is gone
 abbrev pub OrphanedIsGone : Type 0
 OrphanedIsGone = (ts : Tokens) (t : Text) → get (revoke_orphan ts t) t ≡ None
 
@@ -104,17 +109,21 @@ pub record IsTree (ts : Tokens) : Type 0 where
   pub parents_exist : ParentsExist ts
   pub chains_end : ChainsEnd ts
 
+-- a tree without a token and all under it is a tree
 abbrev pub RevokeKeepsTrees : Type 0
 RevokeKeepsTrees = (ts : Tokens) (t : Text) → IsTree ts → IsTree (revoke ts t)
 
+-- a tree without one token, whose children have no parent then, is a tree
 abbrev pub RevokeOrphanKeepsTrees : Type 0
 RevokeOrphanKeepsTrees = (ts : Tokens) (t : Text) → IsTree ts → IsTree (revoke_orphan ts t)
 
+-- what is left of a tree at a moment is a tree
 abbrev pub ExpiryKeepsTrees : Type 0
 ExpiryKeepsTrees = (now : ℕ) (ts : Tokens) → IsTree ts → IsTree (alive_at now ts)
 
 -- ---- the first broker
 
+-- the broker that a start makes of two different words is sound
 abbrev pub FirstBrokerIsSound : Type 0
 FirstBrokerIsSound =
     (forms : Forms) (moment v w : ℕ) → moment ≤ greatest_moment → v < 2 ^ 128 → w < 2 ^ 128 → v ≢ w
@@ -122,21 +131,25 @@ FirstBrokerIsSound =
 
 -- ---- soundness is kept, whoever may have spent its last use
 
+-- revocation leaves a sound broker sound
 abbrev pub RevokeKeepsSoundness : Type 0
 RevokeKeepsSoundness =
     (forms : Forms) (who : Option Text) (b : Broker) (t : Text)
     → Sound forms who b → Sound forms who (broker.revoke b t)
 
+-- and so does revocation of one token
 abbrev pub RevokeOrphanKeepsSoundness : Type 0
 RevokeOrphanKeepsSoundness =
     (forms : Forms) (who : Option Text) (b : Broker) (t : Text)
     → Sound forms who b → Sound forms who (broker.revoke_orphan b t)
 
+-- and an accepted moment, at which tokens and waiting responses end
 abbrev pub ExpiryKeepsSoundness : Type 0
 ExpiryKeepsSoundness =
     (forms : Forms) (who : Option Text) (b : Broker) (moment : ℕ) → moment ≤ greatest_moment
     → Sound forms who b → Sound forms who (broker.at_moment b moment)
 
+-- and a waiting response that is dropped
 abbrev pub DropWaitingKeepsSoundness : Type 0
 DropWaitingKeepsSoundness =
     (forms : Forms) (who : Option Text) (b : Broker) (t : Text)
@@ -153,9 +166,11 @@ EndingTheSpentKeepsSoundness =
 
 -- ---- runs
 
+-- evolving is transitive
 abbrev pub EvolvingIsTransitive : Type 0
 EvolvingIsTransitive = (b c d : Broker) → Evolves b c → Evolves c d → Evolves b d
 
+-- each broker evolves from itself
 abbrev pub EvolvesFromItself : Type 0
 EvolvesFromItself = (b : Broker) → Evolves b b
 
@@ -173,21 +188,27 @@ TakenOutStaysOut = (b c : Broker) (t : Text) → Evolves b c → IsTakenOut b t 
 
 -- what goes lets a broker evolve
 
+-- revocation lets a broker evolve
 abbrev pub RevokeEvolves : Type 0
 RevokeEvolves = (b : Broker) (t : Text) → Evolves b (broker.revoke b t)
 
+-- and so does revocation of one token
 abbrev pub RevokeOrphanEvolves : Type 0
 RevokeOrphanEvolves = (b : Broker) (t : Text) → Evolves b (broker.revoke_orphan b t)
 
+-- and a moment
 abbrev pub ExpiryEvolves : Type 0
 ExpiryEvolves = (b : Broker) (moment : ℕ) → Evolves b (broker.at_moment b moment)
 
+-- and a use that is spent
 abbrev pub SpendEvolves : Type 0
 SpendEvolves = (b : Broker) (c : Text) → Evolves b (spend b c)
 
+-- and the end of a spent caller
 abbrev pub EndSpentEvolves : Type 0
 EndSpentEvolves = (b : Broker) (who : Option Text) → Evolves b (end_spent b who)
 
+-- and a waiting response that is dropped
 abbrev pub DropWaitingEvolves : Type 0
 DropWaitingEvolves = (b : Broker) (t : Text) → Evolves b (drop_waiting b t)
 
@@ -195,15 +216,19 @@ DropWaitingEvolves = (b : Broker) (t : Text) → Evolves b (drop_waiting b t)
 abbrev pub EndTokens : Broker → Broker → Type 0
 EndTokens b c = (q : Text) → get b.tokens q ≢ None → get c.tokens q ≡ None → HasEnded c q
 
+-- a token that is gone after revocation has ended
 abbrev pub RevokeEnds : Type 0
 RevokeEnds = (b : Broker) (t : Text) → SoundIdentifiers b → EndTokens b (broker.revoke b t)
 
+-- and one that was revoked alone
 abbrev pub RevokeOrphanEnds : Type 0
 RevokeOrphanEnds = (b : Broker) (t : Text) → SoundIdentifiers b → EndTokens b (broker.revoke_orphan b t)
 
+-- and one that is gone at a moment
 abbrev pub ExpiryEnds : Type 0
 ExpiryEnds = (b : Broker) (moment : ℕ) → SoundIdentifiers b → EndTokens b (broker.at_moment b moment)
 
+-- and one that is gone after the end of a spent caller
 abbrev pub EndSpentEnds : Type 0
 EndSpentEnds = (b : Broker) (who : Option Text) → SoundIdentifiers b → EndTokens b (end_spent b who)
 

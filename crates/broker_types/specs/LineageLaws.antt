@@ -21,12 +21,15 @@ use Rattle.broker_types.specs.MapLaws.{get-lookup, get-keep, same_map}
 abbrev pub ends_above : ℕ → Tokens → Option Text → Bool
 ends_above n ts p = option_map_or (ends_within n ts) p true
 
+-- of `ends_within`, at a token
 abbrev pub ends_at : ℕ → Tokens → Option Token → Bool
 ends_at n ts o = option_map_or (λ (x : Token). ends_above n ts x.parent) o true
 
+-- of `climb`, at a parent
 abbrev pub climb_above : ℕ → Tokens → Option Text → List Text
 climb_above n ts p = option_map_or (climb n ts) p []
 
+-- of `climb`, at a token
 abbrev pub climb_at : ℕ → Tokens → Text → Option Token → List Text
 climb_at n ts t o = option_map_or (λ (x : Token). t ∷ climb_above n ts x.parent) o []
 
@@ -71,7 +74,7 @@ in_climb (suc n) ts t a h =
           ] refl
     ] refl h
 
--- under is transitive where chains end
+-- under is transitive, if chains end
 pub under_climb : (n m : ℕ) (ts : Tokens) (q a t : Text) → ends_within n ts q ≡ true → ends_within m ts a ≡ true
     → list_any (same a) (climb n ts q) ≡ true → list_any (same t) (climb m ts a) ≡ true
     → list_any (same t) (climb n ts q) ≡ true

@@ -6,6 +6,7 @@ use Rattle.std.specs.List.{find}
 pub use Rattle.std.specs.FinMap.{get, empty, len, entries, keys}
 use Rattle.broker_types.specs.Text.{Text, text_cmp, same}
 
+-- a finite map from texts: each key has at most one value
 abbrev pub Map : Type 0 → Type 0
 Map X = FinMap text_cmp X
 
@@ -23,7 +24,7 @@ module _ {X : Type 0} where
   keep p m = fin.retain_keys m p
 
 module _ {X Y : Type 0} where
-  -- the entries with each value x at q taken to f q x
+  -- the entries, with each value x at q changed to f q x
   abbrev pub with_values : (Text → X → Y) → List (Text × X) → List (Text × Y)
   with_values f es = map (λ e. (e.0, f e.0 e.1)) es
 

@@ -101,7 +101,7 @@ module _ {X Y : Type 0} where
       → get (map_values f m) q ≡ Some y → (x : X) × (get m q ≡ Some x) × (y ≡ f q x)
   valued_is f m q y e = mapped (f q) (get m q) y (sym (get-map_values f m q) ∙ e)
 
-  -- where it has none, neither has the map
+  -- if it has none, neither has the map
   pub valued_none : (f : Text → X → Y) (m : Map X) (q : Text) → get (map_values f m) q ≡ None → get m q ≡ None
   valued_none f m q e = mapped_none (f q) (get m q) (sym (get-map_values f m q) ∙ e)
 

@@ -14,7 +14,7 @@ is_name_byte b =
 abbrev pub is_name : Text → Bool
 is_name s = nat_lt 0 (length s) && (nat_le (length s) 128 && list_all is_name_byte s)
 
--- the names that no mount may have
+-- the names that no mount may have (Vault's documentation, "System backend", `/sys/mounts`; the list is this project's)
 abbrev pub reserved_names : List Text
 reserved_names = codes "sys" ∷ codes "auth" ∷ codes "cubbyhole" ∷ codes "identity" ∷ []
 

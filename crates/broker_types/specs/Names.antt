@@ -14,9 +14,11 @@ pub record Names : Type 0 where
   pub wrapping_token : Text
   pub wrapping_accessor : Text
 
+-- the identifier of the word at this place
 abbrev pub word_id : Words → ℕ → Text
 word_id words i = id (slice_index words.0 i)
 
+-- the names of an event's words
 unfoldable pub names_of : Words → Names
 names_of words =
     record {

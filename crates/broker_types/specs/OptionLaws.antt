@@ -14,7 +14,7 @@ module _ {X Y : Type 0} where
   mapped f None y e = absurd (none-some y e)
   mapped f (Some x) y e = (x, refl, sym (same_Some _ _ e))
 
-  -- a mapped option is none only where the option is
+  -- a mapped option is none only if the option is
   pub mapped_none : (f : X → Y) (o : Option X) → option_map f o ≡ None → o ≡ None
   mapped_none f None e = refl
   mapped_none f (Some x) e = absurd (none-some _ (sym e))

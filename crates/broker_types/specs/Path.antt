@@ -3,7 +3,7 @@ use Rattle.std.specs.Prelude.{ℕ, ◌-◌, ◌&&◌, ◌==◌, nat_le, nat_lt, 
 use Rattle.std.specs.Prelude.{not, if◌then◌else◌, bytes_eq, codes}
 use Rattle.std.specs.List.{list_all}
 
--- the parts between slashes, of which the first has begun
+-- the parts between slashes; `begun` is what was read of the first
 abbrev pub segments : List ℕ → List ℕ → List (List ℕ)
 segments begun [] = begun ∷ []
 segments begun (c ∷ cs) = if c == 47 then begun ∷ segments [] cs else segments (begun ++ c ∷ []) cs

@@ -1,4 +1,4 @@
--- Refusals: their statuses, and their texts word for word (Vault's, where Vault has such a text; else this project's).
+-- Refusals: their statuses, and their texts word for word (Vault's, if Vault has such a text; else this project's).
 use Rattle.std.specs.Prelude.{[], ◌++◌, codes, Option, Some, None}
 use Rattle.std.specs.Option.{option_map_or}
 use Rattle.broker_types.specs.Text.{Text}
@@ -110,7 +110,7 @@ refusal_text refusal.NotFound = None
 refusal_text (refusal.MethodNotAllowed ms) = Some (codes "unsupported operation")
 refusal_text refusal.IdentifierUsed = Some (codes "identifier already used")
 
--- the text with which bytes that are not a request are refused, by the status
+-- the text with which bytes that are not a request are refused, by the status (this project's texts)
 abbrev pub cutting_text : Status → Option Text
 cutting_text status.BadRequest = Some (codes "malformed request")
 cutting_text status.PayloadTooLarge = Some (codes "request body too large")

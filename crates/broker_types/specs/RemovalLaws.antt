@@ -68,7 +68,7 @@ module _ (b : Broker) where
 -- ---- what has ended
 
 module _ (b : Broker) (sound : SoundIdentifiers b) where
-  -- a token that revocation takes out has ended
+  -- a token that revocation removes has ended
   pub revoke_ends : (t q : Text) → get b.tokens q ≢ None → get (revoke b t).tokens q ≡ None → HasEnded (revoke b t) q
   revoke_ends t q stood gone =
       fewer_ended b sound b.clock (lineage.revoke b.tokens t) b.waiting q (λ q w e. e) stood gone

@@ -105,7 +105,7 @@ module _ {X : Type 0} where
   first_where_is p m e h = let r = found_is (λ e. p e.0 e.1) (entries m) e (fin.entries_sorted m) h in
       (get-lookup m e.0 ∙ r.0, r.1)
 
-  -- where a search finds none, no entry passes
+  -- if a search finds none, no entry passes
   pub first_where_none : (p : Text → X → Bool) (m : Map X) (t : Text) (x : X) → first_where p m ≡ None
       → get m t ≡ Some x → p t x ≡ false
   first_where_none p m t x h g = none_passes (λ e. p e.0 e.1) (entries m) t x h (sym (get-lookup m t) ∙ g)
@@ -137,10 +137,11 @@ module _ {X : Type 0} where
         | false ↦ λ _ g. absurd (none-some _ g)
       ] refl (sym (get-keep r m t) ∙ h)
 
+  -- an entry that was found, if it is kept
   abbrev pub if_kept : (Text → Bool) → Option (Text × X) → Option (Text × X)
   if_kept r o = option_and_then (λ e. if r e.0 then Some e else None) o
 
-  -- a search among what is kept, where at most one entry passes
+  -- a search among what is kept, if at most one entry passes
   pub first_where-keep : (p : Text → X → Bool) (r : Text → Bool) (m : Map X) → OnePasses p m
       → first_where p (keep r m) ≡ if_kept r (first_where p m)
   first_where-keep p r m one =

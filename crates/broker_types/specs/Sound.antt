@@ -213,8 +213,7 @@ Unspent who ts = (t : Text) (x : Token) → get ts t ≡ Some x → x.uses_left 
 -- ---- the broker
 
 -- The broker is sound, but for the caller who, which may have spent its last use. Between two requests no token has,
--- and
--- who is none.
+-- and `who` is None.
 pub record Sound (forms : Forms) (who : Option Text) (b : Broker) : Type 0 where
   pub clock : IsMoment b.clock
   pub tokens : SoundTokens forms b.tokens

@@ -29,7 +29,7 @@ use Rattle.broker_types.specs.SearchLaws.{kept_get}
 
 -- ---- a use is spent
 
--- the tokens, of which c has one use less
+-- the tokens, where c has one use less
 abbrev spent_tokens : Broker → Text → Tokens
 spent_tokens b c = (spend b c).tokens
 

@@ -1,5 +1,5 @@
--- Times: the civil date of a day, by counting off years and months from the first of January 1970, and its text
--- (RFC 3339).
+-- Times: the civil date of a day, by counting off years and months from the first of January 1970, and its text (RFC
+-- 3339, section 5.6, and appendix C for leap years).
 use Rattle.std.specs.Prelude.{◌≡◌, ℕ, zero, suc, ◌+◌, ◌-◌, ◌/◌, ◌%◌, List, ◌++◌, codes, true, false, nat_lt, pos}
 use Rattle.jiff_core.specs.Calendar.{days_in_year, days_in_month}
 use Rattle.jiff_core.specs.declared.civil.time.Time.{Time}
@@ -41,7 +41,7 @@ IsClock n t = (t.hour ≡ n / 3600) × (t.minute ≡ n / 60 % 60) × (t.second �
 abbrev pub clock : ℕ → List ℕ
 clock s = pad2 (s % 86400 / 3600) ++ codes ":" ++ pad2 (s % 86400 / 60 % 60) ++ codes ":" ++ pad2 (s % 86400 % 60)
 
--- `2023-11-14T22:13:20Z` (RFC 3339)
+-- `2023-11-14T22:13:20Z` (RFC 3339, section 5.6)
 abbrev pub time_text : ℕ → List ℕ
 time_text s =
     let d = civil (s / 86400) in

@@ -1,11 +1,10 @@
 -- Tokens, each with its cubbyhole and its leases (Vault's documentation, "Tokens", "Lease, renew, and revoke",
--- "Cubbyhole
--- secrets engine").
+-- "Cubbyhole secrets engine").
 use Rattle.std.specs.Prelude.{ℕ, List, Option}
 use Rattle.broker_types.specs.Text.{Text}
 use Rattle.broker_types.specs.Map.{Map}
 
--- times are moments, and lengths of time are in seconds
+-- a lease: times are moments, and lengths of time are in seconds
 pub record Lease : Type 0 where
   pub issued : ℕ
   pub ttl : ℕ
@@ -14,6 +13,7 @@ pub record Lease : Type 0 where
   pub renewed : Option ℕ
   pub credential : Text
 
+-- a token: its parent, accessor, policies, times, uses, metadata, cubbyhole and leases
 pub record Token : Type 0 where
   pub parent : Option Text
   pub accessor : Text

@@ -75,7 +75,7 @@ impl WrapTtl {
     }
 }
 
-/// The body of a request: at most 1,048,576 bytes (this project's limit), borrowed where they can be.
+/// The body of a request: at most 1,048,576 bytes (this project's limit), borrowed if possible.
 #[derive(Drop)]
 pub struct BodyBytes<'b> {
     bytes: CowSlice<'b, u8>,

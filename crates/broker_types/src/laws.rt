@@ -56,8 +56,8 @@ pub fn expiry_ends_descendants()
     ensures tree { ExpiryKeepsTrees }
 {}
 
-/// A law: the broker that a start makes of two different words, at an accepted moment, is
-/// sound, where the text of the policy `default` is a policy.
+/// A law: the broker that a start makes of two different words, at an accepted moment, is sound, if the
+/// text of the policy `default` is a policy.
 pub fn first_broker_is_sound()
     ensures { FirstBrokerIsSound }
 {}
@@ -90,7 +90,7 @@ pub fn removals_evolve()
     ensures dropped { DropWaitingEvolves }
 {}
 
-/// A law: a token that is gone after revocation, expiry or the end of a spent caller has ended, where each
+/// A law: a token that is gone after revocation, expiry or the end of a spent caller has ended, if each
 /// identifier is in one place and was given out.
 pub fn removals_end_tokens()
     ensures revoked { RevokeEnds }

@@ -10,7 +10,7 @@ use std::borrow::CowStr;
 use std::marker::Model;
 
 /// The path of a request, below `/v1/`: a text of 1 to 512 bytes, none of them below 0x20 or 0x7F,
-/// without a final `/`, of which no segment is empty, `.` or `..` (RFC 3986, section 3.3).
+/// without a final `/`. No segment is empty, `.` or `..` (RFC 3986, section 3.3).
 #[derive(Drop)]
 pub struct Path<'b> {
     text: CowStr<'b>,
@@ -29,8 +29,8 @@ impl<'b> Model for Path<'b> {
 }
 
 impl<'b> Path<'b> {
-    /// Reads a path from its decoded text, of which one `/` at the end is dropped. It takes no
-    /// memory. Any other text is refused: 400 `invalid path`.
+    /// Reads a path from its decoded text. One `/` at the end is dropped. It takes no memory. Any other
+    /// text is refused: 400 `invalid path`.
     pub fn read(text: CowStr<'b>) -> Result<Path<'b>, Refusal>
         ensures { MatchResult result
             (λ path. (path ≡ without_slash (cow_str_bytes text.entry)) × (is_path path ≡ true))

@@ -73,14 +73,14 @@ impl Field {
 }
 
 /// Why a request is refused with 400. Each reason has a text of its own (Vault's documentation, "HTTP
-/// API", where Vault has such a text; else this profile's).
+/// API", if Vault has such a text; else this profile's).
 #[derive(Clone, Copy, Debug, PartialEq, Eq)]
 pub enum Reason {
     /// A head outside the grammar, with a wrong number of Host or Content-Length fields, HTTP/1.0, a
     /// Transfer-Encoding field, or a length that is no number or too great; or a field of the client
     /// that is there twice or is not UTF-8.
     MalformedRequest,
-    /// A target whose path is not valid, or that has a query or an encoded byte where none is read so far.
+    /// A target whose path is not valid, or that has a query or an encoded byte: neither is read so far.
     InvalidPath,
     /// A text that is not a duration of at most 4,294,967,295 seconds.
     InvalidDuration,
@@ -115,7 +115,7 @@ pub enum Reason {
     UnsupportedPolicy,
     /// The policy `root` is written, or `root` or `default` is deleted.
     PolicyFixed,
-    /// A write of a secret without `cas`, where it is required.
+    /// A write of a secret without `cas`, which is required.
     CheckAndSetRequired,
     /// A write of a secret whose `cas` is not the current version.
     CheckAndSetFailed,

@@ -46,7 +46,7 @@ impl Status {
     }
 }
 
-/// The methods that a path has, as `Allow` tells them (RFC 9110, section 10.2.1). POST and PUT are one,
+/// The methods that a path has, as `Allow` lists them (RFC 9110, section 10.2.1). POST and PUT are one,
 /// `write`.
 #[derive(Clone, Copy, Debug, PartialEq, Eq)]
 pub struct Methods {

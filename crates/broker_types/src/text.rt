@@ -90,7 +90,7 @@ impl Bytes {
     }
 }
 
-/// A text that is borrowed where it can be, seen as the list of its UTF-8 bytes.
+/// A text that is borrowed if possible, seen as the list of its UTF-8 bytes.
 #[derive(Drop)]
 pub struct CowText<'b> {
     cow: CowStr<'b>,
@@ -121,7 +121,7 @@ impl<'b> CowText<'b> {
     }
 }
 
-/// Bytes that are borrowed where they can be, seen as their list.
+/// Bytes that are borrowed if possible, seen as their list.
 #[derive(Drop)]
 pub struct CowBytes<'b> {
     cow: CowSlice<'b, u8>,

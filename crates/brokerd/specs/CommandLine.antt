@@ -1,10 +1,10 @@
--- The command line of the program, as `clap` sees it.
+-- The command line of the program, as `clap` sees it (this project's).
 use Rattle.std.specs.Prelude.{◌≡◌, ◌≢◌, codes, true, Option, Some, None, List, ⊤}
 use Rattle.clap.specs.Words.{App, Row, Text, new_app, with_subcommand}
 use Rattle.brokerd.specs.declared.command.Command.{Command}
 use Rattle.brokerd.specs.declared.command.Command.TheVariants.{Replay}
 
--- `brokerd`, which wants a subcommand
+-- `brokerd`, which requires a subcommand
 abbrev pub top_app : App
 top_app =
     record (new_app (codes "brokerd")) { top = record (new_app (codes "brokerd")).top { subcommand_required = true } }
@@ -13,7 +13,7 @@ top_app =
 unfoldable pub program_app : App
 program_app = with_subcommand top_app (new_app (codes "replay")).top
 
--- the command that a subcommand's name means; none where it is the name of another
+-- the command that a subcommand's name means; none if it is the name of another
 abbrev pub IsMeant : Text → Option Command → Type 0
 IsMeant name None = name ≢ codes "replay"
 IsMeant name (Some Replay) = name ≡ codes "replay"

@@ -1,4 +1,4 @@
--- How the program ends.
+-- How the program ends (this project's).
 use Rattle.std.specs.Prelude.{ℕ}
 use Rattle.replay.specs.declared.replaying.Exit.{Exit}
 use Rattle.replay.specs.declared.replaying.Exit.TheVariants.{Done, Faulted, BadLine}

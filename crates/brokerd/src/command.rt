@@ -12,9 +12,9 @@ pub(crate) enum Command {
     Replay,
 }
 
-/// The command that the words name, of which the first is the name of the program; none if they name
-/// another subcommand. An error is one of `clap`: the text for a line that is wrong, help that was
-/// asked for, or memory that ran out.
+/// The command that the words name. The first is the name of the program. None if they name another
+/// subcommand. The error is one of `clap`: a wrong command line, help that was asked for, or running out
+/// of memory.
 pub(crate) fn command_of(alloc: Global, words: &[String]) -> Result<Option<Command>, Error>
     ensures ok { IfOk result (IsCommandOf (subcommand_of program_app
         (map string_bytes words.now))) }

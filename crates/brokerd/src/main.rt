@@ -54,8 +54,8 @@ fn tell<R: Eprint>(rt: &R, exit: Exit) -> anyhow::Result<ExitCode>
     }
 }
 
-/// Says why the words of the command line cannot be had: no memory is a fault, and a word that is
-/// not UTF-8 makes a bad command line.
+/// Says why the command line cannot be read. Running out of memory is a fault; a word that is not UTF-8
+/// makes the command line bad.
 fn refuse_words<R: Eprint>(rt: &R, error: &io::Error) -> anyhow::Result<ExitCode>
     ensures memory { error_kind error.now ≡ OutOfMemory
         → IfOk result (λ code. exit_status code ≡ 1) }
@@ -69,8 +69,8 @@ fn refuse_words<R: Eprint>(rt: &R, error: &io::Error) -> anyhow::Result<ExitCode
     Ok(ExitCode::from(2))
 }
 
-/// Prints the text of a command line that names no command: on standard error with status 2, or, where
-/// help was asked for, on standard output with status 0. No memory is a fault.
+/// Prints the text of a command line that names no command: on standard error with status 2, or, if help
+/// was asked for, on standard output with status 0. Running out of memory is a fault.
 fn refuse<R: Eprint + Print>(rt: &R, error: &Error) -> anyhow::Result<ExitCode>
     ensures memory { kind_of error.now ≡ ErrorKind.OutOfMemory
         → IfOk result (λ code. exit_status code ≡ 1) }

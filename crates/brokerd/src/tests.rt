@@ -5,7 +5,7 @@ use clap::error::ErrorKind;
 use std::alloc::{AllocError, Global};
 use std::test::Fail;
 
-/// The words of a command line, of which the first is the name of the program.
+/// The words of a command line. The first is the name of the program.
 fn words(alloc: Global, line: &str) -> Result<Vec<String>, AllocError> {
     let mut words = Vec::new(alloc);
     for word in line.split(' ') {

@@ -16,7 +16,7 @@ chosen true x y = refl
 chosen false x y = refl
 
 module _ (b : Broker) (t : Text) where
-  -- where the edited cubbyhole is the token's, its object is that of the edited map
+  -- the objects of a token whose cubbyhole is edited are those of the edited map
   at_edited : (edit : Map Text → Map Text) (u p : Text) → object_at (edited b t edit) u p
       ≡ option_and_then (λ (x : Token). get (if same u t then edit x.cubbyhole else x.cubbyhole) p) (get b.tokens u)
   at_edited edit u p =

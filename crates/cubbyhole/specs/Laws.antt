@@ -1,4 +1,4 @@
--- Laws of cubbyholes, as statements.
+-- Laws of cubbyholes, as statements (this project's; Vault's documentation, "Cubbyhole secrets engine").
 use Rattle.std.specs.Prelude.{◌≡◌, List, [], ◌∷◌, length, true, Option, None, if◌then◌else◌}
 use Rattle.broker_types.specs.Text.{Text}
 use Rattle.broker_types.specs.Broker.{Broker}
@@ -14,28 +14,34 @@ use Rattle.cubbyhole.specs.Objects.{object_key}
 
 -- ---- soundness is kept, whoever may have spent its last use
 
+-- a write of an object at a path leaves a sound broker sound
 abbrev pub WriteKeepsSoundness : Type 0
 WriteKeepsSoundness =
     (forms : Forms) (who : Option Text) (b : Broker) (t path object : Text) → Sound forms who b
     → IsPathText path → IsObjectText forms object → Sound forms who (write b t path object)
 
+-- and so does a deletion
 abbrev pub DeleteKeepsSoundness : Type 0
 DeleteKeepsSoundness =
     (forms : Forms) (who : Option Text) (b : Broker) (t path : Text) → Sound forms who b
     → Sound forms who (delete b t path)
 
+-- and a cubbyhole that is dropped
 abbrev pub DropKeepsSoundness : Type 0
 DropKeepsSoundness =
     (forms : Forms) (who : Option Text) (b : Broker) (t : Text) → Sound forms who b → Sound forms who (drop_owner b t)
 
 -- ---- brokers evolve
 
+-- a write lets a broker evolve
 abbrev pub WriteEvolves : Type 0
 WriteEvolves = (b : Broker) (t path object : Text) → Evolves b (write b t path object)
 
+-- and so does a deletion
 abbrev pub DeleteEvolves : Type 0
 DeleteEvolves = (b : Broker) (t path : Text) → Evolves b (delete b t path)
 
+-- and a cubbyhole that is dropped
 abbrev pub DropEvolves : Type 0
 DropEvolves = (b : Broker) (t : Text) → Evolves b (drop_owner b t)
 
@@ -46,7 +52,7 @@ abbrev pub without_owners : Table → List Text → Table
 without_owners rows [] = rows
 without_owners rows (t ∷ owners) = without_owners (without_under rows kind.Cubby (object_key t [])) owners
 
--- Where tokens of b have ended in c, and each one's cubbyhole was dropped from the rows of b, the rows are those of c.
+-- If tokens of b have ended in c, and each one's cubbyhole was dropped from the rows of b, the rows are those of c.
 abbrev pub EndedLeaveNothing : Type 0
 EndedLeaveNothing =
     (b c : Broker) (ended : List Text) (rows : Table)

@@ -19,6 +19,7 @@ use Rattle.records.specs.Transaction.{Seen, Rows}
 abbrev pub table : Seen → Table
 table s = table_of s.rows
 
+-- the key of the object's row: the token, a slash and the path
 abbrev pub object_key : Text → Text → Text
 object_key t path = t ++ slash ∷ path
 
@@ -47,11 +48,12 @@ abbrev pub KeepsOtherOwners : Text → Table → Table → Type 0
 KeepsOtherOwners t old new =
     (k : Kind) (q : Text) → is_under kind.Cubby (object_key t []) k q ≡ false → new k q ≡ old k q
 
--- a row of a cubbyhole has its token as its owner, and stands at the token, a slash and a path
+-- a row of a cubbyhole has its token as its owner, and its key is the token, a slash and a path
 pub record IsFiled (q : Text) (row : Row) : Type 0 where
   pub path : Text
   pub owner : length row.owner ≡ token_len
   pub key : q ≡ object_key row.owner path
 
+-- each row of a cubbyhole is filed under its owner
 abbrev pub AreFiled : Table → Type 0
 AreFiled rows = (q : Text) (row : Row) → rows kind.Cubby q ≡ Some row → IsFiled q row

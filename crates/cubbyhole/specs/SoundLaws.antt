@@ -78,7 +78,7 @@ module _ (ts : Tokens) (t : Text) (f : Token → Token) where
 
 -- ---- a cubbyhole edited
 
--- the objects stand at paths
+-- each object is at a path
 abbrev AreObjects : Forms → Map Text → Type 0
 AreObjects forms m = (path object : Text) → get m path ≡ Some object → IsPathText path × IsObjectText forms object
 

@@ -17,7 +17,7 @@ pub fn edits_evolve()
     ensures dropped { DropEvolves }
 {}
 
-/// A law: where tokens have ended and each one's cubbyhole was dropped, the rows of cubbyholes are those of
+/// A law: if tokens have ended and each one's cubbyhole was dropped, the rows of cubbyholes are those of
 /// the broker without these tokens (Vault's documentation, "Cubbyhole secrets engine").
 pub fn ended_tokens_leave_nothing()
     ensures { EndedLeaveNothing }

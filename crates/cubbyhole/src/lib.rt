@@ -1,4 +1,4 @@
-//! Cubbyholes: what each token keeps for itself, as rows.
+//! Cubbyholes: the objects that each token keeps for itself, as rows.
 #![tactic(auto)]
 
 mod keys;

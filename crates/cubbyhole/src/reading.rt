@@ -17,8 +17,8 @@ use broker_types::{Fault, TextBuf};
 use records::{Kind, RecordsTx, Row, children_of, read_cubby};
 use std::alloc::Global;
 
-/// The compact text of the object that a row of the token's cubbyhole keeps. It fails as `Damaged` where
-/// the row is none of the token's cubbyhole.
+/// The compact text of the object that a row of the token's cubbyhole keeps. It fails as `Damaged` if
+/// the row is not one of the token's cubbyhole.
 fn object_of<'r>(kept: &'r Row, token: &str) -> Result<&'r str, Fault>
     ensures { Reads IsShortText (cubby_row token.now) kept.now (shown result (λ s. s.now)) }
 {
@@ -30,8 +30,8 @@ fn object_of<'r>(kept: &'r Row, token: &str) -> Result<&'r str, Fault>
 }
 
 /// The compact text of the object at a path of a token's cubbyhole, if there is one. It fails as
-/// `Damaged` where the row at the path is none of the token's cubbyhole, when out of memory, or where the
-/// storage fails (Vault's documentation, "Cubbyhole secrets engine", read secret).
+/// `Damaged` if the row at the path is not one of the token's cubbyhole, and also if memory runs out or
+/// the storage fails (Vault's documentation, "Cubbyhole secrets engine", read secret).
 pub fn read<T: RecordsTx>(
     alloc: Global,
     tx: &mut T,
@@ -57,10 +57,10 @@ pub fn read<T: RecordsTx>(
     Ok(Some(TextBuf::copied(alloc, object)?))
 }
 
-/// The immediate children of a folder of a token's cubbyhole, in the order of their bytes, each once: names,
-/// and folders with a slash at their ends. The empty path is for the whole cubbyhole. There are none where
-/// nothing is in the folder. It fails only when out of memory, or where the storage fails (Vault's documentation,
-/// "Cubbyhole secrets engine", list secrets).
+/// The immediate children of a folder of a token's cubbyhole, in the order of their bytes, each once: names, and
+/// folders with a slash at their ends. The empty path is for the whole cubbyhole. There are none if nothing is in the
+/// folder. It fails only if memory runs out or the storage fails (Vault's documentation, "Cubbyhole secrets engine",
+/// list secrets).
 pub fn list<T: RecordsTx>(
     alloc: Global,
     tx: &mut T,

@@ -18,9 +18,9 @@ use broker_types::Fault;
 use records::{Kind, RecordsTx, remove_under, write_cubby};
 use std::alloc::Global;
 
-/// Puts the compact text of an object at a path of a token's cubbyhole, in place of the one that is there.
-/// It fails only when out of memory, or where the storage fails (Vault's documentation, "Cubbyhole secrets
-/// engine", create or update secret).
+/// Puts the compact text of an object at a path of a token's cubbyhole, in place of the one that is
+/// there. It fails only if memory runs out or the storage fails (Vault's documentation, "Cubbyhole
+/// secrets engine", create or update secret).
 pub fn write<T: RecordsTx>(
     alloc: Global,
     tx: &mut T,
@@ -43,8 +43,8 @@ pub fn write<T: RecordsTx>(
     tx.put(Kind::Cubby, key.as_str(), row)
 }
 
-/// Takes out what is at a path of a token's cubbyhole, if there is anything. It fails only when out of
-/// memory, or where the storage fails (Vault's documentation, "Cubbyhole secrets engine", delete secret).
+/// Removes what is at a path of a token's cubbyhole, if there is anything. It fails only if memory runs
+/// out or the storage fails (Vault's documentation, "Cubbyhole secrets engine", delete secret).
 pub fn delete<T: RecordsTx>(alloc: Global, tx: &mut T, token: &str, path: &str) -> Result<(), Fault>
     ensures rows { IsHonest (T.seen tx.new) → OnOk result (table (T.seen tx.new)
         ≡ without_row (table (T.seen tx.old)) kind.Cubby (objects.object_key token.now path.now)) }
@@ -59,8 +59,8 @@ pub fn delete<T: RecordsTx>(alloc: Global, tx: &mut T, token: &str, path: &str) 
     tx.remove(Kind::Cubby, key.as_str())
 }
 
-/// Takes out a token's whole cubbyhole, also after the token has ended. It fails only when out of memory,
-/// or where the storage fails (Vault's documentation, "Cubbyhole secrets engine": a cubbyhole goes with its
+/// Removes a token's whole cubbyhole, also after the token has ended. It fails only if memory runs out
+/// or the storage fails (Vault's documentation, "Cubbyhole secrets engine": a cubbyhole goes with its
 /// token).
 pub fn drop_owner<T: RecordsTx>(alloc: Global, tx: &mut T, token: &str) -> Result<(), Fault>
     ensures rows { IsHonest (T.seen tx.new) → OnOk result (table (T.seen tx.new)

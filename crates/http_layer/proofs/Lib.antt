@@ -3,7 +3,5 @@ pub mod CutLemmas
 pub mod EndLemmas
 pub mod FrontLemmas
 pub mod LengthLemmas
-pub mod ListedLemmas
 pub mod NamedLemmas
 pub mod ReplyLemmas
-pub mod WindowLemmas

@@ -1,12 +1,8 @@
--- Replies: texts that are added one after another, and the laws of replies.
-use Rattle.std.proofs.Common.{◌≡◌, ℕ, Bool, ◌<◌, ◌≤◌, subst, List, [], ◌++◌, length, refl, sym, ap, ◌∙◌, arith, append_assoc, decimal, codes}
+-- Replies: texts that are added one after another.
+use Rattle.std.proofs.Common.{◌≡◌, ℕ, ◌≤◌, List, [], ◌++◌, length, refl, ap, ◌∙◌, arith, append_assoc, decimal, codes}
 use Rattle.broker_types.specs.declared.status.Status.{Status}
 use Rattle.broker_types.specs.declared.status.Status.TheVariants as is
-use Rattle.broker_types.specs.Answer.{Response}
-use Rattle.httpdate.specs.declared.parts.Parts.{Parts}
-use Rattle.httpdate.specs.Text.{imf_fixdate}
-use Rattle.httpdate.proofs.Theorems.{unix_secs_injective}
-use Rattle.http_layer.specs.Reply.{IsReply, phrase_of, body_lines, reply_head, reply_body, crlf}
+use Rattle.http_layer.specs.Reply.{phrase_of, body_lines, crlf}
 
 -- ---- texts that are added one after another
 
@@ -64,14 +60,3 @@ appended_7 a b c d e f g x0 x1 x2 x3 x4 x5 x6 x7 p0 p1 p2 p3 p4 p5 p6 p7 =
     let q5 : x5 ≡ a ++ b ++ c ++ d ++ e = p5 ∙ ap (λ (l : List ℕ). l ++ e) q4 in
     let q6 : x6 ≡ a ++ b ++ c ++ d ++ e ++ f = p6 ∙ ap (λ (l : List ℕ). l ++ f) q5 in
     p7 ∙ ap (λ (l : List ℕ). l ++ g) q6
-
--- ---- laws
-
--- a second has one date, and so one reply
-pub IsReply-unique : (r : Response) (moment : ℕ) (close : Bool) (x y : List ℕ) → IsReply r moment close x → IsReply r moment close y → x ≡ y
-IsReply-unique r moment close x y a b =
-    let same : a.date.parts ≡ b.date.parts = unix_secs_injective a.date b.date (a.at_moment ∙ sym b.at_moment) in
-    a.bytes_are ∙ ap (λ (p : Parts). reply_head r (imf_fixdate p) close ++ reply_body r.status r.text) same ∙ sym b.bytes_are
-
-pub IsReply-not_empty : (r : Response) (moment : ℕ) (close : Bool) (bytes : List ℕ) → IsReply r moment close bytes → 0 < length bytes
-IsReply-not_empty r moment close bytes a = subst (λ (l : List ℕ). 0 < length l) (sym a.bytes_are) (omega arith)

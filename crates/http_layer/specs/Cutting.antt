@@ -1,4 +1,4 @@
--- What an answer of `cut` means.
+-- What an answer of `cut` means (this project's definition).
 use Rattle.std.specs.Prelude.{ℕ, ◌<◌, ◌≤◌, ⊤}
 use Rattle.http_layer.specs.declared.front.Cut.{Cut}
 use Rattle.http_layer.specs.declared.front.Cut.TheVariants.{Need, Whole, Refused}

@@ -83,7 +83,7 @@ IsHeadFront s too_long = (is_too_long s ≡ true) × HasNoHeadEnd (window s)
 IsHeadFront s malformed = (len : ℕ) × HeadEnds (window s) len × ((p : HeadParts) → ¬ (IsHead (take len s) p))
 IsHeadFront s (read p) = HeadEnds (window s) p.size × IsHead (take p.size s) p
 
--- the front, where the head has these parts and its body has so many bytes (RFC 9112, section 6)
+-- the front, if the head has these parts and its body so many bytes (RFC 9112, section 6)
 abbrev pub front_of_body : List ℕ → HeadParts → Result ℕ Status → Front
 front_of_body s p (Ok n) =
     if nat_le (p.size + n) (length s) then whole (p.size + n) p (slice_range s p.size (p.size + n)) else need

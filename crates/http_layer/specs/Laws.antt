@@ -1,4 +1,4 @@
--- Laws of the definitions. Each is a clause of a function of `src/laws.rt` that does nothing.
+-- Laws of the definitions (this project's). Each is a clause of a function of `src/laws.rt` that does nothing.
 use Rattle.std.specs.Prelude.{◌≡◌, ◌≢◌, ℕ, ◌<◌, ◌≤◌, Bool, List, ◌++◌, length, IfErr}
 use Rattle.broker_types.specs.Limits.{longest_body}
 use Rattle.broker_types.specs.Answer.{Response}

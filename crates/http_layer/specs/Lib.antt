@@ -2,9 +2,13 @@ pub mod Asked
 pub mod Closing
 pub mod Cutting
 pub mod Front
+pub mod FrontLaws
+pub mod HeadEndLaws
 pub mod HeadParts
 pub mod Laws
 pub mod Listed
+pub mod ListedLaws
 pub mod Named
 pub mod Refusing
 pub mod Reply
+pub mod ReplyLaws

@@ -1,4 +1,5 @@
--- The refusals that are answered without asking the broker: of fronts, and of requests that ask nothing.
+-- The refusals that are answered without asking the broker: of fronts, and of requests that ask nothing (this project's
+-- definition).
 use Rattle.std.specs.Prelude.{◌≡◌, ◌⊎◌, List, [], ◌∷◌, Contains}
 use Rattle.broker_types.specs.Answer.{Response}
 use Rattle.broker_types.specs.declared.status.Status.{Status}

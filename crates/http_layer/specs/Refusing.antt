@@ -1,4 +1,4 @@
--- Requests that are refused without asking the broker, and the answers to them.
+-- Requests that are refused without asking the broker, and the answers to them (this project's definition).
 use Rattle.std.specs.Prelude.{◌≡◌, Bool, [], Option, option_map, Result, Ok, Err}
 use Rattle.broker_types.specs.Text.{Text}
 use Rattle.broker_types.specs.Status.{no_methods}

@@ -5,7 +5,7 @@ ghost use Rattle.http_layer.specs.Named.{AreNamed};
 
 use httparse::spans::HeaderSpan;
 
-/// How often a head has a field of some name, with the value where it has one.
+/// How often a head has a field of some name, with the value if it has one.
 #[derive(Clone, Copy)]
 pub(crate) enum Named<'b> {
     Absent,

@@ -10,7 +10,7 @@ use Rattle.broker_types.specs.declared.fault.Fault.{Fault}
 use Rattle.broker_types.specs.declared.fault.Fault.TheVariants.{Memory}
 use Rattle.broker_types.specs.declared.words.Words.{Words}
 use Rattle.broker_types.specs.Broker.{Broker}
-use Rattle.broker.specs.Kept.{Kept, IsHonestStoreStore}
+use Rattle.broker.specs.Kept.{Kept, IsHonestStore}
 use Rattle.broker.specs.Representing.{Represents}
 use Rattle.http_layer.specs.Front.{need, IsFront}
 use Rattle.hub.specs.AnyRows.{TurnsOpen, NextConnections, EventGives, close_history}

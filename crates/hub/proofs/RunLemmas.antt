@@ -4,8 +4,8 @@ use Rattle.broker_types.specs.declared.words.Words.{Words}
 use Rattle.broker_types.specs.Answer.{Response}
 use Rattle.broker_types.specs.Broker.{Broker}
 use Rattle.http_layer.specs.Front.{Front, IsFront}
-use Rattle.http_layer.proofs.ReplyLemmas.{IsReply-unique}
-use Rattle.http_layer.proofs.FrontLemmas.{IsFront-unique}
+use Rattle.http_layer.specs.ReplyLaws.{IsReply-unique}
+use Rattle.http_layer.specs.FrontLaws.{IsFront-unique}
 use Rattle.hub.specs.declared.event.Event.{Event}
 use Rattle.hub.specs.Asking.{PrefixesRun}
 use Rattle.hub.specs.World.{World, History, Next, Run, Turns, AreReplyBytes, front_closes, front_effect, history_after, put_history, history_at}

@@ -6,7 +6,7 @@ use Rattle.broker_types.specs.declared.words.Words.{Words}
 use Rattle.broker_types.specs.Answer.{Response}
 use Rattle.broker_types.specs.Broker.{Broker}
 use Rattle.broker_types.specs.declared.ask.Ask.{Ask}
-use Rattle.broker.specs.Kept.{Kept, IsHonestStoreStore}
+use Rattle.broker.specs.Kept.{Kept, IsHonestStore}
 use Rattle.broker.specs.Representing.{Represents}
 use Rattle.broker.specs.Step.{step}
 use Rattle.records.specs.Transaction.{Rows}

@@ -1,5 +1,6 @@
--- What an event does to the connections and to its reply, whatever rows the store has: where they are
--- those of no broker too. It is the turn of the world with a listed response in place of the broker's.
+-- What an event does to the connections and to its reply, whatever rows the store has, also rows that
+-- represent no broker (this project's definition). It is the turn of the world with a listed response in
+-- place of the broker's.
 use Rattle.std.specs.Prelude.{◌≡◌, ◌⊎◌, ℕ, Bool, true, false, List, [], ◌++◌, Some, None, MatchBool, Result, Ok, Err}
 use Rattle.std.specs.Prelude.{Vec}
 use Rattle.std.specs.declared.alloc.Global.{Global}
@@ -17,12 +18,12 @@ use Rattle.hub.specs.World.{request_closes}
 
 -- ---- replies
 
--- the reply to a whole request: to a listed response where it asks the broker, else its own refusal
+-- the reply to a whole request: to a listed response if it asks the broker, else its own refusal
 abbrev pub IsRequestReply : ℕ → Bool → Result Ask RefusalParts → List ℕ → Type 0
 IsRequestReply moment close (Ok ask) bytes = (r : Response) × IsListed r × IsReply r moment close bytes
 IsRequestReply moment close (Err r) bytes = IsReply (ask_refused r) moment close bytes
 
--- the reply to a front: no bytes where more are needed
+-- the reply to a front: no bytes if more are needed
 abbrev pub IsFrontReply : ℕ → Front → List ℕ → Type 0
 IsFrontReply moment need bytes = bytes ≡ []
 IsFrontReply moment (refused_with status) bytes = IsReply (front_refused status) moment true bytes
@@ -57,7 +58,7 @@ pub record FaultsAt (fault : Fault) (all : Connections) (conn : ℕ) (piece : Li
     : Type 0 where
   -- a closed connection has no fault
   pub is_open : (history_at all conn).closed ≡ false
-  -- nor has one that was seen, where nothing comes and more bytes are needed
+  -- nor has one that was seen, if nothing comes and more bytes are needed
   pub has_work : (h : History) (rest : List ℕ) → all conn ≡ Some h → piece ≡ []
       → FollowsRequests h.stream h.answered rest → ¬ (IsFront rest need)
   -- it is closed, or opening it found no memory and it is still not seen; no other changes

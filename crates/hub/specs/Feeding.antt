@@ -1,4 +1,4 @@
--- What serving the front of a connection's bytes leaves.
+-- What serving the front of a connection's bytes leaves (this project's definition).
 use Rattle.std.specs.Prelude.{◌≡◌, ◌≤◌, ℕ, false, true, Bool, List, [], ◌++◌, Option, Some, None, Result, Err}
 use Rattle.std.specs.Prelude.{IfOk, IfErr, OnErr, IsOk, IsTrue, Vec}
 use Rattle.std.specs.declared.alloc.Global.{Global}
@@ -7,7 +7,7 @@ use Rattle.broker_types.specs.Fault.{IsMemoryOrStorage}
 use Rattle.broker_types.specs.declared.fault.Fault.{Fault}
 use Rattle.broker_types.specs.declared.fault.Fault.TheVariants.{Storage}
 use Rattle.broker_types.specs.declared.words.Words.{Words}
-use Rattle.broker.specs.Kept.{Kept, IsHonestStoreStore}
+use Rattle.broker.specs.Kept.{Kept, IsHonestStore}
 use Rattle.broker.specs.Representing.{Represents}
 use Rattle.records.specs.Transaction.{Rows}
 use Rattle.http_layer.specs.Front.{Front, need, refused_with, whole, IsFront}
@@ -56,13 +56,13 @@ pub record TookTurn (old new : Kept) (h : History) (piece : List ℕ) (moment : 
   pub reply : IsFrontReply moment front bytes
   pub broker : ServesBroker old new front moment words bytes
 
--- a store at a later time: doubt only grows, and what is closed stays closed
+-- a store at a later time: mismatches only grow, and what is closed stays closed
 pub record IsLater (old new : Kept) : Type 0 where
   pub mismatches : old.mismatches ≤ new.mismatches
   pub closes : IsTrue new.is_open → IsTrue old.is_open
 
--- What a call leaves of the store, whatever it was asked. After a fault the rows are as before. On rows that
--- represent a broker the faults are of memory or storage alone, and of storage only where the store failed.
+-- What a call leaves of the store, whatever it was asked. After a fault the rows are as before. On rows that represent
+-- a broker the faults are of memory or storage alone, and of storage only if the store failed.
 pub record Keeps {A : Type 0} (old new : Kept) (r : Result A Fault) : Type 0 where
   pub kept : IsHonestStore new → IsTrue new.is_open → OnErr r (new.rows ≡ old.rows)
   pub wants : IsHonestStore new → (b : Broker) → Represents None old.rows b → IfErr r IsMemoryOrStorage

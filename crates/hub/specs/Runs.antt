@@ -1,4 +1,4 @@
--- What a run of events answers.
+-- What a run of events answers (this project's definition).
 use Rattle.std.specs.Prelude.{◌≡◌, ℕ, List, [], map, take, Vec}
 use Rattle.std.specs.List.{slice_index_or}
 use Rattle.std.specs.declared.alloc.Global.{Global}

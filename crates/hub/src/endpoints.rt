@@ -9,7 +9,7 @@ pub struct Failed;
 
 /// Where bytes are pulled from.
 pub trait Source {
-    /// The bytes that are left, where they are known.
+    /// The bytes that are left, if they are known.
     ghost left: { Self → Option (List ℕ) };
 
     /// How many pulls did not fail.
@@ -18,9 +18,9 @@ pub trait Source {
     /// Whether a pull failed.
     ghost has_failed: { Self → Bool };
 
-    /// Puts the next bytes at the beginning of the buffer, and answers how many they are. Where the
-    /// buffer has room, 0 says that the input has ended. It fails where no bytes can be had; what is left
-    /// is then as before, where it is known.
+    /// Puts the next bytes at the beginning of the buffer, and answers how many they are. If the buffer
+    /// has room, 0 says that the input has ended. It fails if no bytes can be read. What is left is then
+    /// as before, if it is known.
     fn pull(&mut self, buffer: &mut [u8]) -> Result<usize, Failed>
         ensures bound { IfOk result (λ count. count ≤ length buffer.new) }
         ensures bytes { ReadConsumes (left self.old) (left self.new) result buffer.new }
@@ -34,7 +34,7 @@ pub trait Source {
 
 /// Where bytes are pushed to.
 pub trait Sink {
-    /// The bytes that were pushed, where they are known.
+    /// The bytes that were pushed, if they are known.
     ghost written: { Self → Option (List ℕ) };
 
     /// Whether a push failed.
@@ -82,7 +82,7 @@ impl<R: Read> Source for Reading<R> {
 
     ghost has_failed = { read_failed };
 
-    /// It fails where the reader does, and after 18,446,744,073,709,551,615 pulls.
+    /// It fails if the reader does, and after 18,446,744,073,709,551,615 pulls.
     fn pull(&mut self, buffer: &mut [u8]) -> Result<usize, Failed> {
         if self.pulls == u64::MAX {
             self.failed = true;

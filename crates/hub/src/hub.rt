@@ -16,7 +16,7 @@ pub struct Hub<S: Store> {
 impl<S: Store> Hub<S> {
     ghost use Rattle.std.specs.Prelude.{◌≡◌, ◌≢◌, ℕ, List, [], Some, IfOk, IfErr, IsOk, true};
     ghost use Rattle.broker_types.specs.Broker.{Broker};
-    ghost use Rattle.broker.specs.Kept.{IsHonestStoreStore};
+    ghost use Rattle.broker.specs.Kept.{IsHonestStore};
     ghost use Rattle.broker.specs.Representing.{Represents};
     ghost use Rattle.hub.specs.AnyRows.{EventGives};
     ghost use Rattle.hub.specs.Feeding.{Feeds, Keeps};
@@ -40,12 +40,12 @@ impl<S: Store> Hub<S> {
         }
     }
 
-    /// Takes a piece that comes on a connection, and answers at most one request. A connection that
-    /// was not seen is opened; a closed one gives no bytes. The result is the bytes of the reply, or
-    /// none. After a fault the other connections are as before, and this one is closed; it is still not
-    /// seen where opening it found no memory. The broker is as before then, as long as the storage
-    /// returns what was written and can still be asked. On rows that represent a broker it fails with
-    /// `Memory` or `Storage` alone, else with any fault of the store.
+    /// Takes a piece that comes on a connection, and answers at most one request. A connection that was
+    /// not seen is opened; a closed one gives no bytes. The result is the bytes of the reply, or none.
+    /// After a fault the other connections are as before, and this one is closed; if opening it found no
+    /// memory, it is still not seen. The broker is as before then, as long as the storage returns what
+    /// was written and can still be asked. On rows that represent a broker the only faults are `Memory`
+    /// and `Storage`; else any fault of the store may come.
     pub fn feed(
         &mut self,
         conn: u64,
@@ -58,9 +58,9 @@ impl<S: Store> Hub<S> {
             (record { conn = conn; piece = piece.now; moment = moment; words = words.now })
             bytes.items self.new) }
 
-        // Whatever the rows are, the other connections are as before, and this one took its turn: its reply
-        // is that to the front of its bytes, with a listed response where the broker is asked. Or there was
-        // a fault, and it is closed.
+        // Whatever the rows are, the other connections are as before, and this one took its turn: its
+        // reply is that to the front of its bytes, with a listed response if the broker is asked. Or
+        // there was a fault, and it is closed.
         ensures connections { (all : Connections) → ConnectionsRepresent self.old all
             → (after : Connections) × ConnectionsRepresent self.new after
             × EventGives all conn piece.now moment result after }

@@ -1,7 +1,7 @@
 ghost use Rattle.std.specs.Prelude.{◌≡◌, ◌⊎◌, ◌<◌, IsTrue, IfOk, IfErr, MatchResult, length, take};
 ghost use Rattle.std.specs.List.{All};
 ghost use Rattle.broker_types.specs.Fault.{IsMemoryOrStorage};
-ghost use Rattle.broker.specs.Kept.{IsHonestStoreStore};
+ghost use Rattle.broker.specs.Kept.{IsHonestStore};
 ghost use Rattle.hub.specs.Feeding.{IsLater};
 ghost use Rattle.hub.specs.Listed.{IsListedReply};
 ghost use Rattle.hub.specs.Representing.{HubRepresents, hub_store};
@@ -15,9 +15,9 @@ use broker_types::Fault;
 use std::alloc::Global;
 
 /// Feeds the events in turn, and answers their replies, one an event; an event without a reply has an
-/// empty one. A fault ends the run, with the place of its event, counted from 0, and the replies
-/// before it. The places of all replies are reserved first: where that finds no memory, the place is
-/// 0, there are no replies, and the hub is as before.
+/// empty one. A fault ends the run, with the place of its event, counted from 0, and the replies before
+/// it. The places of all replies are reserved first: if memory runs out there, the place is 0, there are
+/// no replies, and the hub is as before.
 ///
 /// **Each connection receives exactly the reply bytes of the broker**, asked by the complete requests
 /// in the order in which their events answered them: for each world that the hub represents, the
@@ -44,7 +44,7 @@ pub fn run<S: Store>(
         → (mid : World) × Run w (take stop.0 events.now) (bytes_of stop.1.items) mid) }
 
     // No memory was found for the places of the replies, or the run stopped at an event. What it left is
-    // told as long as the storage can still be asked.
+    // known as long as the storage can still be asked.
     ensures stopped { IfErr result (λ stop.
         HadNoRoom stop.0 stop.1.items stop.2 hub.old hub.new
         ⊎ ((stop.0 < length events.now)
@@ -52,7 +52,7 @@ pub fn run<S: Store>(
         → (w : World) → HubRepresents S.seen hub.old w
         → StopsAt S.seen w events.now stop.0 (bytes_of stop.1.items) stop.2 hub.new))) }
 
-    // On a broker's rows the faults are of memory or storage alone, and of storage only where the store failed.
+    // On a broker's rows the faults are of memory or storage alone, and of storage only if the store failed.
     ensures wants { IsHonestStore (hub_store S.seen hub.new) → IfErr result (λ stop.
         (w : World) → HubRepresents S.seen hub.old w → IsMemoryOrStorage stop.2) }
     ensures storage { IfErr result (λ stop.

@@ -1,7 +1,7 @@
 ghost use Rattle.std.specs.Prelude.{◌≡◌, IfOk, IfErr, IsOk, Some, None, [], true, false};
 ghost use Rattle.broker_types.specs.Answer.{response_of, HasRoom};
 ghost use Rattle.broker_types.specs.Broker.{Broker};
-ghost use Rattle.broker.specs.Kept.{IsHonestStoreStore};
+ghost use Rattle.broker.specs.Kept.{IsHonestStore};
 ghost use Rattle.broker.specs.Representing.{Represents};
 ghost use Rattle.http_layer.specs.Asked.{asked};
 ghost use Rattle.http_layer.specs.Front.{IsFront, need};

@@ -18,7 +18,7 @@ pub(crate) fn is_closed(connections: &BTreeMap<u64, Connection>, conn: u64) -> b
     }
 }
 
-/// Opens a connection that was not seen. Where memory runs out it stays not seen.
+/// Opens a connection that was not seen. If memory runs out, it is still not seen.
 pub(crate) fn open(
     connections: &mut BTreeMap<u64, Connection>,
     alloc: Global,

@@ -39,7 +39,7 @@ push_each-after before last [] = refl
 push_each-after before last (t ∷ texts) =
     ap (λ o. push_each (if is_text t o then before ++ last ∷ [] else (before ++ last ∷ []) ++ t ∷ []) texts) (last_is before last)
     ∙ elim (same last t) as (λ v. push_each (if v then before ++ last ∷ [] else (before ++ last ∷ []) ++ t ∷ []) texts
-        ≡ before ++ last ∷ (if v then once_after last texts else t ∷ once_after t texts)) [
+    ≡ before ++ last ∷ (if v then once_after last texts else t ∷ once_after t texts)) [
       | true ↦ push_each-after before last texts
       | false ↦ push_each-after (before ++ last ∷ []) t texts ∙ append_assoc before (last ∷ []) (t ∷ once_after t texts)
     ]
@@ -64,11 +64,11 @@ once_entries last (t ∷ texts) rises =
     ∙ elim rises.0 [
       | inl less ↦
           ap (λ o. by_order o (member last ∷ member t ∷ map member (once_after t texts)) (member t ∷ map member (once_after t texts))
-              (member t ∷ put text_cmp last tt (map member (once_after t texts)))) less
+          (member t ∷ put text_cmp last tt (map member (once_after t texts)))) less
           ∙ sym (ap (λ v. map member (last ∷ (if v then once_after last texts else t ∷ once_after t texts))) (below_apart last t less))
       | inr same_one ↦
           ap (λ o. by_order o (member last ∷ member t ∷ map member (once_after t texts)) (member t ∷ map member (once_after t texts))
-              (member t ∷ put text_cmp last tt (map member (once_after t texts))))
+          (member t ∷ put text_cmp last tt (map member (once_after t texts))))
           (ap (text_cmp last) (sym same_one) ∙ tied_itself nat_list_cmp_total last)
           ∙ (λ i. map member (sym same_one i ∷ once_after (sym same_one i) texts))
           ∙ sym (ap (λ v. map member (last ∷ (if v then once_after last texts else t ∷ once_after t texts))) (ap (same last) (sym same_one) ∙ same_self last))
@@ -90,7 +90,7 @@ child_order [] (d ∷ y) h = inl refl
 child_order (c ∷ x) [] h = absurd (cc)
 child_order (c ∷ x) (d ∷ y) h =
     elim (nat_cmp c d) as (λ o. nat_cmp c d ≡ o → ordering_then o (text_cmp x y) ≡ Less
-        → (text_cmp (child (c ∷ x)) (child (d ∷ y)) ≡ Less) ⊎ (child (c ∷ x) ≡ child (d ∷ y))) [
+    → (text_cmp (child (c ∷ x)) (child (d ∷ y)) ≡ Less) ⊎ (child (c ∷ x) ≡ child (d ∷ y))) [
       | Less ↦ λ is _. inl (ap (λ o. ordering_then o (text_cmp (if c == slash then [] else child x) (if d == slash then [] else child y))) is)
       | Equal ↦ λ is later.
           let one : c ≡ d = grind (arith, is) in
@@ -140,12 +140,14 @@ module _ {X : Type 0} (prefix : Text) where
       let lows = and_parts _ _ low in
       let sorts = and_parts _ _ sorted in
       elim (starts_with nat_eq e.0 prefix) as (λ v. starts_with nat_eq e.0 prefix ≡ v
-          → Rises (child (drop (length prefix) last))
-              (map child (map (drop (length prefix))
-                  (cond v (e.0 ∷ filter (λ q. starts_with nat_eq q prefix) (names_of es)) (filter (λ q. starts_with nat_eq q prefix) (names_of es)))))) [
-        | true ↦ λ is.
-            (child_order (drop (length prefix) last) (drop (length prefix) e.0)
-                (dropped_order prefix last e.0 begins is (less_true _ lows.0)), rises_below e.0 es is sorts.0 sorts.1)
+      → Rises (child (drop (length prefix) last))
+      (map child (map (drop (length prefix))
+      (cond v (e.0 ∷ filter (λ q. starts_with nat_eq q prefix) (names_of es)) (filter (λ q. starts_with nat_eq q prefix) (names_of es)))))) [
+        | true ↦ λ is. (
+          child_order (drop (length prefix) last) (drop (length prefix) e.0)
+              (dropped_order prefix last e.0 begins is (less_true _ lows.0)),
+          rises_below e.0 es is sorts.0 sorts.1,
+        )
         | false ↦ λ _. rises_below last es begins lows.1 sorts.1
       ] refl
 
@@ -154,10 +156,10 @@ module _ {X : Type 0} (prefix : Text) where
   children_ordered (e ∷ es) sorted =
       let sorts = and_parts _ _ sorted in
       elim (starts_with nat_eq e.0 prefix) as (λ v. starts_with nat_eq e.0 prefix ≡ v
-          → push_each [] (map child (map (drop (length prefix))
-              (cond v (e.0 ∷ filter (λ q. starts_with nat_eq q prefix) (names_of es)) (filter (λ q. starts_with nat_eq q prefix) (names_of es)))))
-          ≡ fin.keys (set_of (map child (map (drop (length prefix))
-              (cond v (e.0 ∷ filter (λ q. starts_with nat_eq q prefix) (names_of es)) (filter (λ q. starts_with nat_eq q prefix) (names_of es))))))) [
+      → push_each [] (map child (map (drop (length prefix))
+      (cond v (e.0 ∷ filter (λ q. starts_with nat_eq q prefix) (names_of es)) (filter (λ q. starts_with nat_eq q prefix) (names_of es)))))
+      ≡ fin.keys (set_of (map child (map (drop (length prefix))
+      (cond v (e.0 ∷ filter (λ q. starts_with nat_eq q prefix) (names_of es)) (filter (λ q. starts_with nat_eq q prefix) (names_of es))))))) [
         | true ↦ λ is. once_set (child (drop (length prefix) e.0)) (map child (below prefix (names_of es))) (rises_below e.0 es is sorts.0 sorts.1)
         | false ↦ λ _. children_ordered es sorts.1
       ] refl

@@ -47,7 +47,7 @@ any-below : (prefix q : Text) (ts : List Text) → list_any (eq_by_cmp text_cmp 
 any-below prefix q [] = refl
 any-below prefix q (t ∷ ts) = elim (starts_with nat_eq t prefix) as (λ v.
     list_any (eq_by_cmp text_cmp q)
-        (map child (map (drop (length prefix)) (cond v (t ∷ filter (λ q. starts_with nat_eq q prefix) ts) (filter (λ q. starts_with nat_eq q prefix) ts))))
+    (map child (map (drop (length prefix)) (cond v (t ∷ filter (λ q. starts_with nat_eq q prefix) ts) (filter (λ q. starts_with nat_eq q prefix) ts))))
     ≡ ((v && eq_by_cmp text_cmp q (child (drop (length prefix) t))) || list_any (child_is prefix q) ts)) [
       | true ↦ ap (λ v. eq_by_cmp text_cmp q (child (drop (length prefix) t)) || v) (any-below prefix q ts)
       | false ↦ any-below prefix q ts
@@ -124,6 +124,6 @@ named_children rows kind outer folder paths names =
     same_children outer folder (keys_under rows kind (outer ++ folder)) paths
     (λ rest h. has-keys rows kind (outer ++ folder) ((outer ++ folder) ++ rest)
     ∙ and_from _ _ (begins_with (outer ++ folder) ((outer ++ folder) ++ rest) rest refl)
-        (ap (λ q. is_some (fin.get rows (kind, q))) (append_assoc outer folder rest) ∙ names (folder ++ rest) ∙ h))
+    (ap (λ q. is_some (fin.get rows (kind, q))) (append_assoc outer folder rest) ∙ names (folder ++ rest) ∙ h))
     (λ rest h. sym (names (folder ++ rest)) ∙ ap (λ q. is_some (fin.get rows (kind, q))) (sym (append_assoc outer folder rest))
     ∙ (and_parts _ _ (sym (has-keys rows kind (outer ++ folder) ((outer ++ folder) ++ rest)) ∙ h)).1)

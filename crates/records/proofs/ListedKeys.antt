@@ -95,8 +95,8 @@ T_true false t = absurd t
 -- the children of what is listed are the set of them
 pub listed_children : (rows : Rows) (kind : Kind) (under prefix : Text)
     → children_in_order prefix (map (λ (e : Key × Row). e.0.1) (rows_under rows kind under))
-        ≡ children prefix (map (λ (e : Key × Row). e.0.1) (rows_under rows kind under))
+    ≡ children prefix (map (λ (e : Key × Row). e.0.1) (rows_under rows kind under))
 listed_children rows kind under prefix =
     let es = rows_under rows kind under in
     ap (children_in_order prefix) (names_are es) ∙ children_ordered prefix (named es) (T_true _ (listed-sorted kind under rows))
-        ∙ sym (ap (children prefix) (names_are es))
+    ∙ sym (ap (children prefix) (names_are es))

@@ -1,4 +1,4 @@
--- How a replay ends.
+-- How a replay ends (this project's definition).
 use Rattle.std.specs.Prelude.{◌≡◌, ◌⊎◌, Bool, IsTrue, Option, Some, None, slice_index, ⊤}
 use Rattle.replay.specs.Lines.{Told}
 use Rattle.replay.specs.declared.replaying.Exit.{Exit}

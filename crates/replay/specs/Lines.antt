@@ -23,7 +23,7 @@ use Rattle.replay.specs.declared.lines.Start.{Start}
 abbrev pub line_value : List ℕ → Option Data
 line_value line = if is_utf8 line then read line else None
 
--- how many members the value has; none where it is no object
+-- how many members the value has; 0 if it is not an object
 abbrev pub member_count : Data → ℕ
 member_count d = option_map_or members_len (as_object d) 0
 
@@ -37,6 +37,7 @@ text_in name d = option_and_then as_str (get name d)
 
 -- ---- moments and words
 
+-- an accepted moment
 abbrev pub moment_of : ℕ → Option ℕ
 moment_of seconds = if nat_le seconds greatest_moment then Some seconds else None
 
@@ -49,17 +50,21 @@ abbrev pub count_up : ℕ → ℕ → List ℕ
 count_up zero word = []
 count_up (suc n) word = word ∷ count_up n ((word + 1) % 2 ^ 128)
 
+-- the eight words from this one on
 abbrev pub words_from : ℕ → Words
 words_from word = record { 0 = count_up 8 word }
 
+-- the member `moment`
 abbrev pub moment_in : Data → Option ℕ
 moment_in d = option_and_then moment_of (number_in (codes "moment") d)
 
+-- the member `words`
 abbrev pub words_in : Data → Option Words
 words_in d = option_map words_from (option_and_then word_of (text_in (codes "words") d))
 
 -- ---- lines
 
+-- a start, if both are there
 abbrev pub start_with : Option ℕ → Option Words → Option Start
 start_with (Some moment) (Some words) = Some (record { moment = moment; words = words })
 start_with (Some moment) None = None
@@ -69,9 +74,11 @@ start_with None words = None
 abbrev pub start_in : Data → Option Start
 start_in d = if member_count d == 2 then start_with (moment_in d) (words_in d) else None
 
+-- the start that a line is
 abbrev pub start_line : List ℕ → Option Start
 start_line line = option_and_then start_in (line_value line)
 
+-- an event, if all four are there
 abbrev pub event_with : Option ℕ → Option ℕ → Option Words → Option Text → Option Event
 event_with (Some conn) (Some moment) (Some words) (Some piece) =
     Some (record { conn = conn; piece = piece; moment = moment; words = words })
@@ -87,6 +94,7 @@ event_in d =
     then event_with (number_in (codes "conn") d) (moment_in d) (words_in d) (text_in (codes "piece") d)
     else None
 
+-- the event that a line is
 abbrev pub event_line : List ℕ → Option Event
 event_line line = option_and_then event_in (line_value line)
 
@@ -109,13 +117,14 @@ abbrev pub lines_left : Option (List ℕ) → List (List ℕ)
 lines_left None = []
 lines_left (Some rest) = slice_split is_line_feed rest
 
--- what the lines tell, up to the first that is bad
+-- what the lines say, up to the first that is bad
 pub record Told : Type 0 where
   pub start : Start
   pub events : List Event
   -- whether a bad line follows those of the events
   pub is_cut : Bool
 
+-- the event and those after it, unless the line is bad
 abbrev pub before_bad : Option Event → List Event → List Event
 before_bad None events = []
 before_bad (Some event) events = event ∷ events
@@ -130,7 +139,7 @@ abbrev pub has_bad : List (List ℕ) → Bool
 has_bad [] = false
 has_bad (line ∷ lines) = is_none (event_line line) || has_bad lines
 
--- what the lines tell; nothing where the first, the start, is bad
+-- what the lines say; nothing if the first, the start, is bad
 abbrev pub told_in : List (List ℕ) → Option Told
 told_in [] = None
 told_in (line ∷ lines) =

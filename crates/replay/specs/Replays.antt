@@ -1,4 +1,4 @@
--- What a replay answers.
+-- What a replay answers (this project's definition).
 use Rattle.std.specs.Prelude.{◌≡◌, ◌≢◌, ◌+◌, ℕ, List, [], Option, Some, None, ⊤, length, take, slice_index}
 use Rattle.std.specs.Prelude.{if◌then◌else◌}
 use Rattle.std.specs.Io.KnownBytes.{Appends}
@@ -18,11 +18,11 @@ IsUnfaulted Done = ⊤
 IsUnfaulted (BadLine line) = ⊤
 IsUnfaulted (Faulted number) = ⊥
 
--- what a script tells
+-- what a script says
 abbrev pub told : Script → Told
 told script = record { start = script.start; events = script.events.items; is_cut = script.is_cut }
 
--- how the lines end a replay where nothing fails: lines are counted from 1, the start among them
+-- how the lines end a replay if nothing fails: lines are counted from 1, the start among them
 abbrev pub exit_of : Told → Exit
 exit_of t = if t.is_cut then BadLine (length t.events + 2) else Done
 
@@ -34,18 +34,18 @@ pub record Replayed (start : Start) (events : List Event) (old new : Option (Lis
       events replies after
   pub written : Appends old new (concat replies)
 
--- what the lines tell was replayed; nothing was written where the first is bad
+-- what the lines say was replayed; nothing was written if the first is bad
 abbrev pub Replays : Option Told → Option (List ℕ) → Option (List ℕ) → Exit → Type 0
 Replays None old new exit = (exit ≡ BadLine 1) × Appends old new []
 Replays (Some t) old new exit = (exit ≡ exit_of t) × Replayed t.start t.events old new
 
--- the replies to some number of the first events were written whole, and nothing else; none, where the start is bad
+-- the replies to some number of the first events were written whole, and nothing else; none, if the start is bad
 abbrev pub WroteFirst : Option Told → Option (List ℕ) → Option (List ℕ) → Type 0
 WroteFirst None old new = Appends old new []
 WroteFirst (Some t) old new = (count : ℕ) × Replayed t.start (take count t.events) old new
 
--- Where it ended by a fault that is none of writing, nothing but replies of the run was written. How many
--- were there before the fault is not told.
+-- If it ended by a fault other than one of writing, nothing but replies of the run was written. How many
+-- there were before the fault is left open.
 abbrev pub Stopped : Option Told → Option (List ℕ) → Option (List ℕ) → Exit → Type 0
 Stopped t old new (Faulted number) = number ≢ 6 → WroteFirst t old new
 Stopped t old new _ = ⊤

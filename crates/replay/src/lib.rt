@@ -1,4 +1,4 @@
-//! The lines of a replay: events told in JSON are run over a broker in memory, and their replies are written.
+//! The lines of a replay: events in JSON are run over a broker in memory, and their replies are written.
 #![tactic(auto)]
 
 mod input;

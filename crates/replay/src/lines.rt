@@ -10,15 +10,15 @@ use hub::Event;
 use serde_json::Value;
 use std::alloc::{AllocError, Global};
 
-/// What the first line of a replay tells.
+/// What the first line of a replay says.
 #[derive(Clone, Copy, Debug, PartialEq, Eq)]
 pub(crate) struct Start {
     pub(crate) moment: Moment,
     pub(crate) words: Words,
 }
 
-/// The start that a line tells: a JSON object of `moment` and `words`. None if it is no such line. It
-/// fails only where memory runs out.
+/// The start that a line is: a JSON object of `moment` and `words`. None if the line has another form.
+/// The only error is running out of memory.
 pub(crate) fn read_start(alloc: Global, line: &[u8]) -> Result<Option<Start>, AllocError>
     ensures { IfOk result (λ start. start ≡ start_line line.now) }
 {
@@ -40,8 +40,8 @@ fn start_of(value: &Value) -> Option<Start>
     }
 }
 
-/// The event that a line tells: a JSON object of `conn`, `moment`, `words` and `piece`. None if it is
-/// no such line. It fails only where memory runs out.
+/// The event that a line is: a JSON object of `conn`, `moment`, `words` and `piece`. None if the line
+/// has another form. The only error is running out of memory.
 pub(crate) fn read_event(alloc: Global, line: &[u8]) -> Result<Option<Event>, AllocError>
     ensures { IfOk result (λ event. event ≡ event_line line.now) }
 {

@@ -50,8 +50,8 @@ pub fn replay<R: Source, W: Sink>(alloc: Global, reader: &mut R, writer: &mut W)
     ensures stopped { (input : List ℕ) → R.left reader.old ≡ Some input
         → Stopped (told_in (lines_of input)) (W.written writer.old) (W.written writer.new) result }
 
-    // Fault 4 comes only where the start's words 1 and 2 are equal, a fault of reading only where the source
-    // failed, or after 4,294,967,296 pulls, and one of writing only where the sink failed.
+    // Fault 4 comes only if the start's words 1 and 2 are equal, a fault of reading only if the source failed, or after
+    // 4,294,967,296 pulls, and one of writing only if the sink failed.
     ensures ends { EndsByRead
         ((input : List ℕ) → R.left reader.old ≡ Some input → HasEqualWords (told_in (lines_of input)))
         (IsTrue (R.has_failed reader.new) ⊎ (R.pulls reader.old + 4294967296 ≤ R.pulls reader.new))

@@ -8,7 +8,7 @@ use crate::replaying::Exit;
 use hub::Event;
 use std::alloc::{AllocError, Global};
 
-/// What the lines of a replay tell, up to the first that is bad.
+/// What the lines of a replay say, up to the first that is bad.
 #[derive(Drop)]
 pub(crate) struct Script {
     pub(crate) start: Start,
@@ -21,7 +21,7 @@ impl Script {
     ghost use Rattle.std.specs.Prelude.{◌≡◌};
     ghost use Rattle.replay.specs.Replays.{exit_of, told};
 
-    /// How its run ends where nothing fails.
+    /// How its run ends if nothing fails.
     pub(crate) fn exit(&self) -> Exit
         ensures { result ≡ exit_of (told self.now) }
     {
@@ -33,8 +33,8 @@ impl Script {
     }
 }
 
-/// Reads the lines of a replay, each ended by LF, of which the last may be missing. None if the first
-/// line is bad. It fails only where memory runs out.
+/// Reads the lines of a replay, each ended by LF, which the last may lack. None if the first line is
+/// bad. The only error is running out of memory.
 pub(crate) fn read_script(alloc: Global, input: &[u8]) -> Result<Option<Script>, AllocError>
     ensures { IfOk result (λ script. option_map told script ≡ told_in (lines_of input.now)) }
 {

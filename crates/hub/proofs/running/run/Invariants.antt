@@ -4,7 +4,7 @@ use Rattle.hub.specs.Listed.{IsListedReply}
 use Rattle.hub.specs.Feeding.{IsLater}
 use Rattle.hub.specs.World.{World}
 use Rattle.hub.specs.Representing.{HubRepresents, hub_store}
-use Rattle.broker.specs.Kept.{IsHonestStoreStore}
+use Rattle.broker.specs.Kept.{IsHonestStore}
 use Rattle.hub.specs.Runs.{bytes_of, Answers}
 use Rattle.hub.proofs.running.run.Given as goal
 

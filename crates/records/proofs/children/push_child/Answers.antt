@@ -21,4 +21,4 @@ returns-in_default c =
     let prefix = c.args.prefix.now in
     let key = c.args.key.now in
     sym (ap (λ rs. push_each names (map child rs))
-        (below_none prefix key (false_from_ne_true _ (λ h. c.in_default.ensures.cases (drop (length prefix) key) (begun prefix key h)))))
+    (below_none prefix key (false_from_ne_true _ (λ h. c.in_default.ensures.cases (drop (length prefix) key) (begun prefix key h)))))

@@ -1,6 +1,6 @@
 use Rattle.std.proofs.Common.{◌≡◌, ◌+◌, ◌<◌, ℕ, length, drop, sym, subst, arith}
 use Rattle.hub.specs.World.{FollowsRequests}
-use Rattle.http_layer.proofs.FrontLemmas.{whole_within}
+use Rattle.http_layer.specs.FrontLaws.{whole_within}
 use Rattle.hub.proofs.HistoryLemmas.{FollowsRequests-more, FollowsRequests-length}
 use Rattle.hub.proofs.connection.Connection.advance.Goals as goal
 

@@ -1,6 +1,7 @@
--- What is refused without asking the broker is listed.
-use Rattle.std.proofs.Common.{ℕ, ◌+◌, arith, Option, ◌||◌, ◌&&◌, Bool, true, false, cond, List, [], ◌∷◌, length, take, drop, codes, bytes_eq, slice_range}
-use Rattle.std.proofs.Common.{Result, Ok, Err, IfErr, nat_le, refl, sym, subst, inl, inr}
+-- Laws of refusals: what is refused without asking the broker is listed.
+use Rattle.std.proofs.Common.{ℕ, ◌+◌, Option, ◌||◌, ◌&&◌, Bool, true, false, cond, List, [], ◌∷◌, length, take, drop}
+use Rattle.std.proofs.Common.{codes, bytes_eq, slice_range, Result, Ok, Err, IfErr, nat_le, refl, sym, subst}
+use Rattle.std.proofs.Common.{inl, inr, lit<}
 use Rattle.std.specs.List.{list_any}
 use Rattle.std.specs.Str.{is_utf8}
 use Rattle.std.specs.Str.Parse.{digits_value}
@@ -10,31 +11,36 @@ use Rattle.broker_types.specs.Text.{Text}
 use Rattle.broker_types.specs.declared.status.Status.{Status}
 use Rattle.broker_types.specs.declared.status.Status.TheVariants.{BadRequest}
 use Rattle.broker_types.specs.declared.ask.Verb.{Verb}
-use Rattle.http_layer.specs.Front.{Front, need, refused_with, whole, HeadFront, unended, too_long, malformed, read, IsFront, front_of_body, front_of_head}
-use Rattle.http_layer.specs.Front.{content_length, body_length, is_served, is_number}
+use Rattle.http_layer.specs.Front.{Front, need, refused_with, whole, HeadFront, unended, too_long, malformed, read}
+use Rattle.http_layer.specs.Front.{front_of_body, front_of_head, content_length, body_length, is_served, is_number}
 use Rattle.http_layer.specs.HeadParts.{HeadParts, values_named}
 use Rattle.http_layer.specs.Asked.{asked, verb_asked, token_asked, path_asked, ask_or_refusal, is_query_or_escape}
+use Rattle.http_layer.specs.Laws.{FrontRefusalIsListed, AskRefusalIsListed}
 use Rattle.http_layer.specs.Listed.{IsFrontRefusal, IsAskRefusal}
 use Rattle.http_layer.specs.Refusing.{RefusalParts}
 
 -- ---- refusals of two cases
 
-cond_refuses : {A E : Type 0} (P : E → Type 0) (test : Bool) (x y : Result A E) → IfErr x P → IfErr y P → IfErr (cond test x y) P
+cond_refuses : {A E : Type 0} (P : E → Type 0) (test : Bool) (x y : Result A E) → IfErr x P → IfErr y P
+    → IfErr (cond test x y) P
 cond_refuses P true x y left right = left
 cond_refuses P false x y left right = right
 
 -- ---- fronts
 
 bad_request_listed : IsFrontRefusal BadRequest
-bad_request_listed = (0, omega arith, refl)
+bad_request_listed = (0, lit< tt, refl)
 
 length_refuses : (vs : List (List ℕ)) → IfErr (content_length vs) IsFrontRefusal
 length_refuses [] = tt
-length_refuses (v ∷ []) = cond_refuses IsFrontRefusal (is_number v && nat_le (digits_value 10 v) longest_body) _ _ tt bad_request_listed
+length_refuses (v ∷ []) =
+    cond_refuses IsFrontRefusal (is_number v && nat_le (digits_value 10 v) longest_body) _ _ tt bad_request_listed
 length_refuses (v ∷ w ∷ vs) = bad_request_listed
 
 body_refuses : (p : HeadParts) → IfErr (body_length p) IsFrontRefusal
-body_refuses p = cond_refuses IsFrontRefusal (is_served p) _ _ (length_refuses (values_named (codes "content-length") p.fields)) bad_request_listed
+body_refuses p =
+    cond_refuses IsFrontRefusal (is_served p) _ _
+    (length_refuses (values_named (codes "content-length") p.fields)) bad_request_listed
 
 -- where the front is refused, its status is a listed one
 abbrev Refuses : Front → Type 0
@@ -42,21 +48,25 @@ Refuses need = Unit {0}
 Refuses (refused_with status) = IsFrontRefusal status
 Refuses (whole len head body) = Unit {0}
 
-whole_or_need : (test : Bool) (len : ℕ) (head : HeadParts) (body : List ℕ) → Refuses (cond test (whole len head body) need)
+whole_or_need : (test : Bool) (len : ℕ) (head : HeadParts) (body : List ℕ)
+    → Refuses (cond test (whole len head body) need)
 whole_or_need true len head body = tt
 whole_or_need false len head body = tt
 
-of_body : (s : List ℕ) (p : HeadParts) (r : Result ℕ Status) → IfErr r IsFrontRefusal → Refuses (front_of_body s p r)
-of_body s p (Ok n) listed = whole_or_need (nat_le (p.size + n) (length s)) (p.size + n) p (slice_range s p.size (p.size + n))
+of_body : (s : List ℕ) (p : HeadParts) (r : Result ℕ Status) → IfErr r IsFrontRefusal
+    → Refuses (front_of_body s p r)
+of_body s p (Ok n) listed =
+    whole_or_need (nat_le (p.size + n) (length s)) (p.size + n) p (slice_range s p.size (p.size + n))
 of_body s p (Err status) listed = listed
 
 of_head : (s : List ℕ) (h : HeadFront) → Refuses (front_of_head s h)
 of_head s unended = tt
-of_head s too_long = (2, omega arith, refl)
+of_head s too_long = (2, lit< tt, refl)
 of_head s malformed = bad_request_listed
 of_head s (read p) = of_body s p (body_length p) (body_refuses p)
 
-pub front_refuses : (s : List ℕ) (status : Status) → IsFront s (refused_with status) → IsFrontRefusal status
+-- the status that refuses a front is listed
+pub front_refuses : FrontRefusalIsListed
 front_refuses s status a = subst Refuses (sym a.front) (of_head s a.head)
 
 -- ---- asks
@@ -80,15 +90,19 @@ path_refuses target =
     (cond_refuses IsAskRefusal (is_path (without_slash (drop 4 target))) _ _ tt (inr (inr refl))))
     (inl (inr refl))
 
-first_refuses : (verb : Result Verb RefusalParts) (token : Result (Option Text) RefusalParts) (path : Result Text RefusalParts) (body : List ℕ)
-    → IfErr verb IsAskRefusal → IfErr token IsAskRefusal → IfErr path IsAskRefusal → IfErr (ask_or_refusal verb token path body) IsAskRefusal
+first_refuses : (verb : Result Verb RefusalParts) (token : Result (Option Text) RefusalParts)
+    (path : Result Text RefusalParts) (body : List ℕ)
+    → IfErr verb IsAskRefusal → IfErr token IsAskRefusal → IfErr path IsAskRefusal
+    → IfErr (ask_or_refusal verb token path body) IsAskRefusal
 first_refuses (Ok v) (Ok t) (Ok p) body x y z = tt
 first_refuses (Err r) token path body x y z = x
 first_refuses (Ok v) (Err r) path body x y z = y
 first_refuses (Ok v) (Ok t) (Err r) body x y z = z
 
-pub ask_refuses : (head : HeadParts) (body : List ℕ) → IfErr (asked head body) IsAskRefusal
+-- the refusal of a request that asks nothing is listed
+pub ask_refuses : AskRefusalIsListed
 unfolding asked
 ask_refuses head body =
-    first_refuses (verb_asked head.method) (token_asked (values_named (codes "x-vault-token") head.fields)) (path_asked head.target) body
-    (verb_refuses head.method) (token_refuses (values_named (codes "x-vault-token") head.fields)) (path_refuses head.target)
+    let tokens = values_named (codes "x-vault-token") head.fields in
+    first_refuses (verb_asked head.method) (token_asked tokens) (path_asked head.target) body
+    (verb_refuses head.method) (token_refuses tokens) (path_refuses head.target)
