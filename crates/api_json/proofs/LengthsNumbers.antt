@@ -37,15 +37,15 @@ scan_fits bs =
       fraction_fits point bs a (cond point (digits_end bs (a + 1)) a),
     )
 
-all_digits : (xs ys : List ℕ) → AllDigits 10 xs → AllDigits 10 ys → AllDigits 10 (xs ++ ys)
-all_digits [] ys p q = q
-all_digits (x ∷ xs) ys p q = (p.0, all_digits xs ys p.1 q)
+digits_together : (xs ys : List ℕ) → AllDigits 10 xs → AllDigits 10 ys → AllDigits 10 (xs ++ ys)
+digits_together [] ys p q = q
+digits_together (x ∷ xs) ys p q = (p.0, digits_together xs ys p.1 q)
 
 decimal_fits : (bs : List ℕ) → 0 < length (scan bs).whole → digits_of (scan bs) < 2 ^ 64 → length (decimal (digits_of (scan bs))) ≤ length bs
 decimal_fits bs some small =
     let p = scan bs in
     let are = scan_numeral-AllDigits bs in
-    let below = digits_value-lt 10 (p.whole ++ p.fraction) (all_digits p.whole p.fraction are.0 are.1) in
+    let below = digits_value-lt 10 (p.whole ++ p.fraction) (digits_together p.whole p.fraction are.0 are.1) in
     let count = length-append p.whole p.fraction in
     omega (arith, length-decimal-le (length (p.whole ++ p.fraction)) (digits_of p) (omega arith) below small, scan_fits bs)
 
@@ -91,10 +91,10 @@ negative_is_within bs n e =
     omega (arith, negative_within (digits_of p), decimal_fits bs (integer_digits p g.0) small))
     (float_within (1 + length bs) (float_is_finite x) x n) e
 
-pub length-number : (s : List ℕ) (n : Num) → number_of s ≡ Some n → length (number_text n) ≤ length s
+pub length-number_read : (s : List ℕ) (n : Num) → number_of s ≡ Some n → length (number_text n) ≤ length s
 unfolding number_of
-length-number [] n e = unsigned_within [] n e
-length-number (x ∷ xs) n e = by (x == minus) e
+length-number_read [] n e = unsigned_within [] n e
+length-number_read (x ∷ xs) n e = by (x == minus) e
   where
     by : (t : Bool) → cond t (number_from true (scan xs)) (number_from false (scan (x ∷ xs))) ≡ Some n → length (number_text n) ≤ length (x ∷ xs)
     by true e = omega (arith, negative_is_within xs n e)

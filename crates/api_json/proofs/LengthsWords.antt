@@ -110,25 +110,25 @@ passes-number t =
 
 -- ---- words
 
-abbrev Fits : List ℕ → Token → Type 0
-Fits t k = length (token_text k) ≤ rest_of_token in_word t
+abbrev FitsWord : List ℕ → Token → Type 0
+FitsWord t k = length (token_text k) ≤ rest_of_token in_word t
 
-either_fits : (t : List ℕ) (b : Bool) (x y : Token) → (b ≡ true → Fits t x) → Fits t y → Fits t (cond b x y)
+either_fits : (t : List ℕ) (b : Bool) (x y : Token) → (b ≡ true → FitsWord t x) → FitsWord t y → FitsWord t (cond b x y)
 either_fits t true x y p q = p refl
 either_fits t false x y p q = q
 
-number_fits : (t : List ℕ) (o : Option (List ℕ)) → PassesTo t o → Fits t (number_before t o)
+number_fits : (t : List ℕ) (o : Option (List ℕ)) → PassesTo t o → FitsWord t (number_before t o)
 number_fits t None h = omega arith
 number_fits t (Some r) h =
     let n = length t - length r in either_fits t (ends_word r) (number (take n t)) bad (λ e. omega (arith, length-take n t)) (omega arith)
 
-literal_fits : (name : List ℕ) (k : Token) (t : List ℕ) → ((r : List ℕ) → Fits (name ++ r) k) → Fits t (literal name k t)
+literal_fits : (name : List ℕ) (k : Token) (t : List ℕ) → ((r : List ℕ) → FitsWord (name ++ r) k) → FitsWord t (literal name k t)
 literal_fits name k t h =
     either_fits t (starts_with nat_eq t name && ends_word (drop (length name) t)) k bad
     (λ e.
     let front : name ≡ take (length name) t = (bytes_eq-Decides name (take (length name) t)).0 (and_parts _ _ e).0 in
     let whole : name ++ drop (length name) t ≡ t = ap (λ l. l ++ drop (length name) t) front ∙ take-append-drop (length name) t in
-    subst (λ l. Fits l k) whole (h (drop (length name) t))) (omega arith)
+    subst (λ l. FitsWord l k) whole (h (drop (length name) t))) (omega arith)
 
 pub word_fits : (t : List ℕ) → length (token_text (word t)) ≤ rest_of_token in_word t
 unfolding word rest_of_token
