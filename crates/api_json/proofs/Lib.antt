@@ -8,7 +8,9 @@ pub mod Canonical
 pub mod ReadCanonical
 pub mod TextsReadBack
 pub mod LengthsContent
+pub mod LengthsWords
 pub mod LengthsTokens
+pub mod LengthsNumbers
 pub mod LengthsPrinted
 pub mod Lengths
 pub mod Nested

@@ -1,5 +1,5 @@
 -- Laws of objects that are printed and of objects that are kept, as statements (this project's; RFC 8259, section 4).
-use Rattle.std.specs.Prelude.{◌≡◌, ◌≤◌, ℕ, List, [], ◌∷◌, ◌++◌, length, map, Some}
+use Rattle.std.specs.Prelude.{◌≡◌, ◌≤◌, ◌<◌, ℕ, List, [], ◌∷◌, ◌++◌, length, map, Some}
 use Rattle.serde_json.specs.Data.{Data, object, Members, no_members, member}
 use Rattle.serde_json.specs.Read.{read}
 use Rattle.serde_json.specs.Written.{compact_text}
@@ -46,6 +46,14 @@ abbrev pub BodiesReadBack : Type 0
 BodiesReadBack =
     (body : List ℕ) (ms : Members) → read_body body ≡ Some ms
     → read (compact_text (object ms)) ≡ Some (object ms)
+
+-- The compact text of the object that a body is read as is no longer than the body: white space goes, and so do members
+-- that a later one of the same name replaces, and no token grows (RFC 8259, sections 2 and 7). A body without bytes is
+-- an empty object, whose text has two.
+abbrev pub CompactIsNoLonger : Type 0
+CompactIsNoLonger =
+    (body : List ℕ) (ms : Members) → 0 < length body → read_body body ≡ Some ms
+    → length (compact_text (object ms)) ≤ length body
 
 -- its compact text can be kept
 abbrev pub BodiesAreKept : Type 0

@@ -1,5 +1,6 @@
 //! Laws of printed and of kept objects, each the contract of a function that does nothing.
-ghost use Rattle.api_json.specs.Laws.{PrintsFromTheFront, PrintsJson, BodiesReadBack, BodiesAreKept, PayloadsAreKept};
+ghost use Rattle.api_json.specs.Laws.{PrintsFromTheFront, PrintsJson, BodiesReadBack, CompactIsNoLonger};
+ghost use Rattle.api_json.specs.Laws.{BodiesAreKept, PayloadsAreKept};
 
 /// A law: an object is printed name by name between braces, and if the values of its members are compact JSON, it is
 /// the compact text of an object.
@@ -8,10 +9,12 @@ pub fn objects_are_json()
     ensures json { PrintsJson }
 {}
 
-/// A law: the object that a body is read as is read again from its compact text. It and the object that it brings as a
-/// secret can be kept: their compact texts are those of objects, and shorter than 2^32 bytes.
+/// A law: the object that a body is read as is read again from its compact text, which is no longer than the body where
+/// the body has a byte. It and the object that it brings as a secret can be kept: their compact texts are those of
+/// objects, and shorter than 2^32 bytes.
 pub fn kept_objects()
     ensures back { BodiesReadBack }
+    ensures no_longer { CompactIsNoLonger }
     ensures bodies { BodiesAreKept }
     ensures payloads { PayloadsAreKept }
 {}
