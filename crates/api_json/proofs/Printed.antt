@@ -7,7 +7,7 @@ use Rattle.serde_json.specs.Written as written
 use Rattle.serde_json.specs.Written.{compact_text}
 use Rattle.broker_types.specs.Text.{Text}
 use Rattle.api_json.specs.Printing.{with_item, with_member, quoted}
-use Rattle.api_json.specs.Laws.{behind_comma, members_from_front, as_members, printed, PrintsFromTheFront, PrintsJson}
+use Rattle.api_json.specs.Laws.{behind_comma, members_from_front, members_of_list, printed, PrintsFromTheFront, PrintsJson}
 
 not_one : (b : Text) → 2 ≤ length b → (length b == 1) ≡ false
 not_one b h = grind (arith, nat_tests)
@@ -23,7 +23,7 @@ first m = refl
 
 -- in serde_json's words
 abbrev later : List (Text × Data) → Text
-later es = written.members_text true (as_members es)
+later es = written.members_text true (members_of_list es)
 
 json_behind : (b : Text) (es : List (Text × Data)) → 2 ≤ length b → fold with_member b (map printed es) ++ 125 ∷ [] ≡ b ++ later es
 unfolding quoted

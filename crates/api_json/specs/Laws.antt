@@ -27,9 +27,9 @@ abbrev pub PrintsFromTheFront : Type 0
 PrintsFromTheFront = (ms : List (Text × Text)) → object_of ms ≡ 123 ∷ members_from_front ms ++ 125 ∷ []
 
 -- the members of an object, from a list
-abbrev pub as_members : List (Text × Data) → Members
-as_members [] = no_members
-as_members (e ∷ es) = member e.0 e.1 (as_members es)
+abbrev pub members_of_list : List (Text × Data) → Members
+members_of_list [] = no_members
+members_of_list (e ∷ es) = member e.0 e.1 (members_of_list es)
 
 -- a member whose value is compact JSON
 abbrev pub printed : Text × Data → Text × Text
@@ -37,7 +37,7 @@ printed e = (e.0, compact_text e.1)
 
 -- members whose values are compact JSON make the compact text of an object
 abbrev pub PrintsJson : Type 0
-PrintsJson = (es : List (Text × Data)) → object_of (map printed es) ≡ compact_text (object (as_members es))
+PrintsJson = (es : List (Text × Data)) → object_of (map printed es) ≡ compact_text (object (members_of_list es))
 
 -- ---- objects that are kept
 

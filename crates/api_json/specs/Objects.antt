@@ -3,7 +3,7 @@
 use Rattle.std.specs.Prelude.{ℕ, [], ◌∷◌, List, Bool, codes, Option, is_some, map}
 use Rattle.broker_types.specs.Text.{Text}
 use Rattle.api_json.specs.Names.{name_text}
-use Rattle.api_json.specs.Printing.{quoted, count, object_of, null_text, bool_text, or_null, time, time_or, texts}
+use Rattle.api_json.specs.Printing.{quoted, whole_number, object_of, null_text, bool_text, or_null, time, time_or, texts}
 use Rattle.api_json.specs.Printing.{pairs, by_name}
 use Rattle.api_json.specs.declared.name.Name.TheVariants as name
 use Rattle.api_json.specs.declared.version_list.VersionObject.{VersionObject}
@@ -20,9 +20,9 @@ auth_object a =
     (name_text name.Accessor, quoted a.accessor)
     ∷ (name_text name.ClientToken, quoted a.client_token)
     ∷ (name_text name.EntityId, quoted [])
-    ∷ (name_text name.LeaseDuration, count a.lease_duration)
+    ∷ (name_text name.LeaseDuration, whole_number a.lease_duration)
     ∷ (name_text name.Metadata, pairs a.metadata)
-    ∷ (name_text name.NumUses, count a.num_uses)
+    ∷ (name_text name.NumUses, whole_number a.num_uses)
     ∷ (name_text name.Orphan, bool_text a.orphan)
     ∷ (name_text name.Policies, texts a.policies)
     ∷ (name_text name.Renewable, bool_text a.renewable)
@@ -35,18 +35,18 @@ unfoldable pub token_object : TokenObject → Text
 token_object t =
     object_of (
     (name_text name.Accessor, quoted t.accessor)
-    ∷ (name_text name.CreationTime, count t.issued)
-    ∷ (name_text name.CreationTtl, count t.creation_ttl)
+    ∷ (name_text name.CreationTime, whole_number t.issued)
+    ∷ (name_text name.CreationTtl, whole_number t.creation_ttl)
     ∷ (name_text name.ExpireTime, time_or null_text t.ends)
-    ∷ (name_text name.ExplicitMaxTtl, count t.explicit_max_ttl)
+    ∷ (name_text name.ExplicitMaxTtl, whole_number t.explicit_max_ttl)
     ∷ (name_text name.Id, quoted t.id)
     ∷ (name_text name.IssueTime, time t.issued)
     ∷ (name_text name.Meta, pairs t.meta)
-    ∷ (name_text name.NumUses, count t.num_uses)
+    ∷ (name_text name.NumUses, whole_number t.num_uses)
     ∷ (name_text name.Orphan, bool_text t.orphan)
     ∷ (name_text name.Policies, texts t.policies)
     ∷ (name_text name.Renewable, bool_text (is_some t.ends))
-    ∷ (name_text name.Ttl, count t.ttl)
+    ∷ (name_text name.Ttl, whole_number t.ttl)
     ∷ (name_text name.TypeName, quoted (codes "service"))
     ∷ [])
 
@@ -60,7 +60,7 @@ version_object v =
     ∷ (name_text name.CustomMetadata, null_text)
     ∷ (name_text name.DeletionTime, time_or (quoted []) v.deleted)
     ∷ (name_text name.Destroyed, bool_text v.destroyed)
-    ∷ (name_text name.Version, count v.version)
+    ∷ (name_text name.Version, whole_number v.version)
     ∷ [])
 
 -- a version that is read: its object, which is compact JSON already, and its metadata
@@ -71,7 +71,7 @@ read_object object v =
 -- one kept version of a key, by its number in digits
 abbrev pub version_entry : VersionObject → Text × Text
 version_entry v = (
-  count v.version,
+  whole_number v.version,
   object_of (
       (name_text name.CreatedTime, time v.created)
       ∷ (name_text name.DeletionTime, time_or (quoted []) v.deleted)
@@ -89,11 +89,11 @@ key_object k =
     object_of (
     (name_text name.CasRequired, bool_text k.cas_required)
     ∷ (name_text name.CreatedTime, time k.created)
-    ∷ (name_text name.CurrentVersion, count k.current_version)
+    ∷ (name_text name.CurrentVersion, whole_number k.current_version)
     ∷ (name_text name.CustomMetadata, null_text)
     ∷ (name_text name.DeleteVersionAfter, quoted (codes "0s"))
-    ∷ (name_text name.MaxVersions, count k.max_versions)
-    ∷ (name_text name.OldestVersion, count k.oldest_version)
+    ∷ (name_text name.MaxVersions, whole_number k.max_versions)
+    ∷ (name_text name.OldestVersion, whole_number k.oldest_version)
     ∷ (name_text name.UpdatedTime, time k.updated)
     ∷ (name_text name.Versions, versions_object k.versions)
     ∷ [])
@@ -104,7 +104,7 @@ settings_object cas_required max_versions =
     object_of (
     (name_text name.CasRequired, bool_text cas_required)
     ∷ (name_text name.DeleteVersionAfter, quoted (codes "0s"))
-    ∷ (name_text name.MaxVersions, count max_versions)
+    ∷ (name_text name.MaxVersions, whole_number max_versions)
     ∷ [])
 
 -- ---- lists of keys, and policies (Vault's documentation, "/sys/policies")

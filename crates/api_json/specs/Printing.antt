@@ -32,8 +32,8 @@ unfoldable pub null_text : Text
 null_text = codes "null"
 
 -- a whole number
-unfoldable pub count : ℕ → Text
-count n = decimal n
+unfoldable pub whole_number : ℕ → Text
+whole_number n = decimal n
 
 -- `true` or `false`
 unfoldable pub bool_text : Bool → Text
@@ -58,12 +58,12 @@ unfoldable pub texts : List Text → Text
 texts ts = array_of (map quoted ts)
 
 -- a name, and its text as JSON
-abbrev pub pair : Text × Text → Text × Text
-pair e = (e.0, quoted e.1)
+abbrev pub quoted_pair : Text × Text → Text × Text
+quoted_pair e = (e.0, quoted e.1)
 
 -- an object of texts, and `null` if there is none
 unfoldable pub pairs : List (Text × Text) → Text
-pairs es = if length es == 0 then null_text else object_of (map pair es)
+pairs es = if length es == 0 then null_text else object_of (map quoted_pair es)
 
 -- ---- objects whose names are not known beforehand
 

@@ -3,7 +3,7 @@ use Rattle.std.specs.Prelude.{[], ◌∷◌, ◌++◌, List, false, Some, None}
 use Rattle.broker_types.specs.Text.{Text}
 use Rattle.broker_types.specs.declared.reply.Reply.{Reply}
 use Rattle.api_json.specs.Names.{name_text}
-use Rattle.api_json.specs.Printing.{object_of, quoted, count, bool_text, or_null, null_text}
+use Rattle.api_json.specs.Printing.{object_of, quoted, whole_number, bool_text, or_null, null_text}
 use Rattle.api_json.specs.declared.name.Name.TheVariants as name
 
 -- the members by name
@@ -11,7 +11,7 @@ abbrev pub reply_members : Reply → List (Text × Text)
 reply_members r =
     (name_text name.Auth, or_null r.auth)
     ∷ (name_text name.Payload, or_null r.payload)
-    ∷ (name_text name.LeaseDuration, count r.lease_duration)
+    ∷ (name_text name.LeaseDuration, whole_number r.lease_duration)
     ∷ (name_text name.LeaseId, quoted r.lease_id)
     ∷ (name_text name.Renewable, bool_text r.renewable)
     ∷ (name_text name.RequestId, quoted r.request_id)

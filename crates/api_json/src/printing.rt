@@ -1,8 +1,8 @@
 //! Objects and arrays printed member by member, as compact JSON (RFC 8259).
 ghost use Rattle.std.specs.Prelude.{◌≡◌, ◌++◌, ◌∷◌, [], IfOk, OnOk, map, fold, string_bytes};
 ghost use Rattle.api_json.specs.Names.{name_text};
-ghost use Rattle.api_json.specs.Printing.{quoted, count, with_item, with_member, null_text, bool_text, or_null};
-ghost use Rattle.api_json.specs.Printing.{time, time_or, texts, pairs, pair};
+ghost use Rattle.api_json.specs.Printing.{quoted, whole_number, with_item, with_member, null_text, bool_text, or_null};
+ghost use Rattle.api_json.specs.Printing.{time, time_or, texts, pairs, quoted_pair};
 
 use crate::end_time::EndTime;
 use crate::name::Name;
@@ -64,9 +64,9 @@ impl ObjectText {
         self.member(name, value.as_str())
     }
 
-    #[tactic(auto, unfolding(crate::specs::Printing::count))]
+    #[tactic(auto, unfolding(crate::specs::Printing::whole_number))]
     pub(crate) fn number(self, name: Name, value: u64) -> Result<ObjectText, AllocError>
-        ensures { IfOk result (λ o. o ≡ with_member self (name_text name, count value)) }
+        ensures { IfOk result (λ o. o ≡ with_member self (name_text name, whole_number value)) }
     {
         let value = value.to_string(self.alloc)?;
         self.member(name, value.as_str())

@@ -79,7 +79,7 @@ pub fn key_object(alloc: Global, key: &KeyObject) -> Result<TextBuf, AllocError>
 }
 
 /// Prints the versions of a key by their numbers, in the order of the bytes of their digits.
-#[tactic(auto, unfolding(crate::specs::Objects::versions_object, crate::specs::Printing::count))]
+#[tactic(auto, unfolding(crate::specs::Objects::versions_object, crate::specs::Printing::whole_number))]
 fn versions_object(alloc: Global, versions: &[VersionObject]) -> Result<TextBuf, AllocError>
     ensures { IfOk result (λ t. t ≡ versions_object versions.now) }
 {

@@ -10,7 +10,7 @@ use Rattle.broker_types.specs.Text.{Text, text_cmp, same}
 use Rattle.broker_types.specs.Map.{Map, get, len, put, without, keep, with_values, map_values, change, first_where, entries, empty}
 use Rattle.broker_types.specs.Name.{is_name, is_mount_name}
 use Rattle.broker_types.specs.Token.{Token, Tokens, Lease}
-use Rattle.broker_types.specs.Lineage.{climb, lineage, is_under, revoke, revoke_orphan, orphaned_by, outlasts, is_alive, alive_at, with_live_leases}
+use Rattle.broker_types.specs.Lineage.{climb, lineage, is_under, without_descendants, without_parent, orphaned_by, outlasts, is_alive, alive_at, with_live_leases}
 use Rattle.broker_types.specs.Lineage.{ends_within}
 use Rattle.broker_types.specs.Broker.{Broker, Waiting, waiting_ends, at_moment}
 use Rattle.broker_types.specs.First.{root_token, first_broker}
@@ -162,17 +162,17 @@ v-beside-t : is_under tree v t ≡ false
 unfolding same
 v-beside-t = ap (list_any (same t)) lineage-v
 
-revoked : get (revoke tree t) u ≡ None
+revoked : get (without_descendants tree t) u ≡ None
 revoked = get-keep (λ q. not (is_under tree q t)) tree u ∙ ap (λ is. cond (not is) (get tree u) None) u-under-t
 
-left : get (revoke tree t) v ≡ Some (under r None)
+left : get (without_descendants tree t) v ≡ Some (under r None)
 left = get-keep (λ q. not (is_under tree q t)) tree v ∙ ap (λ is. cond (not is) (get tree v) None) v-beside-t ∙ at v
 
-orphaned : get (revoke_orphan tree t) u ≡ Some (record (under t None) { parent = None })
+orphaned : get (without_parent tree t) u ≡ Some (record (under t None) { parent = None })
 unfolding same
 orphaned = get-map_values (λ q. orphaned_by t) (without tree t) u ∙ ap (option_map (orphaned_by t)) (get-without tree t u ∙ at u)
 
-alone : get (revoke_orphan tree t) t ≡ None
+alone : get (without_parent tree t) t ≡ None
 unfolding same
 alone = get-map_values (λ q. orphaned_by t) (without tree t) t ∙ ap (option_map (orphaned_by t)) (get-without tree t t)
 

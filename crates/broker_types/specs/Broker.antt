@@ -76,8 +76,8 @@ at_moment b moment =
 -- the broker without the tokens under t; cubbyholes and leases go with their tokens (Vault's documentation, "Tokens",
 -- token hierarchies)
 abbrev pub revoke : Broker → Text → Broker
-revoke b t = record b { tokens = lineage.revoke b.tokens t }
+revoke b t = record b { tokens = lineage.without_descendants b.tokens t }
 
 -- the broker without t, whose children have no parent then (Vault's documentation, "Tokens", orphan tokens)
 abbrev pub revoke_orphan : Broker → Text → Broker
-revoke_orphan b t = record b { tokens = lineage.revoke_orphan b.tokens t }
+revoke_orphan b t = record b { tokens = lineage.without_parent b.tokens t }

@@ -5,8 +5,9 @@ use Rattle.broker_types.specs.Text.{Text}
 use Rattle.broker_types.specs.Map.{get}
 use Rattle.broker_types.specs.Moment.{greatest_moment}
 use Rattle.broker_types.specs.Token.{Token, Tokens}
-use Rattle.broker_types.specs.Lineage.{lineage, is_under, ParentsExist, ChainsEnd, alive_at, with_live_leases, revoke}
-use Rattle.broker_types.specs.Lineage.{revoke_orphan}
+use Rattle.broker_types.specs.Lineage.{lineage, is_under, ParentsExist, ChainsEnd, alive_at, with_live_leases}
+use Rattle.broker_types.specs.Lineage.{without_descendants}
+use Rattle.broker_types.specs.Lineage.{without_parent}
 use Rattle.broker_types.specs.Broker as broker
 use Rattle.broker_types.specs.Broker.{Broker, Waiting}
 use Rattle.broker_types.specs.Evolves.{Evolves, OriginIsGone, HasEnded, IsTakenOut}
@@ -48,41 +49,41 @@ UnderOfTokens = (ts : Tokens) (t a : Text) → is_under ts t a ≡ true → (get
 
 -- revoking an unknown token changes nothing
 abbrev pub RevokedUnknown : Type 0
-RevokedUnknown = (ts : Tokens) (t : Text) → get ts t ≡ None → revoke ts t ≡ ts
+RevokedUnknown = (ts : Tokens) (t : Text) → get ts t ≡ None → without_descendants ts t ≡ ts
 
 -- nothing under the revoked token is left
 abbrev pub RevokedIsGone : Type 0
-RevokedIsGone = (ts : Tokens) (t q : Text) → is_under ts q t ≡ true → get (revoke ts t) q ≡ None
+RevokedIsGone = (ts : Tokens) (t q : Text) → is_under ts q t ≡ true → get (without_descendants ts t) q ≡ None
 
 -- a token that is not under it is as it was
 abbrev pub OthersAreAsBefore : Type 0
-OthersAreAsBefore = (ts : Tokens) (t q : Text) → is_under ts q t ≡ false → get (revoke ts t) q ≡ get ts q
+OthersAreAsBefore = (ts : Tokens) (t q : Text) → is_under ts q t ≡ false → get (without_descendants ts t) q ≡ get ts q
 
 -- ---- revocation of one token
 
 -- nor does revoking it alone
 abbrev pub OrphanedByUnknown : Type 0
-OrphanedByUnknown = (ts : Tokens) (t : Text) → ParentsExist ts → get ts t ≡ None → revoke_orphan ts t ≡ ts
+OrphanedByUnknown = (ts : Tokens) (t : Text) → ParentsExist ts → get ts t ≡ None → without_parent ts t ≡ ts
 
 -- a token that is revoked alone is gone
 abbrev pub OrphanedIsGone : Type 0
-OrphanedIsGone = (ts : Tokens) (t : Text) → get (revoke_orphan ts t) t ≡ None
+OrphanedIsGone = (ts : Tokens) (t : Text) → get (without_parent ts t) t ≡ None
 
 -- its children have no parent then
 abbrev pub ChildrenAreOrphans : Type 0
 ChildrenAreOrphans =
     (ts : Tokens) (t q : Text) (x : Token) → q ≢ t → get ts q ≡ Some x → x.parent ≡ Some t
-    → get (revoke_orphan ts t) q ≡ Some (record x { parent = None })
+    → get (without_parent ts t) q ≡ Some (record x { parent = None })
 
 -- a token of another parent, or of none, is as it was
 abbrev pub UnrelatedAreAsBefore : Type 0
 UnrelatedAreAsBefore =
     (ts : Tokens) (t q : Text) (x : Token) → q ≢ t → get ts q ≡ Some x → x.parent ≢ Some t
-    → get (revoke_orphan ts t) q ≡ Some x
+    → get (without_parent ts t) q ≡ Some x
 
 -- and no token is new
 abbrev pub NoneIsNew : Type 0
-NoneIsNew = (ts : Tokens) (t q : Text) → get ts q ≡ None → get (revoke_orphan ts t) q ≡ None
+NoneIsNew = (ts : Tokens) (t q : Text) → get ts q ≡ None → get (without_parent ts t) q ≡ None
 
 -- ---- expiry
 
@@ -111,11 +112,11 @@ pub record IsTree (ts : Tokens) : Type 0 where
 
 -- a tree without a token and all under it is a tree
 abbrev pub RevokeKeepsTrees : Type 0
-RevokeKeepsTrees = (ts : Tokens) (t : Text) → IsTree ts → IsTree (revoke ts t)
+RevokeKeepsTrees = (ts : Tokens) (t : Text) → IsTree ts → IsTree (without_descendants ts t)
 
 -- a tree without one token, whose children have no parent then, is a tree
 abbrev pub RevokeOrphanKeepsTrees : Type 0
-RevokeOrphanKeepsTrees = (ts : Tokens) (t : Text) → IsTree ts → IsTree (revoke_orphan ts t)
+RevokeOrphanKeepsTrees = (ts : Tokens) (t : Text) → IsTree ts → IsTree (without_parent ts t)
 
 -- what is left of a tree at a moment is a tree
 abbrev pub ExpiryKeepsTrees : Type 0

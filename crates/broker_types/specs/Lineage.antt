@@ -62,13 +62,13 @@ alive_at now ts = map_values (λ t. with_live_leases now) (keep (is_alive now ts
 -- ---- revocation
 
 -- the tokens that are not under t
-abbrev pub revoke : Tokens → Text → Tokens
-revoke ts t = keep (λ q. not (is_under ts q t)) ts
+abbrev pub without_descendants : Tokens → Text → Tokens
+without_descendants ts t = keep (λ q. not (is_under ts q t)) ts
 
 -- the token, without its parent if that is t
 abbrev pub orphaned_by : Text → Token → Token
 orphaned_by t x = record x { parent = option_and_then (λ p. if same p t then None else Some p) x.parent }
 
 -- the tokens but t; those whose parent was t have none
-abbrev pub revoke_orphan : Tokens → Text → Tokens
-revoke_orphan ts t = map_values (λ q. orphaned_by t) (without ts t)
+abbrev pub without_parent : Tokens → Text → Tokens
+without_parent ts t = map_values (λ q. orphaned_by t) (without ts t)

@@ -13,7 +13,7 @@ use Rattle.std.proofs.lemmas.Bool.{or_right, false_from_ne_true, false≢true}
 use Rattle.broker_types.specs.Text.{Text, same}
 use Rattle.broker_types.specs.Map.{get, len, entries}
 use Rattle.broker_types.specs.Token.{Token, Tokens}
-use Rattle.broker_types.specs.Lineage.{climb, is_under, revoke, ends_within, ChainsEnd}
+use Rattle.broker_types.specs.Lineage.{climb, is_under, without_descendants, ends_within, ChainsEnd}
 use Rattle.broker_types.specs.TextLaws.{same_true, same_equiv}
 use Rattle.broker_types.specs.MapLaws.{get-lookup, get-keep, same_map}
 
@@ -211,18 +211,20 @@ pub is_under_trans : (ts : Tokens) (q a t : Text) → ChainsEnd ts → is_under 
 is_under_trans ts q a t h u v = under_climb (len ts) (len ts) ts q a t (h q) (h a) u v
 
 -- revocation keeps just the tokens that are not under t
-pub get-revoke : (ts : Tokens) (t q : Text) → get (revoke ts t) q ≡ cond (not (is_under ts q t)) (get ts q) None
+pub get-revoke : (ts : Tokens) (t q : Text)
+    → get (without_descendants ts t) q ≡ cond (not (is_under ts q t)) (get ts q) None
 get-revoke ts t q = get-keep _ ts q
 
 -- a token that is not under t stays as it is
-pub revoke_other : (ts : Tokens) (t q : Text) → is_under ts q t ≡ false → get (revoke ts t) q ≡ get ts q
+pub revoke_other : (ts : Tokens) (t q : Text) → is_under ts q t ≡ false → get (without_descendants ts t) q ≡ get ts q
 revoke_other ts t q h = get-revoke ts t q ∙ ap (λ b. cond (not b) (get ts q) None) h
 
 -- nothing under t is left
-pub revoke_under : (ts : Tokens) (t q : Text) → is_under ts q t ≡ true → get (revoke ts t) q ≡ None
+pub revoke_under : (ts : Tokens) (t q : Text) → is_under ts q t ≡ true → get (without_descendants ts t) q ≡ None
 revoke_under ts t q h = get-revoke ts t q ∙ ap (λ b. cond (not b) (get ts q) None) h
 
--- to revoke an unknown token changes nothing
-pub revoke_unknown : (ts : Tokens) (t : Text) → get ts t ≡ None → revoke ts t ≡ ts
+-- an unknown token changes nothing
+pub revoke_unknown : (ts : Tokens) (t : Text) → get ts t ≡ None → without_descendants ts t ≡ ts
 revoke_unknown ts t none =
-    same_map (revoke ts t) ts (λ q. revoke_other ts t q (false_from_ne_true _ (λ e. in_climb (len ts) ts q t e none)))
+    same_map (without_descendants ts t) ts
+    (λ q. revoke_other ts t q (false_from_ne_true _ (λ e. in_climb (len ts) ts q t e none)))

@@ -21,14 +21,14 @@ use Rattle.broker_types.specs.TreeLaws.{orphaned_is, alive_is, revoke_tree, orph
 -- ---- what each removal leaves
 
 module _ (b : Broker) where
-  revoke_fewer : (t : Text) → AreFewer b.tokens (lineage.revoke b.tokens t)
+  revoke_fewer : (t : Text) → AreFewer b.tokens (lineage.without_descendants b.tokens t)
   revoke_fewer t q y e = (
     y,
     (kept_get (λ q. not (is_under b.tokens q t)) b.tokens q y e).0,
     record { same_accessor = refl; fewer_leases = λ _ _ f. f },
   )
 
-  orphan_fewer : (t : Text) → AreFewer b.tokens (lineage.revoke_orphan b.tokens t)
+  orphan_fewer : (t : Text) → AreFewer b.tokens (lineage.without_parent b.tokens t)
   orphan_fewer t q y e = let x = orphaned_is b.tokens t q y e in
       (x.0, x.1, subst (IsLess x.0) (sym x.2) (record { same_accessor = refl; fewer_leases = λ _ _ f. f }))
 
@@ -51,12 +51,13 @@ module _ (b : Broker) where
 
   -- revocation lets a broker evolve
   pub revoke_evolves : (t : Text) → Evolves b (revoke b t)
-  revoke_evolves t = fewer_evolves b b.clock (lineage.revoke b.tokens t) b.waiting (revoke_fewer t) (λ q w e. e)
+  revoke_evolves t = fewer_evolves b b.clock (lineage.without_descendants b.tokens t) b.waiting (revoke_fewer t)
+      (λ q w e. e)
 
   -- so does revocation of one token
   pub revoke_orphan_evolves : (t : Text) → Evolves b (revoke_orphan b t)
   revoke_orphan_evolves t =
-      fewer_evolves b b.clock (lineage.revoke_orphan b.tokens t) b.waiting (orphan_fewer t) (λ q w e. e)
+      fewer_evolves b b.clock (lineage.without_parent b.tokens t) b.waiting (orphan_fewer t) (λ q w e. e)
 
   -- and expiry
   pub at_moment_evolves : (moment : ℕ) → Evolves b (at_moment b moment)
@@ -71,13 +72,13 @@ module _ (b : Broker) (sound : SoundIdentifiers b) where
   -- a token that revocation removes has ended
   pub revoke_ends : (t q : Text) → get b.tokens q ≢ None → get (revoke b t).tokens q ≡ None → HasEnded (revoke b t) q
   revoke_ends t q stood gone =
-      fewer_ended b sound b.clock (lineage.revoke b.tokens t) b.waiting q (λ q w e. e) stood gone
+      fewer_ended b sound b.clock (lineage.without_descendants b.tokens t) b.waiting q (λ q w e. e) stood gone
 
   -- so has one that is revoked alone
   pub revoke_orphan_ends : (t q : Text) → get b.tokens q ≢ None → get (revoke_orphan b t).tokens q ≡ None
       → HasEnded (revoke_orphan b t) q
   revoke_orphan_ends t q stood gone =
-      fewer_ended b sound b.clock (lineage.revoke_orphan b.tokens t) b.waiting q (λ q w e. e) stood gone
+      fewer_ended b sound b.clock (lineage.without_parent b.tokens t) b.waiting q (λ q w e. e) stood gone
 
   -- and one that expired
   pub at_moment_ends : (moment : ℕ) (q : Text) → get b.tokens q ≢ None → get (at_moment b moment).tokens q ≡ None
@@ -96,7 +97,7 @@ module _ (forms : Forms) (who : Option Text) (b : Broker) (sound : Sound forms w
   -- revocation leaves a sound broker sound
   pub revoke_sound : (t : Text) → Sound forms who (revoke b t)
   revoke_sound t =
-      fewer_sound forms who who b sound b.clock (lineage.revoke b.tokens t) b.waiting
+      fewer_sound forms who who b sound b.clock (lineage.without_descendants b.tokens t) b.waiting
       sound.clock (revoke_tree b.tokens t tree) (revoke_fewer b t) (λ q w e. e)
       (λ q y e. sound.tokens.each q y (kept_get (λ q. not (is_under b.tokens q t)) b.tokens q y e).0)
       (λ q y e. sound.unspent q y (kept_get (λ q. not (is_under b.tokens q t)) b.tokens q y e).0)
@@ -109,7 +110,7 @@ module _ (forms : Forms) (who : Option Text) (b : Broker) (sound : Sound forms w
   -- so does revocation of one token
   pub revoke_orphan_sound : (t : Text) → Sound forms who (revoke_orphan b t)
   revoke_orphan_sound t =
-      fewer_sound forms who who b sound b.clock (lineage.revoke_orphan b.tokens t) b.waiting
+      fewer_sound forms who who b sound b.clock (lineage.without_parent b.tokens t) b.waiting
       sound.clock (orphan_tree b.tokens t tree) (orphan_fewer b t) (λ q w e. e)
       (λ q y e. let x = orphaned_is b.tokens t q y e in
       subst (IsSoundToken forms q) (sym x.2) (orphaned_sound t q x.0 (sound.tokens.each q x.0 x.1)))

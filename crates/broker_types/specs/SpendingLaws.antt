@@ -126,7 +126,7 @@ module _ (forms : Forms) where
       (same_fewer b.tokens) (λ q w e. e) sound.tokens.each
 
   -- the revoked token is gone
-  revoked_self : (ts : Tokens) (t : Text) (x : Token) → get (lineage.revoke ts t) t ≡ Some x → ⊥
+  revoked_self : (ts : Tokens) (t : Text) (x : Token) → get (lineage.without_descendants ts t) t ≡ Some x → ⊥
   revoked_self ts t x is =
       let k = kept_get (λ q. not (is_under ts q t)) ts t x is in
       let under : is_under ts t t ≡ true = under_self ts t (λ none. absurd (none-some _ (sym none ∙ k.0))) in
@@ -142,7 +142,8 @@ module _ (forms : Forms) where
             let left = revoke_sound forms (Some c) b sound c in
             nobody_spent (Some c) (revoke b c) left (λ t x is zero.
             let one : t ≡ c = sym (same_Some c t (left.unspent t x is zero)) in
-            absurd (revoked_self b.tokens c x (subst (λ q. get (lineage.revoke b.tokens c) q ≡ Some x) one is)))
+            absurd (revoked_self b.tokens c x
+            (subst (λ q. get (lineage.without_descendants b.tokens c) q ≡ Some x) one is)))
         | false ↦ λ unspent.
             nobody_spent (Some c) b sound (λ t x is zero.
             let one : t ≡ c = sym (same_Some c t (sound.unspent t x is zero)) in

@@ -11,7 +11,8 @@ use Rattle.broker_types.specs.Text.{Text, same}
 use Rattle.broker_types.specs.Map.{get, len, entries, map_values, without, keep}
 use Rattle.broker_types.specs.Token.{Token, Tokens}
 use Rattle.broker_types.specs.Lineage.{climb, lineage, is_under, ends_within, ParentsExist, ChainsEnd, outlasts}
-use Rattle.broker_types.specs.Lineage.{is_alive, with_live_leases, alive_at, revoke, orphaned_by, revoke_orphan}
+use Rattle.broker_types.specs.Lineage.{is_alive, with_live_leases, alive_at, without_descendants, orphaned_by}
+use Rattle.broker_types.specs.Lineage.{without_parent}
 use Rattle.broker_types.specs.Laws.{IsTree, OutlastsAbove}
 use Rattle.broker_types.specs.TextLaws.{same_self, same_true}
 use Rattle.broker_types.specs.MapLaws.{without_is, valued_is, valued_none, get-lookup, get-keep, get-without}
@@ -132,7 +133,7 @@ values_tree f ts same_parent tree = record {
 -- ---- revocation
 
 -- revocation leaves a tree
-pub revoke_tree : (ts : Tokens) (t : Text) → IsTree ts → IsTree (revoke ts t)
+pub revoke_tree : (ts : Tokens) (t : Text) → IsTree ts → IsTree (without_descendants ts t)
 revoke_tree ts t tree = record {
   parents_exist = λ q p x is parent none.
       let k = kept_get (λ q. not (is_under ts q t)) ts q x is in
@@ -141,28 +142,28 @@ revoke_tree ts t tree = record {
         | false ↦ λ u. tree.parents_exist q p x k.0 parent (sym (revoke_other ts t p u) ∙ none)
       ] refl;
   chains_end =
-      pruned_chains ts (revoke ts t)
+      pruned_chains ts (without_descendants ts t)
       (λ q y is. (y, (kept_get (λ q. not (is_under ts q t)) ts q y is).0, inl refl)) tree.chains_end;
 }
 
 -- ---- revocation of one token
 
 get-revoke_orphan : (ts : Tokens) (t q : Text)
-    → get (revoke_orphan ts t) q ≡ option_map (orphaned_by t) (cond (same q t) None (get ts q))
+    → get (without_parent ts t) q ≡ option_map (orphaned_by t) (cond (same q t) None (get ts q))
 get-revoke_orphan ts t q = get-map_values _ _ q ∙ ap (option_map (orphaned_by t)) (get-without ts t q)
 
 -- the revoked token is gone
-pub orphan_gone : (ts : Tokens) (t : Text) → get (revoke_orphan ts t) t ≡ None
+pub orphan_gone : (ts : Tokens) (t : Text) → get (without_parent ts t) t ≡ None
 orphan_gone ts t =
     get-revoke_orphan ts t t ∙ ap (λ b. option_map (orphaned_by t) (cond b None (get ts t))) (same_self t)
 
-orphan_other : (ts : Tokens) (t q : Text) → q ≢ t → get (revoke_orphan ts t) q ≡ option_map (orphaned_by t) (get ts q)
+orphan_other : (ts : Tokens) (t q : Text) → q ≢ t → get (without_parent ts t) q ≡ option_map (orphaned_by t) (get ts q)
 orphan_other ts t q ne =
     get-revoke_orphan ts t q ∙ ap (λ b. option_map (orphaned_by t) (cond b None (get ts q))) (same_false q t ne)
 
 -- its children have no parent then
 pub orphan_child : (ts : Tokens) (t q : Text) (x : Token) → q ≢ t → get ts q ≡ Some x → x.parent ≡ Some t
-    → get (revoke_orphan ts t) q ≡ Some (record x { parent = None })
+    → get (without_parent ts t) q ≡ Some (record x { parent = None })
 orphan_child ts t q x ne is parent =
     orphan_other ts t q ne ∙ ap (option_map (orphaned_by t)) is
     ∙ ap (λ o. Some (record x { parent = option_and_then (λ p. if same p t then None else Some p) o })) parent
@@ -170,7 +171,7 @@ orphan_child ts t q x ne is parent =
 
 -- a token of another parent, or of none, is as it was
 pub orphan_unrelated : (ts : Tokens) (t q : Text) (x : Token) → q ≢ t → get ts q ≡ Some x → x.parent ≢ Some t
-    → get (revoke_orphan ts t) q ≡ Some x
+    → get (without_parent ts t) q ≡ Some x
 orphan_unrelated ts t q x ne is parent =
     orphan_other ts t q ne ∙ ap (option_map (orphaned_by t)) is
     ∙ ap (λ o. Some (record x { parent = o })) (by x.parent parent)
@@ -180,21 +181,21 @@ orphan_unrelated ts t q x ne is parent =
     by (Some p) h = ap (λ b. if b then None else Some p) (same_false p t (λ e. h (ap Some e)))
 
 -- no token is new
-pub orphan_none : (ts : Tokens) (t q : Text) → get ts q ≡ None → get (revoke_orphan ts t) q ≡ None
+pub orphan_none : (ts : Tokens) (t q : Text) → get ts q ≡ None → get (without_parent ts t) q ≡ None
 orphan_none ts t q none =
     get-revoke_orphan ts t q ∙ ap (λ o. option_map (orphaned_by t) (cond (same q t) None o)) none
     ∙ elim (same q t) as (λ b. option_map (orphaned_by t) (cond b None None) ≡ None) [ true ↦ refl | false ↦ refl ]
 
--- to revoke an unknown token changes nothing
-pub orphan_unknown : (ts : Tokens) (t : Text) → ParentsExist ts → get ts t ≡ None → revoke_orphan ts t ≡ ts
-orphan_unknown ts t stand none = same_map (revoke_orphan ts t) ts (λ q. elim (found_or_not (get ts q)) [
+-- an unknown token changes nothing
+pub orphan_unknown : (ts : Tokens) (t : Text) → ParentsExist ts → get ts t ≡ None → without_parent ts t ≡ ts
+orphan_unknown ts t stand none = same_map (without_parent ts t) ts (λ q. elim (found_or_not (get ts q)) [
   | inl nothing ↦ orphan_none ts t q nothing ∙ sym nothing
   | inr x ↦ orphan_unrelated ts t q x.0 (λ e. absurd (none-some _ (sym none ∙ ap (get ts) (sym e) ∙ x.1))) x.1
       (λ parent. stand q t x.0 x.1 parent none) ∙ sym x.1
 ])
 
 -- a token that is left was there, with its parent unless that was revoked
-pub orphaned_is : (ts : Tokens) (t q : Text) (y : Token) → get (revoke_orphan ts t) q ≡ Some y
+pub orphaned_is : (ts : Tokens) (t q : Text) (y : Token) → get (without_parent ts t) q ≡ Some y
     → (x : Token) × (get ts q ≡ Some x) × (y ≡ orphaned_by t x)
 orphaned_is ts t q y is =
     let x = valued_is (λ q. orphaned_by t) (without ts t) q y is in (x.0, (without_is ts t q x.0 x.1).1, x.2)
@@ -222,18 +223,18 @@ parent_kept t (Some r) =
     ]
 
 -- revocation of one token leaves a tree
-pub orphan_tree : (ts : Tokens) (t : Text) → IsTree ts → IsTree (revoke_orphan ts t)
+pub orphan_tree : (ts : Tokens) (t : Text) → IsTree ts → IsTree (without_parent ts t)
 orphan_tree ts t tree = record {
   parents_exist = λ q p y is parent none.
       let x = orphaned_is ts t q y is in
       let left = parent_left t p x.0.parent (ap (λ (z : Token). z.parent) (sym x.2) ∙ parent) in
-      let there : get (revoke_orphan ts t) p ≡ option_map (orphaned_by t) (get ts p) =
+      let there : get (without_parent ts t) p ≡ option_map (orphaned_by t) (get ts p) =
       get-revoke_orphan ts t p ∙ ap (λ b. option_map (orphaned_by t) (cond b None (get ts p))) left.1 in
       elim (found_or_not (get ts p)) [
         | inl nothing ↦ tree.parents_exist q p x.0 x.1 left.0 nothing
         | inr z ↦ absurd (none-some _ (sym none ∙ there ∙ ap (option_map (orphaned_by t)) z.1))
       ];
-  chains_end = pruned_chains ts (revoke_orphan ts t)
+  chains_end = pruned_chains ts (without_parent ts t)
       (λ q y is. let x = orphaned_is ts t q y is in (
         x.0,
         x.1,

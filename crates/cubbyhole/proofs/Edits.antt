@@ -21,7 +21,7 @@ use Rattle.cubbyhole.specs.Cubbyhole.{with_cubbyhole, edited}
 use Rattle.cubbyhole.specs.Objects.{object_key, KeepsOtherOwners}
 use Rattle.std.proofs.lemmas.Bool.{eqb-true}
 use Rattle.records.specs.KeyLaws.{kind_of, kind_of-number}
-use Rattle.records.specs.ValueLaws.{mapped, then_mapped, unseen}
+use Rattle.records.specs.ValueLaws.{mapped_unseen, then_unseen, unseen}
 
 -- the table with r at the keys of cubbyholes that are met
 abbrev pub replaced : (Text → Bool) → Option Row → Table → Table
@@ -52,26 +52,26 @@ module _ (b : Broker) (t : Text) (edit : Map Text → Map Text) where
   kept_at kind.Used q h = refl
   kept_at kind.Token q h =
       ap (option_map token_row) (get-change b.tokens t (with_cubbyhole edit) q)
-      ∙ mapped token_row _ (unseen token_row (with_cubbyhole edit) (λ x. refl) (same q t)) (get b.tokens q)
+      ∙ mapped_unseen token_row _ (unseen token_row (with_cubbyhole edit) (λ x. refl) (same q t)) (get b.tokens q)
   kept_at kind.Accessor q h =
       ap (λ o. or_else o (option_map (λ e. accessor_row e.0 holder.WrappingToken) (first_where (λ t (w : Waiting). same w.accessor q) b.waiting))) (
       ap (option_map (λ e. accessor_row e.0 holder.Token))
       (first_where-map_values _ (λ t (x : Token). same x.accessor q) (λ t (x : Token). same x.accessor q) b.tokens
       (λ u x. unseen (λ (x : Token). same x.accessor q) (with_cubbyhole edit) (λ x. refl) (same u t) x))
-      ∙ mapped (λ e. accessor_row e.0 holder.Token) _ (λ e. refl) (first_where (λ t (x : Token). same x.accessor q) b.tokens))
+      ∙ mapped_unseen (λ e. accessor_row e.0 holder.Token) _ (λ e. refl) (first_where (λ t (x : Token). same x.accessor q) b.tokens))
   kept_at kind.Cubby q h = absurd (false≢true (sym h))
   kept_at kind.Lease q h =
       ap (option_and_then (λ e. option_map (λ l. lease_row e.0 l) (get e.1.leases q)))
       (first_where-map_values _ (λ t x. has_lease q x) (λ t x. has_lease q x) b.tokens
       (λ u x. unseen (has_lease q) (with_cubbyhole edit) (λ x. refl) (same u t) x))
-      ∙ then_mapped (λ e. option_map (λ l. lease_row e.0 l) (get e.1.leases q)) _
+      ∙ then_unseen (λ e. option_map (λ l. lease_row e.0 l) (get e.1.leases q)) _
       (λ e. unseen (λ (x : Token). option_map (λ l. lease_row e.0 l) (get x.leases q)) (with_cubbyhole edit) (λ x. refl) (same e.0 t) e.1)
       (first_where (λ t x. has_lease q x) b.tokens)
   kept_at kind.Credential q h =
       ap (option_and_then (λ e. option_map (λ l. credential_row l.0) (lease_of_credential q e.1)))
       (first_where-map_values _ (λ t x. not (is_none (lease_of_credential q x))) (λ t x. not (is_none (lease_of_credential q x))) b.tokens
       (λ u x. unseen (λ x. not (is_none (lease_of_credential q x))) (with_cubbyhole edit) (λ x. refl) (same u t) x))
-      ∙ then_mapped (λ e. option_map (λ l. credential_row l.0) (lease_of_credential q e.1)) _
+      ∙ then_unseen (λ e. option_map (λ l. credential_row l.0) (lease_of_credential q e.1)) _
       (λ e. unseen (λ x. option_map (λ l. credential_row l.0) (lease_of_credential q x)) (with_cubbyhole edit) (λ x. refl) (same e.0 t) e.1)
       (first_where (λ t x. not (is_none (lease_of_credential q x))) b.tokens)
   kept_at kind.KvKey q h = refl

@@ -12,7 +12,7 @@ use Rattle.records.specs.Reading.{IsSomeIn}
 use Rattle.records.specs.RowForms.{cubby_row}
 use Rattle.records.specs.Rows.{token_len}
 use Rattle.records.specs.Splits.{slash}
-use Rattle.records.specs.Table.{Table, table_of, is_under}
+use Rattle.records.specs.Table.{Table, table_of, has_prefix}
 use Rattle.records.specs.Transaction.{Seen, Rows}
 
 -- the rows that a transaction shows, as a table
@@ -46,7 +46,7 @@ children_in rows t path =
 -- no row has changed but those of t's cubbyhole
 abbrev pub KeepsOtherOwners : Text → Table → Table → Type 0
 KeepsOtherOwners t old new =
-    (k : Kind) (q : Text) → is_under kind.Cubby (object_key t []) k q ≡ false → new k q ≡ old k q
+    (k : Kind) (q : Text) → has_prefix kind.Cubby (object_key t []) k q ≡ false → new k q ≡ old k q
 
 -- a row of a cubbyhole has its token as its owner, and its key is the token, a slash and a path
 pub record IsFiled (q : Text) (row : Row) : Type 0 where

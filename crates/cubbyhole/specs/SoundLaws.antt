@@ -7,6 +7,7 @@ use Rattle.std.specs.FinMap.{len-entries, get-empty}
 use Rattle.std.proofs.Common.{refl, sym, ◌∙◌, ap, subst, inl}
 use Rattle.std.proofs.lemmas.List.{length-map}
 use Rattle.std.proofs.lemmas.Option.{same_Some, none-some}
+use Rattle.broker_types.specs.OptionLaws.{mapped}
 use Rattle.broker_types.specs.Text.{Text, text_cmp, same}
 use Rattle.broker_types.specs.Map.{Map, get, empty, put, without, len, entries, change}
 use Rattle.broker_types.specs.Token.{Token, Tokens, Lease}
@@ -19,7 +20,7 @@ use Rattle.broker_types.specs.Evolves.{Evolves}
 use Rattle.broker_types.specs.Sound.{Forms, Sound, IsSoundToken, IsPathText, IsObjectText}
 use Rattle.broker_types.specs.TextLaws.{same_true}
 use Rattle.broker_types.specs.MapLaws.{get-put, get-without, get-change, entries-map_values}
-use Rattle.records.specs.ValueLaws.{a_value, mapped, then_mapped, unseen}
+use Rattle.records.specs.ValueLaws.{mapped_unseen, then_unseen, unseen}
 use Rattle.cubbyhole.specs.Cubbyhole.{with_cubbyhole, edited, write, delete, drop_owner}
 
 -- ---- a token changed
@@ -31,7 +32,7 @@ module _ (ts : Tokens) (t : Text) (f : Token → Token) where
   -- what a changed map has at a key
   changed_from : (q : Text) (y : Token) → get (change ts t f) q ≡ Some y
       → (x : Token) × (get ts q ≡ Some x) × (y ≡ (if same q t then f x else x))
-  changed_from q y e = a_value (λ x. if same q t then f x else x) (get ts q) y (sym (changed_at q) ∙ e)
+  changed_from q y e = mapped (λ x. if same q t then f x else x) (get ts q) y (sym (changed_at q) ∙ e)
 
   still_here : (q : Text) → get ts q ≢ None → get (change ts t f) q ≢ None
   still_here q h e = h (none (get ts q) (sym (changed_at q) ∙ e))
@@ -89,16 +90,16 @@ module _ (b : Broker) (t : Text) (edit : Map Text → Map Text) where
   leases : (q id : Text) → lease_of after q id ≡ lease_of b q id
   leases q id =
       ap (option_and_then (λ (x : Token). get x.leases id)) (changed_at b.tokens t (with_cubbyhole edit) q)
-      ∙ then_mapped (λ (x : Token). get x.leases id) _
+      ∙ then_unseen (λ (x : Token). get x.leases id) _
       (unseen (λ (x : Token). get x.leases id) (with_cubbyhole edit) (λ x. refl) (same q t)) (get b.tokens q)
 
   places : (p : Place) → identifier_at after p ≡ identifier_at b p
   places (token q) =
       ap (option_map (λ (x : Token). token_identifier q)) (changed_at b.tokens t (with_cubbyhole edit) q)
-      ∙ mapped (λ (x : Token). token_identifier q) _ (λ x. refl) (get b.tokens q)
+      ∙ mapped_unseen (λ (x : Token). token_identifier q) _ (λ x. refl) (get b.tokens q)
   places (accessor q) =
       ap (option_map (λ (x : Token). x.accessor)) (changed_at b.tokens t (with_cubbyhole edit) q)
-      ∙ mapped (λ (x : Token). x.accessor) _
+      ∙ mapped_unseen (λ (x : Token). x.accessor) _
       (unseen (λ (x : Token). x.accessor) (with_cubbyhole edit) (λ x. refl) (same q t)) (get b.tokens q)
   places (lease q id) = ap (option_map (λ (l : Lease). lease_identifier id)) (leases q id)
   places (credential q id) = ap (option_map (λ (l : Lease). l.credential)) (leases q id)

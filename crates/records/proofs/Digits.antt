@@ -1,5 +1,6 @@
 -- Numbers in twenty digits: what they tell, and their order.
-use Rattle.std.specs.Prelude.{◌≡◌, ◌<◌, ◌≤◌, ◌+◌, ◌-◌, ◌*◌, ◌^◌, ◌&&◌, ℕ, suc, zero, [], ◌∷◌, ◌++◌, length, replicate, true, false, nat_le, if◌then◌else◌, Some, None, decimal}
+use Rattle.std.specs.Prelude.{◌≡◌, ◌<◌, ◌≤◌, ◌+◌, ◌-◌, ◌*◌, ◌^◌, ◌&&◌, ℕ, suc, zero, [], ◌∷◌, ◌++◌, length, replicate, true, false, nat_le, if◌then◌else◌, Some}
+use Rattle.std.specs.Prelude.{None, decimal}
 use Rattle.std.specs.declared.cmp.Ordering.TheVariants.{Less, Equal, Greater}
 use Rattle.std.specs.Ordering.{nat_cmp, ordering_then}
 use Rattle.std.specs.Cmp.{nat_cmp_is}
@@ -37,7 +38,8 @@ digits_after-padded n h = zeros_tell (20 - length (decimal n)) (decimal n) ∙ d
 pub length-padded : (n : ℕ) → n < 2 ^ 64 → length (padded n) ≡ 20
 length-padded n h =
     let short : length (decimal n) ≤ 20 = length-decimal-le 20 n (omega arith) (omega arith) h in
-    length-append (replicate (20 - length (decimal n)) 48) (decimal n) ∙ ap (λ k. k + length (decimal n)) (length-replicate (20 - length (decimal n)) 48) ∙ omega (arith, short)
+    length-append (replicate (20 - length (decimal n)) 48) (decimal n) ∙ ap (λ k. k + length (decimal n)) (length-replicate (20 - length (decimal n)) 48)
+    ∙ omega (arith, short)
 
 pub wide : (n : ℕ) → n ≤ greatest_version → n < 2 ^ 64
 wide n h = omega (arith, h)
@@ -50,11 +52,15 @@ version_of_digits-padded n h =
 -- digits that tell a version are its own
 pub digits_are : (d : Text) (n : ℕ) → version_of_digits d ≡ Some n → (n ≤ greatest_version) × (d ≡ padded n)
 digits_are d n h =
-    elim (are_digits_of d (digits_after 0 d)) as (λ v. are_digits_of d (digits_after 0 d) ≡ v → (if v then Some (digits_after 0 d) else None) ≡ Some n → (n ≤ greatest_version) × (d ≡ padded n)) [
+    elim (are_digits_of d (digits_after 0 d)) as (λ v. are_digits_of d (digits_after 0 d) ≡ v → (if v then Some (digits_after 0 d) else None) ≡ Some n
+    → (n ≤ greatest_version) × (d ≡ padded n)) [
       | true ↦ λ is e.
           let one : digits_after 0 d ≡ n = same_Some _ _ e in
-          let both = and_parts _ _ is in
-          (leb-true n greatest_version (ap (λ v. nat_le v greatest_version) (sym one) ∙ both.0), sym (same_true (padded (digits_after 0 d)) d both.1) ∙ ap padded one)
+          let both = and_parts _ _ is in (
+            leb-true n greatest_version (ap (λ v. nat_le v greatest_version) (sym one) ∙ both.0),
+            sym (same_true (padded (digits_after 0 d)) d both.1)
+                ∙ ap padded one,
+          )
       | false ↦ λ _ e. absurd (none-some _ e)
     ] refl h
 
@@ -71,7 +77,8 @@ digits_lt m n (x ∷ xs) (y ∷ ys) long h l =
     digit_below : (x k m : ℕ) → is_ascii_digit x ≡ true → (m + 1) * 10 ≤ k → m * 10 + (x - 48) < k
     digit_below x k m d l = grind (arith, nat_tests)
 
-pub digits_order : (n : ℕ) (xs ys : Text) → length xs ≡ length ys → all_ascii_digits xs ≡ true → all_ascii_digits ys ≡ true → text_cmp xs ys ≡ nat_cmp (digits_after n xs) (digits_after n ys)
+pub digits_order : (n : ℕ) (xs ys : Text) → length xs ≡ length ys → all_ascii_digits xs ≡ true → all_ascii_digits ys ≡ true
+    → text_cmp xs ys ≡ nat_cmp (digits_after n xs) (digits_after n ys)
 digits_order n [] [] long g h = nat_cmp_is n n Equal refl
 digits_order n [] (y ∷ ys) long g h = absurd (omega (arith, long))
 digits_order n (x ∷ xs) [] long g h = absurd (omega (arith, long))

@@ -11,18 +11,18 @@ use Rattle.std.proofs.lemmas.Bool.{and_parts, eqb-true, and_from}
 use Rattle.broker_types.specs.Text.{Text, text_cmp}
 use Rattle.records.specs.declared.kind.Kind.{Kind}
 use Rattle.records.specs.declared.row.Row.{Row}
-use Rattle.records.specs.Kind.{Key, key_cmp, is_of_kind, kind_number}
+use Rattle.records.specs.Kind.{RowKey, key_cmp, is_of_kind, kind_number}
 use Rattle.records.specs.Transaction.{Rows, rows_under}
 use Rattle.records.specs.Children.{children, children_in_order}
 use Rattle.records.proofs.ChildrenInOrder.{children_ordered}
 use Rattle.records.specs.KeyLaws.{key_cmp_exact}
 
 -- rows by their keys alone
-abbrev pub named : List (Key × Row) → List (Text × Row)
+abbrev pub named : List (RowKey × Row) → List (Text × Row)
 named es = map (λ e. (e.0.1, e.1)) es
 
 -- each is of the kind
-abbrev pub all_of : Kind → List (Key × Row) → Bool
+abbrev pub all_of : Kind → List (RowKey × Row) → Bool
 all_of kind [] = true
 all_of kind (e ∷ es) = is_of_kind kind e.0 && all_of kind es
 
@@ -36,30 +36,30 @@ module _ (kind : Kind) where
       ≡ text_cmp q t
   cmp-both j k q t g h = ap (λ n. ordering_then (nat_cmp n (kind_number k)) (text_cmp q t)) (eqb-true (kind_number j) (kind_number kind) g) ∙ cmp-of k q t h
 
-  find-named : (q : Text) (es : List (Key × Row)) → all_of kind es ≡ true → find text_cmp q (named es) ≡ find key_cmp (kind, q) es
+  find-named : (q : Text) (es : List (RowKey × Row)) → all_of kind es ≡ true → find text_cmp q (named es) ≡ find key_cmp (kind, q) es
   find-named q [] h = refl
   find-named q (e ∷ es) h =
       let parts = and_parts _ _ h in
       λ i. cond (is_eq (sym (cmp-of e.0.0 q e.0.1 parts.0) i)) (Some e.1) (find-named q es parts.1 i)
 
-  below-named : (e : Key × Row) (es : List (Key × Row)) → is_of_kind kind e.0 ≡ true → all_of kind es ≡ true → below_all text_cmp e.0.1 (named es)
+  below-named : (e : RowKey × Row) (es : List (RowKey × Row)) → is_of_kind kind e.0 ≡ true → all_of kind es ≡ true → below_all text_cmp e.0.1 (named es)
       ≡ below_all key_cmp e.0 es
   below-named e [] g h = refl
   below-named e (f ∷ es) g h =
       let parts = and_parts _ _ h in
       λ i. is_lt (sym (cmp-both e.0.0 f.0.0 e.0.1 f.0.1 g parts.0) i) && below-named e es g parts.1 i
 
-  sorted-named : (es : List (Key × Row)) → all_of kind es ≡ true → is_sorted text_cmp (named es) ≡ is_sorted key_cmp es
+  sorted-named : (es : List (RowKey × Row)) → all_of kind es ≡ true → is_sorted text_cmp (named es) ≡ is_sorted key_cmp es
   sorted-named [] h = refl
   sorted-named (e ∷ es) h =
       let parts = and_parts _ _ h in
       λ i. below-named e es parts.0 parts.1 i && sorted-named es parts.1 i
 
   module _ (prefix : Text) where
-    abbrev under : Key → Bool
+    abbrev under : RowKey → Bool
     under x = is_of_kind kind x && starts_with nat_eq x.1 prefix
 
-    filter_of : (es : List (Key × Row)) → all_of kind (filter (λ e. under e.0) es) ≡ true
+    filter_of : (es : List (RowKey × Row)) → all_of kind (filter (λ e. under e.0) es) ≡ true
     filter_of [] = refl
     filter_of (e ∷ es) =
         elim (under e.0) as (λ b. under e.0 ≡ b → all_of kind (cond b (e ∷ filter (λ e. under e.0) es) (filter (λ e. under e.0) es)) ≡ true) [
@@ -84,7 +84,7 @@ module _ (kind : Kind) where
         itself : (n : ℕ) → (n == n) ≡ true
         itself n = grind arith
 
-pub names_are : (es : List (Key × Row)) → map (λ (e : Key × Row). e.0.1) es ≡ map (λ (e : Text × Row). e.0) (named es)
+pub names_are : (es : List (RowKey × Row)) → map (λ (e : RowKey × Row). e.0.1) es ≡ map (λ (e : Text × Row). e.0) (named es)
 names_are [] = refl
 names_are (e ∷ es) = ap (λ z. e.0.1 ∷ z) (names_are es)
 
@@ -94,8 +94,8 @@ T_true false t = absurd t
 
 -- the children of what is listed are the set of them
 pub listed_children : (rows : Rows) (kind : Kind) (under prefix : Text)
-    → children_in_order prefix (map (λ (e : Key × Row). e.0.1) (rows_under rows kind under))
-    ≡ children prefix (map (λ (e : Key × Row). e.0.1) (rows_under rows kind under))
+    → children_in_order prefix (map (λ (e : RowKey × Row). e.0.1) (rows_under rows kind under))
+    ≡ children prefix (map (λ (e : RowKey × Row). e.0.1) (rows_under rows kind under))
 listed_children rows kind under prefix =
     let es = rows_under rows kind under in
     ap (children_in_order prefix) (names_are es) ∙ children_ordered prefix (named es) (T_true _ (listed-sorted kind under rows))

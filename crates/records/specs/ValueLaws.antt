@@ -17,28 +17,17 @@ ok_inj {X = X} {E = E} {x = x} e = ap or_x e
     or_x (Ok y) = y
     or_x (Err z) = x
 
--- if there is no image of a value, there is no value
-pub no_value : {X Y : Type 0} (f : X → Y) (o : Option X) → option_map f o ≡ None → o ≡ None
-no_value f None e = refl
-no_value f (Some x) e = absurd (none-some _ (sym e))
-
--- an image is that of a value
-pub a_value : {X Y : Type 0} (f : X → Y) (o : Option X) (y : Y)
-    → option_map f o ≡ Some y → (x : X) × (o ≡ Some x) × (y ≡ f x)
-a_value f None y e = absurd (none-some _ e)
-a_value f (Some x) y e = (x, refl, sym (same_Some _ _ e))
-
 -- a function of a value that a change of the value does not show
-pub mapped : {X A : Type 0} (g : X → A) (f : X → X) → ((x : X) → g (f x) ≡ g x) → (o : Option X)
+pub mapped_unseen : {X A : Type 0} (g : X → A) (f : X → X) → ((x : X) → g (f x) ≡ g x) → (o : Option X)
     → option_map g (option_map f o) ≡ option_map g o
-mapped g f h None = refl
-mapped g f h (Some x) = ap Some (h x)
+mapped_unseen g f h None = refl
+mapped_unseen g f h (Some x) = ap Some (h x)
 
 -- the same of a function that may have no value
-pub then_mapped : {X A : Type 0} (g : X → Option A) (f : X → X) → ((x : X) → g (f x) ≡ g x) → (o : Option X)
+pub then_unseen : {X A : Type 0} (g : X → Option A) (f : X → X) → ((x : X) → g (f x) ≡ g x) → (o : Option X)
     → option_and_then g (option_map f o) ≡ option_and_then g o
-then_mapped g f h None = refl
-then_mapped g f h (Some x) = h x
+then_unseen g f h None = refl
+then_unseen g f h (Some x) = h x
 
 -- and of a value that may be changed
 pub unseen : {X A : Type 0} (g : X → A) (f : X → X) → ((x : X) → g (f x) ≡ g x) → (b : Bool) (x : X)

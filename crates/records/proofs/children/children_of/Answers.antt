@@ -2,7 +2,7 @@ use Rattle.std.proofs.Common.{◌≡◌, [], drop, ap, ◌∙◌}
 use Rattle.std.specs.Prelude.{List, map}
 use Rattle.std.proofs.lemmas.List.{drop_all}
 use Rattle.records.specs.declared.row.Row.{Row}
-use Rattle.records.specs.Kind.{Key}
+use Rattle.records.specs.Kind.{RowKey}
 use Rattle.records.specs.Children.{children, children_in_order, keys_under}
 use Rattle.records.proofs.ChildrenNamed.{named_children}
 use Rattle.records.proofs.ListedKeys.{listed_children}
@@ -17,7 +17,7 @@ pub returns-clause-set : goal.returns-clause-set
 returns-clause-set c rows kind is =
     let prefix = c.args.prefix.now in
     returns-clause-in_order c
-    ∙ ap (λ (es : List (Key × Row)). children_in_order prefix (map (λ e. e.0.1) es)) is ∙ listed_children rows kind prefix prefix
+    ∙ ap (λ (es : List (RowKey × Row)). children_in_order prefix (map (λ e. e.0.1) es)) is ∙ listed_children rows kind prefix prefix
 
 pub returns-clause-named : goal.returns-clause-named
 returns-clause-named c rows kind outer folder paths is parts names =

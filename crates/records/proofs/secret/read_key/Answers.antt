@@ -10,4 +10,5 @@ returns-in_err-current c =
     rw p.1 (reads_no_record key_converts c.args.kept.now p.0 _ p.2 c.in_err-current.ensures)
 
 pub returns : goal.returns
-returns c = reads_record key_converts c.args.kept.now ((c.in_ok-current.current, c.in_ok-current.created), c.in_ok-current.updated) _ refl c.in_ok-current.ensures
+returns c = reads_record key_converts c.args.kept.now
+    ((c.in_ok-current.current, c.in_ok-current.created), c.in_ok-current.updated) _ refl c.in_ok-current.ensures

@@ -33,5 +33,10 @@ returns c =
       | else-is_destroyed-via-else-is_destroyed w ↦ λ e. absurd (false≢true (sym w.if-is_destroyed.false ∙ e))
     ] in
     reads_record version_converts c.args.kept.now x _
-    (λ i. record { created = read.created; deleted = read.deleted; secret = (c.secret_of-secret.ensures ∙ (λ j. secret_in read.is_destroyed (c.object.view_is j))) i })
+    (λ i. record {
+      created = read.created;
+      deleted = read.deleted;
+      secret = (c.secret_of-secret.ensures
+          ∙ (λ j. secret_in read.is_destroyed (c.object.view_is j))) i;
+    })
     (narrow_read HasNone x none read.ensures)
