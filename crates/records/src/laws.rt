@@ -1,8 +1,20 @@
 //! Laws of rows, each the contract of a function that does nothing.
 
+ghost use Rattle.std.specs.Prelude.{◌≡◌};
+ghost use Rattle.records.specs.declared.list.ListTx.{ListTx};
 ghost use Rattle.records.specs.Determined.{RowsDetermineTheBroker};
+ghost use Rattle.records.specs.ListRows.{tx_seen};
 ghost use Rattle.records.specs.VersionKeys.{DigitsTellTheVersion, OnlyDigitsTellAVersion};
 ghost use Rattle.records.specs.VersionKeys.{DigitsAreInOrder, NamesAreSplitOff};
+
+use crate::list::ListTx;
+use crate::tx::RecordsTx;
+
+/// A law: whatever was called on a transaction in memory, it shows its rows, has returned what was written
+/// and can be asked.
+pub fn memory_returns_what_was_written()
+    ensures { (tx : ListTx) → ⟦<ListTx as RecordsTx>⟧.seen tx ≡ tx_seen tx }
+{}
 
 /// A law: sound brokers with equal rows are equal.
 pub fn rows_determine_the_broker()
