@@ -5,14 +5,14 @@ use Rattle.broker.specs.Kept.{Kept, IsHonestStore}
 use Rattle.broker.specs.Representing.{Represents}
 use Rattle.records.specs.Transaction.{Rows}
 use Rattle.broker_types.specs.declared.fault.Fault.{Fault}
-use Rattle.hub.specs.AnyRows.{FaultsAt}
+use Rattle.hub.specs.AnyRows.{FaultsAt, NextConnections, RunConnections}
 use Rattle.hub.specs.World.{Connections, World, Next, Run}
 use Rattle.hub.specs.Feeding.{IsLater}
 use Rattle.hub.specs.Representing.{HubRepresents, ConnectionsRepresent, hub_store}
-use Rattle.hub.specs.Runs.{Answers, AnswersOne, StopsAt}
+use Rattle.hub.specs.Runs.{Answers, AnswersOne, StopsAt, StopsTurns, TookTurns}
 use Rattle.hub.specs.declared.hub.Hub.{Hub}
 use Rattle.hub.specs.declared.event.Event.{Event}
-use Rattle.hub.proofs.RunLemmas.{Run-push, Run-unique}
+use Rattle.hub.proofs.RunLemmas.{Run-push, Run-unique, RunConnections-push}
 
 -- the first events, and one more
 take-more : (events : List Event) (i : ℕ) (e : Event) → i < length events → e ≡ get_or events i e
@@ -70,3 +70,41 @@ stops_at seen w events i e piece replies fault old new is same a kept leaves =
 pub answers_all : {S : Type 0} (seen : S → Kept) (w : World) (events : List Event) (i : ℕ) (replies : List (List ℕ)) (hub : Hub S)
     → length events ≤ i → Answers seen w (take i events) replies hub → Answers seen w events replies hub
 answers_all seen w events i replies hub le a = subst (λ (es : List Event). Answers seen w es replies hub) (take_all i events le) a
+
+-- ---- whatever the rows are
+
+pub turns_more : {S : Type 0} (all : Connections) (events : List Event) (i : ℕ) (e : Event) (piece bytes : List ℕ) (replies : List (List ℕ))
+    (old new : Hub S) → i < length events → e ≡ get_or events i e → piece ≡ e.piece → TookTurns all (take i events) replies old
+    → ((each : Connections) → ConnectionsRepresent old each
+    → (next : Connections) × ConnectionsRepresent new next × NextConnections each e.conn piece e.moment bytes next)
+    → TookTurns all (take (i + 1) events) (replies ++ bytes ∷ []) new
+turns_more all events i e piece bytes replies old new lt is same t gives =
+    let n = gives t.after t.represents in
+    let one : NextConnections t.after e.conn e.piece e.moment bytes n.0 =
+    subst (λ (l : List ℕ). NextConnections t.after e.conn l e.moment bytes n.0) same n.2 in
+    record {
+      after = n.0;
+      run = subst (λ (es : List Event). RunConnections all es (replies ++ bytes ∷ []) n.0) (sym (take-more events i e lt is))
+          (RunConnections-push all (take i events) replies t.after e bytes n.0 t.run one);
+      represents = n.1;
+    }
+
+pub turns_stop : {S : Type 0} (all : Connections) (events : List Event) (i : ℕ) (e : Event) (piece : List ℕ) (replies : List (List ℕ))
+    (fault : Fault) (old new : Hub S) → e ≡ get_or events i e → piece ≡ e.piece → TookTurns all (take i events) replies old
+    → ((each : Connections) → ConnectionsRepresent old each → (next : Connections) × ConnectionsRepresent new next × FaultsAt fault each e.conn piece next)
+    → StopsTurns all events i replies fault new
+turns_stop all events i e piece replies fault old new is same t leaves =
+    let f = leaves t.after t.represents in
+    record {
+      before = t.after;
+      run = t.run;
+      event = e;
+      at = is;
+      after = f.0;
+      left = subst (λ (l : List ℕ). FaultsAt fault t.after e.conn l f.0) same f.2;
+      represents = f.1;
+    }
+
+pub turns_all : {S : Type 0} (all : Connections) (events : List Event) (i : ℕ) (replies : List (List ℕ)) (hub : Hub S)
+    → length events ≤ i → TookTurns all (take i events) replies hub → TookTurns all events replies hub
+turns_all all events i replies hub le t = subst (λ (es : List Event). TookTurns all es replies hub) (take_all i events le) t

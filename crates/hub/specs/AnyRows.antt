@@ -1,7 +1,7 @@
 -- What an event does to the connections and to its reply, whatever rows the store has, also rows that
 -- represent no broker (this project's definition). It is the turn of the world with a listed response in
 -- place of the broker's.
-use Rattle.std.specs.Prelude.{◌≡◌, ◌⊎◌, ℕ, Bool, true, false, List, [], ◌++◌, Some, None, MatchBool, Result, Ok, Err}
+use Rattle.std.specs.Prelude.{◌≡◌, ◌⊎◌, ℕ, Bool, true, false, List, [], ◌∷◌, ◌++◌, Some, None, MatchBool, Result, Ok, Err}
 use Rattle.std.specs.Prelude.{Vec}
 use Rattle.std.specs.declared.alloc.Global.{Global}
 use Rattle.broker_types.specs.Answer.{Response}
@@ -15,6 +15,7 @@ use Rattle.http_layer.specs.Refusing.{RefusalParts, ask_refused, front_refused}
 use Rattle.http_layer.specs.Reply.{IsReply}
 use Rattle.hub.specs.World.{History, Connections, FollowsRequests, history_at, put_history, history_after}
 use Rattle.hub.specs.World.{request_closes}
+use Rattle.hub.specs.declared.event.Event.{Event}
 
 -- ---- replies
 
@@ -68,3 +69,11 @@ pub record FaultsAt (fault : Fault) (all : Connections) (conn : ℕ) (piece : Li
 abbrev pub EventGives : Connections → ℕ → List ℕ → ℕ → Result (Vec ℕ Global) Fault → Connections → Type 0
 EventGives all conn piece moment (Ok bytes) after = NextConnections all conn piece moment bytes.items after
 EventGives all conn piece moment (Err fault) after = FaultsAt fault all conn piece after
+
+-- the connections after the events, and the replies to them, one an event, in their order
+abbrev pub RunConnections : Connections → List Event → List (List ℕ) → Connections → Type 0
+RunConnections all [] [] after = after ≡ all
+RunConnections all (e ∷ es) (bytes ∷ replies) after =
+    (mid : Connections) × NextConnections all e.conn e.piece e.moment bytes mid × RunConnections mid es replies after
+RunConnections all [] (bytes ∷ replies) after = ⊥
+RunConnections all (e ∷ es) [] after = ⊥

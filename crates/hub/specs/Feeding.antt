@@ -5,11 +5,12 @@ use Rattle.std.specs.declared.alloc.Global.{Global}
 use Rattle.broker_types.specs.Broker.{Broker}
 use Rattle.broker_types.specs.Fault.{IsMemoryOrStorage}
 use Rattle.broker_types.specs.declared.fault.Fault.{Fault}
-use Rattle.broker_types.specs.declared.fault.Fault.TheVariants.{Storage}
+use Rattle.broker_types.specs.declared.fault.Fault.TheVariants.{BadStart, Storage}
 use Rattle.broker_types.specs.declared.words.Words.{Words}
+use Rattle.broker.specs.ClockRow.{HasNoClock}
 use Rattle.broker.specs.Kept.{Kept, IsHonestStore}
 use Rattle.broker.specs.Representing.{Represents}
-use Rattle.records.specs.Transaction.{Rows}
+use Rattle.records.specs.Transaction.{Rows, is_storage}
 use Rattle.http_layer.specs.Front.{Front, need, refused_with, whole, IsFront}
 use Rattle.hub.specs.AnyRows.{IsFrontReply}
 use Rattle.hub.specs.World.{AreReplyBytes, Effect, FollowsRequests, History}
@@ -62,11 +63,14 @@ pub record IsLater (old new : Kept) : Type 0 where
   pub closes : IsTrue new.is_open → IsTrue old.is_open
 
 -- What a call leaves of the store, whatever it was asked. After a fault the rows are as before. On rows that represent
--- a broker the faults are of memory or storage alone, and of storage only if the store failed.
+-- a broker the faults are of memory or storage alone, and of storage only if the store failed. Whatever the rows are,
+-- it closes only at a fault of storage, and `BadStart` comes only if the store was not started.
 pub record Keeps {A : Type 0} (old new : Kept) (r : Result A Fault) : Type 0 where
   pub kept : IsHonestStore new → IsTrue new.is_open → OnErr r (new.rows ≡ old.rows)
   pub wants : IsHonestStore new → (b : Broker) → Represents None old.rows b → IfErr r IsMemoryOrStorage
   pub storage : r ≡ Err Storage → IsTrue new.has_failed
+  pub stays_open : is_storage r ≡ false → new.is_open ≡ old.is_open
+  pub bad_start : IsHonestStore new → r ≡ Err BadStart → HasNoClock old.rows
   pub later : IsLater old new
 
 -- what one event on an open connection does: c is the connection before, and d after

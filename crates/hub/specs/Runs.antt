@@ -5,9 +5,9 @@ use Rattle.std.specs.declared.alloc.Global.{Global}
 use Rattle.broker_types.specs.declared.fault.Fault.{Fault}
 use Rattle.broker_types.specs.declared.fault.Fault.TheVariants.{Memory}
 use Rattle.broker.specs.Kept.{Kept}
-use Rattle.hub.specs.AnyRows.{FaultsAt}
+use Rattle.hub.specs.AnyRows.{FaultsAt, RunConnections}
 use Rattle.hub.specs.World.{Connections, World, Next, Run}
-use Rattle.hub.specs.Representing.{HubRepresents}
+use Rattle.hub.specs.Representing.{ConnectionsRepresent, HubRepresents}
 use Rattle.hub.specs.declared.event.Event.{Event}
 use Rattle.hub.specs.declared.hub.Hub.{Hub}
 
@@ -49,3 +49,23 @@ pub record StopsAt {S : Type 0} (seen : S → Kept) (w : World) (events : List E
   pub after : Connections
   pub left : FaultsAt fault before.connections event.conn event.piece after
   pub represents : HubRepresents seen hub (record before { connections = after })
+
+-- Whatever rows the store has: each event took its turn, these are the replies, and the hub's connections
+-- represent those after them.
+pub record TookTurns {S : Type 0} (all : Connections) (events : List Event) (replies : List (List ℕ)) (hub : Hub S)
+    : Type 0 where
+  pub after : Connections
+  pub run : RunConnections all events replies after
+  pub represents : ConnectionsRepresent hub after
+
+-- Whatever rows the store has: the events before that of the place took their turns with these replies, and
+-- the hub's connections represent those that its fault left.
+pub record StopsTurns {S : Type 0} (all : Connections) (events : List Event) (place : ℕ)
+    (replies : List (List ℕ)) (fault : Fault) (hub : Hub S) : Type 0 where
+  pub before : Connections
+  pub run : RunConnections all (take place events) replies before
+  pub event : Event
+  pub at : event ≡ slice_index_or events place event
+  pub after : Connections
+  pub left : FaultsAt fault before event.conn event.piece after
+  pub represents : ConnectionsRepresent hub after

@@ -1,4 +1,5 @@
-ghost use Rattle.std.specs.Prelude.{◌≡◌, ◌+◌, ◌≤◌, ◌||◌, ℕ, Bool, List, Option, length, IfOk, OnOk, is_err, false};
+ghost use Rattle.std.specs.Prelude.{◌≡◌, ◌+◌, ◌≤◌, ◌||◌, ℕ, Bool, List, Option, length, IfOk, OnOk, OnErr};
+ghost use Rattle.std.specs.Prelude.{is_err, false};
 ghost use Rattle.std.specs.Io.KnownBytes.{ReadConsumes, Appends};
 
 use std::io::{Read, Write};
@@ -25,6 +26,7 @@ pub trait Source {
         ensures bound { IfOk result (λ count. count ≤ length buffer.new) }
         ensures bytes { ReadConsumes (left self.old) (left self.new) result buffer.new }
         ensures counted { OnOk result (pulls self.new ≡ pulls self.old + 1) }
+        ensures uncounted { OnErr result (pulls self.new ≡ pulls self.old) }
         ensures failing { has_failed self.new ≡ (has_failed self.old || is_err result) };
 
     /// Whether a pull failed.

@@ -45,7 +45,8 @@ impl<S: Store> Hub<S> {
     /// After a fault the other connections are as before, and this one is closed; if opening it found no
     /// memory, it is still not seen. The broker is as before then, as long as the storage returns what
     /// was written and can still be asked. On rows that represent a broker the only faults are `Memory`
-    /// and `Storage`; else any fault of the store may come.
+    /// and `Storage`; else any fault of the store may come, `BadStart` only if it was not started. The
+    /// storage can be asked after it, if it could before, unless the fault is `Storage`.
     pub fn feed(
         &mut self,
         conn: u64,

@@ -1,12 +1,12 @@
-ghost use Rattle.std.specs.Prelude.{◌≡◌, ◌⊎◌, ◌<◌, IsTrue, IfOk, IfErr, MatchResult, length, take};
+ghost use Rattle.std.specs.Prelude.{◌≡◌, ◌≢◌, ◌⊎◌, ◌<◌, IsTrue, IfOk, IfErr, MatchResult, length, take};
 ghost use Rattle.std.specs.List.{All};
 ghost use Rattle.broker_types.specs.Fault.{IsMemoryOrStorage};
 ghost use Rattle.broker.specs.Kept.{IsHonestStore};
 ghost use Rattle.hub.specs.Feeding.{IsLater};
 ghost use Rattle.hub.specs.Listed.{IsListedReply};
-ghost use Rattle.hub.specs.Representing.{HubRepresents, hub_store};
-ghost use Rattle.hub.specs.Runs.{bytes_of, Answers, HadNoRoom, StopsAt};
-ghost use Rattle.hub.specs.World.{World, Run};
+ghost use Rattle.hub.specs.Representing.{ConnectionsRepresent, HubRepresents, hub_store};
+ghost use Rattle.hub.specs.Runs.{bytes_of, Answers, HadNoRoom, StopsAt, StopsTurns, TookTurns};
+ghost use Rattle.hub.specs.World.{Connections, World, Run};
 
 use crate::event::Event;
 use crate::hub::Hub;
@@ -33,7 +33,12 @@ pub fn run<S: Store>(
         (w : World) → HubRepresents S.seen hub.old w
         → Answers S.seen w events.now (bytes_of replies.items) hub.new) }
 
-    // Whatever the rows are, each refusal is a listed one.
+    // Whatever the rows are, each event took its turn, with its reply, or the run stopped at the fault of
+    // one; and each refusal is a listed one.
+    ensures connections { (all : Connections) → ConnectionsRepresent hub.old all → MatchResult result
+        (λ replies. TookTurns all events.now (bytes_of replies.items) hub.new)
+        (λ stop. HadNoRoom stop.0 stop.1.items stop.2 hub.old hub.new
+        ⊎ StopsTurns all events.now stop.0 (bytes_of stop.1.items) stop.2 hub.new) }
     ensures listed { MatchResult result
         (λ replies. All IsListedReply (bytes_of replies.items))
         (λ stop. All IsListedReply (bytes_of stop.1.items)) }
@@ -44,7 +49,7 @@ pub fn run<S: Store>(
         → (mid : World) × Run w (take stop.0 events.now) (bytes_of stop.1.items) mid) }
 
     // No memory was found for the places of the replies, or the run stopped at an event. What it left is
-    // known as long as the storage can still be asked.
+    // known as long as the storage can still be asked; it can, unless the fault is `Storage`.
     ensures stopped { IfErr result (λ stop.
         HadNoRoom stop.0 stop.1.items stop.2 hub.old hub.new
         ⊎ ((stop.0 < length events.now)
@@ -57,6 +62,10 @@ pub fn run<S: Store>(
         (w : World) → HubRepresents S.seen hub.old w → IsMemoryOrStorage stop.2) }
     ensures storage { IfErr result (λ stop.
         stop.2 ≡ Fault.Storage → IsTrue (hub_store S.seen hub.new).has_failed) }
+    ensures stays_open { MatchResult result
+        (λ _. (hub_store S.seen hub.new).is_open ≡ (hub_store S.seen hub.old).is_open)
+        (λ stop. stop.2 ≢ Fault.Storage
+        → (hub_store S.seen hub.new).is_open ≡ (hub_store S.seen hub.old).is_open) }
     ensures later { IsLater (hub_store S.seen hub.old) (hub_store S.seen hub.new) }
 {
     let mut replies = Vec::new(alloc);

@@ -9,9 +9,9 @@ use Rattle.broker_types.specs.Fault.{IsMemoryOrStorage}
 use Rattle.std.specs.declared.alloc.Global.{Global}
 use Rattle.hub.specs.Listed.{IsListedReply}
 use Rattle.hub.specs.Representing.{hub_store}
-use Rattle.hub.specs.Runs.{bytes_of, Answers}
-use Rattle.hub.specs.World.{Run}
-use Rattle.hub.proofs.AnswersLemmas.{answers_of, answers_more, answers_all, stops_at, honest_before, later_still}
+use Rattle.hub.specs.Runs.{bytes_of, Answers, TookTurns}
+use Rattle.hub.specs.World.{Connections, Run}
+use Rattle.hub.proofs.AnswersLemmas.{answers_of, answers_more, answers_all, stops_at, honest_before, later_still, turns_more, turns_stop, turns_all}
 use Rattle.hub.proofs.running.run.Goals as goal
 
 -- the replies after one more
@@ -54,6 +54,12 @@ returns-in-Err-feed-clause-stopped g c = inr (
       old new c.index-events-i.is c.as_slice-piece.ensures (c.loop-i.invariant.answers honest_then w represents) kept c.in-Err-feed.ensures.connections,
 )
 
+pub returns-in-Err-feed-clause-connections : goal.returns-in-Err-feed-clause-connections
+returns-in-Err-feed-clause-connections g c = λ all represents.
+    inr (turns_stop all c.args.events.now c.loop-i.i c.index-events-i.result c.as_slice-piece.result.now (bytes_of c.loop-i.replies.items)
+      c.in-Err-feed.fault c.loop-i.hub c.feed.new.self c.index-events-i.is c.as_slice-piece.ensures (c.loop-i.invariant.turns all represents)
+      c.in-Err-feed.ensures.connections)
+
 pub returns-in-Err-feed-clause-wants : goal.returns-in-Err-feed-clause-wants
 returns-in-Err-feed-clause-wants g c = λ honest w represents.
     let before = honest_before (hub_store g.S.Store.seen c.loop-i.hub) (hub_store g.S.Store.seen c.feed.new.self)
@@ -66,11 +72,16 @@ loop-i-init g c = record {
   count = search rules;
   room = search rules;
   later = search rules;
+  is_open = search rules;
   listed = subst (All IsListedReply) (sym (ap bytes_of (c.reserve.ensures.items ∙ c.new-replies.ensures.items))) (All-nil IsListedReply);
   answers = λ honest w represents.
       subst (λ (l : List (List ℕ)). Answers g.S.Store.seen w [] l c.args.hub.now)
       (sym (ap bytes_of (c.reserve.ensures.items ∙ c.new-replies.ensures.items)))
       (answers_of g.S.Store.seen w [] [] c.args.hub.now w refl represents);
+  turns = λ all represents.
+      subst (λ (l : List (List ℕ)). TookTurns all [] l c.args.hub.now)
+      (sym (ap bytes_of (c.reserve.ensures.items ∙ c.new-replies.ensures.items)))
+      (record { after = all; run = refl; represents = represents });
 }
 
 pub loop-i-preserved : goal.loop-i-preserved
@@ -83,6 +94,7 @@ loop-i-preserved g c =
       room = omega (arith, c.push.ensures.capacity, c.loop-i.invariant.room);
       later = later_still (hub_store g.S.Store.seen c.args.hub.now) (hub_store g.S.Store.seen c.loop-i.hub) (hub_store g.S.Store.seen c.feed.new.self)
           c.loop-i.invariant.later c.feed.ensures.keeps.later;
+      is_open = c.in-Ok.ensures.keeps.stays_open refl ∙ c.loop-i.invariant.is_open;
       listed = subst (All IsListedReply) (sym now)
           (All-push IsListedReply (bytes_of c.loop-i.replies.items) c.in-Ok.bytes.items c.loop-i.invariant.listed c.in-Ok.ensures.listed);
       answers = λ honest w represents.
@@ -92,9 +104,18 @@ loop-i-preserved g c =
           (answers_more g.S.Store.seen w c.args.events.now c.loop-i.i c.index-events-i.result c.as_slice-piece.result.now c.in-Ok.bytes.items
           (bytes_of c.loop-i.replies.items) c.loop-i.hub c.feed.new.self c.loop-i-test.true c.index-events-i.is c.as_slice-piece.ensures
           (c.loop-i.invariant.answers before w represents) (c.in-Ok.ensures.ok honest));
+      turns = λ all represents.
+          subst (λ (l : List (List ℕ)). TookTurns all (take (c.loop-i.i + 1) c.args.events.now) l c.feed.new.self) (sym now)
+          (turns_more all c.args.events.now c.loop-i.i c.index-events-i.result c.as_slice-piece.result.now c.in-Ok.bytes.items
+          (bytes_of c.loop-i.replies.items) c.loop-i.hub c.feed.new.self c.loop-i-test.true c.index-events-i.is c.as_slice-piece.ensures
+          (c.loop-i.invariant.turns all represents) c.in-Ok.ensures.connections);
     }
 
 pub returns-clause-replies : goal.returns-clause-replies
 returns-clause-replies g c = λ honest w represents.
     answers_all g.S.Store.seen w c.args.events.now c.loop-i.i (bytes_of c.loop-i.replies.items) c.loop-i.hub c.loop-i-test.false
     (c.loop-i.invariant.answers honest w represents)
+
+pub returns-clause-connections : goal.returns-clause-connections
+returns-clause-connections g c = λ all represents.
+    turns_all all c.args.events.now c.loop-i.i (bytes_of c.loop-i.replies.items) c.loop-i.hub c.loop-i-test.false (c.loop-i.invariant.turns all represents)
