@@ -57,8 +57,8 @@ returns-in-Err-feed-clause-stopped g c = inr (
 pub returns-in-Err-feed-clause-connections : goal.returns-in-Err-feed-clause-connections
 returns-in-Err-feed-clause-connections g c = λ all represents.
     inr (turns_stop all c.args.events.now c.loop-i.i c.index-events-i.result c.as_slice-piece.result.now (bytes_of c.loop-i.replies.items)
-      c.in-Err-feed.fault c.loop-i.hub c.feed.new.self c.index-events-i.is c.as_slice-piece.ensures (c.loop-i.invariant.turns all represents)
-      c.in-Err-feed.ensures.connections)
+    c.in-Err-feed.fault c.loop-i.hub c.feed.new.self c.index-events-i.is c.as_slice-piece.ensures (c.loop-i.invariant.turns all represents)
+    c.in-Err-feed.ensures.connections)
 
 pub returns-in-Err-feed-clause-wants : goal.returns-in-Err-feed-clause-wants
 returns-in-Err-feed-clause-wants g c = λ honest w represents.
