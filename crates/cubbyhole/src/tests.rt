@@ -104,3 +104,15 @@ fn a_damaged_row_is_told_where_it_is_read(rt: HostRuntime) -> Result<(), Fail> {
     assert!(rt; reads(&rt, &mut tx, ROOT, "b", "{\"x\":1}")?);
     Ok(())
 }
+
+#[test]
+fn a_row_of_another_owner_is_damaged(rt: HostRuntime) -> Result<(), Fail> {
+    let alloc = rt.alloc();
+    let mut tx = kept(&rt, CHILD, &["a"])?;
+    let Some(row) = tx.get(Kind::Cubby, "hvs.00000000-0000-0000-0000-000000000015/a")? else {
+        return Err(Fail::from("no row"));
+    };
+    tx.put(Kind::Cubby, "hvs.00000000-0000-0000-0000-000000000001/a", row)?;
+    assert!(rt; matches!(read(alloc, &mut tx, ROOT, "a"), Err(Fault::Damaged)));
+    Ok(())
+}
