@@ -269,6 +269,7 @@ fn first_bad_members(rt: HostRuntime) -> Result<(), Fail> {
 }
 
 /// Which bytes are bodies.
+/// Computes `longest_body`.
 #[test]
 fn bodies(rt: HostRuntime) -> Result<(), Fail> {
     let alloc = rt.alloc();

@@ -5,6 +5,7 @@ use std::process::Abort;
 use std::test::Fail;
 
 /// Texts that Python's `uuid` prints.
+/// Computes `id`, `token_text`.
 #[test]
 fn identifiers(rt: HostRuntime) -> Result<(), Fail> {
     let table = [
@@ -26,6 +27,7 @@ fn identifiers(rt: HostRuntime) -> Result<(), Fail> {
 }
 
 /// Texts that Python's `datetime` prints.
+/// Computes `civil`, `time_text`, `IsClock`.
 #[test]
 fn times(rt: HostRuntime) -> Result<(), Fail> {
     let table = [
@@ -58,6 +60,7 @@ fn limits(rt: HostRuntime) {
     }
 }
 
+/// Computes `cutting_text`.
 #[test]
 fn texts_of_cut_requests(rt: HostRuntime) {
     let texts = [
@@ -71,6 +74,8 @@ fn texts_of_cut_requests(rt: HostRuntime) {
     }
 }
 
+/// Computes `IsDuration`, `Group`, `IsGroup`, `IsCount`, `IsSum`, `IsEmptyText`, `groups`,
+/// `group_step`, `duration_of`.
 #[test]
 fn durations(rt: HostRuntime) {
     let table = [
@@ -120,6 +125,7 @@ fn expect_no_path<R: Abort>(rt: &R, text: &str) {
     }
 }
 
+/// Computes `segments`, `is_segment`, `is_path`, `without_slash`.
 #[test]
 fn paths(rt: HostRuntime) -> Result<(), Fail> {
     for (text, want) in [
@@ -142,6 +148,8 @@ fn paths(rt: HostRuntime) -> Result<(), Fail> {
     Ok(())
 }
 
+/// Computes `status_code`, `denial_text`, `refusal_status`, `refusal_methods`, `refusal_text`,
+/// `errors_body`, `refused`.
 #[test]
 fn refusals(rt: HostRuntime) -> Result<(), Fail> {
     let methods = Methods {
@@ -178,6 +186,7 @@ fn refusals(rt: HostRuntime) -> Result<(), Fail> {
     Ok(())
 }
 
+/// Computes `no_methods`, `Response`, `response_of`, `HasRoom`.
 #[test]
 fn answers(rt: HostRuntime) -> Result<(), Fail> {
     let text = TextBuf::copied(rt.alloc(), "{}\n")?;
@@ -203,6 +212,7 @@ fn converted<E: Drop, F: From<E> + Drop>(error: E) -> F {
     F::from(error)
 }
 
+/// Computes `fault_number`, `fault_text`.
 #[test]
 fn faults(rt: HostRuntime) -> Result<(), Fail> {
     let fault: Fault = converted(AllocFailed { value: 7u8 });

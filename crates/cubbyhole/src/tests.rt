@@ -112,7 +112,11 @@ fn a_row_of_another_owner_is_damaged(rt: HostRuntime) -> Result<(), Fail> {
     let Some(row) = tx.get(Kind::Cubby, "hvs.00000000-0000-0000-0000-000000000015/a")? else {
         return Err(Fail::from("no row"));
     };
-    tx.put(Kind::Cubby, "hvs.00000000-0000-0000-0000-000000000001/a", row)?;
+    tx.put(
+        Kind::Cubby,
+        "hvs.00000000-0000-0000-0000-000000000001/a",
+        row,
+    )?;
     assert!(rt; matches!(read(alloc, &mut tx, ROOT, "a"), Err(Fault::Damaged)));
     Ok(())
 }

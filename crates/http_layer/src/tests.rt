@@ -60,6 +60,8 @@ const ASKS: [(&str, (Verb, &str, Option<&str>, &str)); 4] = [
     ),
 ];
 
+/// Computes `HeadParts`, `parts_of`, `same_in_any_case`, `is_named`, `values_named`, `verb_asked`,
+/// `token_asked`, `path_asked`, `path_read`, `asked`, `AreNamed`.
 #[test]
 fn reads_asks(rt: HostRuntime) -> Result<(), Fail> {
     for (piece, (verb, path, token, want)) in ASKS {
@@ -133,6 +135,8 @@ const REFUSED_FRONTS: [(Status, &str); 4] = [
     (Status::NotImplemented, ""),
 ];
 
+/// Computes `refusal_body`, `refusal_response`, `ask_refused`, `front_refused`, `IsFrontRefusal`,
+/// `IsAskRefusal`, `IsListedRefusal`, `body_lines`, `reply_body`.
 #[test]
 fn refuses_fronts(rt: HostRuntime) -> Result<(), Fail> {
     for (status, text) in REFUSED_FRONTS {
@@ -182,6 +186,8 @@ const REPLIES: [((Status, &str, bool), &str); 4] = [
     ),
 ];
 
+/// Computes `phrase_of`, `status_line`, `date_line`, `allow_line`, `method_names`, `comma_joined`,
+/// `cache_line`, `connection_line`, `body_lines`, `reply_body`, `reply_head`, `IsReply`.
 #[test]
 fn writes_replies(rt: HostRuntime) -> Result<(), Fail> {
     let Some(moment) = Moment::new(1000) else {

@@ -456,6 +456,7 @@ fn padded_length(rt: HostRuntime) -> Result<(), Fail> {
 }
 
 /// Two requests in one piece: the second is answered by an empty piece.
+/// Computes `FollowsRequests`, `Unanswered`.
 #[test]
 fn pipelined_requests(rt: HostRuntime) -> Result<(), Fail> {
     let row = row! {

@@ -69,6 +69,8 @@ pub(crate) fn started(alloc: Global, moment: Moment) -> Result<Hub<ListStore>, F
     Ok(Hub::new(alloc, store))
 }
 
+/// Computes `Effect`, `request_effect`, `front_effect`, `Turns`, `history_at`, `history_after`,
+/// `put_history`, `Next`, `OpenedAs`, `closed_at`, `AnswersOne`.
 #[test]
 fn pieces_of_two_connections(rt: HostRuntime) -> Result<(), Fail> {
     let alloc = rt.alloc();
@@ -105,6 +107,7 @@ fn pieces_of_two_connections(rt: HostRuntime) -> Result<(), Fail> {
     Ok(())
 }
 
+/// Computes `close_history`, `IsLater`, `Keeps`, `StopsAt`.
 #[test]
 fn a_fault_closes_its_connection_alone(rt: HostRuntime) -> Result<(), Fail> {
     let alloc = rt.alloc();
@@ -181,6 +184,7 @@ fn pushed<S: Sink>(sink: &mut S, bytes: &[u8]) -> (bool, bool) {
     (done, sink.failed())
 }
 
+/// Computes `reader_of`, `pulls_of`, `read_failed`, `writer_of`, `write_failed`.
 #[test]
 fn bytes_are_pulled_in_order(rt: HostRuntime) {
     let mut source = Reading::new(b"abc".as_slice());
@@ -192,6 +196,7 @@ fn bytes_are_pulled_in_order(rt: HostRuntime) {
     assert_eq!(rt; pulled(&mut source, &mut buffer), (Some(0), false));
 }
 
+/// Computes `reader_of`, `pulls_of`, `read_failed`, `writer_of`, `write_failed`.
 #[test]
 fn a_failed_pull_is_remembered(rt: HostRuntime) {
     let mut source = Reading::new(Stumbling { calls: 0 });
@@ -201,6 +206,7 @@ fn a_failed_pull_is_remembered(rt: HostRuntime) {
     assert_eq!(rt; pulled(&mut source, &mut buffer), (Some(3), true));
 }
 
+/// Computes `reader_of`, `pulls_of`, `read_failed`, `writer_of`, `write_failed`.
 #[test]
 fn bytes_are_pushed_in_order(rt: HostRuntime) {
     let mut bytes = Vec::new(rt.alloc());
@@ -211,6 +217,7 @@ fn bytes_are_pushed_in_order(rt: HostRuntime) {
     assert_eq!(rt; bytes.as_slice(), b"abc".as_slice());
 }
 
+/// Computes `reader_of`, `pulls_of`, `read_failed`, `writer_of`, `write_failed`.
 #[test]
 fn a_failed_push_is_remembered(rt: HostRuntime) {
     let mut sink = Writing::new(Stumbling { calls: 0 });

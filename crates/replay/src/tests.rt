@@ -58,6 +58,7 @@ fn the_replies_before_a_bad_line_are_written(rt: HostRuntime) {
     assert_eq!(rt; written.as_slice(), NOT_FOUND.as_bytes());
 }
 
+/// Computes `EndsBy`, `EndsByRead`, `Stopped`, `WroteFirst`.
 #[test]
 fn a_failed_read_is_a_fault(rt: HostRuntime) {
     let alloc = rt.alloc();
@@ -73,6 +74,7 @@ fn a_failed_read_is_a_fault(rt: HostRuntime) {
     assert!(rt; written.is_empty());
 }
 
+/// Computes `EndsBy`, `EndsByRead`.
 #[test]
 fn a_failed_write_goes_before_a_bad_line(rt: HostRuntime) {
     let exit = replay(
