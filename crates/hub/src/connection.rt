@@ -132,18 +132,17 @@ impl Connection {
             self.close();
             return;
         }
-        if let Some(len) = len {
-            self.advance(len);
+        if len.is_some() {
+            self.advance();
         }
     }
 
-    /// The request of `len` bytes was answered.
-    fn advance(&mut self, len: usize)
-        ensures rest { (rest : List ℕ) (head : HeadParts) (body : List ℕ) → Unanswered self.old rest
+    /// The first request of those that wait was answered.
+    fn advance(&mut self)
+        ensures rest { (rest : List ℕ) (len : ℕ) (head : HeadParts) (body : List ℕ) → Unanswered self.old rest
             → IsFront rest (whole len head body) → Unanswered self.new (drop len rest) }
         ensures closed { self.new.closed ≡ self.old.closed }
     {
-        let _ = len;
         self.answered = self.answered.saturating_add(1);
     }
 }
