@@ -10,7 +10,7 @@ use Rattle.std.specs.declared.alloc.Global.{Global}
 use Rattle.hub.specs.Listed.{IsListedReply}
 use Rattle.hub.specs.Representing.{hub_store}
 use Rattle.hub.specs.Runs.{bytes_of, Answers, TookTurns}
-use Rattle.hub.specs.World.{Connections, Run}
+use Rattle.hub.specs.World.{Run}
 use Rattle.hub.proofs.AnswersLemmas.{answers_of, answers_more, answers_all, stops_at, honest_before, later_still, turns_more, turns_stop, turns_all}
 use Rattle.hub.proofs.running.run.Goals as goal
 
@@ -57,8 +57,8 @@ returns-in-Err-feed-clause-stopped g c = inr (
 pub returns-in-Err-feed-clause-connections : goal.returns-in-Err-feed-clause-connections
 returns-in-Err-feed-clause-connections g c = λ all represents.
     inr (turns_stop all c.args.events.now c.loop-i.i c.index-events-i.result c.as_slice-piece.result.now (bytes_of c.loop-i.replies.items)
-      c.in-Err-feed.fault c.loop-i.hub c.feed.new.self c.index-events-i.is c.as_slice-piece.ensures (c.loop-i.invariant.turns all represents)
-      c.in-Err-feed.ensures.connections)
+    c.in-Err-feed.fault c.loop-i.hub c.feed.new.self c.index-events-i.is c.as_slice-piece.ensures (c.loop-i.invariant.turns all represents)
+    c.in-Err-feed.ensures.connections)
 
 pub returns-in-Err-feed-clause-wants : goal.returns-in-Err-feed-clause-wants
 returns-in-Err-feed-clause-wants g c = λ honest w represents.
