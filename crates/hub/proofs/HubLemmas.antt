@@ -1,5 +1,5 @@
 -- The hub's table of connections and the world's.
-use Rattle.std.proofs.Common.{◌≡◌, ◌≢◌, ◌∙◌, inl, inr, ⊎_elim, ℕ, Bool, true, false, List, [], Option, Some, None, Result, Ok, Err, IfOk, IsOk, MatchBool, Vec}
+use Rattle.std.proofs.Common.{◌≡◌, ◌≢◌, ◌∙◌, inl, inr, ⊎_elim, ℕ, Bool, true, false, List, [], ◌++◌, Option, Some, None, Result, Ok, Err, IfOk, IsOk, OnOk, MatchBool, Vec}
 use Rattle.std.proofs.Common.{unwrap_or, is_some, nat_eq, refl, sym, ap, subst}
 use Rattle.std.specs.declared.alloc.Global.{Global}
 use Rattle.std.specs.Map.{update}
@@ -12,8 +12,9 @@ use Rattle.broker_types.specs.declared.words.Words.{Words}
 use Rattle.broker_types.specs.Broker.{Broker}
 use Rattle.broker.specs.Kept.{Kept, IsHonestStore}
 use Rattle.broker.specs.Representing.{Represents}
-use Rattle.http_layer.specs.Front.{need, IsFront}
-use Rattle.hub.specs.AnyRows.{TurnsOpen, NextConnections, EventGives, close_history}
+use Rattle.http_layer.specs.Front.{Front, need, IsFront}
+use Rattle.http_layer.specs.FrontLaws.{IsFront-unique}
+use Rattle.hub.specs.AnyRows.{TurnsOpen, NextConnections, EventGives, EventNeedsClock, FrontNeedsClock, close_history}
 use Rattle.hub.specs.World.{History, Connections, World, Turns, FollowsRequests, new_history, history_at, put_history, history_after, front_effect}
 use Rattle.hub.specs.Pending.{ConnectionRepresents, EntryRepresents, OpenedAs, closed_at}
 use Rattle.hub.specs.Feeding.{TookTurn, Feeds}
@@ -190,6 +191,19 @@ fed_gives before after old new conn piece m ws (Err fault) all f each is_open =
         left = inl refl;
       },
     )
+
+-- what asks the broker is answered only if the clock's row can be read
+pub fed_clock : (before after : Kept) (old new : ℕ → Option Connection) (conn : ℕ)
+    (piece : List ℕ) (m : ℕ) (ws : Words) (r : Result (Vec ℕ Global) Fault) (all : Connections)
+    → Feeding before after old new conn piece m ws r → EachRepresents old all → (history_at all conn).closed ≡ false
+    → IsHonestStore after → OnOk r (EventNeedsClock (history_at all conn) piece before.rows)
+fed_clock before after old new conn piece m ws (Err fault) all f each is_open honest = tt
+fed_clock before after old new conn piece m ws (Ok bytes) all f each is_open honest = λ rest front follows is_front.
+    let h = history_at all conn in
+    let t = f.feeds.turn h (opened_at (old conn) (all conn) f.c (each conn) f.opened) is_open in
+    let same : rest ≡ t.rest = FollowsRequests-unique (h.stream ++ piece) h.answered rest t.rest follows t.follows in
+    let one : t.front ≡ front = IsFront-unique t.rest t.front front t.is_front (subst (λ (l : List ℕ). IsFront l front) same is_front) in
+    subst (λ (x : Front). FrontNeedsClock x before.rows) one (t.clock honest)
 
 -- nothing was seen and nothing is
 pub unopened_gives : (old new : ℕ → Option Connection) (conn : ℕ) (all : Connections) (piece : List ℕ) (m : ℕ) (fault : Fault)

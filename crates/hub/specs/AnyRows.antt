@@ -2,10 +2,12 @@
 -- represent no broker (this project's definition). It is the turn of the world with a listed response in
 -- place of the broker's.
 use Rattle.std.specs.Prelude.{◌≡◌, ◌⊎◌, ℕ, Bool, true, false, List, [], ◌∷◌, ◌++◌, Some, None, MatchBool, Result, Ok, Err}
-use Rattle.std.specs.Prelude.{Vec}
+use Rattle.std.specs.Prelude.{OnOk, Vec, ⊤}
 use Rattle.std.specs.declared.alloc.Global.{Global}
 use Rattle.broker_types.specs.Answer.{Response}
+use Rattle.broker.specs.ClockRow.{HasClock}
 use Rattle.broker.specs.Listed.{IsListed}
+use Rattle.records.specs.Transaction.{Rows}
 use Rattle.broker_types.specs.declared.ask.Ask.{Ask}
 use Rattle.broker_types.specs.declared.fault.Fault.{Fault}
 use Rattle.broker_types.specs.declared.fault.Fault.TheVariants.{Memory}
@@ -31,6 +33,12 @@ IsFrontReply moment (refused_with status) bytes = IsReply (front_refused status)
 IsFrontReply moment (whole len head body) bytes =
     IsRequestReply moment (request_closes head (asked head body)) (asked head body) bytes
 
+-- a whole request that asks the broker is answered only if the clock's row can be read
+abbrev pub FrontNeedsClock : Front → Rows → Type 0
+FrontNeedsClock need rows = ⊤
+FrontNeedsClock (refused_with status) rows = ⊤
+FrontNeedsClock (whole len head body) rows = OnOk (asked head body) (HasClock rows)
+
 -- ---- events
 
 -- One event on an open connection: the piece joins the stream, and the front of what follows the
@@ -42,6 +50,12 @@ pub record TurnsOpen (h : History) (piece : List ℕ) (moment : ℕ) (bytes : Li
   pub is_front : IsFront rest front
   pub reply : IsFrontReply moment front bytes
   pub history : after ≡ history_after h piece front
+
+-- the same of the front that an event on an open connection serves
+abbrev pub EventNeedsClock : History → List ℕ → Rows → Type 0
+EventNeedsClock h piece rows =
+    (rest : List ℕ) (front : Front) → FollowsRequests (h.stream ++ piece) h.answered rest → IsFront rest front
+    → FrontNeedsClock front rows
 
 -- a closed connection gives no bytes and nothing changes, an open one takes its turn, and no other changes
 abbrev pub NextConnections : Connections → ℕ → List ℕ → ℕ → List ℕ → Connections → Type 0

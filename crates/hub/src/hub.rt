@@ -14,11 +14,11 @@ pub struct Hub<S: Store> {
 }
 
 impl<S: Store> Hub<S> {
-    ghost use Rattle.std.specs.Prelude.{◌≡◌, ◌≢◌, ℕ, List, [], Some, IfOk, IfErr, IsOk, true};
+    ghost use Rattle.std.specs.Prelude.{◌≡◌, ◌≢◌, ℕ, List, [], Some, IfOk, IfErr, IsOk, OnOk, true, false};
     ghost use Rattle.broker_types.specs.Broker.{Broker};
     ghost use Rattle.broker.specs.Kept.{IsHonestStore};
     ghost use Rattle.broker.specs.Representing.{Represents};
-    ghost use Rattle.hub.specs.AnyRows.{EventGives};
+    ghost use Rattle.hub.specs.AnyRows.{EventGives, EventNeedsClock};
     ghost use Rattle.hub.specs.Feeding.{Feeds, Keeps};
     ghost use Rattle.hub.specs.Listed.{IsListedReply};
     ghost use Rattle.hub.specs.Representing.{HubRepresents, ConnectionsRepresent, hub_connections, hub_store};
@@ -61,11 +61,14 @@ impl<S: Store> Hub<S> {
 
         // Whatever the rows are, the other connections are as before, and this one took its turn: its
         // reply is that to the front of its bytes, with a listed response if the broker is asked. Or
-        // there was a fault, and it is closed.
+        // there was a fault, and it is closed. The broker answers only if the clock's row can be read.
         ensures connections { (all : Connections) → ConnectionsRepresent self.old all
             → (after : Connections) × ConnectionsRepresent self.new after
             × EventGives all conn piece.now moment result after }
         ensures listed { IfOk result (λ bytes. IsListedReply bytes.items) }
+        ensures clock { IsHonestStore (hub_store S.seen self.new) → (all : Connections)
+            → ConnectionsRepresent self.old all → (history_at all conn).closed ≡ false
+            → OnOk result (EventNeedsClock (history_at all conn) piece.now (hub_store S.seen self.old).rows) }
 
         // A closed connection changes nothing, and after a fault the rows are as before.
         ensures closed { (all : Connections) → ConnectionsRepresent self.old all

@@ -1,6 +1,7 @@
-ghost use Rattle.std.specs.Prelude.{◌≡◌, IfOk, IfErr, IsOk, Some, None, [], true, false};
+ghost use Rattle.std.specs.Prelude.{◌≡◌, IfOk, IfErr, IsOk, OnOk, Some, None, [], true, false};
 ghost use Rattle.broker_types.specs.Answer.{response_of, HasRoom};
 ghost use Rattle.broker_types.specs.Broker.{Broker};
+ghost use Rattle.broker.specs.ClockRow.{HasClock};
 ghost use Rattle.broker.specs.Kept.{IsHonestStore};
 ghost use Rattle.broker.specs.Representing.{Represents};
 ghost use Rattle.http_layer.specs.Asked.{asked};
@@ -118,6 +119,8 @@ fn serve_request<'b, S: Store>(
     ensures reply { IfOk result (λ served. IsRequestReply moment
         (request_closes head.now (asked head.now body.entry)) (asked head.now body.entry)
         served.bytes.items) }
+    ensures clock { IsHonestStore (S.seen store.new)
+        → OnOk result (OnOk (asked head.now body.entry) (HasClock (S.seen store.old).rows)) }
     ensures len { IfOk result (λ served. served.len ≡ Some len) }
     ensures closes { IfOk result (λ served. served.closes
         ≡ request_closes head.now (asked head.now body.entry)) }

@@ -40,7 +40,7 @@ impl Store for Broken {
     ghost use Rattle.std.specs.Prelude.{[], true};
     ghost use Rattle.records.specs.Transaction.{rows_in};
 
-    ghost seen = { λ s. record { rows = rows_in []; doubt = 0; has_failed = s.failed; is_open = true } };
+    ghost seen = { λ s. record { rows = rows_in []; mismatches = 0; has_failed = s.failed; is_open = true } };
 
     fn one(&mut self, _: Moment, _: &Words, _: &Ask<'_>) -> Result<Answer, Fault> {
         self.failed = true;

@@ -10,7 +10,7 @@ use Rattle.std.specs.declared.alloc.Global.{Global}
 use Rattle.hub.specs.Listed.{IsListedReply}
 use Rattle.hub.specs.Representing.{hub_store}
 use Rattle.hub.specs.Runs.{bytes_of, Answers, TookTurns}
-use Rattle.hub.specs.World.{Connections, Run}
+use Rattle.hub.specs.World.{Run}
 use Rattle.hub.proofs.AnswersLemmas.{answers_of, answers_more, answers_all, stops_at, honest_before, later_still, turns_more, turns_stop, turns_all}
 use Rattle.hub.proofs.running.run.Goals as goal
 
