@@ -1,7 +1,6 @@
 pub mod Act
 pub mod ClockRow
 pub mod Command
-pub mod FirstRows
 pub mod Forms
 pub mod Kept
 pub mod Laws

@@ -1,6 +1,6 @@
 -- Definitions computed on small inputs.
 use Rattle.std.specs.Prelude.{◌≡◌, ◌+◌, ℕ, List, [], ◌∷◌, true, false, not, cond, Option, Some, None, option_map, option_and_then, if◌then◌else◌, nat_lt}
-use Rattle.std.specs.Prelude.{length, replicate, codes, is_none, ◌&&◌}
+use Rattle.std.specs.Prelude.{length, replicate, codes, is_none, ◌&&◌, ⊤}
 use Rattle.std.specs.declared.cmp.Ordering.TheVariants.{Less, Greater}
 use Rattle.std.specs.FinMap as fin
 use Rattle.std.specs.List.{find, list_any, list_all}
@@ -12,14 +12,14 @@ use Rattle.broker_types.specs.Name.{is_name, is_mount_name}
 use Rattle.broker_types.specs.Token.{Token, Tokens, Lease}
 use Rattle.broker_types.specs.Lineage.{climb, lineage, is_under, without_descendants, without_parent, orphaned_by, outlasts, is_alive, alive_at, with_live_leases}
 use Rattle.broker_types.specs.Lineage.{ends_within}
-use Rattle.broker_types.specs.Broker.{Broker, Waiting, waiting_ends, at_moment}
+use Rattle.broker_types.specs.Broker.{Broker, Waiting, waiting_ends, at_moment, revoke}
 use Rattle.broker_types.specs.First.{root_token, first_broker}
 use Rattle.broker_types.specs.Sound.{is_ascending}
 use Rattle.broker_types.specs.Places as place
 use Rattle.broker_types.specs.Places.{token_identifier, lease_identifier, identifier_at, credential, wrapping_token, wrapping_accessor}
-use Rattle.broker_types.specs.Spending.{one_less, is_spent}
+use Rattle.broker_types.specs.Spending.{one_less, is_spent, spend, end_spent}
 use Rattle.broker_types.specs.Used.{are_new, use_up}
-use Rattle.broker_types.specs.MapLaws.{get-put, get-without, get-keep, get-map_values, entries-map_values}
+use Rattle.broker_types.specs.MapLaws.{get-put, get-without, get-keep, get-map_values, get-change, entries-map_values}
 
 -- ---- texts
 
@@ -295,6 +295,41 @@ no_limit = refl
 
 last_use : is_spent (record (root_token 0 r) { uses_left = Some 0 }) ≡ true
 last_use = refl
+
+-- a token with one use left, and a broker that has it alone
+abbrev limited : Token
+limited = record (root_token 0 r) { uses_left = Some 1 }
+
+abbrev issuer : Broker
+issuer = record (first_broker 100 1 2) { tokens = fin.from_sorted ((t, limited) ∷ []) }
+
+limited_stands : get issuer.tokens t ≡ Some limited
+limited_stands = fin.get-from_sorted text_cmp ((t, limited) ∷ []) t tt
+
+use_spent : get (spend issuer t).tokens t ≡ Some (record limited { uses_left = Some 0 })
+unfolding same
+use_spent = get-change issuer.tokens t one_less t ∙ rw limited_stands refl
+
+ends_when_spent : end_spent (spend issuer t) (Some t) ≡ revoke (spend issuer t) t
+unfolding same
+ends_when_spent = rw use_spent refl
+
+not_before : end_spent issuer (Some t) ≡ issuer
+not_before = rw limited_stands refl
+
+abbrev used : Map ⊤
+used = fin.from_sorted ((a, tt) ∷ [])
+
+seen : (q : Text) → get used q ≡ fin.find text_cmp q ((a, tt) ∷ [])
+seen q = fin.get-from_sorted text_cmp ((a, tt) ∷ []) q tt
+
+new : are_new used (b ∷ r ∷ []) ≡ true
+unfolding same
+new = rw (seen b) (rw (seen r) refl)
+
+used_up : get (use_up used (b ∷ [])) b ≡ Some tt
+unfolding same
+used_up = get-put used b tt b
 
 equal_ones_are_not_new : are_new empty (a ∷ a ∷ []) ≡ false
 unfolding same

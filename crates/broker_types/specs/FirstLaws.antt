@@ -9,9 +9,9 @@ use Rattle.std.proofs.lemmas.List.Elements.{All-cons, All-nil}
 use Rattle.std.proofs.lemmas.Str.{IsUtf8-from_ascii}
 use Rattle.std.proofs.lemmas.Str.Ascii.{IsAscii-from_all}
 use Rattle.std.proofs.lemmas.Bool.{ltb-true, false≢true}
-use Rattle.std.proofs.lemmas.Option.{none-some, same_Some}
+use Rattle.std.proofs.lemmas.Option.{none-some}
 use Rattle.broker_types.specs.Text.{Text, text_cmp, same}
-use Rattle.broker_types.specs.Map.{Map, get, put, empty, len}
+use Rattle.broker_types.specs.Map.{get, put, empty, len}
 use Rattle.broker_types.specs.Identifier.{id}
 use Rattle.broker_types.specs.TokenText.{token_text}
 use Rattle.broker_types.specs.Moment.{greatest_moment}
@@ -24,29 +24,10 @@ use Rattle.broker_types.specs.Places.{identifier_at, lease_of, IsUsed}
 use Rattle.broker_types.specs.Sound.{Forms, Sound, IsSoundToken, IsSoundMount, IsSoundPolicy, IsShortText}
 use Rattle.broker_types.specs.First.{default_policy, root_token, first_broker}
 use Rattle.broker_types.specs.OptionLaws.{mapped}
-use Rattle.broker_types.specs.TextLaws.{same_self, same_true}
-use Rattle.broker_types.specs.MapLaws.{get-put}
+use Rattle.broker_types.specs.TextLaws.{same_true}
+use Rattle.broker_types.specs.MapLaws.{get-put, get-put_self, get-one, no_entry, one_entry}
 use Rattle.broker_types.specs.LineageLaws.{ends_in_time}
 use Rattle.broker_types.specs.IdentifierLaws.{id-same}
-
--- ---- maps of one entry
-
-module _ {X : Type 0} where
-  abbrev nothing : Map X
-  nothing = empty
-
-  no_entry : (q : Text) (x : X) → get nothing q ≡ Some x → ⊥
-  no_entry q x e = absurd (none-some _ (sym (get-empty text_cmp q) ∙ e))
-
-  one_entry : (k q : Text) (x y : X) → get (put nothing k x) q ≡ Some y → (q ≡ k) × (y ≡ x)
-  one_entry k q x y e =
-      elim (same q k) as (λ b. same q k ≡ b → cond b (Some x) (get nothing q) ≡ Some y → (q ≡ k) × (y ≡ x)) [
-        | true ↦ λ s g. (same_true q k s, sym (same_Some _ _ g))
-        | false ↦ λ _ g. absurd (no_entry q y g)
-      ] refl (sym (get-put nothing k x q) ∙ e)
-
-  there : (k : Text) (m : Map X) (x : X) → get (put m k x) k ≡ Some x
-  there k m x = get-put m k x k ∙ ap (λ b. cond b (Some x) (get m k)) (same_self k)
 
 -- ---- texts
 
@@ -137,21 +118,20 @@ module _ (forms : Forms) (moment v w : ℕ) (now : moment ≤ greatest_moment) (
         | false ↦ λ s. elim (same i (id v)) as (λ b. same i (id v) ≡ b → (i ≡ id v) ⊎ (i ≡ id w)) [
           | true ↦ λ r. inl (same_true i (id v) r)
           | false ↦ λ r. absurd (u (
-              get-put _ (id w) (tt {0}) i ∙ ap (λ b. cond b (Some (tt {0})) (get (put nothing (id v) (tt {0})) i)) s
-              ∙ get-put nothing (id v) (tt {0}) i ∙ ap (λ b. cond b (Some (tt {0})) (get nothing i)) r
-              ∙ get-empty text_cmp i))
+              get-put _ (id w) (tt {0}) i ∙ ap (λ b. cond b (Some (tt {0})) (get (put empty (id v) (tt {0})) i)) s
+              ∙ get-one (id v) (tt {0}) i ∙ ap (λ b. cond b (Some (tt {0})) None) r))
         ] refl
       ] refl
 
   used_v : IsUsed first (id v)
   used_v none =
-      elim (same (id v) (id w)) as (λ b. cond b (Some (tt {0})) (get (put nothing (id v) (tt {0})) (id v)) ≡ None → ⊥) [
+      elim (same (id v) (id w)) as (λ b. cond b (Some (tt {0})) (get (put empty (id v) (tt {0})) (id v)) ≡ None → ⊥) [
         | true ↦ λ e. absurd (none-some _ (sym e))
-        | false ↦ λ e. absurd (none-some _ (sym e ∙ there (id v) nothing (tt {0})))
+        | false ↦ λ e. absurd (none-some _ (sym e ∙ get-put_self empty (id v) (tt {0})))
       ] (sym (get-put _ (id w) (tt {0}) (id v)) ∙ none)
 
   used_w : IsUsed first (id w)
-  used_w none = absurd (none-some _ (sym none ∙ there (id w) _ (tt {0})))
+  used_w none = absurd (none-some _ (sym none ∙ get-put_self _ (id w) (tt {0})))
 
   -- the two places that have an identifier
   abbrev IsFilled : Place → Text → Type 0

@@ -1,6 +1,7 @@
 pub mod Answer
 pub mod Broker
 pub mod Duration
+pub mod EditLaws
 pub mod Evolves
 pub mod EvolvesLaws
 pub mod Fault

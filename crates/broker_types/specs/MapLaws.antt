@@ -9,9 +9,9 @@ use Rattle.std.specs.List.{find as first}
 use Rattle.std.specs.Map.{lookup}
 use Rattle.std.specs.Ordering.{is_lt}
 use Rattle.std.proofs.Common.{refl, sym, ◌∙◌, ap, subst}
-use Rattle.std.proofs.lemmas.Option.{none-some}
+use Rattle.std.proofs.lemmas.Option.{none-some, same_Some}
 use Rattle.broker_types.specs.Text.{Text, text_cmp, same}
-use Rattle.broker_types.specs.Map.{Map, get, entries, put, without, keep, with_values, map_values, change, first_where}
+use Rattle.broker_types.specs.Map.{Map, get, empty, entries, put, without, keep, with_values, map_values, change, first_where}
 use Rattle.broker_types.specs.OptionLaws.{mapped, mapped_none}
 use Rattle.broker_types.specs.TextLaws.{same-text_cmp, same_self, same_true}
 
@@ -20,6 +20,10 @@ module _ {X : Type 0} where
   pub get-put : (m : Map X) (k : Text) (x : X) (q : Text) → get (put m k x) q ≡ cond (same q k) (Some x) (get m q)
   get-put m k x q =
       fin.get-insert nat_list_cmp_total m k x q ∙ ap (λ b. cond b (Some x) (get m q)) (sym (same-text_cmp q k))
+
+  -- k has the value x in a map with x at k
+  pub get-put_self : (m : Map X) (k : Text) (x : X) → get (put m k x) k ≡ Some x
+  get-put_self m k x = get-put m k x k ∙ ap (λ b. cond b (Some x) (get m k)) (same_self k)
 
   -- of a map without k
   pub get-without : (m : Map X) (k q : Text) → get (without m k) q ≡ cond (same q k) None (get m q)
@@ -48,6 +52,38 @@ module _ {X : Type 0} where
   -- maps that have the same at each key are equal
   pub same_map : (m n : Map X) → ((q : Text) → get m q ≡ get n q) → m ≡ n
   same_map m n h = fin.same_map nat_list_cmp_total (slice_cmp-IsAntisymmetric nat_cmp-IsAntisymmetric) m n h
+
+  -- a sorted list that answers as the map does is its list of entries
+  pub entries_are : (m : Map X) (es : List (Text × X)) → T (is_sorted text_cmp es)
+      → ((q : Text) → find text_cmp q es ≡ get m q) → entries m ≡ es
+  entries_are m es sorted finds =
+      ap entries
+      (same_map m (fin.from_sorted es) (λ q. sym (finds q) ∙ sym (fin.get-from_sorted text_cmp es q sorted)))
+      ∙ fin.entries-from_sorted text_cmp es sorted
+
+  -- the empty map has no entries
+  pub entries-empty : entries (empty {X = X} {R = text_cmp}) ≡ []
+  entries-empty = entries_are empty [] tt (λ q. sym (fin.get-empty text_cmp q))
+
+  -- and no value
+  pub no_entry : (q : Text) (x : X) → get (empty {R = text_cmp}) q ≡ Some x → ⊥
+  no_entry q x e = absurd (none-some _ (sym (fin.get-empty text_cmp q) ∙ e))
+
+  -- a map with one value at k alone
+  pub get-one : (k : Text) (x : X) (q : Text) → get (put empty k x) q ≡ cond (same q k) (Some x) None
+  get-one k x q = get-put empty k x q ∙ ap (cond (same q k) (Some x)) (fin.get-empty text_cmp q)
+
+  pub one_entry : (k q : Text) (x y : X) → get (put empty k x) q ≡ Some y → (q ≡ k) × (y ≡ x)
+  one_entry k q x y e =
+      elim (same q k) as (λ b. same q k ≡ b → cond b (Some x) None ≡ Some y → (q ≡ k) × (y ≡ x)) [
+        | true ↦ λ s g. (same_true q k s, sym (same_Some _ _ g))
+        | false ↦ λ _ g. absurd (none-some _ g)
+      ] refl (sym (get-one k x q) ∙ e)
+
+  pub entries-one : (k : Text) (x : X) → entries (put empty k x) ≡ (k, x) ∷ []
+  entries-one k x =
+      entries_are (put empty k x) ((k, x) ∷ []) tt
+      (λ q. ap (λ b. cond b (Some x) None) (sym (same-text_cmp q k)) ∙ sym (get-one k x q))
 
   find-lookup : (q : Text) (es : List (Text × X)) → find text_cmp q es ≡ lookup (same q) es
   find-lookup q [] = refl
@@ -136,7 +172,5 @@ module _ {X Y : Type 0} where
   pub listing_is : (f : Text → X → Y) (m : Map X) (xs : List (Text × Y)) → T (is_sorted text_cmp xs)
       → ((q : Text) → find text_cmp q xs ≡ option_map (f q) (get m q)) → xs ≡ with_values f (entries m)
   listing_is f m xs sorted finds =
-      let same_one =
-      same_map (fin.from_sorted xs) (map_values f m)
-      (λ q. fin.get-from_sorted text_cmp xs q sorted ∙ finds q ∙ sym (get-map_values f m q)) in
-      sym (fin.entries-from_sorted text_cmp xs sorted) ∙ ap entries same_one ∙ entries-map_values f m
+      sym (entries_are (map_values f m) xs sorted (λ q. finds q ∙ sym (get-map_values f m q)))
+      ∙ entries-map_values f m

@@ -21,39 +21,25 @@ use Rattle.broker_types.specs.Laws.{EndTokens}
 use Rattle.broker_types.specs.TextLaws.{same_self, same_true}
 use Rattle.broker_types.specs.MapLaws.{valued_is, without_is, get-without_self}
 use Rattle.broker_types.specs.OptionLaws.{mapped, found_or_not}
-use Rattle.broker_types.specs.TreeLaws.{values_tree, under_self}
-use Rattle.broker_types.specs.FewerLaws.{IsLess, AreFewer, WaitFewer, fewer_evolves, edited_sound, fewer_sound, tree_of}
+use Rattle.broker_types.specs.TreeLaws.{under_self}
+use Rattle.broker_types.specs.EditLaws.{IsEdit, edit_evolves, edit_sound}
+use Rattle.broker_types.specs.FewerLaws.{WaitFewer, fewer_evolves, edited_sound, fewer_sound, tree_of}
 use Rattle.broker_types.specs.FewerLaws.{same_fewer}
 use Rattle.broker_types.specs.RemovalLaws.{revoke_evolves, revoke_ends, revoke_sound}
 use Rattle.broker_types.specs.SearchLaws.{kept_get}
 
 -- ---- a use is spent
 
--- the tokens, where c has one use less
-abbrev spent_tokens : Broker → Text → Tokens
-spent_tokens b c = (spend b c).tokens
-
-abbrev spent_at : Text → Text → Token → Token
-spent_at c q x = if same q c then one_less x else x
-
-spent_parent : (c q : Text) (x : Token) → (spent_at c q x).parent ≡ x.parent
-spent_parent c q x =
-    elim (same q c) as (λ b. (if b then one_less x else x).parent ≡ x.parent) [ true ↦ refl | false ↦ refl ]
-
-spent_less : (c q : Text) (x : Token) → IsLess x (spent_at c q x)
-spent_less c q x = elim (same q c) as (λ b. IsLess x (if b then one_less x else x)) [
-  | true ↦ record { same_accessor = refl; fewer_leases = λ _ _ e. e }
-  | false ↦ record { same_accessor = refl; fewer_leases = λ _ _ e. e }
-]
-
-spent_fewer : (b : Broker) (c : Text) → AreFewer b.tokens (spent_tokens b c)
-spent_fewer b c q y e =
-    let x = valued_is (spent_at c) b.tokens q y e in
-    (x.0, x.1, subst (IsLess x.0) (sym x.2) (spent_less c q x.0))
+-- a token with one use less keeps its parent, its accessor and its leases
+spend_edits : IsEdit one_less
+spend_edits = record {
+  same_parent = λ x. refl;
+  less = λ x. record { same_accessor = refl; fewer_leases = λ _ _ e. e };
+}
 
 -- spending a use lets a broker evolve
 pub spend_evolves : (b : Broker) (c : Text) → Evolves b (spend b c)
-spend_evolves b c = fewer_evolves b b.clock (spent_tokens b c) b.waiting (spent_fewer b c) (λ q w e. e)
+spend_evolves b c = edit_evolves b c one_less spend_edits
 
 module _ (forms : Forms) (b : Broker) (c : Text) (sound : Sound forms None b) where
   less_sound : (q : Text) (x : Token) → IsSoundToken forms q x → IsSoundToken forms q (one_less x)
@@ -63,14 +49,8 @@ module _ (forms : Forms) (b : Broker) (c : Text) (sound : Sound forms None b) wh
       subst (λ k. k < 2 ^ 64) (sym m.2) (lt_of_le_of_lt (sub-le m.0 1) (s.uses_left m.0 m.1)))
       s.cubbyhole s.leases
 
-  spent_sound : (q : Text) (x : Token) → IsSoundToken forms q x → IsSoundToken forms q (spent_at c q x)
-  spent_sound q x s =
-      elim (same q c) as (λ b. IsSoundToken forms q (if b then one_less x else x)) [
-        | true ↦ less_sound q x s
-        | false ↦ s
-      ]
-
-  only_caller : (q : Text) (x : Token) → get b.tokens q ≡ Some x → (spent_at c q x).uses_left ≡ Some 0 → Some c ≡ Some q
+  only_caller : (q : Text) (x : Token) → get b.tokens q ≡ Some x
+      → (if same q c then one_less x else x).uses_left ≡ Some 0 → Some c ≡ Some q
   only_caller q x is =
       elim (same q c) as (λ v. same q c ≡ v → (if v then one_less x else x).uses_left ≡ Some 0 → Some c ≡ Some q) [
         | true ↦ λ s _. ap Some (sym (same_true q c s))
@@ -80,12 +60,8 @@ module _ (forms : Forms) (b : Broker) (c : Text) (sound : Sound forms None b) wh
   -- spending a use of the caller leaves a sound broker sound, but for the caller, which may have spent its last
   pub spend_sound : Sound forms (Some c) (spend b c)
   spend_sound =
-      fewer_sound forms None (Some c) b sound b.clock (spent_tokens b c) b.waiting sound.clock
-      (values_tree (spent_at c) b.tokens (spent_parent c) (tree_of forms None None b sound))
-      (spent_fewer b c) (λ q w e. e)
-      (λ q y e. let x = valued_is (spent_at c) b.tokens q y e in
-      subst (IsSoundToken forms q) (sym x.2) (spent_sound q x.0 (sound.tokens.each q x.0 x.1)))
-      (λ q y e zero. let x = valued_is (spent_at c) b.tokens q y e in
+      edit_sound b c one_less spend_edits forms None (Some c) sound less_sound
+      (λ q y e zero. let x = valued_is (λ q x. if same q c then one_less x else x) b.tokens q y e in
       only_caller q x.0 x.1 (ap (λ (z : Token). z.uses_left) (sym x.2) ∙ zero))
 
 -- ---- a caller that has spent its last use ends

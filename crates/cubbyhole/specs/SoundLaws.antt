@@ -1,183 +1,42 @@
 -- Edits of a cubbyhole leave a sound broker sound, and let it evolve.
-use Rattle.std.specs.Prelude.{◌≡◌, ◌≢◌, ℕ, zero, suc, length, Bool, true, false, cond, if◌then◌else◌, Option, Some}
-use Rattle.std.specs.Prelude.{None}
-use Rattle.std.specs.Prelude.{option_map, option_and_then, is_none}
-use Rattle.std.specs.Option.{option_map_or}
-use Rattle.std.specs.FinMap.{len-entries, get-empty}
-use Rattle.std.proofs.Common.{refl, sym, ◌∙◌, ap, subst, inl}
-use Rattle.std.proofs.lemmas.List.{length-map}
+use Rattle.std.specs.Prelude.{◌≡◌, true, false, cond, Option, Some, None}
+use Rattle.std.specs.FinMap.{get-empty}
+use Rattle.std.proofs.Common.{refl, sym, ◌∙◌, subst}
 use Rattle.std.proofs.lemmas.Option.{same_Some, none-some}
-use Rattle.broker_types.specs.OptionLaws.{mapped}
 use Rattle.broker_types.specs.Text.{Text, text_cmp, same}
-use Rattle.broker_types.specs.Map.{Map, get, empty, put, without, len, entries, change}
-use Rattle.broker_types.specs.Token.{Token, Tokens, Lease}
-use Rattle.broker_types.specs.Lineage.{ends_within, ParentsExist, ChainsEnd}
+use Rattle.broker_types.specs.Map.{Map, get, empty, put, without}
+use Rattle.broker_types.specs.Token.{Token}
 use Rattle.broker_types.specs.Broker.{Broker}
-use Rattle.broker_types.specs.Places.{Place, token, accessor, lease, credential, wrapping_token, wrapping_accessor}
-use Rattle.broker_types.specs.Places.{identifier_at, token_identifier, lease_identifier, lease_of, OnePlaceEach}
-use Rattle.broker_types.specs.Places.{AllUsed}
 use Rattle.broker_types.specs.Evolves.{Evolves}
-use Rattle.broker_types.specs.Sound.{Forms, Sound, IsSoundToken, IsPathText, IsObjectText}
+use Rattle.broker_types.specs.Sound.{Forms, Sound, IsPathText, IsObjectText}
 use Rattle.broker_types.specs.TextLaws.{same_true}
-use Rattle.broker_types.specs.MapLaws.{get-put, get-without, get-change, entries-map_values}
-use Rattle.records.specs.ValueLaws.{mapped_unseen, then_unseen, unseen}
+use Rattle.broker_types.specs.MapLaws.{get-put, get-without}
+use Rattle.broker_types.specs.FewerLaws.{edited_sound}
+use Rattle.broker_types.specs.EditLaws.{IsEdit, edit_evolves, edit_sound, unspent_still}
 use Rattle.cubbyhole.specs.Cubbyhole.{with_cubbyhole, edited, write, delete, drop_owner}
-
--- ---- a token changed
-
-module _ (ts : Tokens) (t : Text) (f : Token → Token) where
-  changed_at : (q : Text) → get (change ts t f) q ≡ option_map (λ x. if same q t then f x else x) (get ts q)
-  changed_at q = get-change ts t f q
-
-  -- what a changed map has at a key
-  changed_from : (q : Text) (y : Token) → get (change ts t f) q ≡ Some y
-      → (x : Token) × (get ts q ≡ Some x) × (y ≡ (if same q t then f x else x))
-  changed_from q y e = mapped (λ x. if same q t then f x else x) (get ts q) y (sym (changed_at q) ∙ e)
-
-  still_here : (q : Text) → get ts q ≢ None → get (change ts t f) q ≢ None
-  still_here q h e = h (none (get ts q) (sym (changed_at q) ∙ e))
-    where
-      none : (o : Option Token) → option_map (λ x. if same q t then f x else x) o ≡ None → o ≡ None
-      none None h = refl
-      none (Some x) h = absurd (none-some _ (sym h))
-
-  len-change : len (change ts t f) ≡ len ts
-  len-change =
-      len-entries (change ts t f) ∙ ap length (entries-map_values (λ q x. if same q t then f x else x) ts)
-      ∙ length-map (entries ts) (λ e. (e.0, if same e.0 t then f e.1 else e.1)) ∙ sym (len-entries ts)
-
-  module _ (keeps : (x : Token) → (f x).parent ≡ x.parent) where
-    ends-change : (n : ℕ) (q : Text) → ends_within n (change ts t f) q ≡ ends_within n ts q
-    ends-change zero q = ap is_none (changed_at q) ∙ gone (get ts q)
-      where
-        gone : (o : Option Token) → is_none (option_map (λ x. if same q t then f x else x) o) ≡ is_none o
-        gone None = refl
-        gone (Some x) = refl
-    ends-change (suc n) q =
-        ap (λ o. option_map_or (λ (x : Token). option_map_or (ends_within n (change ts t f)) x.parent true) o true)
-        (changed_at q)
-        ∙ step (ends-change n) (get ts q)
-      where
-        step : ((p : Text) → ends_within n (change ts t f) p ≡ ends_within n ts p) → (o : Option Token)
-            → option_map_or (λ (x : Token). option_map_or (ends_within n (change ts t f)) x.parent true)
-            (option_map (λ x. if same q t then f x else x) o) true
-            ≡ option_map_or (λ (x : Token). option_map_or (ends_within n ts) x.parent true) o true
-        step later None = refl
-        step later (Some x) =
-            ap (λ p. option_map_or (ends_within n (change ts t f)) p true)
-            (unseen (λ (x : Token). x.parent) f keeps (same q t) x)
-            ∙ (λ i. option_map_or (λ p. later p i) x.parent true)
-
-    chains-change : ChainsEnd ts → ChainsEnd (change ts t f)
-    chains-change h q = ap (λ n. ends_within n (change ts t f) q) len-change ∙ ends-change (len ts) q ∙ h q
-
-    parents-change : ParentsExist ts → ParentsExist (change ts t f)
-    parents-change h q p y is of =
-        let x = changed_from q y is in
-        still_here p (h q p x.0 x.1
-        (sym (unseen (λ (x : Token). x.parent) f keeps (same q t) x.0) ∙ ap (λ (z : Token). z.parent) (sym x.2) ∙ of))
-
--- ---- a cubbyhole edited
 
 -- each object is at a path
 abbrev AreObjects : Forms → Map Text → Type 0
 AreObjects forms m = (path object : Text) → get m path ≡ Some object → IsPathText path × IsObjectText forms object
 
 module _ (b : Broker) (t : Text) (edit : Map Text → Map Text) where
-  abbrev after : Broker
-  after = edited b t edit
+  -- a token with another cubbyhole keeps its parent, its accessor and its leases
+  edits : IsEdit (with_cubbyhole edit)
+  edits = record {
+    same_parent = λ x. refl;
+    less = λ x. record { same_accessor = refl; fewer_leases = λ _ _ e. e };
+  }
 
-  leases : (q id : Text) → lease_of after q id ≡ lease_of b q id
-  leases q id =
-      ap (option_and_then (λ (x : Token). get x.leases id)) (changed_at b.tokens t (with_cubbyhole edit) q)
-      ∙ then_unseen (λ (x : Token). get x.leases id) _
-      (unseen (λ (x : Token). get x.leases id) (with_cubbyhole edit) (λ x. refl) (same q t)) (get b.tokens q)
+  evolves-edited : Evolves b (edited b t edit)
+  evolves-edited = edit_evolves b t (with_cubbyhole edit) edits
 
-  places : (p : Place) → identifier_at after p ≡ identifier_at b p
-  places (token q) =
-      ap (option_map (λ (x : Token). token_identifier q)) (changed_at b.tokens t (with_cubbyhole edit) q)
-      ∙ mapped_unseen (λ (x : Token). token_identifier q) _ (λ x. refl) (get b.tokens q)
-  places (accessor q) =
-      ap (option_map (λ (x : Token). x.accessor)) (changed_at b.tokens t (with_cubbyhole edit) q)
-      ∙ mapped_unseen (λ (x : Token). x.accessor) _
-      (unseen (λ (x : Token). x.accessor) (with_cubbyhole edit) (λ x. refl) (same q t)) (get b.tokens q)
-  places (lease q id) = ap (option_map (λ (l : Lease). lease_identifier id)) (leases q id)
-  places (credential q id) = ap (option_map (λ (l : Lease). l.credential)) (leases q id)
-  places (wrapping_token q) = refl
-  places (wrapping_accessor q) = refl
-
-  one_place_after : OnePlaceEach b → OnePlaceEach after
-  one_place_after one p q i e f = one p q i (sym (places p) ∙ e) (sym (places q) ∙ f)
-
-  all_used_after : AllUsed b → AllUsed after
-  all_used_after used p i e = used p i (sym (places p) ∙ e)
-
-  evolves-edited : Evolves b after
-  evolves-edited =
-      record {
-        used = λ i u. u;
-        tokens = λ q y is.
-            let x = changed_from b.tokens t (with_cubbyhole edit) q y is in
-            inl (λ none. absurd (none-some _ (sym none ∙ x.1)));
-        leases = λ q id l is. inl (l, sym (leases q id) ∙ is, refl);
-        wrapping_tokens = λ q w is. inl (λ none. absurd (none-some _ (sym none ∙ is)));
-        waiting = λ q w is. inl (q, w, is, refl, refl);
-      }
-
-  module _ (forms : Forms) where
-    sound_token : (q : Text) (v : Bool) (x : Token)
-        → (AreObjects forms x.cubbyhole → AreObjects forms (edit x.cubbyhole))
-        → IsSoundToken forms q x → IsSoundToken forms q (if v then with_cubbyhole edit x else x)
-    sound_token q false x keeps s = s
-    sound_token q true x keeps s =
-        record {
-          name = s.name;
-          accessor = s.accessor;
-          policy_names = s.policy_names;
-          policies_ascend = s.policies_ascend;
-          few_policies = s.few_policies;
-          issued = s.issued;
-          ends = s.ends;
-          ttl = s.ttl;
-          explicit_max_ttl = s.explicit_max_ttl;
-          period = s.period;
-          uses_left = s.uses_left;
-          few_meta = s.few_meta;
-          meta = s.meta;
-          cubbyhole = keeps s.cubbyhole;
-          leases = s.leases;
-        }
-
-    sound-edited : ((m : Map Text) → AreObjects forms m → AreObjects forms (edit m)) → {who : Option Text}
-        → Sound forms who b → Sound forms who after
-    sound-edited keeps {who} s =
-        record {
-          clock = s.clock;
-          tokens = record {
-            each = λ q y is.
-                let x = changed_from b.tokens t (with_cubbyhole edit) q y is in
-                subst (IsSoundToken forms q) (sym x.2)
-                (sound_token q (same q t) x.0 (keeps x.0.cubbyhole) (s.tokens.each q x.0 x.1));
-            parents_exist = parents-change b.tokens t (with_cubbyhole edit) (λ x. refl) s.tokens.parents_exist;
-            chains_end = chains-change b.tokens t (with_cubbyhole edit) (λ x. refl) s.tokens.chains_end;
-          };
-          secrets = s.secrets;
-          waiting = s.waiting;
-          mounts = s.mounts;
-          roles = s.roles;
-          policies = s.policies;
-          identifiers = record {
-            used = s.identifiers.used;
-            one_place = one_place_after s.identifiers.one_place;
-            all_used = all_used_after s.identifiers.all_used;
-            origins_used = s.identifiers.origins_used;
-          };
-          unspent = λ q y is spent.
-              let x = changed_from b.tokens t (with_cubbyhole edit) q y is in
-              s.unspent q x.0 x.1
-              (sym (unseen (λ (x : Token). x.uses_left) (with_cubbyhole edit) (λ x. refl) (same q t) x.0)
-              ∙ ap (λ (z : Token). z.uses_left) (sym x.2) ∙ spent);
-        }
+  sound-edited : (forms : Forms) → ((m : Map Text) → AreObjects forms m → AreObjects forms (edit m))
+      → {who : Option Text} → Sound forms who b → Sound forms who (edited b t edit)
+  sound-edited forms keeps {who} s =
+      edit_sound b t (with_cubbyhole edit) edits forms who who s
+      (λ q x x_sound. edited_sound forms q x x_sound x.parent x.ends x.uses_left (edit x.cubbyhole) x.leases x_sound.ends
+      x_sound.uses_left (keeps x.cubbyhole x_sound.cubbyhole) x_sound.leases)
+      (unspent_still b.tokens t (with_cubbyhole edit) who (λ x. refl) s.unspent)
 
 -- ---- a write, a deletion, and the whole cubbyhole dropped
 
