@@ -19,8 +19,7 @@ use Rattle.records.specs.Rows.{rows_of, has_lease, lease_of_credential, or_else}
 use Rattle.records.specs.Table.{Table}
 use Rattle.cubbyhole.specs.Cubbyhole.{with_cubbyhole, edited}
 use Rattle.cubbyhole.specs.Objects.{object_key, KeepsOtherOwners}
-use Rattle.std.proofs.lemmas.Bool.{eqb-true}
-use Rattle.records.specs.KeyLaws.{kind_of, kind_of-number}
+use Rattle.records.specs.KeyLaws.{same_kind}
 use Rattle.records.specs.ValueLaws.{mapped_unseen, then_unseen, unseen}
 
 -- the table with r at the keys of cubbyholes that are met
@@ -39,10 +38,6 @@ others_kept t met r old new e own k q apart =
           absurd (false≢true (sym apart ∙ and_from _ _ parts.0 (own q parts.1)))
       | false ↦ λ _. refl
     ] refl
-
--- the kind of cubbyholes by its number
-pub is_cubby : (k : Kind) → (kind_number k == kind_number kind.Cubby) ≡ true → k ≡ kind.Cubby
-is_cubby k h = sym (kind_of-number k) ∙ ap kind_of (eqb-true (kind_number k) (kind_number kind.Cubby) h) ∙ kind_of-number kind.Cubby
 
 module _ (b : Broker) (t : Text) (edit : Map Text → Map Text) where
   -- the rows of other kinds do not tell what the cubbyhole has
@@ -89,7 +84,7 @@ module _ (b : Broker) (t : Text) (edit : Map Text → Map Text) where
       ∙ elim (kind_number k == kind_number kind.Cubby) as
       (λ v. (kind_number k == kind_number kind.Cubby) ≡ v → (if v && met q then r else old k q) ≡ rows_of (edited b t edit) k q) [
         | true ↦ λ is.
-            let one : k ≡ kind.Cubby = is_cubby k is in
+            let one : k ≡ kind.Cubby = same_kind k kind.Cubby is in
             ap (λ o. if met q then r else o) (told k q h ∙ ap (λ k. rows_of b k q) one) ∙ sym (cubby q) ∙ ap (λ k. rows_of (edited b t edit) k q) (sym one)
         | false ↦ λ other. told k q h ∙ sym (kept_at k q other)
       ] refl

@@ -1,10 +1,11 @@
 -- The order of keys: it is total, and keys that compare alike are one (this project's).
-use Rattle.std.specs.Prelude.{◌≡◌, ℕ, List, ◌==◌, if◌then◌else◌, refl}
+use Rattle.std.specs.Prelude.{◌≡◌, ℕ, List, ◌==◌, true, if◌then◌else◌, refl}
 use Rattle.std.specs.Ordering.{nat_cmp}
 use Rattle.std.specs.Cmp.{IsTotalOrder, nat_cmp_total}
 use Rattle.std.specs.Cmp.Lexicographic.{slice_cmp, nat_list_cmp_total}
 use Rattle.std.specs.FinMap.{IsAntisymmetric, slice_cmp-IsAntisymmetric, nat_cmp-IsAntisymmetric}
 use Rattle.std.proofs.Common.{sym, ap, ◌∙◌}
+use Rattle.std.proofs.lemmas.Bool.{eqb-true}
 use Rattle.std.proofs.lemmas.Cmp.{on_total, then_total}
 use Rattle.std.proofs.lemmas.Map.Lookups.{exact_pairs, exact_unsigned}
 use Rattle.records.specs.declared.kind.Kind.{Kind}
@@ -35,6 +36,11 @@ kind_of-number kind.Waiting = refl
 kind_of-number kind.Mount = refl
 kind_of-number kind.Policy = refl
 kind_of-number kind.Role = refl
+
+-- kinds with one number are one
+pub same_kind : (k l : Kind) → (kind_number k == kind_number l) ≡ true → k ≡ l
+same_kind k l h =
+    sym (kind_of-number k) ∙ ap kind_of (eqb-true (kind_number k) (kind_number l) h) ∙ kind_of-number l
 
 -- the order of keys is total
 pub key_cmp_total : IsTotalOrder key_cmp
