@@ -1,11 +1,12 @@
 -- The value and the object that bytes are.
-use Rattle.std.specs.Prelude.{◌≡◌, ℕ, List, Bool, true, false, if◌then◌else◌, Option, Some, None, option_and_then}
+use Rattle.std.specs.Prelude.{◌≡◌, ◌≤◌, ℕ, List, Bool, true, false, if◌then◌else◌, Option, Some, None, option_and_then}
 use Rattle.std.specs.Str.{is_utf8, IsUtf8}
 use Rattle.std.proofs.Common.{refl, sym, subst}
 use Rattle.std.proofs.lemmas.Option.{same_Some}
 use Rattle.std.proofs.lemmas.Str.{IsUtf8-from_is_utf8}
-use Rattle.serde_json.specs.Data.{Data}
-use Rattle.serde_json.specs.Read.{read}
+use Rattle.serde_json.specs.Data.{Data, depth}
+use Rattle.serde_json.specs.Read.{read, max_depth}
+use Rattle.serde_json.proofs.Nesting.{depth-read}
 use Rattle.serde_json.specs.Written.{has_float}
 use Rattle.api_json.specs.Json.{json_value, tree, without_floats}
 
@@ -28,3 +29,11 @@ if_utf8 true (Some x) d e = by (has_float x) refl e
 -- a value without floats is read, and has none
 pub tree_read : (bytes : List ℕ) (d : Data) → tree bytes ≡ Some d → (read bytes ≡ Some d) × (has_float d ≡ false)
 tree_read bytes d e = if_utf8 (is_utf8 bytes) (read bytes) d e
+
+-- a value that is read has no more levels than the reader takes
+pub value_shallow : (bytes : List ℕ) (d : Data) → json_value bytes ≡ Some d → depth d ≤ max_depth
+value_shallow bytes d e = by (is_utf8 bytes) e
+  where
+    by : (b : Bool) → (if b then read bytes else None) ≡ Some d → depth d ≤ max_depth
+    by true is = depth-read bytes d is
+    by false is = cc

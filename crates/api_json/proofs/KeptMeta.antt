@@ -30,7 +30,7 @@ use Rattle.api_json.specs.Kept.{IsKeptMeta}
 use Rattle.api_json.specs.Kinds as kind
 use Rattle.api_json.specs.Kinds.{each_item, each_text, comma_parts, is_part, without_spaces}
 use Rattle.api_json.specs.Members.{optional, required, of_kind, given, invalid, missing}
-use Rattle.api_json.proofs.Canonical.{IsAfter, with_last, Ascends, IsCanonical}
+use Rattle.api_json.specs.Canonical.{IsAfter, with_last, Ascends, IsCanonical}
 use Rattle.api_json.proofs.KeptObjects.{body_stays}
 use Rattle.api_json.proofs.Lengths.{length-body, short_object}
 use Rattle.api_json.proofs.LengthsPrinted.{length-member, via_map, via_then}

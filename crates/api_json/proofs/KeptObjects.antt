@@ -18,7 +18,7 @@ use Rattle.api_json.specs.Members.{payload}
 use Rattle.api_json.specs.Kept.{is_object, IsKept}
 use Rattle.api_json.specs.Laws.{BodiesReadBack, BodiesAreKept, PayloadsAreKept}
 use Rattle.api_json.proofs.Bodies.{tree_read}
-use Rattle.api_json.proofs.Canonical.{IsCanonical}
+use Rattle.api_json.specs.Canonical.{IsCanonical}
 use Rattle.api_json.proofs.TextsReadBack.{read-compact_text}
 use Rattle.api_json.proofs.ReadCanonical.{read-canonical}
 use Rattle.api_json.proofs.Lengths.{short_object}

@@ -4,7 +4,6 @@ pub mod Spaces
 pub mod Whole
 pub mod EntryLemmas
 pub mod Printed
-pub mod Canonical
 pub mod ReadCanonical
 pub mod TextsReadBack
 pub mod LengthsContent

@@ -2,12 +2,14 @@
 use Rattle.std.proofs.Common.{◌≡◌, ◌≤◌, ◌==◌, List, [], ◌∷◌, ◌++◌, true, false, length, fold, map, refl, sym, ap, ◌∙◌, arith, append_assoc, append-nil}
 use Rattle.std.proofs.Common.{length-append}
 use Rattle.std.proofs.lemmas.Bool.Decides.{nat_tests}
-use Rattle.serde_json.specs.Data.{Data}
+use Rattle.serde_json.specs.Data.{Data, object}
+use Rattle.serde_json.specs.Read.{read}
 use Rattle.serde_json.specs.Written as written
 use Rattle.serde_json.specs.Written.{compact_text}
 use Rattle.broker_types.specs.Text.{Text}
 use Rattle.api_json.specs.Printing.{with_item, with_member, quoted}
-use Rattle.api_json.specs.Laws.{behind_comma, members_from_front, members_of_list, printed, PrintsFromTheFront, PrintsJson}
+use Rattle.api_json.specs.Laws.{behind_comma, members_from_front, members_of_list, printed, PrintsFromTheFront, PrintsJson, PrintsReadBack}
+use Rattle.api_json.proofs.TextsReadBack.{read-compact_text}
 
 not_one : (b : Text) → 2 ≤ length b → (length b == 1) ≡ false
 not_one b h = grind (arith, nat_tests)
@@ -56,3 +58,6 @@ prints_front (m ∷ ms) =
     ap (λ t. fold with_member t ms ++ 125 ∷ []) (first m)
     ∙ ap (λ t. t ++ 125 ∷ []) (front_behind (123 ∷ (quoted m.0 ++ 58 ∷ m.1)) ms (omega (arith, length-append (quoted m.0) (58 ∷ m.1))))
     ∙ simp append_assoc
+
+pub prints_back : PrintsReadBack
+prints_back es canonical shallow = ap read (prints_json es) ∙ read-compact_text (object (members_of_list es)) canonical shallow

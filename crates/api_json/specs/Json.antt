@@ -2,7 +2,8 @@
 use Rattle.std.specs.Prelude.{ℕ, List, [], ◌∷◌, Bool, true, false, if◌then◌else◌, Option, Some, None, Result}
 use Rattle.std.specs.Prelude.{option_and_then}
 use Rattle.std.specs.Str.{is_utf8}
-use Rattle.serde_json.specs.Data.{Data, null, boolean, number, string, array, object, Members, no_members, member}
+use Rattle.serde_json.specs.Data.{Data, null, Members, no_members, member}
+use Rattle.serde_json.specs.Find.{as_object}
 use Rattle.serde_json.specs.Read.{read}
 use Rattle.serde_json.specs.Written.{has_float}
 use Rattle.broker_types.specs.Refuse.{some_or}
@@ -26,11 +27,7 @@ tree bytes = option_and_then without_floats (json_value bytes)
 -- the members of an object (RFC 8259, section 4); `null` is an empty object (this project's)
 abbrev pub members_in : Data → Option Members
 members_in null = Some no_members
-members_in (boolean b) = None
-members_in (number n) = None
-members_in (string s) = None
-members_in (array ds) = None
-members_in (object ms) = Some ms
+members_in d = as_object d
 
 -- the object that a body is (Vault's documentation, "HTTP API"); no bytes are an empty one (this project's)
 abbrev pub read_body : List ℕ → Option Members

@@ -1,10 +1,11 @@
 -- Laws of objects that are printed and of objects that are kept, as statements (this project's; RFC 8259, section 4).
 use Rattle.std.specs.Prelude.{◌≡◌, ◌≤◌, ◌<◌, ℕ, List, [], ◌∷◌, ◌++◌, length, map, Some}
-use Rattle.serde_json.specs.Data.{Data, object, Members, no_members, member}
-use Rattle.serde_json.specs.Read.{read}
+use Rattle.serde_json.specs.Data.{Data, object, Members, no_members, member, depth}
+use Rattle.serde_json.specs.Read.{read, max_depth}
 use Rattle.serde_json.specs.Written.{compact_text}
 use Rattle.broker_types.specs.Limits.{longest_body}
 use Rattle.broker_types.specs.Text.{Text}
+use Rattle.api_json.specs.Canonical.{IsCanonical}
 use Rattle.api_json.specs.Json.{read_body}
 use Rattle.api_json.specs.Kept.{IsKept}
 use Rattle.api_json.specs.Members.{payload}
@@ -38,6 +39,13 @@ printed e = (e.0, compact_text e.1)
 -- members whose values are compact JSON make the compact text of an object
 abbrev pub PrintsJson : Type 0
 PrintsJson = (es : List (Text × Data)) → object_of (map printed es) ≡ compact_text (object (members_of_list es))
+
+-- such an object is read again as what it was, if its names ascend by bytes and its numbers are whole
+abbrev pub PrintsReadBack : Type 0
+PrintsReadBack =
+    (es : List (Text × Data)) → IsCanonical (object (members_of_list es))
+    → depth (object (members_of_list es)) ≤ max_depth
+    → read (object_of (map printed es)) ≡ Some (object (members_of_list es))
 
 -- ---- objects that are kept
 

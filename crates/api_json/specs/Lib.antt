@@ -1,3 +1,4 @@
+pub mod Canonical
 pub mod Entries
 pub mod Json
 pub mod Kept

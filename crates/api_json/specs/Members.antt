@@ -1,6 +1,6 @@
 -- The members of a body by name: null is absent, and a member of another kind is refused (this profile's readings).
 use Rattle.std.specs.Prelude.{Option, Some, None, Result, Ok, codes, option_and_then}
-use Rattle.serde_json.specs.Data.{Data, null, boolean, number, string, array, object, Members}
+use Rattle.serde_json.specs.Data.{Data, null, Members}
 use Rattle.serde_json.specs.Find.{get_member}
 use Rattle.broker_types.specs.Refusal.{field_name}
 use Rattle.broker_types.specs.Refuse.{◌>>=◌, some_or}
@@ -22,11 +22,7 @@ missing f = refusal.BadRequest (reason.MissingField f)
 -- the value, unless it is null
 abbrev pub not_null : Data → Option Data
 not_null null = None
-not_null (boolean b) = Some (boolean b)
-not_null (number n) = Some (number n)
-not_null (string s) = Some (string s)
-not_null (array ds) = Some (array ds)
-not_null (object ms) = Some (object ms)
+not_null d = Some d
 
 -- a member that is there and is not null
 abbrev pub given : Option Data → Option Data

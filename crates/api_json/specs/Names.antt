@@ -47,3 +47,8 @@ name_text name.Version = codes "version"
 name_text name.Versions = codes "versions"
 name_text name.Warnings = codes "warnings"
 name_text name.WrapInfo = codes "wrap_info"
+
+infix 80 ◌⟼◌
+-- a name and its value, which is a JSON text
+abbrev pub ◌⟼◌ : Name → Text → Text × Text
+n ⟼ value = (name_text n, value)

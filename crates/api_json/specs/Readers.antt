@@ -33,7 +33,8 @@ is_empty o = length (unwrap_or o []) == 0
 abbrev pub is_service : Option Text → Bool
 is_service o = is_empty o || same (unwrap_or o []) (codes "service")
 
--- the members of a new token
+-- The members of a new token. An absent list is empty, an absent number 0 and an absent truth value false; only
+-- `renewable` is true if it is absent. The last four are refused unless they say what their absence says.
 unfoldable pub token_creation : Members → Result TokenCreation Refusal
 token_creation ms = do
   policies ← optional kind.as_texts field.Policies ms
@@ -61,21 +62,22 @@ token_creation ms = do
     no_default_policy = unwrap_or no_default_policy false;
   })
 
--- the member `token`: the token that a body names
+-- the token that a body names: the member `token`, which must be there
 unfoldable pub token : Members → Result Text Refusal
 token ms = required kind.as_text field.Token ms
 
--- the member `accessor`: the accessor that a body names
+-- the accessor that a body names: the member `accessor`, which must be there
 unfoldable pub accessor : Members → Result Text Refusal
 accessor ms = required kind.as_text field.Accessor ms
 
--- the member `increment`: 0, or absent, is for the time that the token was made for
+-- for how long the caller's token is renewed: the member `increment`; 0, or absent, is for the time that the token was
+-- made for
 unfoldable pub increment : Members → Result ℕ Refusal
 increment ms = do
   increment ← optional kind.as_duration field.Increment ms
   Ok (unwrap_or increment 0)
 
--- the members `token` and `increment`: which token is renewed, and for how long
+-- which token is renewed, and for how long: the members `token`, which must be there, and `increment`
 unfoldable pub token_renewal : Members → Result TokenRenewal Refusal
 token_renewal ms = do
   token ← token ms
@@ -84,7 +86,8 @@ token_renewal ms = do
 
 -- ---- secrets (Vault's documentation, "KV secrets engine - version 2 (API)")
 
--- a secret that is written: the member `data`, and `cas` of the member `options`
+-- A secret that is written: the member `data`, which must be an object, and `cas` of the member `options`, which may
+-- both be absent. A `data` of another kind is refused as an absent one.
 unfoldable pub secret_write : Members → Result SecretWrite Refusal
 secret_write ms = do
   object ← some_or (refusal.BadRequest reason.NoData) (payload ms)
@@ -92,12 +95,12 @@ secret_write ms = do
   cas ← within (optional kind.as_count field.Cas) options
   Ok (record { object = object; cas = cas })
 
--- an empty list is like a missing one
+-- an empty list is refused as an absent one
 abbrev pub one_or_more : List ℕ → Result (List ℕ) Refusal
 one_or_more [] = Err (missing field.Versions)
 one_or_more (n ∷ ns) = Ok (n ∷ ns)
 
--- the member `versions`: one or more
+-- the versions that a body names, one or more: the member `versions`, which must be there
 unfoldable pub versions : Members → Result (List ℕ) Refusal
 versions ms = do
   versions ← required kind.as_counts field.Versions ms
@@ -113,6 +116,6 @@ mount_settings ms = do
 
 -- ---- policies (Vault's documentation, "/sys/policies")
 
--- the member `policy`: the text of a policy
+-- the text of a policy: the member `policy`, which must be there
 unfoldable pub policy_text : Members → Result Text Refusal
 policy_text ms = required kind.as_text field.Policy ms

@@ -2,21 +2,21 @@
 use Rattle.std.specs.Prelude.{[], ◌∷◌, ◌++◌, List, false, Some, None}
 use Rattle.broker_types.specs.Text.{Text}
 use Rattle.broker_types.specs.declared.reply.Reply.{Reply}
-use Rattle.api_json.specs.Names.{name_text}
+use Rattle.api_json.specs.Names.{◌⟼◌}
 use Rattle.api_json.specs.Printing.{object_of, quoted, whole_number, bool_text, or_null, null_text}
 use Rattle.api_json.specs.declared.name.Name.TheVariants as name
 
 -- the members by name
 abbrev pub reply_members : Reply → List (Text × Text)
 reply_members r =
-    (name_text name.Auth, or_null r.auth)
-    ∷ (name_text name.Payload, or_null r.payload)
-    ∷ (name_text name.LeaseDuration, whole_number r.lease_duration)
-    ∷ (name_text name.LeaseId, quoted r.lease_id)
-    ∷ (name_text name.Renewable, bool_text r.renewable)
-    ∷ (name_text name.RequestId, quoted r.request_id)
-    ∷ (name_text name.Warnings, null_text)
-    ∷ (name_text name.WrapInfo, or_null r.wrap_info)
+    name.Auth ⟼ or_null r.auth
+    ∷ name.Payload ⟼ or_null r.payload
+    ∷ name.LeaseDuration ⟼ whole_number r.lease_duration
+    ∷ name.LeaseId ⟼ quoted r.lease_id
+    ∷ name.Renewable ⟼ bool_text r.renewable
+    ∷ name.RequestId ⟼ quoted r.request_id
+    ∷ name.Warnings ⟼ null_text
+    ∷ name.WrapInfo ⟼ or_null r.wrap_info
     ∷ []
 
 -- the body of a reply: compact JSON with the members by name, and a line feed (Vault's documentation, "HTTP API"; the

@@ -2,7 +2,7 @@
 ghost use Rattle.std.specs.Prelude.{◌≡◌, IfOk, map, option_map};
 ghost use Rattle.serde_json.specs.View.{view, items_view, members_view};
 ghost use Rattle.api_json.specs.Kinds as kind;
-ghost use Rattle.api_json.specs.Kinds.{after_spaces, without_spaces, comma_parts, each_item, each_count, each_text};
+ghost use Rattle.api_json.specs.Kinds.{without_spaces, comma_parts, each_item, each_count, each_text};
 
 use crate::from_member::{FromMember, count_text};
 use crate::lists::{Counts, Pairs, Texts};
@@ -17,7 +17,12 @@ impl FromMember for Texts {
     fn from_member(alloc: Global, member: &Value) -> Result<Option<Texts>, AllocError> {
         match member {
             Value::String(list) => Ok(Some(comma_parts(alloc, list.as_str())?)),
-            Value::Array(items) => item_texts(alloc, items),
+            Value::Array(items) => {
+                let Some(list) = each_item(alloc, items)? else {
+                    return Ok(None);
+                };
+                Ok(Some(Texts::new(list)))
+            }
             Value::Null | Value::Bool(_) | Value::Number(_) | Value::Object(_) => Ok(None),
         }
     }
@@ -33,7 +38,12 @@ impl FromMember for Counts {
                 let parts = comma_parts(alloc, list.as_str())?;
                 part_counts(alloc, parts.as_slice())
             }
-            Value::Array(items) => item_counts(alloc, items),
+            Value::Array(items) => {
+                let Some(list) = each_item(alloc, items)? else {
+                    return Ok(None);
+                };
+                Ok(Some(Counts::new(list)))
+            }
             Value::Null | Value::Bool(_) | Value::Number(_) | Value::Object(_) => Ok(None),
         }
     }
@@ -69,51 +79,21 @@ fn comma_parts(alloc: Global, list: &str) -> Result<Texts, AllocError>
 fn without_spaces(text: &str) -> &str
     ensures { result.now ≡ without_spaces text.now }
 {
-    before_spaces(after_spaces(text))
+    text.trim_start_matches(' ').trim_end_matches(' ')
 }
 
-fn after_spaces(mut text: &str) -> &str
-    ensures { result.now ≡ after_spaces text.now }
-{
-    while let Some(rest) = text.strip_prefix(' ') {
-        text = rest;
-    }
-    text
-}
-
-fn before_spaces(mut text: &str) -> &str
-    ensures { result.now ≡ kind.before_spaces text.now }
-{
-    while let Some(rest) = text.strip_suffix(' ') {
-        text = rest;
-    }
-    text
-}
-
-fn item_texts(alloc: Global, items: &Vec<Value>) -> Result<Option<Texts>, AllocError>
-    ensures { IfOk result (λ t. t ≡ each_item kind.as_text (items_view items.now.items)) }
+/// The items, if each is of the kind.
+fn each_item<X: FromMember>(alloc: Global, items: &Vec<Value>) -> Result<Option<Vec<X>>, AllocError>
+    ensures { IfOk result (λ o. option_map (λ v. v.items) o ≡ each_item X.kind (items_view items.now.items)) }
 {
     let mut list = Vec::new(alloc);
     for item in items {
-        match TextBuf::from_member(alloc, item)? {
-            Some(text) => list.push(text)?,
+        match X::from_member(alloc, item)? {
+            Some(value) => list.push(value)?,
             None => return Ok(None),
         }
     }
-    Ok(Some(Texts::new(list)))
-}
-
-fn item_counts(alloc: Global, items: &Vec<Value>) -> Result<Option<Counts>, AllocError>
-    ensures { IfOk result (λ t. t ≡ each_item kind.as_count (items_view items.now.items)) }
-{
-    let mut list = Vec::new(alloc);
-    for item in items {
-        match u64::from_member(alloc, item)? {
-            Some(count) => list.push(count)?,
-            None => return Ok(None),
-        }
-    }
-    Ok(Some(Counts::new(list)))
+    Ok(Some(list))
 }
 
 fn part_counts(alloc: Global, parts: &[TextBuf]) -> Result<Option<Counts>, AllocError>

@@ -1,3 +1,4 @@
+//! The names of members of printed objects (Vault's documentation, "HTTP API").
 ghost use Rattle.std.specs.Prelude.{◌≡◌};
 ghost use Rattle.api_json.specs.Names.{name_text};
 

@@ -1,5 +1,5 @@
 //! Objects and arrays printed member by member, as compact JSON (RFC 8259).
-ghost use Rattle.std.specs.Prelude.{◌≡◌, ◌++◌, ◌∷◌, [], IfOk, OnOk, map, fold, string_bytes};
+ghost use Rattle.std.specs.Prelude.{◌≡◌, ◌<◌, ◌++◌, ◌∷◌, [], IfOk, OnOk, map, fold, string_bytes};
 ghost use Rattle.api_json.specs.Names.{name_text};
 ghost use Rattle.api_json.specs.Printing.{quoted, whole_number, with_item, with_member, null_text, bool_text, or_null};
 ghost use Rattle.api_json.specs.Printing.{time, time_or, texts, pairs, quoted_pair};
@@ -100,11 +100,19 @@ impl ObjectText {
         }
     }
 
-    #[tactic(auto, unfolding(crate::specs::Printing::time))]
     pub(crate) fn time(self, name: Name, moment: Moment) -> Result<ObjectText, AllocError>
         ensures { IfOk result (λ o. o ≡ with_member self (name_text name, time moment)) }
     {
-        let value = time_text(self.alloc, moment.seconds())?;
+        self.seconds(name, moment.seconds())
+    }
+
+    /// The time that many seconds after the beginning of 1970.
+    #[tactic(auto, unfolding(crate::specs::Printing::time))]
+    fn seconds(self, name: Name, seconds: u64) -> Result<ObjectText, AllocError>
+        requires { seconds < 253402300800 }
+        ensures { IfOk result (λ o. o ≡ with_member self (name_text name, time seconds)) }
+    {
+        let value = time_text(self.alloc, seconds)?;
         self.text(name, value.as_str())
     }
 
@@ -123,14 +131,6 @@ impl ObjectText {
         }
     }
 
-    #[tactic(auto, unfolding(crate::specs::Printing::time))]
-    pub(crate) fn end(self, name: Name, end: EndTime) -> Result<ObjectText, AllocError>
-        ensures { IfOk result (λ o. o ≡ with_member self (name_text name, time end)) }
-    {
-        let value = time_text(self.alloc, end.seconds())?;
-        self.text(name, value.as_str())
-    }
-
     #[tactic(auto, unfolding(crate::specs::Printing::time_or))]
     pub(crate) fn end_or_null(
         self,
@@ -140,7 +140,7 @@ impl ObjectText {
         ensures { IfOk result (λ o. o ≡ with_member self (name_text name, time_or null_text end)) }
     {
         match end {
-            Some(end) => self.end(name, end),
+            Some(end) => self.seconds(name, end.seconds()),
             None => self.null(name),
         }
     }

@@ -108,8 +108,7 @@ impl Tree {
     /// The compact text of the value, which is read as this value again. The only error is running out of memory.
     pub fn to_text(&self, alloc: Global) -> Result<TextBuf, AllocError>
         ensures text { IfOk result (λ t. t ≡ compact_text (data_of self.now)) }
-        ensures reads_back { depth (data_of self.now) ≤ max_depth
-            → IfOk result (λ t. read t ≡ Some (data_of self.now)) }
+        ensures reads_back { IfOk result (λ t. read t ≡ Some (data_of self.now)) }
     {
         Ok(TextBuf::new(self.value.to_string(alloc)?))
     }
@@ -132,6 +131,7 @@ fn parsed(alloc: Global, bytes: &[u8]) -> Result<Option<Value>, AllocError>
 }
 
 fn without_floats(value: Value) -> Option<Tree>
+    requires { depth (view value) ≤ max_depth }
     ensures { option_map data_of result ≡ without_floats (view value) }
 {
     if holds_float(&value) {

@@ -48,6 +48,7 @@ pub struct KeyObject {
     pub cas_required: bool,
     /// When its first version was written.
     pub created: Moment,
+    /// The number of its last version.
     pub current_version: u64,
     /// How many versions it keeps; 0 if its mount says that.
     pub max_versions: u64,
@@ -55,7 +56,7 @@ pub struct KeyObject {
     pub oldest_version: u64,
     /// When its last version was written.
     pub updated: Moment,
-    /// Those that are kept.
+    /// The versions that are kept.
     pub versions: Versions,
 }
 

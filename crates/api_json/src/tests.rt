@@ -7,7 +7,7 @@ use crate::{
     policy_object, policy_text, read_body, read_object, reply_text, secret_write, settings_object,
     token, token_creation, token_object, token_renewal, version_object, versions,
 };
-use broker_types::{Field, Moment, Reason, Refusal, RequestError, TextBuf};
+use broker_types::{Field, Moment, Reason, Refusal, Reply, RequestError, TextBuf};
 use std::alloc::{AllocError, Global};
 use std::process::Abort;
 use std::test::Fail;
@@ -268,8 +268,8 @@ fn first_bad_members(rt: HostRuntime) -> Result<(), Fail> {
     Ok(())
 }
 
-/// Which bytes are bodies.
-/// Computes `longest_body`.
+/// Which bytes are bodies. Of two members of one name the last counts, also where the first has a float, but what the
+/// reader itself refuses is refused there too.
 #[test]
 fn bodies(rt: HostRuntime) -> Result<(), Fail> {
     let alloc = rt.alloc();
@@ -288,6 +288,8 @@ fn bodies(rt: HostRuntime) -> Result<(), Fail> {
         ("{\"a\":-9223372036854775809}", None),
         ("{\"a\":[{\"b\":1.5}]}", None),
         ("{\"a\":1.5,\"a\":2}", Some("{\"a\":2}")),
+        ("{\"a\":1e999,\"a\":2}", None),
+        ("\u{feff}{}", None),
         (
             " {\"b\":[18446744073709551615, -9223372036854775808],\"10\":null,\"2\":\"\\u00e9\\u0001\\/\"} ",
             Some(
@@ -313,6 +315,10 @@ fn bodies(rt: HostRuntime) -> Result<(), Fail> {
     assert!(rt; read_body(alloc, b"{\"a\":\"\xff\"}").is_err());
     assert!(rt; read_body(alloc, nested(alloc, 126)?.as_bytes()).is_ok());
     assert!(rt; read_body(alloc, nested(alloc, 127)?.as_bytes()).is_err());
+    let mut replaced = nested(alloc, 127)?;
+    replaced.pop();
+    replaced.push_str(",\"a\":2}")?;
+    assert!(rt; read_body(alloc, replaced.as_bytes()).is_err());
     Ok(())
 }
 
@@ -360,6 +366,12 @@ fn values_of_members(rt: HostRuntime) -> Result<(), Fail> {
     assert!(rt; meta.len() == 2 && meta[0].0.as_str() == "a" && meta[1].1.as_str() == "2");
     assert!(rt; creation.ttl.count() == 5400 && creation.explicit_max_ttl.count() == 7);
     assert!(rt; creation.num_uses == 8 && creation.no_parent && !creation.no_default_policy);
+    let creation = token_creation(alloc, &read_body(alloc, b"{\"policies\":[\"\",\" a\"]}")?)?;
+    let policies = creation.policies.as_slice();
+    assert!(rt; policies.len() == 2 && policies[0].as_str() == "" && policies[1].as_str() == " a");
+    assert!(rt; creation.meta.as_slice().is_empty() && creation.ttl.count() == 0);
+    assert!(rt; creation.explicit_max_ttl.count() == 0 && creation.num_uses == 0);
+    assert!(rt; !creation.no_parent && !creation.no_default_policy);
     let body = read_body(
         alloc,
         b"{\"token\":\"t\",\"accessor\":\"\",\"increment\":\"5m\",\"policy\":\"p\",\"versions\":[\"1\",2]}",
@@ -512,6 +524,29 @@ fn printed_replies(rt: HostRuntime) -> Result<(), Fail> {
         printed.as_str(),
         "{\"auth\":null,\"data\":{\"k\":\"v\"},\"lease_duration\":0,\"lease_id\":\"\",\"renewable\":false,\
         \"request_id\":\"00000000-0000-0000-0000-000000000020\",\"warnings\":null,\"wrap_info\":null}\n"
+    );
+    let credential = "{\"credential\":\"00000000-0000-0000-0000-000000000054\"}";
+    let leased = Reply {
+        lease_duration: 60,
+        lease_id: text(alloc, "db/creds/r/00000000-0000-0000-0000-000000000053")?,
+        renewable: true,
+        ..plain_reply(alloc, request, text(alloc, credential)?)?
+    };
+    assert_eq!(rt;
+        reply_text(alloc, &leased)?.as_str(),
+        "{\"auth\":null,\"data\":{\"credential\":\"00000000-0000-0000-0000-000000000054\"},\"lease_duration\":60,\
+        \"lease_id\":\"db/creds/r/00000000-0000-0000-0000-000000000053\",\"renewable\":true,\
+        \"request_id\":\"00000000-0000-0000-0000-000000000020\",\"warnings\":null,\"wrap_info\":null}\n"
+    );
+    let wrapped = Reply {
+        payload: None,
+        wrap_info: Some(text(alloc, "{\"ttl\":5}")?),
+        ..plain_reply(alloc, request, text(alloc, "")?)?
+    };
+    assert_eq!(rt;
+        reply_text(alloc, &wrapped)?.as_str(),
+        "{\"auth\":null,\"data\":null,\"lease_duration\":0,\"lease_id\":\"\",\"renewable\":false,\
+        \"request_id\":\"00000000-0000-0000-0000-000000000020\",\"warnings\":null,\"wrap_info\":{\"ttl\":5}}\n"
     );
     Ok(())
 }

@@ -17,15 +17,15 @@ use std::alloc::Global;
 /// What a body asks of a new token.
 #[derive(Drop)]
 pub struct TokenCreation {
-    /// Empty for those of the caller.
+    /// The names of its policies, as the body has them; empty for those of the caller.
     pub policies: Texts,
-    /// By name.
+    /// Names and texts, by name.
     pub meta: Pairs,
     /// How long it lasts; 0 if the body does not say.
     pub ttl: Seconds,
     /// How long it lasts at most, however often it is renewed; 0 if the body does not say.
     pub explicit_max_ttl: Seconds,
-    /// 0 without a limit.
+    /// How often it can be used; 0 without a limit.
     pub num_uses: u64,
     /// Whether it has no parent.
     pub no_parent: bool,
@@ -131,7 +131,7 @@ pub fn increment(alloc: Global, body: &Body) -> Result<Seconds, RequestError>
 pub struct TokenRenewal {
     /// The token.
     pub token: TextBuf,
-    /// 0 for the time that it was made for.
+    /// For how long; 0 for the time that it was made for.
     pub increment: Seconds,
 }
 

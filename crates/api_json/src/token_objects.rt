@@ -12,12 +12,13 @@ use std::alloc::{AllocError, Global};
 /// A token that was made or renewed.
 #[derive(Drop)]
 pub struct AuthObject {
+    /// The identifier by which the token can be looked up and revoked.
     pub accessor: TextBuf,
     /// The token.
     pub client_token: TextBuf,
     /// Seconds to its end; 0 without one.
     pub lease_duration: u64,
-    /// By name; an empty list prints as null.
+    /// Names and texts, by name; an empty list prints as null.
     pub metadata: Pairs,
     /// The uses left; 0 without a limit, and for the last use.
     pub num_uses: u64,
@@ -25,7 +26,7 @@ pub struct AuthObject {
     pub orphan: bool,
     /// In the order in which they print.
     pub policies: Texts,
-    /// Whether it has an end.
+    /// Whether it can be renewed: it has an end.
     pub renewable: bool,
 }
 
@@ -52,18 +53,19 @@ pub fn auth_object(alloc: Global, auth: &AuthObject) -> Result<TextBuf, AllocErr
 /// A token that is looked up.
 #[derive(Drop)]
 pub struct TokenObject {
+    /// The identifier by which the token can be looked up and revoked.
     pub accessor: TextBuf,
     /// When it was made.
     pub issued: Moment,
     /// For how many seconds it was made; 0 without an end.
     pub creation_ttl: u64,
-    /// None without an end.
+    /// When it ends, if it does; only then can it be renewed.
     pub ends: Option<EndTime>,
-    /// In seconds; 0 without one.
+    /// How many seconds it lasts at most, however often it is renewed; 0 without such a limit.
     pub explicit_max_ttl: u64,
     /// The token; empty if it was looked up by its accessor.
     pub id: TextBuf,
-    /// By name; an empty list prints as null.
+    /// Names and texts, by name; an empty list prints as null.
     pub meta: Pairs,
     /// The uses left; 0 without a limit, and for the last use.
     pub num_uses: u64,
