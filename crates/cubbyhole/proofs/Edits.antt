@@ -43,8 +43,6 @@ module _ (b : Broker) (t : Text) (edit : Map Text → Map Text) where
   -- the rows of other kinds do not tell what the cubbyhole has
   kept_at : (k : Kind) (q : Text) → (kind_number k == kind_number kind.Cubby) ≡ false → rows_of (edited b t edit) k q ≡ rows_of b k q
   unfolding rows_of
-  kept_at kind.Clock q h = refl
-  kept_at kind.Used q h = refl
   kept_at kind.Token q h =
       ap (option_map token_row) (get-change b.tokens t (with_cubbyhole edit) q)
       ∙ mapped_unseen token_row _ (unseen token_row (with_cubbyhole edit) (λ x. refl) (same q t)) (get b.tokens q)
@@ -69,12 +67,7 @@ module _ (b : Broker) (t : Text) (edit : Map Text → Map Text) where
       ∙ then_unseen (λ e. option_map (λ l. credential_row l.0) (lease_of_credential q e.1)) _
       (λ e. unseen (λ x. option_map (λ l. credential_row l.0) (lease_of_credential q x)) (with_cubbyhole edit) (λ x. refl) (same e.0 t) e.1)
       (first_where (λ t x. not (is_none (lease_of_credential q x))) b.tokens)
-  kept_at kind.KvKey q h = refl
-  kept_at kind.KvVersion q h = refl
-  kept_at kind.Waiting q h = refl
-  kept_at kind.Mount q h = refl
-  kept_at kind.Policy q h = refl
-  kept_at kind.Role q h = refl
+  kept_at _ q h = refl
 
   pub tells_edited : (met : Text → Bool) (r : Option Row) (old new : Table) → new ≡ replaced met r old
       → ((q : Text) → rows_of (edited b t edit) kind.Cubby q ≡ (if met q then r else rows_of b kind.Cubby q))

@@ -22,18 +22,7 @@ rows-with_clock_at : (b : Broker) (n : ℕ) (k : Kind) (q : Text)
     → rows_of (with_clock b n) k q ≡ with_row (rows_of b) kind.Clock [] (clock_row n) k q
 unfolding rows_of
 rows-with_clock_at b n kind.Clock q = chosen (same q []) (Some (clock_row n)) (Some (clock_row b.clock))
-rows-with_clock_at b n kind.Used q = refl
-rows-with_clock_at b n kind.Token q = refl
-rows-with_clock_at b n kind.Accessor q = refl
-rows-with_clock_at b n kind.Cubby q = refl
-rows-with_clock_at b n kind.Lease q = refl
-rows-with_clock_at b n kind.Credential q = refl
-rows-with_clock_at b n kind.KvKey q = refl
-rows-with_clock_at b n kind.KvVersion q = refl
-rows-with_clock_at b n kind.Waiting q = refl
-rows-with_clock_at b n kind.Mount q = refl
-rows-with_clock_at b n kind.Policy q = refl
-rows-with_clock_at b n kind.Role q = refl
+rows-with_clock_at b n _ q = refl
 
 -- another clock changes the clock's row alone
 pub rows-with_clock : (b : Broker) (n : ℕ)
