@@ -11,7 +11,8 @@ use Rattle.std.specs.Ordering.{is_lt}
 use Rattle.std.proofs.Common.{refl, sym, ◌∙◌, ap, subst}
 use Rattle.std.proofs.lemmas.Option.{none-some, same_Some}
 use Rattle.broker_types.specs.Text.{Text, text_cmp, same}
-use Rattle.broker_types.specs.Map.{Map, get, empty, entries, put, without, keep, with_values, map_values, change, first_where}
+use Rattle.broker_types.specs.Map.{Map, get, empty, entries, put, without, keep, with_values, map_values, change}
+use Rattle.broker_types.specs.Map.{first_where}
 use Rattle.broker_types.specs.OptionLaws.{mapped, mapped_none}
 use Rattle.broker_types.specs.TextLaws.{same-text_cmp, same_self, same_true}
 

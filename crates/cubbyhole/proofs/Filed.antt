@@ -38,7 +38,8 @@ module _ (rows : Table) (t : Text) (filed : AreFiled rows) (len : length t ≡ t
       at : (k : Kind) (q : Text) → without_under rows kind.Cubby (object_key t []) k q ≡ without_owned rows kind.Cubby t k q
       at k q = elim (kind_number k == kind_number kind.Cubby) as (λ v. (kind_number k == kind_number kind.Cubby) ≡ v
           → (if v && starts_with nat_eq q (object_key t []) then None else rows k q) ≡ (if v then unless_owned t (rows k q) else rows k q)) [
-            | true ↦ λ is. subst (λ k. (if starts_with nat_eq q (object_key t []) then None else rows k q) ≡ unless_owned t (rows k q)) (sym (same_kind k kind.Cubby is))
+            | true ↦ λ is. subst (λ k. (if starts_with nat_eq q (object_key t []) then None else rows k q) ≡ unless_owned t (rows k q))
+                (sym (same_kind k kind.Cubby is))
                 (at_cubby q)
             | false ↦ λ _. refl
           ] refl

@@ -34,8 +34,8 @@ module _ (b : Broker) (t : Text) (edit : Map Text → Map Text) where
       → {who : Option Text} → Sound forms who b → Sound forms who (edited b t edit)
   sound-edited forms keeps {who} s =
       edit_sound b t (with_cubbyhole edit) edits forms who who s
-      (λ q x x_sound. edited_sound forms q x x_sound x.parent x.ends x.uses_left (edit x.cubbyhole) x.leases x_sound.ends
-      x_sound.uses_left (keeps x.cubbyhole x_sound.cubbyhole) x_sound.leases)
+      (λ q x good. edited_sound forms q x good x.parent x.ends x.uses_left (edit x.cubbyhole) x.leases good.ends
+      good.uses_left (keeps x.cubbyhole good.cubbyhole) good.leases)
       (unspent_still b.tokens t (with_cubbyhole edit) who (λ x. refl) s.unspent)
 
 -- ---- a write, a deletion, and the whole cubbyhole dropped

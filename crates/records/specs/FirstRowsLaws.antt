@@ -80,7 +80,8 @@ module _ (moment v w : ℕ) where
   accessors : (q : Text)
       → or_else (option_map (λ e. accessor_row e.0 holder.Token)
       (first_where (λ t (x : Token). same x.accessor q) (put empty token root)))
-      (option_map (λ e. accessor_row e.0 holder.WrappingToken) (first_where (λ t (x : Waiting). same x.accessor q) empty))
+      (option_map (λ e. accessor_row e.0 holder.WrappingToken)
+      (first_where (λ t (x : Waiting). same x.accessor q) empty))
       ≡ (if same q (id w) then Some (accessor_row token holder.Token) else None)
   accessors q =
       (λ i. or_else (option_map (λ e. accessor_row e.0 holder.Token)
@@ -95,8 +96,8 @@ module _ (moment v w : ℕ) where
   no_objects u p =
       ap (option_and_then (λ (x : Token). option_map (cubby_row u) (get x.cubbyhole p))) (get-one token root u)
       ∙ elim (same u token) as
-      (λ b. option_and_then (λ (x : Token). option_map (cubby_row u) (get x.cubbyhole p)) (if b then Some root else None)
-      ≡ None) [
+      (λ b. option_and_then (λ (x : Token). option_map (cubby_row u) (get x.cubbyhole p))
+      (if b then Some root else None) ≡ None) [
         | true ↦ ap (option_map (cubby_row u)) (get-empty text_cmp p)
         | false ↦ refl
       ]

@@ -23,7 +23,8 @@ use Rattle.broker_types.specs.Token.{Token, Tokens, Lease}
 use Rattle.broker_types.specs.Secret.{Key, Version}
 use Rattle.broker_types.specs.Broker.{Role, Waiting}
 use Rattle.broker_types.specs.Sound.{Forms, SoundTokens, IsShortText, IsIdentifier, IsTokenText, IsPathText}
-use Rattle.broker_types.specs.Sound.{is_ascending, IsSoundLease, IsSoundKey, IsSoundVersion, IsSoundWaiting, IsSoundRole}
+use Rattle.broker_types.specs.Sound.{is_ascending, IsSoundLease, IsSoundKey, IsSoundVersion, IsSoundWaiting}
+use Rattle.broker_types.specs.Sound.{IsSoundRole}
 use Rattle.records.specs.CubbyKeyLaws.{length-token}
 use Rattle.records.specs.KeyEntry.{key_entry}
 use Rattle.records.specs.TokenEntry.{token_entry, IsShortPair}
