@@ -25,7 +25,7 @@ mod version_list;
 
 pub use end_time::EndTime;
 pub use laws::{kept_objects, objects_are_json};
-pub use lists::{Counts, Pairs, Texts};
+pub use lists::{Counts, Listed, Pairs, Texts};
 pub use parsed::{Body, Tree};
 pub use policy_bodies::policy_text;
 pub use policy_objects::policy_object;
