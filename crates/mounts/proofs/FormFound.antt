@@ -1,8 +1,8 @@
 -- What a search among forms finds.
-use Rattle.std.specs.Prelude.{◌≡◌, ◌≤◌, ◌==◌, ℕ, List, [], ◌∷◌, length, Bool, true, false, not, ◌&&◌, Option, Some, None}
-use Rattle.std.proofs.Common.{refl, sym, ◌∙◌, ap, inl, inr, zero-le, suc-le-suc}
-use Rattle.std.proofs.lemmas.Bool.{and_parts, and_from, false≢true, not-true, not_from_true, not_from_false}
-use Rattle.std.proofs.lemmas.Option.{none-some, same_Some}
+use Rattle.std.specs.Prelude.{◌≡◌, ◌≤◌, ℕ, List, [], ◌∷◌, length, Bool, true, false, not, Option, Some, None}
+use Rattle.std.proofs.Common.{refl, sym, ◌∙◌, ap, zero-le, suc-le-suc}
+use Rattle.std.proofs.lemmas.Bool.{false≢true, not_from_true}
+use Rattle.std.proofs.lemmas.Option.{none-some}
 use Rattle.matchit.specs.Seek.{or_else, has_slash}
 use Rattle.broker_types.specs.Text.{Text}
 use Rattle.records.specs.SplitLaws.{eqb_self}

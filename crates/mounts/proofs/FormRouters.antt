@@ -1,6 +1,6 @@
 -- The router of rows has the tokens of their patterns' forms, and no others.
-use Rattle.std.specs.Prelude.{◌≡◌, ◌⊎◌, ◌≤◌, ◌||◌, ℕ, List, [], ◌∷◌, length, Bool, true, false, cond, Option, Some, None, Result, Ok, Err, if◌then◌else◌}
-use Rattle.std.specs.List.{list_all, list_any}
+use Rattle.std.specs.Prelude.{◌≡◌, ◌⊎◌, ◌≤◌, ℕ, List, [], ◌∷◌, length, true, false, cond, Option, Some, None, Result, Ok, Err, if◌then◌else◌}
+use Rattle.std.specs.List.{list_all}
 use Rattle.std.proofs.Common.{refl, sym, ◌∙◌, ap, subst, inl, inr}
 use Rattle.std.proofs.lemmas.Bool.{and_parts, and_from, false≢true, false_from_ne_true, or_left, or_right, or_cases}
 use Rattle.std.proofs.lemmas.Option.{none-some, same_Some}
@@ -15,8 +15,8 @@ use Rattle.broker_types.specs.Text.{Text, same}
 use Rattle.broker_types.specs.TextLaws.{same_self, same_true}
 use Rattle.mounts.specs.Forms.{Ending, form_of, has_form, are_bytes}
 use Rattle.mounts.specs.Laws.{IsForm}
-use Rattle.mounts.specs.Patterns.{Router, with_next, placed_as, is_again, router_behind, router_of, pattern_found, tokens, is_read_as, reads_as_form, fits, differ}
-use Rattle.mounts.specs.Patterns.{is_in_order, has_pattern}
+use Rattle.mounts.specs.Patterns.{Router, with_next, placed_as, is_again, router_behind, router_of, pattern_found, tokens, is_read_as, reads_as_form}
+use Rattle.mounts.specs.Patterns.{fits, is_in_order, has_pattern}
 use Rattle.mounts.specs.Row.{Row}
 use Rattle.mounts.proofs.FormSearch.{FormOf, Has, search}
 use Rattle.mounts.proofs.FormSeek.{rows, all_bytes, seek_search}

@@ -1,10 +1,9 @@
 -- The search of `matchit` among the tokens of forms is a search among the forms.
-use Rattle.std.specs.Prelude.{◌≡◌, ◌-◌, ◌==◌, ◌&&◌, ℕ, zero, suc, List, [], ◌∷◌, ◌++◌, length, map, Bool, true, false, cond, nat_lt, Option, Some, None}
-use Rattle.std.specs.List.{list_all}
+use Rattle.std.specs.Prelude.{◌≡◌, ◌-◌, ◌==◌, ◌&&◌, ℕ, zero, suc, List, [], ◌∷◌, ◌++◌, length, Bool, true, false, cond, nat_lt, Some, None}
 use Rattle.std.proofs.Common.{refl, sym, ◌∙◌, ap, arith}
-use Rattle.std.proofs.lemmas.Bool.{and_parts, and_from, false_from_ne_true, eqb-true, ltb-true}
+use Rattle.std.proofs.lemmas.Bool.{and_parts, and_from, false_from_ne_true, false≢true, eqb-true}
 use Rattle.matchit.specs.Rows.{RowsOf, param_token, catch_all_token}
-use Rattle.matchit.specs.Seek.{own, step, or_else, seek, param_step, has_slash, segment, longest_from, longest_suffix}
+use Rattle.matchit.specs.Seek.{own, step, or_else, seek, param_step, has_slash, segment, longest_suffix}
 use Rattle.broker_types.specs.Text.{Text}
 use Rattle.mounts.specs.Forms.{Ending, nothing, segment as one_segment, segments, are_bytes}
 use Rattle.mounts.specs.Patterns.{ending_tokens}
@@ -13,10 +12,12 @@ use Rattle.mounts.proofs.FormSearch.{segment_key, search}
 
 -- a byte is neither of the two tokens of parameters
 apart : (b n : ℕ) → nat_lt b 256 ≡ true → nat_lt n 256 ≡ false → (n == b) ≡ false
-apart b n small great = false_from_ne_true (n == b) (λ e. let same : n ≡ b = eqb-true n b e in absurd (let both : nat_lt n 256 ≡ true = ap (λ m. nat_lt m 256) same ∙ small in cc))
+apart b n small great =
+    false_from_ne_true (n == b) (λ e. false≢true (sym great ∙ ap (λ m. nat_lt m 256) (eqb-true n b e) ∙ small))
 
 apart_back : (b n : ℕ) → nat_lt b 256 ≡ true → nat_lt n 256 ≡ false → (b == n) ≡ false
-apart_back b n small great = false_from_ne_true (b == n) (λ e. let same : b ≡ n = eqb-true b n e in absurd (let both : nat_lt n 256 ≡ true = ap (λ m. nat_lt m 256) (sym same) ∙ small in cc))
+apart_back b n small great =
+    false_from_ne_true (b == n) (λ e. false≢true (sym great ∙ ap (λ m. nat_lt m 256) (sym (eqb-true b n e)) ∙ small))
 
 module _ {K : Type 0} where
   -- the forms as rows of tokens
@@ -146,7 +147,8 @@ module _ {K : Type 0} where
       → seek ((param_step (bare ks) (b ∷ path)).0 - 1) (param_step (bare ks) (b ∷ path)).1 path ≡ segment_key (has_slash (b ∷ path)) ks
   one_segment_key ks b path =
       ap (λ (z : ℕ × RowsOf K). seek (z.0 - 1) z.1 path) (param_step_bare ks (b ∷ path))
-      ∙ elim (has_slash (b ∷ path)) as (λ v. (let z = cond {A = ℕ × RowsOf K} v (0, []) (length (b ∷ path), bare ks) in seek (z.0 - 1) z.1 path) ≡ segment_key v ks) [
+      ∙ elim (has_slash (b ∷ path)) as (λ v.
+      (let z = cond {A = ℕ × RowsOf K} v (0, []) (length (b ∷ path), bare ks) in seek (z.0 - 1) z.1 path) ≡ segment_key v ks) [
         | true ↦ seek_none (0 - 1) path
         | false ↦
             let short : length (b ∷ path) - 1 ≡ length path = omega arith in
@@ -163,6 +165,7 @@ module _ {K : Type 0} where
       let literal : seek 0 (step b (rows es)) path ≡ search (after b es) path =
       ap (λ rs. seek 0 rs path) (step_rows b parts.0 es) ∙ seek_search (after b es) path (bytes_after b es h) parts.1 in
       let param =
-      ap (λ rs. seek ((param_step rs (b ∷ path)).0 - 1) (param_step rs (b ∷ path)).1 path) (segment_rows es h) ∙ one_segment_key (keys_at is_segment es) b path in
+      ap (λ rs. seek ((param_step rs (b ∷ path)).0 - 1) (param_step rs (b ∷ path)).1 path) (segment_rows es h)
+      ∙ one_segment_key (keys_at is_segment es) b path in
       let rest = ap own (segments_rows es h) ∙ own_bare (keys_at is_segments es) in
       λ i. or_else (literal i) (or_else (param i) (rest i))

@@ -1,11 +1,11 @@
 -- The list of mounts, from the rows of mounts.
-use Rattle.std.specs.Prelude.{◌≡◌, ◌<◌, ◌≤◌, ◌+◌, ◌++◌, ℕ, List, [], ◌∷◌, map, length, take, get_or, false, codes, All, Option, option_map}
+use Rattle.std.specs.Prelude.{◌≡◌, ◌<◌, ◌≤◌, ℕ, List, [], map, length, take, get_or, codes, All}
 use Rattle.std.specs.Cmp.Lexicographic.{nat_list_cmp_total}
 use Rattle.std.specs.FinMap as fin
-use Rattle.std.proofs.Common.{refl, sym, ◌∙◌, ap, arith}
-use Rattle.std.proofs.lemmas.List.{map_more, get_or-map, length-map, take_all}
+use Rattle.std.proofs.Common.{◌∙◌, ap, arith}
+use Rattle.std.proofs.lemmas.List.{get_or-map, length-map, take_all}
 use Rattle.broker_types.specs.Text.{Text, text_cmp}
-use Rattle.broker_types.specs.Map.{Map, get, entries, put, map_values}
+use Rattle.broker_types.specs.Map.{Map, entries, put, map_values}
 use Rattle.broker_types.specs.MapLaws.{entries-map_values}
 use Rattle.broker_types.specs.SearchLaws.{each_entry}
 use Rattle.broker_types.specs.Broker.{Mount, kv}
@@ -49,10 +49,6 @@ none = ([], plain_mount kv)
 module _ (rows : List (RowKey × Row)) (mounts : List (Text × Mount)) (i : ℕ) (eq : rows ≡ map at_mount mounts) where
   as_long : length rows ≡ length mounts
   as_long = ap length eq ∙ length-map mounts at_mount
-
-
-
-
 
   pub within_mounts : i < length rows → i < length mounts
   within_mounts h = let e = as_long in omega (arith, e, h)

@@ -1,5 +1,5 @@
 -- The route of a path, step by step.
-use Rattle.std.specs.Prelude.{◌≡◌, ◌++◌, List, [], nat_eq, length, drop, take, true, false, cond, if◌then◌else◌, Option, Some, None, Result, Ok, Err, ⊤}
+use Rattle.std.specs.Prelude.{◌≡◌, ◌++◌, List, nat_eq, length, drop, take, true, Option, Some, None, Result, Ok, Err, ⊤}
 use Rattle.std.specs.List.{starts_with}
 use Rattle.std.proofs.Common.{refl, sym, ◌∙◌, ap, subst}
 use Rattle.std.proofs.Math.Seq.{take-append_seam}

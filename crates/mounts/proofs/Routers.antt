@@ -20,7 +20,8 @@ router-step before rows i d router h =
     ∙ ap (λ n. router_behind (Some (get_or rows i d).1.now) (rows_in (drop n rows)) (with_next before (get_or rows i d).1.now router)) (sym next)
 
 -- no more rows
-pub router-end : (before : Option Text) (rows : List code.Row) (i : ℕ) (router : Router) → length rows ≤ i → router_behind before (rows_in (drop i rows)) router ≡ router
+pub router-end : (before : Option Text) (rows : List code.Row) (i : ℕ) (router : Router) → length rows ≤ i
+    → router_behind before (rows_in (drop i rows)) router ≡ router
 unfolding router_behind
 router-end before rows i router h = ap (λ rs. router_behind before (rows_in rs) router) (drop_all i rows h)
 
@@ -37,8 +38,7 @@ pub fits-step : (before : Option Text) (rows : List code.Row) (i : ℕ) (d : cod
 unfolding fits_behind
 fits-step before rows i d router h fit =
     let next : i + 1 ≡ suc i = omega arith in
-    let parts = and_parts _ _ (sym (ap (λ rs. fits_behind before (rows_in rs) router) (drop-cons rows i d h)) ∙ fit) in
-    (
+    let parts = and_parts _ _ (sym (ap (λ rs. fits_behind before (rows_in rs) router) (drop-cons rows i d h)) ∙ fit) in (
       parts.0,
       ap (λ n. fits_behind (Some (get_or rows i d).1.now) (rows_in (drop n rows)) (with_next before (get_or rows i d).1.now router)) next ∙ parts.1,
     )

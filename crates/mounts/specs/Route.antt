@@ -1,5 +1,5 @@
--- Which operation a verb and a path mean (Vault's documentation, "HTTP API"; RFC 9110, section 15.5.6, for a method that
--- is not allowed).
+-- Which operation a verb and a path mean (Vault's documentation, "HTTP API"; RFC 9110, section 15.5.6, for a method
+-- that is not allowed).
 use Rattle.std.specs.Prelude.{List, [], Bool, Option, option_map, Result, Ok, unwrap_or}
 use Rattle.std.specs.List.{find, list_any}
 use Rattle.broker_types.specs.Text.{Text}

@@ -18,7 +18,7 @@ use Rattle.broker_types.specs.declared.refusal.Refusal.{Refusal}
 use Rattle.broker_types.specs.declared.refusal.Refusal.TheVariants as refusal
 use Rattle.broker_types.specs.declared.refusal.Reason.TheVariants as reason
 use Rattle.records.specs.ValueLaws.{ok_inj}
-use Rattle.mounts.specs.Mounts.{engine_asked, plain_mount, new_mount, enabled, may_go, fixed_names, disabled}
+use Rattle.mounts.specs.Mounts.{engine_asked, plain_mount, new_mount, enabled, may_go, disabled}
 
 no_ok : {X Y : Type 0} {e : Refusal} {x : X} → ◌≡◌ {A = Result X Refusal} (Err e) (Ok x) → Y
 no_ok h = absurd (false≢true (ap is_ok h))
@@ -59,9 +59,9 @@ module _ (there : Bool) (name type : Text) (version : Option ℕ) (m : Mount) wh
                   (some_or (refusal.BadRequest reason.UnsupportedMount) o >>= typed) ≡ Ok m → IsNewMount name m) [
                     | None ↦ λ n. no_ok n
                     | Some engine ↦ λ n. record {
-                        mount_name = and_from _ _ named (not_from_false _ (or_parts there reserved free).1);
-                        max_versions = ap (λ (z : Mount). z.max_versions) (sym (ok_inj n));
-                      }
+                      mount_name = and_from _ _ named (not_from_false _ (or_parts there reserved free).1);
+                      max_versions = ap (λ (z : Mount). z.max_versions) (sym (ok_inj n));
+                    }
                   ] l
             ] refl k
       ] refl h

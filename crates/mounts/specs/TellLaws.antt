@@ -1,12 +1,11 @@
 -- The rows of mounts that a broker has tell its mounts, and they alone do (this project's).
-use Rattle.std.specs.Prelude.{◌≡◌, true, Option, Some, option_map}
+use Rattle.std.specs.Prelude.{◌≡◌, option_map}
 use Rattle.std.proofs.Common.{refl, sym, ◌∙◌}
 use Rattle.std.proofs.lemmas.Bool.{false≢true}
 use Rattle.broker_types.specs.Text.{Text}
 use Rattle.broker_types.specs.Map.{get}
 use Rattle.broker_types.specs.Broker.{Broker}
 use Rattle.broker_types.specs.Sound.{SoundMounts}
-use Rattle.records.specs.declared.kind.Kind.{Kind}
 use Rattle.records.specs.declared.kind.Kind.TheVariants as kind
 use Rattle.records.specs.Parts.{of_mounts, Tells}
 use Rattle.records.specs.RowForms.{mount_row}

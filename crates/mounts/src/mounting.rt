@@ -103,9 +103,7 @@ pub fn disable<T: RecordsTx>(tx: &mut T, name: &str) -> Result<(), RequestError>
     ensures call { IsRequestCall (T.seen tx.old) (T.seen tx.new) result }
 {
     if is_fixed(name) {
-        return Err(RequestError::Refused(Refusal::BadRequest(
-            Reason::MountFixed,
-        )));
+        return Err(RequestError::Refused(Refusal::BadRequest(Reason::MountFixed)));
     }
     tx.remove(Kind::Mount, name)?;
     Ok(())

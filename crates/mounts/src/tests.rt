@@ -3,29 +3,14 @@ use crate::{MountType, disable, enable, list, route};
 use broker_types::Verb::{self, Delete, Get, List, Write};
 use broker_types::{Methods, Reason, Refusal, RequestError};
 use records::{ListRecords, ListTx};
+use std::process::Abort;
 use std::test::Fail;
 
-/// A path, the verbs that are served there, and those that the profile has beside them: these have no row so
-/// far.
-struct Line {
-    path: &'static str,
-    served: &'static [(Verb, Operation)],
-    later: &'static [Verb],
-}
+/// A path, the verbs that are served there with what they mean, and the verbs that the profile has beside them
+/// and that have no row so far.
+struct Line(&'static str, &'static [(Verb, Operation)], &'static [Verb]);
 
-/// A path of the profile that is not served so far.
-const fn later(path: &'static str, verbs: &'static [Verb]) -> Line {
-    Line {
-        path,
-        served: &[],
-        later: verbs,
-    }
-}
-
-/// A path that the profile does not have.
-const fn no_path(path: &'static str) -> Line {
-    later(path, &[])
-}
+const NONE: &[(Verb, Operation)] = &[];
 
 const IN_CUBBYHOLES: &[(Verb, Operation)] = &[
     (Get, Operation::Cubbyholes(Cubbyhole::Read)),
@@ -35,108 +20,100 @@ const IN_CUBBYHOLES: &[(Verb, Operation)] = &[
 /// The routes of the profile, each with a path that fits, one with a segment more and one with a segment less.
 /// `secret` is a mount of versioned secrets, `db` one that issues credentials.
 const LINES: &[Line] = &[
-    later("auth/token/create", &[Write]),
-    no_path("auth/token/create/a"),
-    no_path("auth/token"),
-    no_path("auth"),
-    later("auth/token/create-orphan", &[Write]),
-    no_path("auth/token/create-orphan/a"),
-    later("auth/token/lookup-self", &[Get]),
-    no_path("auth/token/lookup-self/a"),
-    later("auth/token/lookup", &[Write]),
-    no_path("auth/token/lookup/a"),
-    later("auth/token/lookup-accessor", &[Write]),
-    no_path("auth/token/lookup-accessor/a"),
-    later("auth/token/renew", &[Write]),
-    no_path("auth/token/renew/a"),
-    later("auth/token/renew-self", &[Write]),
-    no_path("auth/token/renew-self/a"),
-    later("auth/token/revoke", &[Write]),
-    no_path("auth/token/revoke/a"),
-    later("auth/token/revoke-orphan", &[Write]),
-    no_path("auth/token/revoke-orphan/a"),
-    later("auth/token/revoke-self", &[Write]),
-    no_path("auth/token/revoke-self/a"),
-    later("auth/token/revoke-accessor", &[Write]),
-    no_path("auth/token/revoke-accessor/a"),
-    later("auth/token/accessors", &[List]),
-    no_path("auth/token/accessors/a"),
-    later("sys/wrapping/wrap", &[Write]),
-    no_path("sys/wrapping/wrap/a"),
-    no_path("sys/wrapping"),
-    later("sys/wrapping/lookup", &[Write]),
-    no_path("sys/wrapping/lookup/a"),
-    later("sys/wrapping/rewrap", &[Write]),
-    no_path("sys/wrapping/rewrap/a"),
-    later("sys/wrapping/unwrap", &[Write]),
-    no_path("sys/wrapping/unwrap/a"),
-    later("sys/leases/lookup", &[Write]),
-    no_path("sys/leases/lookup/a"),
-    no_path("sys/leases"),
-    later("sys/leases/renew", &[Write]),
-    no_path("sys/leases/renew/a"),
-    later("sys/leases/revoke", &[Write]),
-    no_path("sys/leases/revoke/a"),
-    later("sys/leases/revoke-prefix/db", &[Write]),
-    later("sys/leases/revoke-prefix/db/creds", &[Write]),
-    no_path("sys/leases/revoke-prefix"),
-    later("sys/mounts", &[Get]),
-    no_path("sys"),
-    later("sys/mounts/db", &[Write, Delete]),
-    no_path("sys/mounts/db/a"),
-    later("sys/policies/acl", &[List]),
-    no_path("sys/policies"),
-    later("sys/policies/acl/p", &[Get, Write, Delete]),
-    no_path("sys/policies/acl/p/a"),
-    later("cubbyhole", &[List]),
-    Line {
-        path: "cubbyhole/a",
-        served: IN_CUBBYHOLES,
-        later: &[List, Delete],
-    },
-    Line {
-        path: "cubbyhole/a/b",
-        served: IN_CUBBYHOLES,
-        later: &[List, Delete],
-    },
-    later("secret/config", &[Get, Write]),
-    no_path("secret/config/a"),
-    no_path("secret"),
-    later("secret/data/a", &[Get, Write, Delete]),
-    later("secret/data/a/b", &[Get, Write, Delete]),
-    no_path("secret/data"),
-    later("secret/delete/a", &[Write]),
-    later("secret/delete/a/b", &[Write]),
-    no_path("secret/delete"),
-    later("secret/undelete/a", &[Write]),
-    later("secret/undelete/a/b", &[Write]),
-    no_path("secret/undelete"),
-    later("secret/destroy/a", &[Write]),
-    later("secret/destroy/a/b", &[Write]),
-    no_path("secret/destroy"),
-    later("secret/metadata", &[List]),
-    later("secret/metadata/a", &[Get, List, Delete]),
-    later("secret/metadata/a/b", &[Get, List, Delete]),
-    later("db/roles/r", &[Get, Write, Delete]),
-    no_path("db/roles/r/a"),
-    no_path("db/roles"),
-    no_path("db"),
-    later("db/creds/r", &[Get]),
-    no_path("db/creds/r/a"),
-    no_path("db/creds"),
-    later("db/verify", &[Write]),
-    no_path("db/verify/a"),
-    no_path("db2/creds/r"),
-    no_path("other/data/a"),
-    no_path("cubbyholes/a"),
-    no_path("cubbyhole/"),
+    Line("auth/token/create", NONE, &[Write]),
+    Line("auth/token/create/a", NONE, &[]),
+    Line("auth/token", NONE, &[]),
+    Line("auth", NONE, &[]),
+    Line("auth/token/create-orphan", NONE, &[Write]),
+    Line("auth/token/create-orphan/a", NONE, &[]),
+    Line("auth/token/lookup-self", NONE, &[Get]),
+    Line("auth/token/lookup-self/a", NONE, &[]),
+    Line("auth/token/lookup", NONE, &[Write]),
+    Line("auth/token/lookup/a", NONE, &[]),
+    Line("auth/token/lookup-accessor", NONE, &[Write]),
+    Line("auth/token/lookup-accessor/a", NONE, &[]),
+    Line("auth/token/renew", NONE, &[Write]),
+    Line("auth/token/renew/a", NONE, &[]),
+    Line("auth/token/renew-self", NONE, &[Write]),
+    Line("auth/token/renew-self/a", NONE, &[]),
+    Line("auth/token/revoke", NONE, &[Write]),
+    Line("auth/token/revoke/a", NONE, &[]),
+    Line("auth/token/revoke-orphan", NONE, &[Write]),
+    Line("auth/token/revoke-orphan/a", NONE, &[]),
+    Line("auth/token/revoke-self", NONE, &[Write]),
+    Line("auth/token/revoke-self/a", NONE, &[]),
+    Line("auth/token/revoke-accessor", NONE, &[Write]),
+    Line("auth/token/revoke-accessor/a", NONE, &[]),
+    Line("auth/token/accessors", NONE, &[List]),
+    Line("auth/token/accessors/a", NONE, &[]),
+    Line("sys/wrapping/wrap", NONE, &[Write]),
+    Line("sys/wrapping/wrap/a", NONE, &[]),
+    Line("sys/wrapping", NONE, &[]),
+    Line("sys/wrapping/lookup", NONE, &[Write]),
+    Line("sys/wrapping/lookup/a", NONE, &[]),
+    Line("sys/wrapping/rewrap", NONE, &[Write]),
+    Line("sys/wrapping/rewrap/a", NONE, &[]),
+    Line("sys/wrapping/unwrap", NONE, &[Write]),
+    Line("sys/wrapping/unwrap/a", NONE, &[]),
+    Line("sys/leases/lookup", NONE, &[Write]),
+    Line("sys/leases/lookup/a", NONE, &[]),
+    Line("sys/leases", NONE, &[]),
+    Line("sys/leases/renew", NONE, &[Write]),
+    Line("sys/leases/renew/a", NONE, &[]),
+    Line("sys/leases/revoke", NONE, &[Write]),
+    Line("sys/leases/revoke/a", NONE, &[]),
+    Line("sys/leases/revoke-prefix/db", NONE, &[Write]),
+    Line("sys/leases/revoke-prefix/db/creds", NONE, &[Write]),
+    Line("sys/leases/revoke-prefix", NONE, &[]),
+    Line("sys/mounts", NONE, &[Get]),
+    Line("sys", NONE, &[]),
+    Line("sys/mounts/db", NONE, &[Write, Delete]),
+    Line("sys/mounts/db/a", NONE, &[]),
+    Line("sys/policies/acl", NONE, &[List]),
+    Line("sys/policies", NONE, &[]),
+    Line("sys/policies/acl/p", NONE, &[Get, Write, Delete]),
+    Line("sys/policies/acl/p/a", NONE, &[]),
+    Line("cubbyhole", NONE, &[List]),
+    Line("cubbyhole/a", IN_CUBBYHOLES, &[List, Delete]),
+    Line("cubbyhole/a/b", IN_CUBBYHOLES, &[List, Delete]),
+    Line("secret/config", NONE, &[Get, Write]),
+    Line("secret/config/a", NONE, &[]),
+    Line("secret", NONE, &[]),
+    Line("secret/data/a", NONE, &[Get, Write, Delete]),
+    Line("secret/data/a/b", NONE, &[Get, Write, Delete]),
+    Line("secret/data", NONE, &[]),
+    Line("secret/delete/a", NONE, &[Write]),
+    Line("secret/delete/a/b", NONE, &[Write]),
+    Line("secret/delete", NONE, &[]),
+    Line("secret/undelete/a", NONE, &[Write]),
+    Line("secret/undelete/a/b", NONE, &[Write]),
+    Line("secret/undelete", NONE, &[]),
+    Line("secret/destroy/a", NONE, &[Write]),
+    Line("secret/destroy/a/b", NONE, &[Write]),
+    Line("secret/destroy", NONE, &[]),
+    Line("secret/metadata", NONE, &[List]),
+    Line("secret/metadata/a", NONE, &[Get, List, Delete]),
+    Line("secret/metadata/a/b", NONE, &[Get, List, Delete]),
+    Line("db/roles/r", NONE, &[Get, Write, Delete]),
+    Line("db/roles/r/a", NONE, &[]),
+    Line("db/roles", NONE, &[]),
+    Line("db", NONE, &[]),
+    Line("db/creds/r", NONE, &[Get]),
+    Line("db/creds/r/a", NONE, &[]),
+    Line("db/creds", NONE, &[]),
+    Line("db/verify", NONE, &[Write]),
+    Line("db/verify/a", NONE, &[]),
+    Line("db2/creds/r", NONE, &[]),
+    Line("other/data/a", NONE, &[]),
+    Line("cubbyholes/a", NONE, &[]),
+    Line("cubbyhole/", NONE, &[]),
 ];
 
 const VERBS: &[Verb] = &[Get, List, Write, Delete];
 
 /// The operation that is served for a verb.
 fn served(line: &Line, verb: Verb) -> Option<Operation> {
-    for (served, operation) in line.served {
+    for (served, operation) in line.1 {
         if *served == verb {
             return Some(*operation);
         }
@@ -146,7 +123,7 @@ fn served(line: &Line, verb: Verb) -> Option<Operation> {
 
 /// The refusal of a verb that is not served.
 fn refusal(line: &Line) -> Refusal {
-    if line.served.is_empty() {
+    if line.1.is_empty() {
         return Refusal::NotFound;
     }
     Refusal::MethodNotAllowed(Methods {
@@ -158,7 +135,7 @@ fn refusal(line: &Line) -> Refusal {
 }
 
 /// A transaction with two mounts.
-fn with_mounts(rt: &HostRuntime) -> Result<ListTx, Fail> {
+fn with_mounts(rt: &(impl AllocGlobal + Abort)) -> Result<ListTx, Fail> {
     let alloc = rt.alloc();
     let mut tx = ListRecords::new(alloc).begin()?;
     assert!(rt; enable(alloc, &mut tx, "secret", "kv", Some(2)) == Ok(()));
@@ -172,8 +149,8 @@ fn routes_of_the_profile(rt: HostRuntime) -> Result<(), Fail> {
     for line in LINES {
         for verb in VERBS {
             let expected = served(line, *verb);
-            assert!(rt; expected.is_none() || !line.later.contains(verb));
-            match route(rt.alloc(), &mut tx, *verb, line.path) {
+            assert!(rt; expected.is_none() || !line.2.contains(verb));
+            match route(rt.alloc(), &mut tx, *verb, line.0) {
                 Ok(found) => assert!(rt; expected == Some(found.operation)),
                 Err(RequestError::Refused(found)) => {
                     assert!(rt; expected.is_none() && found == refusal(line))
@@ -197,22 +174,52 @@ fn a_route_has_its_mount_and_its_parameter(rt: HostRuntime) -> Result<(), Fail> 
 }
 
 /// Whether an operation was refused for a reason.
-fn refused(result: Result<(), RequestError>, reason: Reason) -> bool {
-    result == Err(RequestError::Refused(Refusal::BadRequest(reason)))
+fn refused(answer: Result<(), RequestError>, reason: Reason) -> bool {
+    answer == Err(RequestError::Refused(Refusal::BadRequest(reason)))
 }
 
 #[test]
 fn mounts_are_refused_in_order(rt: HostRuntime) -> Result<(), Fail> {
     let alloc = rt.alloc();
     let mut tx = with_mounts(&rt)?;
-    assert!(rt; refused(enable(alloc, &mut tx, "a:b", "x", None), Reason::InvalidName));
-    assert!(rt; refused(enable(alloc, &mut tx, "", "kv-v2", None), Reason::InvalidName));
+    assert!(rt;
+        refused(
+            enable(alloc, &mut tx, "a:b", "x", None),
+            Reason::InvalidName
+        )
+    );
+    assert!(rt;
+        refused(
+            enable(alloc, &mut tx, "", "kv-v2", None),
+            Reason::InvalidName
+        )
+    );
     assert!(rt; refused(enable(alloc, &mut tx, "db", "x", None), Reason::PathInUse));
-    assert!(rt; refused(enable(alloc, &mut tx, "identity", "kv-v2", None), Reason::PathInUse));
-    assert!(rt; refused(enable(alloc, &mut tx, "new", "kv", None), Reason::UnsupportedMount));
-    assert!(rt; refused(enable(alloc, &mut tx, "new", "kv", Some(1)), Reason::UnsupportedMount));
+    assert!(rt;
+        refused(
+            enable(alloc, &mut tx, "identity", "kv-v2", None),
+            Reason::PathInUse
+        )
+    );
+    assert!(rt;
+        refused(
+            enable(alloc, &mut tx, "new", "kv", None),
+            Reason::UnsupportedMount
+        )
+    );
+    assert!(rt;
+        refused(
+            enable(alloc, &mut tx, "new", "kv", Some(1)),
+            Reason::UnsupportedMount
+        )
+    );
     assert!(rt; enable(alloc, &mut tx, "new", "kv-v2", Some(1)) == Ok(()));
-    assert!(rt; refused(enable(alloc, &mut tx, "new", "kv-v2", None), Reason::PathInUse));
+    assert!(rt;
+        refused(
+            enable(alloc, &mut tx, "new", "kv-v2", None),
+            Reason::PathInUse
+        )
+    );
     assert!(rt; refused(disable(&mut tx, "cubbyhole"), Reason::MountFixed));
     assert!(rt; disable(&mut tx, "identity") == Ok(()));
     assert!(rt; disable(&mut tx, "new") == Ok(()));
@@ -237,10 +244,8 @@ fn all_mounts_are_listed_in_order(rt: HostRuntime) -> Result<(), Fail> {
     ];
     assert!(rt; mounts.len() == expected.len());
     assert!(rt;
-        mounts
-            .iter()
-            .zip(&expected)
-            .all(|(found, wanted)| found.name.as_str() == wanted.0 && found.mount_type == wanted.1)
+        mounts.iter().zip(&expected).all(|(found, wanted)| found.name.as_str() == wanted.0
+            && found.mount_type == wanted.1)
     );
     Ok(())
 }

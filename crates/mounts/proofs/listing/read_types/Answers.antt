@@ -1,4 +1,4 @@
-use Rattle.std.proofs.Common.{◌≡◌, ◌<◌, sym, ap, ◌∙◌, ◌++◌, ◌∷◌, [], Err, get_or, map, All, List}
+use Rattle.std.proofs.Common.{◌<◌, sym, ap, ◌∙◌, ◌++◌, ◌∷◌, [], Err, get_or}
 use Rattle.std.proofs.lemmas.List.{map_more}
 use Rattle.std.proofs.lemmas.Result.{err_from_is_err_and}
 use Rattle.mounts.specs.MountRows.{typed}

@@ -1,4 +1,4 @@
-use Rattle.std.proofs.Common.{◌≡◌, sym, ap, ◌∙◌, not, true, false}
+use Rattle.std.proofs.Common.{◌≡◌, sym, ap, ◌∙◌, not, true}
 use Rattle.std.specs.List.{list_any}
 use Rattle.broker_types.specs.Map.{without}
 use Rattle.broker_types.specs.Text.{same}

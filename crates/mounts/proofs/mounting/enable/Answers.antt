@@ -21,7 +21,8 @@ returns-clause-rows g c honest =
     let name = c.args.name.now in
     let m : Mount = c.in_ok-mount.mount in
     let before = honest_before (seen c.get.new.self) (seen c.put.new.self) false c.in_ok-put.ensures.goes_on honest in
-    let there : is_some (table_of old kind.Mount name) ≡ c.is_some-is_there.result = sym (c.is_some-is_there.ensures ∙ ap is_some (c.in_ok-get.ensures.found before)) in
+    let there : is_some (table_of old kind.Mount name) ≡ c.is_some-is_there.result =
+    sym (c.is_some-is_there.ensures ∙ ap is_some (c.in_ok-get.ensures.found before)) in
     ends_then {X = Unit {0}} (new_mount (is_some (table_of old kind.Mount name)) name c.args.type_name.now c.args.version) m (λ _ next. table_of new ≡ next) tt
     (λ z. with_row (table_of old) kind.Mount name (mount_row z))
     (ap (λ (v : Bool). new_mount v name c.args.type_name.now c.args.version) there ∙ sym c.in_ok-mount.ensures)
@@ -50,7 +51,8 @@ returns-clause-told g c honest mounts are =
     let there : is_some (get mounts name) ≡ c.is_some-is_there.result =
     sym (c.is_some-is_there.ensures ∙ ap is_some (c.in_ok-get.ensures.found before ∙ (are name).row) ∙ some_mapped mount_row (get mounts name)) in
     let made : new_mount c.is_some-is_there.result name c.args.type_name.now c.args.version ≡ Ok m = sym c.in_ok-mount.ensures in
-    let good : IsMountInRange m = subst (λ k. k < 2 ^ 64) (sym (new_mount_is c.is_some-is_there.result name c.args.type_name.now c.args.version m made).max_versions) (lit< tt) in
+    let new_is = new_mount_is c.is_some-is_there.result name c.args.type_name.now c.args.version m made in
+    let good : IsMountInRange m = subst (λ k. k < 2 ^ 64) (sym new_is.max_versions) (lit< tt) in
     ends_then {X = Unit {0}} (new_mount (is_some (get mounts name)) name c.args.type_name.now c.args.version) m (λ _ next. AreMounts (table_of new) next) tt
     (λ z. put mounts name z)
     (ap (λ (v : Bool). new_mount v name c.args.type_name.now c.args.version) there ∙ made)

@@ -3,7 +3,6 @@ use Rattle.std.specs.Prelude.{nat_eq}
 use Rattle.std.specs.List.{starts_with}
 use Rattle.std.proofs.lemmas.Bool.{false_from_ne_true}
 use Rattle.broker_types.specs.Text.{Text}
-use Rattle.mounts.specs.Forms.{form_of}
 use Rattle.mounts.proofs.RouteSteps.{begins_with, begun}
 use Rattle.mounts.proofs.routing.parameter.Goals as goal
 

@@ -1,14 +1,12 @@
-use Rattle.std.proofs.Common.{◌≡◌, sym, ap, subst, ◌∙◌, Some, None, Ok, Err, option_map}
+use Rattle.std.proofs.Common.{sym, ap, subst, ◌∙◌, Err, option_map}
 use Rattle.std.proofs.lemmas.Bool.{and_parts}
 use Rattle.std.proofs.lemmas.Result.{err_from_is_err_and}
 use Rattle.broker_types.specs.Map.{get}
-use Rattle.broker_types.specs.Text.{Text}
 use Rattle.records.specs.Table.{table_of}
 use Rattle.records.specs.ValueLaws.{none_of}
 use Rattle.mounts.specs.MountRows.{IsMountAt}
 use Rattle.mounts.specs.Patterns.{pattern_found, fits}
-use Rattle.mounts.specs.Route.{cut, route_at, route_by, within}
-use Rattle.mounts.specs.Row.{rows_in}
+use Rattle.mounts.specs.Route.{cut, route_by}
 use Rattle.mounts.specs.Table.{rows_of}
 use Rattle.mounts.proofs.RouteSteps.{ends_refused, ends_found, route_none, route_some, within_none, within_some}
 use Rattle.mounts.proofs.Tables.{in_order}
