@@ -1,0 +1,11 @@
+pub mod Cuts
+pub mod FormFound
+pub mod FormRouters
+pub mod FormSearch
+pub mod FormSeek
+pub mod MountEdits
+pub mod MountLists
+pub mod PlaceLemmas
+pub mod RouteSteps
+pub mod Routers
+pub mod Tables

@@ -1,0 +1,60 @@
+-- The list of mounts, from the rows of mounts.
+use Rattle.std.specs.Prelude.{◌≡◌, ◌<◌, ◌≤◌, ℕ, List, [], map, length, take, get_or, codes, All}
+use Rattle.std.specs.Cmp.Lexicographic.{nat_list_cmp_total}
+use Rattle.std.specs.FinMap as fin
+use Rattle.std.proofs.Common.{◌∙◌, ap, arith}
+use Rattle.std.proofs.lemmas.List.{get_or-map, length-map, take_all}
+use Rattle.broker_types.specs.Text.{Text, text_cmp}
+use Rattle.broker_types.specs.Map.{Map, entries, put, map_values}
+use Rattle.broker_types.specs.MapLaws.{entries-map_values}
+use Rattle.broker_types.specs.SearchLaws.{each_entry}
+use Rattle.broker_types.specs.Broker.{Mount, kv}
+use Rattle.records.specs.declared.kind.Kind.TheVariants as kind
+use Rattle.records.specs.declared.row.Row.{Row}
+use Rattle.records.specs.Kind.{RowKey}
+use Rattle.records.specs.ListingLaws.{rows_under-listing}
+use Rattle.records.specs.Ranges.{IsMountInRange}
+use Rattle.records.specs.RowForms.{mount_row}
+use Rattle.records.specs.Table.{table_of}
+use Rattle.records.specs.Transaction.{Rows, rows_under}
+use Rattle.mounts.specs.declared.mount_type.MountType.{MountType}
+use Rattle.mounts.specs.declared.mount_type.MountType.TheVariants as mount
+use Rattle.mounts.specs.MountRows.{AreMounts, at_mount, typed}
+use Rattle.mounts.specs.Mounts.{listed, plain_mount}
+use Rattle.mounts.specs.Types.{type_of}
+
+-- the list is that of the mounts with rows, and two more put in their places
+pub listed_is : (mounts : Map Mount) → listed mounts
+    ≡ fin.put text_cmp (codes "sys") mount.System (fin.put text_cmp (codes "cubbyhole") mount.Cubbyhole (map typed (entries mounts)))
+listed_is mounts =
+    let types : Map MountType = map_values (λ name m. type_of m) mounts in
+    fin.entries-insert nat_list_cmp_total (put types (codes "cubbyhole") mount.Cubbyhole) (codes "sys") mount.System
+    ∙ ap (fin.put text_cmp (codes "sys") mount.System) (fin.entries-insert nat_list_cmp_total types (codes "cubbyhole") mount.Cubbyhole
+    ∙ ap (fin.put text_cmp (codes "cubbyhole") mount.Cubbyhole) (entries-map_values (λ name m. type_of m) mounts))
+
+-- the rows of mounts are those of the entries, in their order
+pub rows_are : (rows : Rows) (mounts : Map Mount) → AreMounts (table_of rows) mounts → rows_under rows kind.Mount [] ≡ map at_mount (entries mounts)
+rows_are rows mounts are = rows_under-listing kind.Mount (λ q. mount_row) rows mounts (λ q. (are q).row)
+
+-- and each mount is in range
+pub each_in_range : (rows : Rows) (mounts : Map Mount) → AreMounts (table_of rows) mounts → All (λ (m : Text × Mount). IsMountInRange m.1) (entries mounts)
+each_in_range rows mounts are = each_entry (λ m. IsMountInRange m.1) mounts (λ t x h. (are t).in_range x h)
+
+-- ---- rows read, one after another
+
+-- a mount, for places past the end
+abbrev pub none : Text × Mount
+none = ([], plain_mount kv)
+
+module _ (rows : List (RowKey × Row)) (mounts : List (Text × Mount)) (i : ℕ) (eq : rows ≡ map at_mount mounts) where
+  as_long : length rows ≡ length mounts
+  as_long = ap length eq ∙ length-map mounts at_mount
+
+  pub within_mounts : i < length rows → i < length mounts
+  within_mounts h = let e = as_long in omega (arith, e, h)
+
+  pub row_at : (d : RowKey × Row) → i < length rows → get_or rows i d ≡ at_mount (get_or mounts i none)
+  row_at d h = ap (λ rs. get_or rs i d) eq ∙ get_or-map at_mount mounts i none d (within_mounts h)
+
+  pub all_read : length rows ≤ i → take i mounts ≡ mounts
+  all_read h = let e = as_long in take_all i mounts (omega (arith, e, h))

@@ -1,0 +1,64 @@
+-- The route of a path, step by step.
+use Rattle.std.specs.Prelude.{◌≡◌, ◌++◌, List, nat_eq, length, drop, take, true, Option, Some, None, Result, Ok, Err, ⊤}
+use Rattle.std.specs.List.{starts_with}
+use Rattle.std.proofs.Common.{refl, sym, ◌∙◌, ap, subst}
+use Rattle.std.proofs.Math.Seq.{take-append_seam}
+use Rattle.std.proofs.lemmas.List.{take-append-drop}
+use Rattle.broker_types.specs.Text.{Text, same}
+use Rattle.broker_types.specs.TextLaws.{same_self, same_true}
+use Rattle.broker_types.specs.Broker.{Mount}
+use Rattle.broker_types.specs.Refuse.{◌>>=◌, some_or}
+use Rattle.broker_types.specs.RequestError.{EndsOk, EndsRefused}
+use Rattle.broker_types.specs.declared.ask.Verb.{Verb}
+use Rattle.broker_types.specs.declared.refusal.Refusal.{Refusal}
+use Rattle.broker_types.specs.declared.refusal.Refusal.TheVariants as refusal
+use Rattle.mounts.specs.declared.mount_type.MountType.{MountType}
+use Rattle.mounts.specs.Patterns.{pattern_found}
+use Rattle.mounts.specs.Route.{Route, cut, route_by, within, route_at}
+use Rattle.mounts.specs.Row.{Row}
+use Rattle.mounts.specs.Table.{rows_of}
+use Rattle.mounts.specs.Types.{type_at}
+
+-- ---- how the code ends
+
+pub ends_refused : {Y : Type 0} (m : Result Y Refusal) (r : Refusal) → m ≡ Err r → EndsRefused ⊤ r m
+ends_refused m r is = subst (λ z. EndsRefused ⊤ r z) (sym is) (refl, tt)
+
+pub ends_found : (m : Result Route Refusal) (r : Route) → m ≡ Ok r → EndsOk (λ (found known : Route). found ≡ known) r m
+ends_found m r is = subst (λ z. EndsOk (λ (found known : Route). found ≡ known) r z) (sym is) refl
+
+-- ---- the mount
+
+module _ (o : Option Mount) (v : Verb) (path name rest : Text) where
+  pub route_none : name ≡ (cut path).0 → type_at o name ≡ None → route_at o v path ≡ Err refusal.NotFound
+  unfolding route_at
+  route_none n h =
+      ap (λ q. some_or refusal.NotFound (type_at o q) >>= (λ type. within (rows_of type) v (cut path).0 (cut path).1)) (sym n)
+      ∙ ap (λ z. some_or refusal.NotFound z >>= (λ type. within (rows_of type) v (cut path).0 (cut path).1)) h
+
+  pub route_some : (type : MountType) → name ≡ (cut path).0 → rest ≡ (cut path).1 → type_at o name ≡ Some type
+      → route_at o v path ≡ within (rows_of type) v name rest
+  unfolding route_at
+  route_some type n r h =
+      (λ i. some_or refusal.NotFound (type_at o (sym n i)) >>= (λ t. within (rows_of t) v (sym n i) (sym r i)))
+      ∙ ap (λ z. some_or refusal.NotFound z >>= (λ t. within (rows_of t) v name rest)) h
+
+-- ---- the pattern
+
+module _ (rows : List Row) (v : Verb) (name rest : Text) where
+  pub within_none : pattern_found rows rest ≡ None → within rows v name rest ≡ Err refusal.NotFound
+  within_none h = ap (λ z. some_or refusal.NotFound z >>= route_by rows v name rest) h
+
+  pub within_some : (pattern : Text) → pattern_found rows rest ≡ Some pattern → within rows v name rest ≡ route_by rows v name rest pattern
+  within_some pattern h = ap (λ z. some_or refusal.NotFound z >>= route_by rows v name rest) h
+
+-- ---- the parameter
+
+pub begins_with : (prefix q rest : Text) → q ≡ prefix ++ rest → starts_with nat_eq q prefix ≡ true
+unfolding same
+begins_with prefix q rest e = ap (λ z. same prefix (take (length prefix) z)) e ∙ ap (same prefix) (take-append_seam prefix rest) ∙ same_self prefix
+
+pub begun : (prefix q : Text) → starts_with nat_eq q prefix ≡ true → q ≡ prefix ++ drop (length prefix) q
+unfolding same
+begun prefix q h =
+    sym (take-append-drop (length prefix) q) ∙ ap (λ u. u ++ drop (length prefix) q) (sym (same_true prefix (take (length prefix) q) h))

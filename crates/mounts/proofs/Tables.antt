@@ -1,0 +1,17 @@
+-- The tables are in order.
+use Rattle.std.specs.Prelude.{◌≡◌, true}
+use Rattle.std.proofs.Common.{refl}
+use Rattle.matchit.proofs.OnLiterals.{matchit_on_literals}
+use Rattle.broker_types.specs.Text.{same}
+use Rattle.mounts.specs.declared.mount_type.MountType.{MountType}
+use Rattle.mounts.specs.declared.mount_type.MountType.TheVariants as mount
+use Rattle.mounts.specs.Patterns.{is_in_order, fits, fits_behind}
+use Rattle.mounts.specs.Table.{rows_of}
+
+pub in_order : (type : MountType) → is_in_order (rows_of type) ≡ true
+unfolding matchit_on_literals same fits fits_behind
+in_order mount.Token = refl
+in_order mount.System = refl
+in_order mount.Cubbyhole = refl
+in_order mount.Kv = refl
+in_order mount.Issued = refl

@@ -1,0 +1,5 @@
+use Rattle.mounts.specs.SoundLaws.{mounts_evolve}
+use Rattle.mounts.proofs.laws.edits_evolve.Goals as goal
+
+pub returns : goal.returns
+returns c b next = mounts_evolve b next

@@ -1,0 +1,8 @@
+use Rattle.mounts.proofs.FormRouters.{found_by_form, none_by_form}
+use Rattle.mounts.proofs.laws.patterns_are_found_by_form.Goals as goal
+
+pub returns-clause-found : goal.returns-clause-found
+returns-clause-found c rows path pattern ordered bytes found = found_by_form rows path ordered bytes pattern found
+
+pub returns-clause-none : goal.returns-clause-none
+returns-clause-none c rows path pattern ordered bytes none listed = none_by_form rows path ordered bytes pattern none listed

@@ -1,0 +1,25 @@
+use Rattle.std.proofs.Common.{◌≡◌, sym, ap, ◌∙◌, Err, codes, map}
+use Rattle.std.specs.FinMap as fin
+use Rattle.std.proofs.lemmas.Result.{err_from_is_err_and}
+use Rattle.broker_types.specs.Text.{text_cmp}
+use Rattle.broker_types.specs.Map.{entries}
+use Rattle.mounts.specs.declared.mount_type.MountType.TheVariants as mount
+use Rattle.mounts.specs.MountRows.{at_mount}
+use Rattle.mounts.proofs.MountLists.{listed_is, rows_are, each_in_range}
+use Rattle.mounts.proofs.listing.list.Goals as goal
+
+pub returns-in_err-list-clause-told : goal.returns-in_err-list-clause-told
+returns-in_err-list-clause-told g c honest mounts are =
+    let rows = (g.T.RecordsTx.seen c.args.tx.now).rows in
+    let read : c.deref.result.now ≡ map at_mount (entries mounts) = c.deref.ensures.value ∙ c.in_ok-rows.ensures.listed honest ∙ rows_are rows mounts are in
+    let p = err_from_is_err_and c.from_residual-in_err-list.result c.from_residual-in_err-list.ensures.1 in
+    rw (p.1 ∙ ap Err p.2) (c.in_err-list.ensures.told (entries mounts) (each_in_range rows mounts are) read)
+
+pub returns-clause-told : goal.returns-clause-told
+returns-clause-told g c honest mounts are =
+    let rows = (g.T.RecordsTx.seen c.args.tx.now).rows in
+    let read : c.deref.result.now ≡ map at_mount (entries mounts) = c.deref.ensures.value ∙ c.in_ok-rows.ensures.listed honest ∙ rows_are rows mounts are in
+    c.in_ok-put_type-2.ensures
+    ∙ ap (fin.put text_cmp (codes "sys") mount.System) (c.in_ok-put_type.ensures
+    ∙ ap (fin.put text_cmp (codes "cubbyhole") mount.Cubbyhole) (c.in_ok-list.ensures.told (entries mounts) (each_in_range rows mounts are) read))
+    ∙ sym (listed_is mounts)

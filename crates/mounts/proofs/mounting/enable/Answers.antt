@@ -1,0 +1,61 @@
+use Rattle.std.proofs.Common.{◌≡◌, ◌<◌, ◌^◌, sym, ap, subst, ◌∙◌, is_some, Ok, Bool, false, lit<}
+use Rattle.broker_types.specs.Broker.{Mount}
+use Rattle.broker_types.specs.Map.{get, put}
+use Rattle.records.specs.declared.kind.Kind.TheVariants as kind
+use Rattle.records.specs.CallLaws.{honest_before}
+use Rattle.records.specs.Ranges.{IsMountInRange}
+use Rattle.records.specs.RowForms.{mount_row}
+use Rattle.records.specs.Table.{table_of, with_row}
+use Rattle.records.specs.TableLaws.{table_of-insert}
+use Rattle.mounts.specs.MountRows.{AreMounts}
+use Rattle.mounts.specs.Mounts.{new_mount}
+use Rattle.mounts.specs.SoundLaws.{new_mount_is}
+use Rattle.mounts.proofs.MountEdits.{ends_then, others_put, mounts_put, some_mapped}
+use Rattle.mounts.proofs.mounting.enable.Goals as goal
+
+pub returns-clause-rows : goal.returns-clause-rows
+returns-clause-rows g c honest =
+    let seen = g.T.RecordsTx.seen in
+    let old = (seen c.args.tx.now).rows in
+    let new = (seen c.put.new.self).rows in
+    let name = c.args.name.now in
+    let m : Mount = c.in_ok-mount.mount in
+    let before = honest_before (seen c.get.new.self) (seen c.put.new.self) false c.in_ok-put.ensures.goes_on honest in
+    let there : is_some (table_of old kind.Mount name) ≡ c.is_some-is_there.result =
+    sym (c.is_some-is_there.ensures ∙ ap is_some (c.in_ok-get.ensures.found before)) in
+    ends_then {X = Unit {0}} (new_mount (is_some (table_of old kind.Mount name)) name c.args.type_name.now c.args.version) m (λ _ next. table_of new ≡ next) tt
+    (λ z. with_row (table_of old) kind.Mount name (mount_row z))
+    (ap (λ (v : Bool). new_mount v name c.args.type_name.now c.args.version) there ∙ sym c.in_ok-mount.ensures)
+    (ap table_of (c.in_ok-put.ensures.rows honest) ∙ table_of-insert (seen c.get.new.self).rows kind.Mount name c.in_ok-row.row
+    ∙ (λ i. with_row (table_of (c.in_ok-get.ensures.same before i)) kind.Mount name (c.in_ok-row.ensures i)))
+
+pub returns-clause-others : goal.returns-clause-others
+returns-clause-others g c honest =
+    let seen = g.T.RecordsTx.seen in
+    let old = (seen c.args.tx.now).rows in
+    let new = (seen c.put.new.self).rows in
+    let name = c.args.name.now in
+    let before = honest_before (seen c.get.new.self) (seen c.put.new.self) false c.in_ok-put.ensures.goes_on honest in
+    others_put (table_of old) (table_of new) name c.in_ok-row.row
+    (ap table_of (c.in_ok-put.ensures.rows honest) ∙ table_of-insert (seen c.get.new.self).rows kind.Mount name c.in_ok-row.row
+    ∙ (λ i. with_row (table_of (c.in_ok-get.ensures.same before i)) kind.Mount name c.in_ok-row.row))
+
+pub returns-clause-told : goal.returns-clause-told
+returns-clause-told g c honest mounts are =
+    let seen = g.T.RecordsTx.seen in
+    let old = (seen c.args.tx.now).rows in
+    let new = (seen c.put.new.self).rows in
+    let name = c.args.name.now in
+    let m : Mount = c.in_ok-mount.mount in
+    let before = honest_before (seen c.get.new.self) (seen c.put.new.self) false c.in_ok-put.ensures.goes_on honest in
+    let there : is_some (get mounts name) ≡ c.is_some-is_there.result =
+    sym (c.is_some-is_there.ensures ∙ ap is_some (c.in_ok-get.ensures.found before ∙ (are name).row) ∙ some_mapped mount_row (get mounts name)) in
+    let made : new_mount c.is_some-is_there.result name c.args.type_name.now c.args.version ≡ Ok m = sym c.in_ok-mount.ensures in
+    let new_is = new_mount_is c.is_some-is_there.result name c.args.type_name.now c.args.version m made in
+    let good : IsMountInRange m = subst (λ k. k < 2 ^ 64) (sym new_is.max_versions) (lit< tt) in
+    ends_then {X = Unit {0}} (new_mount (is_some (get mounts name)) name c.args.type_name.now c.args.version) m (λ _ next. AreMounts (table_of new) next) tt
+    (λ z. put mounts name z)
+    (ap (λ (v : Bool). new_mount v name c.args.type_name.now c.args.version) there ∙ made)
+    (mounts_put (table_of old) (table_of new) name mounts m good
+    (ap table_of (c.in_ok-put.ensures.rows honest) ∙ table_of-insert (seen c.get.new.self).rows kind.Mount name c.in_ok-row.row
+    ∙ (λ i. with_row (table_of (c.in_ok-get.ensures.same before i)) kind.Mount name (c.in_ok-row.ensures i))) are)

@@ -1,0 +1,66 @@
+-- Laws of routes and of mounts, as statements (this project's).
+use Rattle.std.specs.Prelude.{◌≡◌, ◌≤◌, ℕ, List, length, true, false, Option, Some, None, Ok}
+use Rattle.broker_types.specs.Text.{Text}
+use Rattle.broker_types.specs.Map.{Map}
+use Rattle.broker_types.specs.Broker.{Broker, Mount}
+use Rattle.broker_types.specs.Evolves.{Evolves}
+use Rattle.broker_types.specs.Sound.{Forms, Sound, SoundMounts}
+use Rattle.records.specs.Parts.{of_mounts, Tells}
+use Rattle.records.specs.Table.{Table}
+use Rattle.mounts.specs.declared.mount_type.MountType.{MountType}
+use Rattle.mounts.specs.Forms.{form_of, has_form, are_bytes}
+use Rattle.mounts.specs.MountRows.{AreMounts}
+use Rattle.mounts.specs.Mounts.{enabled, disabled}
+use Rattle.mounts.specs.Patterns.{pattern_found, is_in_order, has_pattern}
+use Rattle.mounts.specs.Row.{Row}
+use Rattle.mounts.specs.Table.{rows_of}
+
+-- ---- the table
+
+-- the rows of each type of mounts are in order
+abbrev pub AreInOrder : Type 0
+AreInOrder = (type : MountType) → is_in_order (rows_of type) ≡ true
+
+-- The pattern is of the table, the path has its form, and no pattern of the table that the path has the form of has a
+-- longer text before its parameter.
+pub record IsForm (rows : List Row) (path pattern : Text) : Type 0 where
+  pub listed : has_pattern rows pattern ≡ true
+  pub form : has_form (form_of pattern) path ≡ true
+  pub longest : (other : Text) → has_pattern rows other ≡ true → has_form (form_of other) path ≡ true
+      → length (form_of other).literal ≤ length (form_of pattern).literal
+
+-- in a table in order, the path has the form of the pattern that it finds
+abbrev pub FoundByForm : Type 0
+FoundByForm =
+    (rows : List Row) (path pattern : Text) → is_in_order rows ≡ true → are_bytes path ≡ true
+    → pattern_found rows path ≡ Some pattern → IsForm rows path pattern
+
+-- and if it finds none, it has the form of none
+abbrev pub NoneFoundByForm : Type 0
+NoneFoundByForm =
+    (rows : List Row) (path pattern : Text) → is_in_order rows ≡ true → are_bytes path ≡ true
+    → pattern_found rows path ≡ None → has_pattern rows pattern ≡ true → has_form (form_of pattern) path ≡ false
+
+-- ---- mounts
+
+-- a mount that is enabled leaves a sound broker sound
+abbrev pub EnableKeepsSoundness : Type 0
+EnableKeepsSoundness =
+    (forms : Forms) (who : Option Text) (b : Broker) (name type : Text) (version : Option ℕ) (next : Map Mount)
+    → Sound forms who b → enabled b.mounts name type version ≡ Ok next → Sound forms who (record b { mounts = next })
+
+-- and so does a mount that is disabled
+abbrev pub DisableKeepsSoundness : Type 0
+DisableKeepsSoundness =
+    (forms : Forms) (who : Option Text) (b : Broker) (name : Text) (next : Map Mount)
+    → Sound forms who b → disabled b.mounts name ≡ Ok next → Sound forms who (record b { mounts = next })
+
+-- any mounts let a broker evolve
+abbrev pub MountsEvolve : Type 0
+MountsEvolve = (b : Broker) (next : Map Mount) → Evolves b (record b { mounts = next })
+
+-- the rows of mounts are those of a broker exactly if they are those of its mounts
+abbrev pub MountsAreTold : Type 0
+MountsAreTold =
+    (rows : Table) (b : Broker) → SoundMounts b.mounts
+    → (Tells of_mounts rows b → AreMounts rows b.mounts) × (AreMounts rows b.mounts → Tells of_mounts rows b)

@@ -1,0 +1,13 @@
+pub mod Calls
+pub mod Forms
+pub mod Laws
+pub mod MountRows
+pub mod Mounts
+pub mod Patterns
+pub mod Places
+pub mod Route
+pub mod Row
+pub mod SoundLaws
+pub mod Table
+pub mod TellLaws
+pub mod Types

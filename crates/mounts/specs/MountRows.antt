@@ -1,0 +1,48 @@
+-- Mounts as rows: each has one, at its name (this project's row format).
+use Rattle.std.specs.Prelude.{◌≡◌, Option, option_map, is_some, ℕ, Result, Ok}
+use Rattle.broker_types.specs.Text.{Text}
+use Rattle.broker_types.specs.Map.{Map, get}
+use Rattle.broker_types.specs.Broker.{Mount}
+use Rattle.broker_types.specs.Refuse.{◌>>=◌}
+use Rattle.broker_types.specs.declared.refusal.Refusal.{Refusal}
+use Rattle.records.specs.declared.kind.Kind.TheVariants as kind
+use Rattle.records.specs.declared.row.Row.{Row}
+use Rattle.records.specs.Kind.{RowKey}
+use Rattle.records.specs.Ranges.{IsMountInRange}
+use Rattle.records.specs.Reading.{IsSomeIn}
+use Rattle.records.specs.RowForms.{mount_row}
+use Rattle.records.specs.Table.{Table, with_row, without_row}
+use Rattle.mounts.specs.declared.mount_type.MountType.{MountType}
+use Rattle.mounts.specs.Mounts as mounts
+use Rattle.mounts.specs.Types.{type_of}
+
+-- the row at a name is that of the mount, or there is none
+pub record IsMountAt (rows : Table) (name : Text) (o : Option Mount) : Type 0 where
+  pub in_range : IsSomeIn IsMountInRange o
+  pub row : rows kind.Mount name ≡ option_map mount_row o
+
+-- the rows of mounts are those of the map
+abbrev pub AreMounts : Table → Map Mount → Type 0
+AreMounts rows ms = (name : Text) → IsMountAt rows name (get ms name)
+
+-- the rows with one more mount
+abbrev pub enabled : Table → Text → Text → Option ℕ → Result Table Refusal
+enabled rows name type version = do
+  m ← mounts.new_mount (is_some (rows kind.Mount name)) name type version
+  Ok (with_row rows kind.Mount name (mount_row m))
+
+-- the rows without the mount's
+abbrev pub disabled : Table → Text → Result Table Refusal
+disabled rows name = do
+  free ← mounts.may_go name
+  Ok (without_row rows kind.Mount name)
+
+-- ---- the list of mounts
+
+-- the row of a mount at its name, with its key
+abbrev pub at_mount : Text × Mount → RowKey × Row
+at_mount m = ((kind.Mount, m.0), mount_row m.1)
+
+-- the type of a mount, with its name
+abbrev pub typed : Text × Mount → Text × MountType
+typed m = (m.0, type_of m.1)

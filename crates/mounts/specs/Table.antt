@@ -1,0 +1,20 @@
+-- The table of routes: for each type of mounts the verb, the pattern of the path within the mount, and the operation
+-- (Vault's documentation, "HTTP API"). Rows of one pattern stand together. A route that is not served has no row.
+use Rattle.std.specs.Prelude.{List, [], ◌∷◌, codes}
+use Rattle.broker_types.specs.declared.ask.Verb.TheVariants as verb
+use Rattle.mounts.specs.declared.mount_type.MountType.{MountType}
+use Rattle.mounts.specs.declared.mount_type.MountType.TheVariants as mount
+use Rattle.mounts.specs.declared.operation.Operation.TheVariants.{Cubbyholes}
+use Rattle.mounts.specs.declared.operation.Cubbyhole.TheVariants as cubbyhole
+use Rattle.mounts.specs.Row.{Row, on}
+
+-- the rows of a type of mounts
+abbrev pub rows_of : MountType → List Row
+rows_of mount.Token = []
+rows_of mount.System = []
+rows_of mount.Cubbyhole =
+    on verb.Get (codes "{*path}") (Cubbyholes cubbyhole.Read)
+    ∷ on verb.Write (codes "{*path}") (Cubbyholes cubbyhole.Write)
+    ∷ []
+rows_of mount.Kv = []
+rows_of mount.Issued = []

@@ -1,0 +1,40 @@
+-- The rows of mounts that a broker has tell its mounts, and they alone do (this project's).
+use Rattle.std.specs.Prelude.{◌≡◌, option_map}
+use Rattle.std.proofs.Common.{refl, sym, ◌∙◌}
+use Rattle.std.proofs.lemmas.Bool.{false≢true}
+use Rattle.broker_types.specs.Text.{Text}
+use Rattle.broker_types.specs.Map.{get}
+use Rattle.broker_types.specs.Broker.{Broker}
+use Rattle.broker_types.specs.Sound.{SoundMounts}
+use Rattle.records.specs.declared.kind.Kind.TheVariants as kind
+use Rattle.records.specs.Parts.{of_mounts, Tells}
+use Rattle.records.specs.RowForms.{mount_row}
+use Rattle.records.specs.Rows.{rows_of}
+use Rattle.records.specs.Table.{Table}
+use Rattle.mounts.specs.MountRows.{AreMounts}
+
+mount_at : (b : Broker) (name : Text) → rows_of b kind.Mount name ≡ option_map mount_row (get b.mounts name)
+unfolding rows_of
+mount_at b name = refl
+
+module _ (rows : Table) (b : Broker) where
+  -- the rows of a sound broker's mounts are those of its mounts
+  pub mounts_told : SoundMounts b.mounts → Tells of_mounts rows b → AreMounts rows b.mounts
+  mounts_told sound told name =
+      record { in_range = λ m is. (sound name m is).max_versions; row = told kind.Mount name refl ∙ mount_at b name }
+
+  -- rows that are those of the broker's mounts are the broker's
+  pub told_mounts : AreMounts rows b.mounts → Tells of_mounts rows b
+  told_mounts are kind.Mount name inside = (are name).row ∙ sym (mount_at b name)
+  told_mounts are kind.Clock name inside = absurd (false≢true inside)
+  told_mounts are kind.Used name inside = absurd (false≢true inside)
+  told_mounts are kind.Token name inside = absurd (false≢true inside)
+  told_mounts are kind.Accessor name inside = absurd (false≢true inside)
+  told_mounts are kind.Cubby name inside = absurd (false≢true inside)
+  told_mounts are kind.Lease name inside = absurd (false≢true inside)
+  told_mounts are kind.Credential name inside = absurd (false≢true inside)
+  told_mounts are kind.KvKey name inside = absurd (false≢true inside)
+  told_mounts are kind.KvVersion name inside = absurd (false≢true inside)
+  told_mounts are kind.Waiting name inside = absurd (false≢true inside)
+  told_mounts are kind.Policy name inside = absurd (false≢true inside)
+  told_mounts are kind.Role name inside = absurd (false≢true inside)

@@ -1,0 +1,24 @@
+//! Which operation a verb and a path mean, and the mounts, as rows.
+#![tactic(auto)]
+
+mod laws;
+mod listing;
+mod mount_type;
+mod mounting;
+mod naming;
+mod operation;
+mod routing;
+mod table;
+
+pub use laws::{
+    edits_evolve, edits_keep_soundness, mounts_are_told, patterns_are_found_by_form,
+    tables_are_in_order,
+};
+pub use listing::{NamedMount, list};
+pub use mount_type::MountType;
+pub use mounting::{disable, enable};
+pub use operation::{Cubbyhole, Operation, Route};
+pub use routing::route;
+
+#[cfg(test)]
+mod tests;

@@ -1,0 +1,269 @@
+//! Routes.
+
+ghost use Rattle.std.specs.Prelude.{◌≡◌, ◌≢◌, ◌==◌, ℕ, Option, None, Some, Ok, Err, true, false, MatchOption};
+ghost use Rattle.std.specs.Prelude.{IfOk, IfErr, OnOk, option_map, ⊤};
+ghost use Rattle.broker_types.specs.Fault.{IsMemoryOrStorage};
+ghost use Rattle.broker_types.specs.Map.{Map};
+ghost use Rattle.broker_types.specs.Broker.{Mount};
+ghost use Rattle.broker_types.specs.RequestError.{Ends, step_fails};
+ghost use Rattle.records.specs.Table.{table_of};
+ghost use Rattle.records.specs.Transaction.{IsHonest, GoesOn, is_storage};
+ghost use Rattle.mounts.specs.Calls.{OnAnswer, OnFault};
+ghost use Rattle.mounts.specs.Forms as forms;
+ghost use Rattle.mounts.specs.MountRows.{IsMountAt, AreMounts};
+ghost use Rattle.mounts.specs.Patterns as patterns;
+ghost use Rattle.mounts.specs.Row.{rows_in, shown};
+ghost use Rattle.mounts.specs.Route as spec;
+ghost use Rattle.mounts.specs.Types as types;
+
+use crate::mount_type::{MountType, engine_type, fixed_type};
+use crate::operation::{Operation, Route};
+use crate::table::{Row, rows_of};
+use broker_types::{Fault, Methods, Refusal, RequestError, Verb};
+use matchit::{InsertError, Router};
+use records::{Kind, RecordsTx, read_mount};
+use std::alloc::Global;
+use std::marker::Model;
+
+/// The operation that a verb and a path mean, with the mounts that have rows. It is refused with 404 if there is
+/// no such mount, or no pattern of its type is the path's; and with 405 if the pattern has other methods. The rows
+/// stay. It fails with `Damaged` if the mount's row cannot be read, and also if memory runs out or the storage
+/// fails (Vault's documentation, "HTTP API"; RFC 9110, section 15.5.6, for a method that is not allowed).
+pub fn route<'p, T: RecordsTx>(
+    alloc: Global,
+    tx: &mut T,
+    verb: Verb,
+    path: &'p str,
+) -> Result<Route<'p>, RequestError>
+    ensures found { IsHonest (T.seen tx.new) → (mount : Option Mount)
+        → IsMountAt (table_of (T.seen tx.old).rows) (spec.cut path.now).0 mount
+        → Ends (λ found known. found ≡ known) ⊤ result (spec.route_at mount verb path.now) }
+    ensures told { IsHonest (T.seen tx.new) → (mounts : Map Mount) → AreMounts (table_of (T.seen tx.old).rows) mounts
+        → Ends (λ found known. found ≡ known) ⊤ result (spec.route_of mounts verb path.now) }
+    ensures same { IsHonest (T.seen tx.new) → OnAnswer result ((T.seen tx.new).rows ≡ (T.seen tx.old).rows) }
+    ensures started { OnFault result (λ fault. fault ≢ Fault.BadStart) }
+    ensures goes_on { GoesOn (T.seen tx.old) (T.seen tx.new) (step_fails result) }
+{
+    let (mount, rest) = cut(path);
+    let Some(mount_type) = type_of(tx, mount)? else {
+        return Err(RequestError::Refused(Refusal::NotFound));
+    };
+    let rows = rows_of(mount_type);
+    let Some(pattern) = pattern_found(alloc, rows, rest)? else {
+        return Err(RequestError::Refused(Refusal::NotFound));
+    };
+    Ok(route_by(rows, verb, mount, rest, pattern)?)
+}
+
+/// The first segment of a path, which names its mount, and what follows its slash.
+fn cut(path: &str) -> (&str, &str)
+    ensures name { result.0.now ≡ (spec.cut path.now).0 }
+    ensures rest { result.1.now ≡ (spec.cut path.now).1 }
+{
+    match path.split_once('/') {
+        Some(parts) => parts,
+        None => (path, ""),
+    }
+}
+
+/// The type of a mount, if it is there.
+fn type_of<T: RecordsTx>(tx: &mut T, name: &str) -> Result<Option<MountType>, Fault>
+    ensures found { IsHonest (T.seen tx.new) → (mount : Option Mount)
+        → IsMountAt (table_of (T.seen tx.old).rows) name.now mount
+        → IfOk result (λ found. found ≡ types.type_at mount name.now) }
+    ensures same { IsHonest (T.seen tx.new) → OnOk result ((T.seen tx.new).rows ≡ (T.seen tx.old).rows) }
+    ensures wants { IsHonest (T.seen tx.new) → (mount : Option Mount)
+        → IsMountAt (table_of (T.seen tx.old).rows) name.now mount → IfErr result IsMemoryOrStorage }
+    ensures started { IfErr result (λ fault. fault ≢ Fault.BadStart) }
+    ensures goes_on { GoesOn (T.seen tx.old) (T.seen tx.new) (is_storage result) }
+{
+    if let Some(found) = fixed_type(name) {
+        return Ok(Some(found));
+    }
+    let Some(kept) = tx.get(Kind::Mount, name)? else {
+        return Ok(None);
+    };
+    let mount = read_mount(&kept)?;
+    Ok(Some(engine_type(mount.engine)))
+}
+
+// ---- the pattern
+
+/// A pattern of a router, which contracts see as its text.
+#[derive(Drop)]
+struct Pattern {
+    text: &'static str,
+}
+
+impl Model for Pattern {
+    ghost use Rattle.broker_types.specs.Text.{Text};
+
+    ghost Value = { Text };
+
+    ghost view = { λ p. p.text.now };
+}
+
+impl Pattern {
+    fn text(&self) -> &'static str
+        ensures { result.now ≡ self.now }
+    {
+        self.text
+    }
+}
+
+/// The pattern that a path within the mount finds.
+fn pattern_found(
+    alloc: Global,
+    rows: &'static [Row],
+    path: &str,
+) -> Result<Option<&'static str>, Fault>
+    requires { patterns.fits (rows_in rows.now) ≡ true }
+    ensures ok { IfOk result (λ found. option_map (λ s. s.now) found
+        ≡ patterns.pattern_found (rows_in rows.now) path.now) }
+    ensures memory { IfErr result (λ fault. fault ≡ Fault.Memory) }
+{
+    let router = router_of(alloc, rows)?;
+    match router.at(path) {
+        Ok(found) => Ok(Some(found.value.text())),
+        Err(_) => Ok(None),
+    }
+}
+
+/// The router of the patterns of rows.
+fn router_of(alloc: Global, rows: &'static [Row]) -> Result<Router<Pattern>, Fault>
+    requires { patterns.fits (rows_in rows.now) ≡ true }
+    ensures ok { IfOk result (λ router. router ≡ patterns.router_of (rows_in rows.now)) }
+    ensures memory { IfErr result (λ fault. fault ≡ Fault.Memory) }
+{
+    let mut router = Router::new(alloc);
+    let mut before: Option<&str> = None;
+    for row in rows {
+        put(&mut router, before, row.1)?;
+        before = Some(row.1);
+    }
+    Ok(router)
+}
+
+/// Puts a pattern into a router, unless it is that of the row before.
+fn put(
+    router: &mut Router<Pattern>,
+    before: Option<&str>,
+    pattern: &'static str,
+) -> Result<(), Fault>
+    requires { patterns.can_follow (option_map (λ s. s.now) before) pattern.now router.old ≡ true }
+    ensures ok { OnOk result
+        (router.new ≡ patterns.with_next (option_map (λ s. s.now) before.entry) pattern.now router.old) }
+    ensures memory { IfErr result (λ fault. fault ≡ Fault.Memory) }
+{
+    if is_again(before, pattern) {
+        return Ok(());
+    }
+    match router.insert(pattern, Pattern { text: pattern }) {
+        Ok(()) => Ok(()),
+        Err(InsertError::OutOfMemory) => Err(Fault::Memory),
+        Err(_) => unreachable!(),
+    }
+}
+
+/// Whether the row before has the same pattern.
+#[tactic(auto, unfolding(broker_types::specs::Text::same))]
+fn is_again(before: Option<&str>, pattern: &str) -> bool
+    ensures { result ≡ patterns.is_again (option_map (λ s. s.now) before.entry) pattern.now }
+{
+    match before {
+        Some(before) => before == pattern,
+        None => false,
+    }
+}
+
+// ---- the row
+
+/// The route of a pattern, or 405 with its methods if no row of it has the verb.
+fn route_by<'p>(
+    rows: &[Row],
+    verb: Verb,
+    mount: &'p str,
+    path: &'p str,
+    pattern: &str,
+) -> Result<Route<'p>, Refusal>
+    ensures { result ≡ spec.route_by (rows_in rows.now) verb mount.now path.now pattern.now }
+{
+    let Some(operation) = operation_for(rows, pattern, verb) else {
+        return Err(Refusal::MethodNotAllowed(methods_of(rows, pattern)));
+    };
+    Ok(Route {
+        operation,
+        mount,
+        parameter: parameter(pattern, path),
+    })
+}
+
+/// The operation of the row that has the pattern and the verb.
+fn operation_for(rows: &[Row], pattern: &str, verb: Verb) -> Option<Operation>
+    ensures { result ≡ spec.operation_for (rows_in rows.now) pattern.now verb }
+{
+    for row in rows {
+        if is_row(row, pattern, verb) {
+            return Some(row.2);
+        }
+    }
+    None
+}
+
+/// The methods of a pattern.
+fn methods_of(rows: &[Row], pattern: &str) -> Methods
+    ensures { result ≡ spec.methods_of (rows_in rows.now) pattern.now }
+{
+    Methods {
+        get: has_row(rows, pattern, Verb::Get),
+        list: has_row(rows, pattern, Verb::List),
+        write: has_row(rows, pattern, Verb::Write),
+        delete: has_row(rows, pattern, Verb::Delete),
+    }
+}
+
+fn has_row(rows: &[Row], pattern: &str, verb: Verb) -> bool
+    ensures { result ≡ spec.has_row (rows_in rows.now) pattern.now verb }
+{
+    for row in rows {
+        if is_row(row, pattern, verb) {
+            return true;
+        }
+    }
+    false
+}
+
+#[tactic(auto, unfolding(broker_types::specs::Text::same))]
+fn is_row(row: &Row, pattern: &str, verb: Verb) -> bool
+    ensures { result ≡ patterns.is_row pattern.now verb (shown row.now) }
+{
+    row.1 == pattern && same_verb(row.0, verb)
+}
+
+fn same_verb(verb: Verb, other: Verb) -> bool
+    ensures { result ≡ patterns.same_verb verb other }
+{
+    verb == other
+}
+
+// ---- the parameter
+
+/// What a path has in place of the pattern's parameter.
+fn parameter<'p>(pattern: &str, path: &'p str) -> &'p str
+    ensures { result.now ≡ forms.parameter pattern.now path.now }
+{
+    match path.strip_prefix(literal_of(pattern)) {
+        Some(rest) => rest,
+        None => "",
+    }
+}
+
+/// The text of a pattern before its parameter.
+fn literal_of(pattern: &str) -> &str
+    ensures { result.now ≡ (forms.form_of pattern.now).literal }
+{
+    match pattern.split_once('{') {
+        Some((literal, _)) => literal,
+        None => pattern,
+    }
+}

@@ -1,0 +1,45 @@
+//! The table of routes: for each type of mounts the verb, the pattern of the path within the mount, and the
+//! operation. Rows of one pattern stand together. A route that is not served has no row.
+
+ghost use Rattle.std.specs.Prelude.{◌≡◌};
+ghost use Rattle.mounts.specs.Row.{rows_in};
+ghost use Rattle.mounts.specs.Table as table;
+
+use crate::mount_type::MountType;
+use crate::operation::Operation::Cubbyholes;
+use crate::operation::{Cubbyhole, Operation};
+use broker_types::Verb::{self, Get, Write};
+
+/// A row of the table: the verb, the pattern and the operation.
+#[derive(Clone, Copy)]
+pub(crate) struct Row(
+    pub(crate) Verb,
+    pub(crate) &'static str,
+    pub(crate) Operation,
+);
+
+const TOKEN: &[Row] = &[];
+
+const SYSTEM: &[Row] = &[];
+
+const CUBBYHOLE: &[Row] = &[
+    Row(Get, "{*path}", Cubbyholes(Cubbyhole::Read)),
+    Row(Write, "{*path}", Cubbyholes(Cubbyhole::Write)),
+];
+
+const KV: &[Row] = &[];
+
+const ISSUED: &[Row] = &[];
+
+/// The rows of a type of mounts.
+pub(crate) fn rows_of(mount_type: MountType) -> &'static [Row]
+    ensures { rows_in result.now ≡ table.rows_of mount_type }
+{
+    match mount_type {
+        MountType::Token => TOKEN,
+        MountType::System => SYSTEM,
+        MountType::Cubbyhole => CUBBYHOLE,
+        MountType::Kv => KV,
+        MountType::Issued => ISSUED,
+    }
+}

@@ -1,0 +1,251 @@
+use crate::operation::{Cubbyhole, Operation};
+use crate::{MountType, disable, enable, list, route};
+use broker_types::Verb::{self, Delete, Get, List, Write};
+use broker_types::{Methods, Reason, Refusal, RequestError};
+use records::{ListRecords, ListTx};
+use std::process::Abort;
+use std::test::Fail;
+
+/// A path, the verbs that are served there with what they mean, and the verbs that the profile has beside them
+/// and that have no row so far.
+struct Line(&'static str, &'static [(Verb, Operation)], &'static [Verb]);
+
+const NONE: &[(Verb, Operation)] = &[];
+
+const IN_CUBBYHOLES: &[(Verb, Operation)] = &[
+    (Get, Operation::Cubbyholes(Cubbyhole::Read)),
+    (Write, Operation::Cubbyholes(Cubbyhole::Write)),
+];
+
+/// The routes of the profile, each with a path that fits, one with a segment more and one with a segment less.
+/// `secret` is a mount of versioned secrets, `db` one that issues credentials.
+const LINES: &[Line] = &[
+    Line("auth/token/create", NONE, &[Write]),
+    Line("auth/token/create/a", NONE, &[]),
+    Line("auth/token", NONE, &[]),
+    Line("auth", NONE, &[]),
+    Line("auth/token/create-orphan", NONE, &[Write]),
+    Line("auth/token/create-orphan/a", NONE, &[]),
+    Line("auth/token/lookup-self", NONE, &[Get]),
+    Line("auth/token/lookup-self/a", NONE, &[]),
+    Line("auth/token/lookup", NONE, &[Write]),
+    Line("auth/token/lookup/a", NONE, &[]),
+    Line("auth/token/lookup-accessor", NONE, &[Write]),
+    Line("auth/token/lookup-accessor/a", NONE, &[]),
+    Line("auth/token/renew", NONE, &[Write]),
+    Line("auth/token/renew/a", NONE, &[]),
+    Line("auth/token/renew-self", NONE, &[Write]),
+    Line("auth/token/renew-self/a", NONE, &[]),
+    Line("auth/token/revoke", NONE, &[Write]),
+    Line("auth/token/revoke/a", NONE, &[]),
+    Line("auth/token/revoke-orphan", NONE, &[Write]),
+    Line("auth/token/revoke-orphan/a", NONE, &[]),
+    Line("auth/token/revoke-self", NONE, &[Write]),
+    Line("auth/token/revoke-self/a", NONE, &[]),
+    Line("auth/token/revoke-accessor", NONE, &[Write]),
+    Line("auth/token/revoke-accessor/a", NONE, &[]),
+    Line("auth/token/accessors", NONE, &[List]),
+    Line("auth/token/accessors/a", NONE, &[]),
+    Line("sys/wrapping/wrap", NONE, &[Write]),
+    Line("sys/wrapping/wrap/a", NONE, &[]),
+    Line("sys/wrapping", NONE, &[]),
+    Line("sys/wrapping/lookup", NONE, &[Write]),
+    Line("sys/wrapping/lookup/a", NONE, &[]),
+    Line("sys/wrapping/rewrap", NONE, &[Write]),
+    Line("sys/wrapping/rewrap/a", NONE, &[]),
+    Line("sys/wrapping/unwrap", NONE, &[Write]),
+    Line("sys/wrapping/unwrap/a", NONE, &[]),
+    Line("sys/leases/lookup", NONE, &[Write]),
+    Line("sys/leases/lookup/a", NONE, &[]),
+    Line("sys/leases", NONE, &[]),
+    Line("sys/leases/renew", NONE, &[Write]),
+    Line("sys/leases/renew/a", NONE, &[]),
+    Line("sys/leases/revoke", NONE, &[Write]),
+    Line("sys/leases/revoke/a", NONE, &[]),
+    Line("sys/leases/revoke-prefix/db", NONE, &[Write]),
+    Line("sys/leases/revoke-prefix/db/creds", NONE, &[Write]),
+    Line("sys/leases/revoke-prefix", NONE, &[]),
+    Line("sys/mounts", NONE, &[Get]),
+    Line("sys", NONE, &[]),
+    Line("sys/mounts/db", NONE, &[Write, Delete]),
+    Line("sys/mounts/db/a", NONE, &[]),
+    Line("sys/policies/acl", NONE, &[List]),
+    Line("sys/policies", NONE, &[]),
+    Line("sys/policies/acl/p", NONE, &[Get, Write, Delete]),
+    Line("sys/policies/acl/p/a", NONE, &[]),
+    Line("cubbyhole", NONE, &[List]),
+    Line("cubbyhole/a", IN_CUBBYHOLES, &[List, Delete]),
+    Line("cubbyhole/a/b", IN_CUBBYHOLES, &[List, Delete]),
+    Line("secret/config", NONE, &[Get, Write]),
+    Line("secret/config/a", NONE, &[]),
+    Line("secret", NONE, &[]),
+    Line("secret/data/a", NONE, &[Get, Write, Delete]),
+    Line("secret/data/a/b", NONE, &[Get, Write, Delete]),
+    Line("secret/data", NONE, &[]),
+    Line("secret/delete/a", NONE, &[Write]),
+    Line("secret/delete/a/b", NONE, &[Write]),
+    Line("secret/delete", NONE, &[]),
+    Line("secret/undelete/a", NONE, &[Write]),
+    Line("secret/undelete/a/b", NONE, &[Write]),
+    Line("secret/undelete", NONE, &[]),
+    Line("secret/destroy/a", NONE, &[Write]),
+    Line("secret/destroy/a/b", NONE, &[Write]),
+    Line("secret/destroy", NONE, &[]),
+    Line("secret/metadata", NONE, &[List]),
+    Line("secret/metadata/a", NONE, &[Get, List, Delete]),
+    Line("secret/metadata/a/b", NONE, &[Get, List, Delete]),
+    Line("db/roles/r", NONE, &[Get, Write, Delete]),
+    Line("db/roles/r/a", NONE, &[]),
+    Line("db/roles", NONE, &[]),
+    Line("db", NONE, &[]),
+    Line("db/creds/r", NONE, &[Get]),
+    Line("db/creds/r/a", NONE, &[]),
+    Line("db/creds", NONE, &[]),
+    Line("db/verify", NONE, &[Write]),
+    Line("db/verify/a", NONE, &[]),
+    Line("db2/creds/r", NONE, &[]),
+    Line("other/data/a", NONE, &[]),
+    Line("cubbyholes/a", NONE, &[]),
+    Line("cubbyhole/", NONE, &[]),
+];
+
+const VERBS: &[Verb] = &[Get, List, Write, Delete];
+
+/// The operation that is served for a verb.
+fn served(line: &Line, verb: Verb) -> Option<Operation> {
+    for (served, operation) in line.1 {
+        if *served == verb {
+            return Some(*operation);
+        }
+    }
+    None
+}
+
+/// The refusal of a verb that is not served.
+fn refusal(line: &Line) -> Refusal {
+    if line.1.is_empty() {
+        return Refusal::NotFound;
+    }
+    Refusal::MethodNotAllowed(Methods {
+        get: served(line, Get).is_some(),
+        list: served(line, List).is_some(),
+        write: served(line, Write).is_some(),
+        delete: served(line, Delete).is_some(),
+    })
+}
+
+/// A transaction with two mounts.
+fn with_mounts(rt: &(impl AllocGlobal + Abort)) -> Result<ListTx, Fail> {
+    let alloc = rt.alloc();
+    let mut tx = ListRecords::new(alloc).begin()?;
+    assert!(rt; enable(alloc, &mut tx, "secret", "kv", Some(2)) == Ok(()));
+    assert!(rt; enable(alloc, &mut tx, "db", "issued", None) == Ok(()));
+    Ok(tx)
+}
+
+#[test]
+fn routes_of_the_profile(rt: HostRuntime) -> Result<(), Fail> {
+    let mut tx = with_mounts(&rt)?;
+    for line in LINES {
+        for verb in VERBS {
+            let expected = served(line, *verb);
+            assert!(rt; expected.is_none() || !line.2.contains(verb));
+            match route(rt.alloc(), &mut tx, *verb, line.0) {
+                Ok(found) => assert!(rt; expected == Some(found.operation)),
+                Err(RequestError::Refused(found)) => {
+                    assert!(rt; expected.is_none() && found == refusal(line))
+                }
+                Err(RequestError::Fault(_)) => return Err(Fail::from("a fault")),
+            }
+        }
+    }
+    Ok(())
+}
+
+#[test]
+fn a_route_has_its_mount_and_its_parameter(rt: HostRuntime) -> Result<(), Fail> {
+    let mut tx = with_mounts(&rt)?;
+    let Ok(found) = route(rt.alloc(), &mut tx, Get, "cubbyhole/a/b") else {
+        return Err(Fail::from("no route"));
+    };
+    assert_eq!(rt; found.mount, "cubbyhole");
+    assert_eq!(rt; found.parameter, "a/b");
+    Ok(())
+}
+
+/// Whether an operation was refused for a reason.
+fn refused(answer: Result<(), RequestError>, reason: Reason) -> bool {
+    answer == Err(RequestError::Refused(Refusal::BadRequest(reason)))
+}
+
+#[test]
+fn mounts_are_refused_in_order(rt: HostRuntime) -> Result<(), Fail> {
+    let alloc = rt.alloc();
+    let mut tx = with_mounts(&rt)?;
+    assert!(rt;
+        refused(
+            enable(alloc, &mut tx, "a:b", "x", None),
+            Reason::InvalidName
+        )
+    );
+    assert!(rt;
+        refused(
+            enable(alloc, &mut tx, "", "kv-v2", None),
+            Reason::InvalidName
+        )
+    );
+    assert!(rt; refused(enable(alloc, &mut tx, "db", "x", None), Reason::PathInUse));
+    assert!(rt;
+        refused(
+            enable(alloc, &mut tx, "identity", "kv-v2", None),
+            Reason::PathInUse
+        )
+    );
+    assert!(rt;
+        refused(
+            enable(alloc, &mut tx, "new", "kv", None),
+            Reason::UnsupportedMount
+        )
+    );
+    assert!(rt;
+        refused(
+            enable(alloc, &mut tx, "new", "kv", Some(1)),
+            Reason::UnsupportedMount
+        )
+    );
+    assert!(rt; enable(alloc, &mut tx, "new", "kv-v2", Some(1)) == Ok(()));
+    assert!(rt;
+        refused(
+            enable(alloc, &mut tx, "new", "kv-v2", None),
+            Reason::PathInUse
+        )
+    );
+    assert!(rt; refused(disable(&mut tx, "cubbyhole"), Reason::MountFixed));
+    assert!(rt; disable(&mut tx, "identity") == Ok(()));
+    assert!(rt; disable(&mut tx, "new") == Ok(()));
+    assert!(rt; enable(alloc, &mut tx, "new", "issued", None) == Ok(()));
+    Ok(())
+}
+
+#[test]
+fn all_mounts_are_listed_in_order(rt: HostRuntime) -> Result<(), Fail> {
+    let alloc = rt.alloc();
+    let mut tx = with_mounts(&rt)?;
+    assert!(rt; enable(alloc, &mut tx, "a", "kv-v2", None) == Ok(()));
+    assert!(rt; enable(alloc, &mut tx, "z", "issued", None) == Ok(()));
+    let mounts = list(alloc, &mut tx)?;
+    let expected = [
+        ("a", MountType::Kv),
+        ("cubbyhole", MountType::Cubbyhole),
+        ("db", MountType::Issued),
+        ("secret", MountType::Kv),
+        ("sys", MountType::System),
+        ("z", MountType::Issued),
+    ];
+    assert!(rt; mounts.len() == expected.len());
+    assert!(rt;
+        mounts.iter().zip(&expected).all(|(found, wanted)| found.name.as_str() == wanted.0
+            && found.mount_type == wanted.1)
+    );
+    Ok(())
+}
