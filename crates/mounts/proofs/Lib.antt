@@ -5,6 +5,8 @@ pub mod FormSearch
 pub mod FormSeek
 pub mod MountEdits
 pub mod MountLists
+pub mod Parameters
+pub mod PathParts
 pub mod PlaceLemmas
 pub mod RouteSteps
 pub mod Routers

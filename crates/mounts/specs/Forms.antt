@@ -1,7 +1,7 @@
 -- What a pattern says: a text, and behind it nothing, one segment `{name}` or one or more segments `{*path}` (this
 -- project's definition; the notation is that of the crate `matchit`).
-use Rattle.std.specs.Prelude.{ℕ, [], ◌∷◌, length, drop, nat_eq, nat_lt, Bool, true, false, ◌&&◌, if◌then◌else◌, Option}
-use Rattle.std.specs.Prelude.{Some, None}
+use Rattle.std.specs.Prelude.{ℕ, [], ◌∷◌, length, drop, nat_eq, nat_lt, Bool, true, false, not, ◌&&◌, ◌==◌, if◌then◌else◌}
+use Rattle.std.specs.Prelude.{Option, Some, None}
 use Rattle.std.specs.List.{starts_with, list_all}
 use Rattle.broker_types.specs.Text.{Text}
 use Rattle.records.specs.Splits.{slash, split_once, lacks}
@@ -14,6 +14,12 @@ pub data Ending : Type 0 where
 pub record Form : Type 0 where
   pub literal : Text
   pub ending : Ending
+
+-- whether there is no parameter
+abbrev pub is_literal : Ending → Bool
+is_literal nothing = true
+is_literal segment = false
+is_literal segments = false
 
 -- the byte `{`
 abbrev pub open_brace : ℕ
@@ -54,6 +60,16 @@ abbrev pub parameter : Text → Text → Text
 parameter pattern path =
     let literal = (form_of pattern).literal in
     if starts_with nat_eq path literal then drop (length literal) path else []
+
+-- whether a text is empty or ends in a slash
+abbrev pub ends_segment : Text → Bool
+ends_segment [] = true
+ends_segment (x ∷ []) = x == slash
+ends_segment (x ∷ y ∷ t) = ends_segment (y ∷ t)
+
+-- whether the form has a parameter, which begins a segment
+abbrev pub has_parameter : Form → Bool
+has_parameter f = not (is_literal f.ending) && ends_segment f.literal
 
 -- whether these are bytes
 abbrev pub are_bytes : Text → Bool

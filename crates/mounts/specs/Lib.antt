@@ -3,6 +3,7 @@ pub mod Forms
 pub mod Laws
 pub mod MountRows
 pub mod Mounts
+pub mod Operations
 pub mod Patterns
 pub mod Places
 pub mod Route

@@ -1,5 +1,5 @@
 -- Mounts as rows: each has one, at its name (this project's row format).
-use Rattle.std.specs.Prelude.{◌≡◌, Option, option_map, is_some, ℕ, Result, Ok}
+use Rattle.std.specs.Prelude.{◌≡◌, Option, None, option_map, is_some, ℕ, Result, Ok}
 use Rattle.broker_types.specs.Text.{Text}
 use Rattle.broker_types.specs.Map.{Map, get}
 use Rattle.broker_types.specs.Broker.{Mount}
@@ -14,12 +14,16 @@ use Rattle.records.specs.RowForms.{mount_row}
 use Rattle.records.specs.Table.{Table, with_row, without_row}
 use Rattle.mounts.specs.declared.mount_type.MountType.{MountType}
 use Rattle.mounts.specs.Mounts as mounts
-use Rattle.mounts.specs.Types.{type_of}
+use Rattle.mounts.specs.Types.{type_of, fixed_type}
 
 -- the row at a name is that of the mount, or there is none
 pub record IsMountAt (rows : Table) (name : Text) (o : Option Mount) : Type 0 where
   pub in_range : IsSomeIn IsMountInRange o
   pub row : rows kind.Mount name ≡ option_map mount_row o
+
+-- what is at a name is known: a mount that is always there, or the row is that of the mount, or there is none
+abbrev pub IsKnownAt : Table → Text → Option Mount → Type 0
+IsKnownAt rows name o = fixed_type name ≡ None → IsMountAt rows name o
 
 -- the rows of mounts are those of the map
 abbrev pub AreMounts : Table → Map Mount → Type 0

@@ -12,7 +12,8 @@ use Rattle.matchit.specs.declared.error.InsertError.{InsertError}
 use Rattle.broker_types.specs.Text.{Text, same}
 use Rattle.broker_types.specs.declared.ask.Verb.{Verb}
 use Rattle.broker_types.specs.declared.ask.Verb.TheVariants as verb
-use Rattle.mounts.specs.Forms.{Ending, nothing, segment, segments, Form, form_of, are_bytes}
+use Rattle.mounts.specs.Forms.{Ending, nothing, segment, segments, Form, form_of, has_parameter, are_bytes}
+use Rattle.mounts.specs.Operations.{takes_parameter}
 use Rattle.mounts.specs.Row.{Row}
 
 -- ---- the router
@@ -110,9 +111,15 @@ abbrev pub differ : List Row → Bool
 differ [] = true
 differ (r ∷ rows) = not (list_any (is_row r.pattern r.verb) rows) && differ rows
 
--- whether the patterns can stand together, each is read as its form says, and no two rows have one pattern and verb
+-- whether the row's pattern has the parameter that its operation takes
+abbrev pub tells : Row → Bool
+tells r = not (takes_parameter r.operation) || has_parameter (form_of r.pattern)
+
+-- Whether the patterns can stand together, each is read as its form says, each operation has its parameter, and no two
+-- rows have one pattern and verb.
 abbrev pub is_in_order : List Row → Bool
-is_in_order rows = fits rows && (list_all (λ r. reads_as_form r.pattern) rows && differ rows)
+is_in_order rows =
+    fits rows && (list_all (λ r. reads_as_form r.pattern) rows && (list_all tells rows && differ rows))
 
 -- whether a row of the table has the pattern
 abbrev pub has_pattern : List Row → Text → Bool

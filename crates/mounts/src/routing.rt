@@ -5,12 +5,14 @@ ghost use Rattle.std.specs.Prelude.{IfOk, IfErr, OnOk, option_map, ⊤};
 ghost use Rattle.broker_types.specs.Fault.{IsMemoryOrStorage};
 ghost use Rattle.broker_types.specs.Map.{Map};
 ghost use Rattle.broker_types.specs.Broker.{Mount};
+ghost use Rattle.broker_types.specs.Path.{is_path};
 ghost use Rattle.broker_types.specs.RequestError.{Ends, step_fails};
 ghost use Rattle.records.specs.Table.{table_of};
 ghost use Rattle.records.specs.Transaction.{IsHonest, GoesOn, is_storage};
 ghost use Rattle.mounts.specs.Calls.{OnAnswer, OnFault};
 ghost use Rattle.mounts.specs.Forms as forms;
-ghost use Rattle.mounts.specs.MountRows.{IsMountAt, AreMounts};
+ghost use Rattle.mounts.specs.MountRows.{IsKnownAt, AreMounts};
+ghost use Rattle.mounts.specs.Operations.{takes_parameter};
 ghost use Rattle.mounts.specs.Patterns as patterns;
 ghost use Rattle.mounts.specs.Row.{rows_in, shown};
 ghost use Rattle.mounts.specs.Route as spec;
@@ -36,10 +38,12 @@ pub fn route<'p, T: RecordsTx>(
     path: &'p str,
 ) -> Result<Route<'p>, RequestError>
     ensures found { IsHonest (T.seen tx.new) → (mount : Option Mount)
-        → IsMountAt (table_of (T.seen tx.old).rows) (spec.cut path.now).0 mount
+        → IsKnownAt (table_of (T.seen tx.old).rows) (spec.cut path.now).0 mount
         → Ends (λ found known. found ≡ known) ⊤ result (spec.route_at mount verb path.now) }
     ensures told { IsHonest (T.seen tx.new) → (mounts : Map Mount) → AreMounts (table_of (T.seen tx.old).rows) mounts
         → Ends (λ found known. found ≡ known) ⊤ result (spec.route_of mounts verb path.now) }
+    ensures parameter { is_path path.now ≡ true
+        → IfOk result (λ found. takes_parameter found.operation ≡ true → is_path found.parameter ≡ true) }
     ensures same { IsHonest (T.seen tx.new) → OnAnswer result ((T.seen tx.new).rows ≡ (T.seen tx.old).rows) }
     ensures started { OnFault result (λ fault. fault ≢ Fault.BadStart) }
     ensures goes_on { GoesOn (T.seen tx.old) (T.seen tx.new) (step_fails result) }
@@ -69,11 +73,11 @@ fn cut(path: &str) -> (&str, &str)
 /// The type of a mount, if it is there.
 fn type_of<T: RecordsTx>(tx: &mut T, name: &str) -> Result<Option<MountType>, Fault>
     ensures found { IsHonest (T.seen tx.new) → (mount : Option Mount)
-        → IsMountAt (table_of (T.seen tx.old).rows) name.now mount
+        → IsKnownAt (table_of (T.seen tx.old).rows) name.now mount
         → IfOk result (λ found. found ≡ types.type_at mount name.now) }
     ensures same { IsHonest (T.seen tx.new) → OnOk result ((T.seen tx.new).rows ≡ (T.seen tx.old).rows) }
     ensures wants { IsHonest (T.seen tx.new) → (mount : Option Mount)
-        → IsMountAt (table_of (T.seen tx.old).rows) name.now mount → IfErr result IsMemoryOrStorage }
+        → IsKnownAt (table_of (T.seen tx.old).rows) name.now mount → IfErr result IsMemoryOrStorage }
     ensures started { IfErr result (λ fault. fault ≢ Fault.BadStart) }
     ensures goes_on { GoesOn (T.seen tx.old) (T.seen tx.new) (is_storage result) }
 {

@@ -1,28 +1,38 @@
-use Rattle.std.proofs.Common.{sym, ap, subst, ◌∙◌, Err, option_map}
+use Rattle.std.proofs.Common.{◌≡◌, arith, sym, ap, subst, ◌∙◌, Err, true, option_map}
 use Rattle.std.proofs.lemmas.Bool.{and_parts}
 use Rattle.std.proofs.lemmas.Result.{err_from_is_err_and}
 use Rattle.broker_types.specs.Map.{get}
 use Rattle.records.specs.Table.{table_of}
 use Rattle.records.specs.ValueLaws.{none_of}
-use Rattle.mounts.specs.MountRows.{IsMountAt}
+use Rattle.mounts.specs.Forms.{are_bytes}
+use Rattle.mounts.specs.MountRows.{IsKnownAt}
 use Rattle.mounts.specs.Patterns.{pattern_found, fits}
 use Rattle.mounts.specs.Route.{cut, route_by}
 use Rattle.mounts.specs.Table.{rows_of}
 use Rattle.mounts.proofs.RouteSteps.{ends_refused, ends_found, route_none, route_some, within_none, within_some}
+use Rattle.mounts.proofs.Parameters.{parameter_is_path, bytes_of_rest, are_bytes_from}
+use Rattle.mounts.proofs.PathParts.{IsRest, rest_of}
 use Rattle.mounts.proofs.Tables.{in_order}
 use Rattle.mounts.proofs.routing.route.Goals as goal
+
+pub returns-in_err-mount_type-clause-found : goal.returns-in_err-mount_type-clause-found
+returns-in_err-mount_type-clause-found g c honest mount at =
+    let rows = table_of (g.T.RecordsTx.seen c.args.tx.now).rows in
+    let here = subst (λ n. IsKnownAt rows n mount) (sym c.cut.ensures.name) at in
+    let p = err_from_is_err_and c.from_residual.result c.from_residual.ensures.1 in
+    rw (p.1 ∙ ap Err p.2) (c.in_err-mount_type.ensures.wants honest mount here)
 
 pub returns-in_default-clause-found : goal.returns-in_default-clause-found
 returns-in_default-clause-found g c honest mount at =
     let path = c.args.path.now in
     let rows = table_of (g.T.RecordsTx.seen c.args.tx.now).rows in
-    let here = subst (λ n. IsMountAt rows n mount) (sym c.cut.ensures.name) at in
+    let here = subst (λ n. IsKnownAt rows n mount) (sym c.cut.ensures.name) at in
     ends_refused _ _ (route_none mount c.args.verb path c.cut.result.0.now c.cut.result.1.now c.cut.ensures.name
     (sym (c.in_ok-mount_type.ensures.found honest mount here) ∙ none_of _ c.in_default.not-Some))
 
 pub returns-in_default-clause-told : goal.returns-in_default-clause-told
 returns-in_default-clause-told g c honest mounts are =
-    returns-in_default-clause-found g c honest (get mounts (cut c.args.path.now).0) (are (cut c.args.path.now).0)
+    returns-in_default-clause-found g c honest (get mounts (cut c.args.path.now).0) (λ _. are (cut c.args.path.now).0)
 
 pub pattern_found-requires : goal.pattern_found-requires
 pattern_found-requires g c = ap fits c.rows_of-rows.ensures ∙ (and_parts (fits (rows_of c.in-Some.mount_type)) _ (in_order c.in-Some.mount_type)).0
@@ -31,7 +41,7 @@ pub returns-in_default-2-clause-found : goal.returns-in_default-2-clause-found
 returns-in_default-2-clause-found g c honest mount at =
     let path = c.args.path.now in
     let rows = table_of (g.T.RecordsTx.seen c.args.tx.now).rows in
-    let here = subst (λ n. IsMountAt rows n mount) (sym c.cut.ensures.name) at in
+    let here = subst (λ n. IsKnownAt rows n mount) (sym c.cut.ensures.name) at in
     let type = c.in-Some.mount_type in
     let name = c.cut.result.0.now in
     let rest = c.cut.result.1.now in
@@ -43,13 +53,13 @@ returns-in_default-2-clause-found g c honest mount at =
 
 pub returns-in_default-2-clause-told : goal.returns-in_default-2-clause-told
 returns-in_default-2-clause-told g c honest mounts are =
-    returns-in_default-2-clause-found g c honest (get mounts (cut c.args.path.now).0) (are (cut c.args.path.now).0)
+    returns-in_default-2-clause-found g c honest (get mounts (cut c.args.path.now).0) (λ _. are (cut c.args.path.now).0)
 
 pub returns-in_err-route_by-clause-found : goal.returns-in_err-route_by-clause-found
 returns-in_err-route_by-clause-found g c honest mount at =
     let path = c.args.path.now in
     let rows = table_of (g.T.RecordsTx.seen c.args.tx.now).rows in
-    let here = subst (λ n. IsMountAt rows n mount) (sym c.cut.ensures.name) at in
+    let here = subst (λ n. IsKnownAt rows n mount) (sym c.cut.ensures.name) at in
     let type = c.in-Some.mount_type in
     let name = c.cut.result.0.now in
     let rest = c.cut.result.1.now in
@@ -63,13 +73,13 @@ returns-in_err-route_by-clause-found g c honest mount at =
 
 pub returns-in_err-route_by-clause-told : goal.returns-in_err-route_by-clause-told
 returns-in_err-route_by-clause-told g c honest mounts are =
-    returns-in_err-route_by-clause-found g c honest (get mounts (cut c.args.path.now).0) (are (cut c.args.path.now).0)
+    returns-in_err-route_by-clause-found g c honest (get mounts (cut c.args.path.now).0) (λ _. are (cut c.args.path.now).0)
 
 pub returns-clause-found : goal.returns-clause-found
 returns-clause-found g c honest mount at =
     let path = c.args.path.now in
     let rows = table_of (g.T.RecordsTx.seen c.args.tx.now).rows in
-    let here = subst (λ n. IsMountAt rows n mount) (sym c.cut.ensures.name) at in
+    let here = subst (λ n. IsKnownAt rows n mount) (sym c.cut.ensures.name) at in
     let type = c.in-Some.mount_type in
     let name = c.cut.result.0.now in
     let rest = c.cut.result.1.now in
@@ -81,4 +91,17 @@ returns-clause-found g c honest mount at =
     ∙ sym (ap (λ rs. route_by rs c.args.verb name rest c.in-Some-2.pattern.now) c.rows_of-rows.ensures) ∙ sym c.in_ok-route_by.ensures)
 
 pub returns-clause-told : goal.returns-clause-told
-returns-clause-told g c honest mounts are = returns-clause-found g c honest (get mounts (cut c.args.path.now).0) (are (cut c.args.path.now).0)
+returns-clause-told g c honest mounts are = returns-clause-found g c honest (get mounts (cut c.args.path.now).0) (λ _. are (cut c.args.path.now).0)
+
+pub returns-clause-parameter : goal.returns-clause-parameter
+returns-clause-parameter g c good takes =
+    let path = c.args.path.now in
+    let type = c.in-Some.mount_type in
+    let rest = c.cut.result.1.now in
+    parameter_is_path (rows_of type) (in_order type) c.args.verb c.cut.result.0.now rest c.in-Some-2.pattern.now c.in_ok-route_by.field-0
+    (subst IsRest (sym c.cut.ensures.rest) (rest_of path good))
+    (subst (λ t. are_bytes t ≡ true) (sym c.cut.ensures.rest) (bytes_of_rest path (are_bytes_from path (λ k. omega (arith, c.type_inv.path k)))))
+    (sym (ap (λ rs. pattern_found rs rest) c.rows_of-rows.ensures) ∙ sym c.in_ok-pattern.ensures.ok
+    ∙ ap (option_map (λ s. s.now)) c.in-Some-2.is)
+    (sym (ap (λ rs. route_by rs c.args.verb c.cut.result.0.now rest c.in-Some-2.pattern.now) c.rows_of-rows.ensures) ∙ sym c.in_ok-route_by.ensures)
+    takes
