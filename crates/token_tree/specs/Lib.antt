@@ -1,0 +1,6 @@
+pub mod Ended
+pub mod EndedLaws
+pub mod Orphaned
+pub mod Removed
+pub mod Starts
+pub mod Tokens
