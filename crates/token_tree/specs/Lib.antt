@@ -1,3 +1,4 @@
+pub mod Accessors
 pub mod Ended
 pub mod EndedLaws
 pub mod Orphaned

@@ -1,15 +1,16 @@
 -- Tokens as rows: which rows are those of a broker's tokens, and what operations on tokens make of it (Vault's
 -- documentation, "Tokens").
-use Rattle.std.specs.Prelude.{◌≡◌, ℕ, List, Bool, Option, Some, None, option_map, is_some, is_none, ◌&&◌, map}
+use Rattle.std.specs.Prelude.{◌≡◌, ℕ, List, Bool, Option, Some, None, is_some, is_none, ◌&&◌, map}
+use Rattle.std.specs.FinMap.{from_entries}
 use Rattle.std.specs.List.{IsDistinct}
 use Rattle.broker_types.specs.Text.{Text, same}
-use Rattle.broker_types.specs.Map.{get, put, change, entries, keys, first_where}
+use Rattle.broker_types.specs.Map.{Map, get, put, change, entries, keys}
 use Rattle.broker_types.specs.Token.{Token}
 use Rattle.broker_types.specs.Lineage.{alive_at}
 use Rattle.broker_types.specs.Broker.{Broker}
 use Rattle.broker_types.specs.Places.{OnePlaceEach}
 use Rattle.broker_types.specs.Sound.{Forms, SoundTokens}
-use Rattle.records.specs.Children.{has, set_of}
+use Rattle.records.specs.Children.{has}
 use Rattle.records.specs.Parts.{of_tokens, Tells}
 use Rattle.records.specs.Table.{Table, table_of}
 use Rattle.records.specs.Transaction.{Seen, IsHonest}
@@ -36,13 +37,17 @@ OfEachBroker old new Holds =
 abbrev pub has_accessor : Text → Text → Token → Bool
 has_accessor accessor t x = same x.accessor accessor
 
--- the token that the accessor names
-abbrev pub token_named : Broker → Text → Option Text
-token_named b accessor = option_map (λ e. e.0) (first_where (has_accessor accessor) b.tokens)
+-- the token of each accessor
+abbrev pub by_accessor : Broker → Map Text
+by_accessor b = from_entries (map (λ e. (e.1.accessor, e.0)) (entries b.tokens))
 
--- the accessors of all tokens, a set, in the order of their bytes
+-- the token that the accessor names
+abbrev pub find_accessor : Broker → Text → Option Text
+find_accessor b accessor = get (by_accessor b) accessor
+
+-- the accessors of all tokens, in the order of their bytes
 abbrev pub accessors_of : Broker → List Text
-accessors_of b = keys (set_of (map (λ e. e.1.accessor) (entries b.tokens)))
+accessors_of b = keys (by_accessor b)
 
 -- the broker with the token x at t
 abbrev pub with_token : Broker → Text → Token → Broker

@@ -1,6 +1,7 @@
 //! The tree of tokens, as rows.
 #![tactic(auto)]
 
+mod by_accessor;
 mod descending;
 mod ending;
 mod orphaning;
@@ -9,6 +10,7 @@ mod single;
 mod start;
 mod sweeping;
 
+pub use by_accessor::{accessors, find_accessor};
 pub use orphaning::revoke_one;
 pub use revoking::revoke;
 pub use single::{create, find, renew, spend};
