@@ -3,7 +3,8 @@
 use Rattle.std.specs.Prelude.{ℕ, [], ◌∷◌, List, Bool, codes, Option, is_some, map}
 use Rattle.broker_types.specs.Text.{Text}
 use Rattle.api_json.specs.Names.{name_text}
-use Rattle.api_json.specs.Printing.{quoted, whole_number, object_of, null_text, bool_text, or_null, time, time_or, texts}
+use Rattle.api_json.specs.Printing.{quoted, whole_number, object_of, null_text, bool_text, or_null, time, time_or}
+use Rattle.api_json.specs.Printing.{texts}
 use Rattle.api_json.specs.Printing.{pairs, by_name}
 use Rattle.api_json.specs.declared.name.Name.TheVariants as name
 use Rattle.api_json.specs.declared.version_list.VersionObject.{VersionObject}

@@ -10,8 +10,8 @@ use Rattle.broker_types.specs.Text.{Text, text_cmp, same}
 use Rattle.broker_types.specs.Map.{Map, get, len, put, without, keep, with_values, map_values, change, first_where, entries, empty}
 use Rattle.broker_types.specs.Name.{is_name, is_mount_name}
 use Rattle.broker_types.specs.Token.{Token, Tokens, Lease}
-use Rattle.broker_types.specs.Lineage.{climb, lineage, is_under, without_descendants, without_parent, orphaned_by, outlasts, is_alive, alive_at, with_live_leases}
-use Rattle.broker_types.specs.Lineage.{ends_within}
+use Rattle.broker_types.specs.Lineage.{climb, lineage, is_under, without_descendants, without_parent, orphaned_by, outlasts, is_alive, alive_at}
+use Rattle.broker_types.specs.Lineage.{with_live_leases, ends_within}
 use Rattle.broker_types.specs.Broker.{Broker, Waiting, waiting_ends, at_moment}
 use Rattle.broker_types.specs.First.{root_token, first_broker}
 use Rattle.broker_types.specs.Sound.{is_ascending}

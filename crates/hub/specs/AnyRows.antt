@@ -1,7 +1,8 @@
 -- What an event does to the connections and to its reply, whatever rows the store has, also rows that
 -- represent no broker (this project's definition). It is the turn of the world with a listed response in
 -- place of the broker's.
-use Rattle.std.specs.Prelude.{◌≡◌, ◌⊎◌, ℕ, Bool, true, false, List, [], ◌∷◌, ◌++◌, Some, None, MatchBool, Result, Ok, Err}
+use Rattle.std.specs.Prelude.{◌≡◌, ◌⊎◌, ℕ, Bool, true, false, List, [], ◌∷◌, ◌++◌, Some, None, MatchBool}
+use Rattle.std.specs.Prelude.{Result, Ok, Err}
 use Rattle.std.specs.Prelude.{OnOk, Vec, ⊤}
 use Rattle.std.specs.declared.alloc.Global.{Global}
 use Rattle.broker_types.specs.Answer.{Response}

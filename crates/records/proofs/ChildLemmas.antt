@@ -1,6 +1,6 @@
 -- The children of a folder, one key after another.
-use Rattle.std.specs.Prelude.{◌≡◌, ◌<◌, ◌+◌, ◌-◌, ◌==◌, ℕ, suc, List, [], ◌∷◌, ◌++◌, map, filter, drop, take, length, slice_get, nat_eq, Bool, true, false, not}
-use Rattle.std.specs.Prelude.{cond, if◌then◌else◌, Option, Some, None}
+use Rattle.std.specs.Prelude.{◌≡◌, ◌<◌, ◌+◌, ◌==◌, ℕ, suc, List, [], ◌∷◌, ◌++◌, map, filter, drop, take, length, nat_eq, Bool, true, false, not}
+use Rattle.std.specs.Prelude.{cond, if◌then◌else◌}
 use Rattle.std.specs.List.{starts_with, position_or_len, prefix_len, before_first}
 use Rattle.std.proofs.Common.{refl, sym, ◌∙◌, ap, arith}
 use Rattle.std.proofs.Math.Seq.{take-append_seam}

@@ -1,9 +1,8 @@
 -- Children of folders, computed.
-use Rattle.std.specs.Prelude.{◌≡◌, [], ◌∷◌, List, map, codes, true, ⊤}
-use Rattle.std.specs.FinMap.{is_sorted}
+use Rattle.std.specs.Prelude.{◌≡◌, [], ◌∷◌, map, codes, ⊤}
 use Rattle.std.proofs.Common.{refl, sym}
-use Rattle.broker_types.specs.Text.{Text, text_cmp, same}
-use Rattle.records.specs.Children.{folder, child, children, children_in_order, member}
+use Rattle.broker_types.specs.Text.{same}
+use Rattle.records.specs.Children.{folder, child, children, member}
 use Rattle.records.proofs.ChildrenInOrder.{children_ordered}
 
 first_part : child (codes "b/c") ≡ codes "b/"

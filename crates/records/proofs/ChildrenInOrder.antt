@@ -1,5 +1,5 @@
 -- The children of keys in order are the set of them.
-use Rattle.std.specs.Prelude.{◌≡◌, ◌-◌, ◌⊎◌, ◌&&◌, ◌==◌, ℕ, List, [], ◌∷◌, ◌++◌, map, filter, drop, length, slice_get, nat_eq, Bool, true, false, cond}
+use Rattle.std.specs.Prelude.{◌≡◌, ◌-◌, ◌⊎◌, ◌==◌, List, [], ◌∷◌, ◌++◌, map, filter, drop, length, slice_get, nat_eq, Bool, true, false, cond}
 use Rattle.std.specs.Prelude.{if◌then◌else◌, Some, T, ⊤}
 use Rattle.std.specs.declared.cmp.Ordering.{Ordering}
 use Rattle.std.specs.declared.cmp.Ordering.TheVariants.{Less, Equal, Greater}
@@ -10,14 +10,14 @@ use Rattle.std.specs.Cmp.Lexicographic.{nat_list_cmp_total}
 use Rattle.std.specs.FinMap as fin
 use Rattle.std.specs.FinMap.{is_sorted, put}
 use Rattle.std.specs.FinMap.Entries.{below_all, by_order}
-use Rattle.std.proofs.Common.{refl, sym, ◌∙◌, ap, subst, append_assoc, arith, inl, inr, eqb→eq, length-append}
+use Rattle.std.proofs.Common.{refl, sym, ◌∙◌, ap, append_assoc, arith, inl, inr, length-append}
 use Rattle.std.proofs.Math.Seq.{get_or-append_seam}
-use Rattle.std.proofs.lemmas.Bool.{and_parts, false≢true, eqb-true}
+use Rattle.std.proofs.lemmas.Bool.{and_parts, false≢true}
 use Rattle.std.proofs.lemmas.List.{nil_from_length}
 use Rattle.std.proofs.lemmas.Option.{slice_get-get_or}
 use Rattle.broker_types.specs.Text.{Text, text_cmp, same}
 use Rattle.broker_types.specs.TextLaws.{same-text_cmp, same_self}
-use Rattle.records.specs.Children.{child, below, children, children_in_order, member, set_of, is_text, push_once, push_each}
+use Rattle.records.specs.Children.{child, below, children, children_in_order, member, set_of, is_text, push_each}
 use Rattle.records.specs.Splits.{slash}
 use Rattle.records.proofs.ChildLemmas.{begun}
 

@@ -29,11 +29,10 @@ use Rattle.records.specs.Table.{Table}
 use Rattle.records.specs.CubbyKeyLaws.{key_has_slash, key_token, key_path, length-token}
 use Rattle.records.specs.KeyEntry.{key_entry}
 use Rattle.records.specs.RowForms.{used_row, token_row, cubby_row, lease_row, key_row, version_row, waiting_row, mount_row, policy_row, role_row}
+use Rattle.records.specs.RangeLaws.{token_in_range, lease_in_range, key_in_range, version_in_range, waiting_in_range, role_in_range}
 use Rattle.records.specs.Rows.{rows_of, token_len, object_row, has_lease, padded, version_key, version_at, version_row_of}
 use Rattle.records.proofs.Digits.{version_of_digits-padded}
 use Rattle.records.proofs.SecretNames.{name_lacks}
-use Rattle.records.proofs.SoundRanges.{lease_in_range, key_in_range, version_in_range, waiting_in_range, role_in_range}
-use Rattle.records.proofs.TokenRanges.{token_in_range}
 use Rattle.records.proofs.RowLemmas.{clock_row-injective, cubby_row-injective, mount_row-injective, policy_row-injective, token_row-injective}
 use Rattle.records.proofs.RowLemmas.{role_row-injective, key_entry_row-injective, version_row-injective, lease_row-injective, waiting_row-injective}
 

@@ -1,7 +1,7 @@
 -- Which rows a part of a broker has: another value of the part leaves the rows of all other kinds (this project's).
 use Rattle.std.specs.Prelude.{◌≡◌, ℕ, true, false, ⊤, refl}
 use Rattle.std.proofs.Common.{sym, ◌∙◌, ap}
-use Rattle.std.proofs.lemmas.Bool.{false≢true}
+use Rattle.std.proofs.lemmas.Bool.{true≢false}
 use Rattle.broker_types.specs.Text.{Text}
 use Rattle.broker_types.specs.Map.{Map}
 use Rattle.broker_types.specs.Token.{Tokens}
@@ -33,135 +33,53 @@ joined_rows part old new b c was tells keeps agree = λ i k q. at k q i
 -- the rows that the tokens, with their cubbyholes and leases, have
 pub rows_of-other_tokens : (b : Broker) (x : Tokens) → AgreeOutside of_tokens_and_theirs b (record b { tokens = x })
 unfolding rows_of
-rows_of-other_tokens b x kind.Clock q h = refl
-rows_of-other_tokens b x kind.Used q h = refl
-rows_of-other_tokens b x kind.Token q h = absurd (false≢true (sym h))
-rows_of-other_tokens b x kind.Accessor q h = absurd (false≢true (sym h))
-rows_of-other_tokens b x kind.Cubby q h = absurd (false≢true (sym h))
-rows_of-other_tokens b x kind.Lease q h = absurd (false≢true (sym h))
-rows_of-other_tokens b x kind.Credential q h = absurd (false≢true (sym h))
-rows_of-other_tokens b x kind.KvKey q h = refl
-rows_of-other_tokens b x kind.KvVersion q h = refl
-rows_of-other_tokens b x kind.Waiting q h = refl
-rows_of-other_tokens b x kind.Mount q h = refl
-rows_of-other_tokens b x kind.Policy q h = refl
-rows_of-other_tokens b x kind.Role q h = refl
+rows_of-other_tokens b x kind.Token q h = absurd (true≢false h)
+rows_of-other_tokens b x kind.Accessor q h = absurd (true≢false h)
+rows_of-other_tokens b x kind.Cubby q h = absurd (true≢false h)
+rows_of-other_tokens b x kind.Lease q h = absurd (true≢false h)
+rows_of-other_tokens b x kind.Credential q h = absurd (true≢false h)
+rows_of-other_tokens b x _ q h = refl
 
 -- the rows that the secrets have
 pub rows_of-other_secrets : (b : Broker) (x : Map Key) → AgreeOutside of_secrets b (record b { secrets = x })
 unfolding rows_of
-rows_of-other_secrets b x kind.Clock q h = refl
-rows_of-other_secrets b x kind.Used q h = refl
-rows_of-other_secrets b x kind.Token q h = refl
-rows_of-other_secrets b x kind.Accessor q h = refl
-rows_of-other_secrets b x kind.Cubby q h = refl
-rows_of-other_secrets b x kind.Lease q h = refl
-rows_of-other_secrets b x kind.Credential q h = refl
-rows_of-other_secrets b x kind.KvKey q h = absurd (false≢true (sym h))
-rows_of-other_secrets b x kind.KvVersion q h = absurd (false≢true (sym h))
-rows_of-other_secrets b x kind.Waiting q h = refl
-rows_of-other_secrets b x kind.Mount q h = refl
-rows_of-other_secrets b x kind.Policy q h = refl
-rows_of-other_secrets b x kind.Role q h = refl
+rows_of-other_secrets b x kind.KvKey q h = absurd (true≢false h)
+rows_of-other_secrets b x kind.KvVersion q h = absurd (true≢false h)
+rows_of-other_secrets b x _ q h = refl
 
 -- the rows that the waiting responses have
 pub rows_of-other_waiting : (b : Broker) (x : Map Waiting) → AgreeOutside of_waiting b (record b { waiting = x })
 unfolding rows_of
-rows_of-other_waiting b x kind.Clock q h = refl
-rows_of-other_waiting b x kind.Used q h = refl
-rows_of-other_waiting b x kind.Token q h = refl
-rows_of-other_waiting b x kind.Accessor q h = absurd (false≢true (sym h))
-rows_of-other_waiting b x kind.Cubby q h = refl
-rows_of-other_waiting b x kind.Lease q h = refl
-rows_of-other_waiting b x kind.Credential q h = refl
-rows_of-other_waiting b x kind.KvKey q h = refl
-rows_of-other_waiting b x kind.KvVersion q h = refl
-rows_of-other_waiting b x kind.Waiting q h = absurd (false≢true (sym h))
-rows_of-other_waiting b x kind.Mount q h = refl
-rows_of-other_waiting b x kind.Policy q h = refl
-rows_of-other_waiting b x kind.Role q h = refl
+rows_of-other_waiting b x kind.Accessor q h = absurd (true≢false h)
+rows_of-other_waiting b x kind.Waiting q h = absurd (true≢false h)
+rows_of-other_waiting b x _ q h = refl
 
 -- the rows that the mounts have
 pub rows_of-other_mounts : (b : Broker) (x : Map Mount) → AgreeOutside of_mounts b (record b { mounts = x })
 unfolding rows_of
-rows_of-other_mounts b x kind.Clock q h = refl
-rows_of-other_mounts b x kind.Used q h = refl
-rows_of-other_mounts b x kind.Token q h = refl
-rows_of-other_mounts b x kind.Accessor q h = refl
-rows_of-other_mounts b x kind.Cubby q h = refl
-rows_of-other_mounts b x kind.Lease q h = refl
-rows_of-other_mounts b x kind.Credential q h = refl
-rows_of-other_mounts b x kind.KvKey q h = refl
-rows_of-other_mounts b x kind.KvVersion q h = refl
-rows_of-other_mounts b x kind.Waiting q h = refl
-rows_of-other_mounts b x kind.Mount q h = absurd (false≢true (sym h))
-rows_of-other_mounts b x kind.Policy q h = refl
-rows_of-other_mounts b x kind.Role q h = refl
+rows_of-other_mounts b x kind.Mount q h = absurd (true≢false h)
+rows_of-other_mounts b x _ q h = refl
 
 -- the rows that the policies have
 pub rows_of-other_policies : (b : Broker) (x : Map Text) → AgreeOutside of_policies b (record b { policies = x })
 unfolding rows_of
-rows_of-other_policies b x kind.Clock q h = refl
-rows_of-other_policies b x kind.Used q h = refl
-rows_of-other_policies b x kind.Token q h = refl
-rows_of-other_policies b x kind.Accessor q h = refl
-rows_of-other_policies b x kind.Cubby q h = refl
-rows_of-other_policies b x kind.Lease q h = refl
-rows_of-other_policies b x kind.Credential q h = refl
-rows_of-other_policies b x kind.KvKey q h = refl
-rows_of-other_policies b x kind.KvVersion q h = refl
-rows_of-other_policies b x kind.Waiting q h = refl
-rows_of-other_policies b x kind.Mount q h = refl
-rows_of-other_policies b x kind.Policy q h = absurd (false≢true (sym h))
-rows_of-other_policies b x kind.Role q h = refl
+rows_of-other_policies b x kind.Policy q h = absurd (true≢false h)
+rows_of-other_policies b x _ q h = refl
 
 -- the rows that the roles have
 pub rows_of-other_roles : (b : Broker) (x : Map Role) → AgreeOutside of_roles b (record b { roles = x })
 unfolding rows_of
-rows_of-other_roles b x kind.Clock q h = refl
-rows_of-other_roles b x kind.Used q h = refl
-rows_of-other_roles b x kind.Token q h = refl
-rows_of-other_roles b x kind.Accessor q h = refl
-rows_of-other_roles b x kind.Cubby q h = refl
-rows_of-other_roles b x kind.Lease q h = refl
-rows_of-other_roles b x kind.Credential q h = refl
-rows_of-other_roles b x kind.KvKey q h = refl
-rows_of-other_roles b x kind.KvVersion q h = refl
-rows_of-other_roles b x kind.Waiting q h = refl
-rows_of-other_roles b x kind.Mount q h = refl
-rows_of-other_roles b x kind.Policy q h = refl
-rows_of-other_roles b x kind.Role q h = absurd (false≢true (sym h))
+rows_of-other_roles b x kind.Role q h = absurd (true≢false h)
+rows_of-other_roles b x _ q h = refl
 
 -- the rows that the identifiers given out have
 pub rows_of-other_used : (b : Broker) (x : Map ⊤) → AgreeOutside of_used b (record b { used = x })
 unfolding rows_of
-rows_of-other_used b x kind.Clock q h = refl
-rows_of-other_used b x kind.Used q h = absurd (false≢true (sym h))
-rows_of-other_used b x kind.Token q h = refl
-rows_of-other_used b x kind.Accessor q h = refl
-rows_of-other_used b x kind.Cubby q h = refl
-rows_of-other_used b x kind.Lease q h = refl
-rows_of-other_used b x kind.Credential q h = refl
-rows_of-other_used b x kind.KvKey q h = refl
-rows_of-other_used b x kind.KvVersion q h = refl
-rows_of-other_used b x kind.Waiting q h = refl
-rows_of-other_used b x kind.Mount q h = refl
-rows_of-other_used b x kind.Policy q h = refl
-rows_of-other_used b x kind.Role q h = refl
+rows_of-other_used b x kind.Used q h = absurd (true≢false h)
+rows_of-other_used b x _ q h = refl
 
 -- the rows that the clock has
 pub rows_of-other_clock : (b : Broker) (x : ℕ) → AgreeOutside of_clock b (record b { clock = x })
 unfolding rows_of
-rows_of-other_clock b x kind.Clock q h = absurd (false≢true (sym h))
-rows_of-other_clock b x kind.Used q h = refl
-rows_of-other_clock b x kind.Token q h = refl
-rows_of-other_clock b x kind.Accessor q h = refl
-rows_of-other_clock b x kind.Cubby q h = refl
-rows_of-other_clock b x kind.Lease q h = refl
-rows_of-other_clock b x kind.Credential q h = refl
-rows_of-other_clock b x kind.KvKey q h = refl
-rows_of-other_clock b x kind.KvVersion q h = refl
-rows_of-other_clock b x kind.Waiting q h = refl
-rows_of-other_clock b x kind.Mount q h = refl
-rows_of-other_clock b x kind.Policy q h = refl
-rows_of-other_clock b x kind.Role q h = refl
+rows_of-other_clock b x kind.Clock q h = absurd (true≢false h)
+rows_of-other_clock b x _ q h = refl
