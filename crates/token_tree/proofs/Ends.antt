@@ -21,7 +21,7 @@ use Rattle.records.specs.TableLaws.{table_of-injective}
 use Rattle.records.specs.Table.{table_of}
 use Rattle.records.specs.TokenEntry.{token_entry}
 use Rattle.records.specs.Transaction.{Rows, rows_under}
-use Rattle.records.proofs.TokenRanges.{token_in_range}
+use Rattle.records.specs.RangeLaws.{token_in_range}
 use Rattle.records.specs.Children.{has}
 use Rattle.token_tree.specs.Ended.{has_come, is_named, IsDescent, Start}
 use Rattle.token_tree.specs.Tokens.{RepresentsTokens, AreEnded, has_ended, without_expired}

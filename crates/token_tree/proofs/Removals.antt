@@ -31,7 +31,7 @@ use Rattle.records.specs.TokenEntry.{TokenEntry, token_entry}
 use Rattle.records.specs.Ranges.{IsTokenInRange}
 use Rattle.records.specs.Transaction.{Rows}
 use Rattle.records.specs.TableLaws.{table_of-remove}
-use Rattle.records.proofs.TokenRanges.{token_in_range}
+use Rattle.records.specs.RangeLaws.{token_in_range}
 use Rattle.records.specs.Children.{has}
 use Rattle.token_tree.specs.Removed.{accessor_in, without_token, without_ended}
 use Rattle.token_tree.specs.Tokens.{has_accessor}

@@ -7,7 +7,7 @@ use Rattle.records.specs.RowForms.{token_row}
 use Rattle.records.specs.TokenEntry.{token_entry}
 use Rattle.broker_types.specs.OptionLaws.{mapped, mapped_none}
 use Rattle.records.specs.ValueLaws.{none_of}
-use Rattle.records.proofs.TokenRanges.{token_in_range}
+use Rattle.records.specs.RangeLaws.{token_in_range}
 use Rattle.token_tree.proofs.Singles.{token_row_at}
 use Rattle.token_tree.proofs.single.find.Goals as goal
 
