@@ -10,10 +10,12 @@ use Rattle.std.specs.Ordering.{eq_by_cmp}
 use Rattle.std.proofs.Common.{refl, sym, ◌∙◌, ap, subst, append_assoc}
 use Rattle.std.proofs.lemmas.List.Elements.{All-head, All-tail}
 use Rattle.broker_types.specs.Text.{Text, text_cmp, same}
-use Rattle.broker_types.specs.TextLaws.{same-text_cmp, same_self, same_equiv}
+use Rattle.broker_types.specs.TextLaws.{same-text_cmp, same_self, same_true, same_equiv}
 use Rattle.broker_types.specs.Map.{Map, get, entries, keys, first_where, with_values}
 use Rattle.broker_types.specs.MapLaws.{listing_is}
-use Rattle.broker_types.specs.SearchLaws.{each_entry}
+use Rattle.broker_types.specs.SearchLaws.{each_entry, first_where_is, first_where_only}
+use Rattle.broker_types.specs.OptionLaws.{mapped}
+use Rattle.broker_types.specs.Places.{OnePlaceEach}
 use Rattle.broker_types.specs.Token.{Token}
 use Rattle.broker_types.specs.Broker.{Broker, Waiting}
 use Rattle.records.specs.declared.holder.Holder.{Holder}
@@ -30,6 +32,7 @@ use Rattle.records.specs.Table.{table_of}
 use Rattle.records.specs.Transaction.{Rows, rows_under}
 use Rattle.token_tree.specs.Accessors.{IsAccessorRow, names_token, with_accessor, with_accessors}
 use Rattle.token_tree.specs.Tokens.{has_accessor, by_accessor, find_accessor, accessors_of}
+use Rattle.token_tree.proofs.Removals.{one_accessor}
 
 -- a search by key among entries that are made of a map's
 made_found : {X Y : Type 0} (q : Text) (key : X → Text) (value : Text × X → Y) (es : List (Text × X))
@@ -100,6 +103,19 @@ module _ (b : Broker) where
 
   token_found : (q : Text) → find_accessor b q ≡ option_map (λ e. e.0) (token_with q)
   token_found q = get-from_entries nat_list_cmp_total _ q ∙ made_found q (λ (x : Token). x.accessor) (λ e. e.0) (entries b.tokens)
+
+  -- the accessor of a token names it, where no two tokens have one accessor
+  pub names_token_of : OnePlaceEach b → (t : Text) (x : Token) → get b.tokens t ≡ Some x → find_accessor b x.accessor ≡ Some t
+  names_token_of one_place t x is =
+      token_found x.accessor
+      ∙ ap (option_map (λ e. e.0)) (first_where_only (has_accessor x.accessor) b.tokens t x (one_accessor b one_place x.accessor) is (same_self x.accessor))
+
+  -- and what it names has it
+  pub named_has : (t accessor : Text) → find_accessor b accessor ≡ Some t → (x : Token) × (get b.tokens t ≡ Some x) × (x.accessor ≡ accessor)
+  named_has t accessor named =
+      let e = mapped (λ e. e.0) (token_with accessor) t (sym (token_found accessor) ∙ named) in
+      let is = first_where_is (has_accessor accessor) b.tokens e.0 e.1 in
+      (e.0.1, ap (get b.tokens) e.2 ∙ is.0, same_true e.0.1.accessor accessor is.1)
 
   -- the rows of accessors
   pub row_named : (q : Text) → rows_of b kind.Accessor q ≡ option_map named_row (get all_named q)

@@ -34,9 +34,12 @@ abbrev pub joined : Broker → Text → Option (Text × Token) → Option Row
 joined b q o = or_else (option_map (λ e. accessor_row e.0 holder.Token) o) (waits b q)
 
 -- the row of a token
-pub token_row_at : (b : Broker) (rows : Rows) → Tells of_tokens (table_of rows) b → (t : Text) → fin.get rows (kind.Token, t) ≡ option_map token_row (get b.tokens t)
+pub row_told : (b : Broker) (table : Table) → Tells of_tokens table b → (t : Text) → table kind.Token t ≡ option_map token_row (get b.tokens t)
 unfolding rows_of
-token_row_at b rows tells t = tells kind.Token t refl
+row_told b table tells t = tells kind.Token t refl
+
+pub token_row_at : (b : Broker) (rows : Rows) → Tells of_tokens (table_of rows) b → (t : Text) → fin.get rows (kind.Token, t) ≡ option_map token_row (get b.tokens t)
+token_row_at b rows tells t = row_told b (table_of rows) tells t
 
 -- a part of two kinds
 pub by_kind : (P : Kind → Type 0) → P kind.Token → P kind.Accessor → (k : Kind) → of_tokens k ≡ true → P k

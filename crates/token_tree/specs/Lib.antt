@@ -1,6 +1,7 @@
 pub mod Accessors
 pub mod Ended
 pub mod EndedLaws
+pub mod Laws
 pub mod Orphaned
 pub mod Removed
 pub mod Starts

@@ -4,6 +4,7 @@
 mod by_accessor;
 mod descending;
 mod ending;
+mod laws;
 mod orphaning;
 mod revoking;
 mod single;
@@ -11,6 +12,7 @@ mod start;
 mod sweeping;
 
 pub use by_accessor::{accessors, find_accessor};
+pub use laws::{accessors_name_their_tokens, revoked_tokens_are_not_found, tokens_end_as_defined};
 pub use orphaning::revoke_one;
 pub use revoking::revoke;
 pub use single::{create, find, renew, spend};
