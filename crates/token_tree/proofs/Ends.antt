@@ -2,6 +2,7 @@
 use Rattle.std.specs.Prelude.{◌≡◌, ◌||◌, ℕ, List, [], ◌∷◌, Bool, true, false, not, None}
 use Rattle.std.specs.List.{AllByRecursion}
 use Rattle.std.proofs.Common.{refl, sym, ◌∙◌, ap, subst, inl, inr}
+use Rattle.std.proofs.Math.Bool.{not-not}
 use Rattle.broker_types.specs.Text.{Text}
 use Rattle.broker_types.specs.Map.{get, keep}
 use Rattle.broker_types.specs.Broker.{Broker, revoke}
@@ -31,10 +32,6 @@ use Rattle.token_tree.proofs.Fates.{IsFate, fated, under_fate, expired_fate}
 use Rattle.token_tree.proofs.Listed.{each_listed, lists_tokens}
 use Rattle.token_tree.proofs.Removals.{tells_kept, tells_changed}
 
-not_not : (b : Bool) → b ≡ not (not b)
-not_not true = refl
-not_not false = refl
-
 module _ (forms : Forms) (b : Broker) (rows : Rows) (stands : RepresentsTokens forms (table_of rows) b) where
   unnamed : get b.tokens [] ≡ None
   unnamed = elim (found_or_not (get b.tokens [])) [
@@ -46,10 +43,12 @@ module _ (forms : Forms) (b : Broker) (rows : Rows) (stands : RepresentsTokens f
       no_text h = absurd (let e = h.2 in cc)
 
   pub readable : (es : List (RowKey × Row)) → es ≡ rows_under rows kind.Token [] → AllByRecursion IsTokenRow es
-  readable es listed = subst (AllByRecursion IsTokenRow) (sym (listed ∙ lists_tokens b rows stands.tells)) (each_listed b.tokens IsTokenRow (λ t x is. (token_entry x, token_in_range forms b.tokens stands.sound t x is, refl)))
+  readable es listed = subst (AllByRecursion IsTokenRow) (sym (listed ∙ lists_tokens b rows stands.tells))
+      (each_listed b.tokens IsTokenRow (λ t x is. (token_entry x, token_in_range forms b.tokens stands.sound t x is, refl)))
 
   module _ (s : Start) (gone : Text → Bool) (fate : IsFate b.tokens s gone) where
-    ends_exactly : (es : List (RowKey × Row)) (ended : List Text) → es ≡ rows_under rows kind.Token [] → IsDescent s es ended → (q : Text) → has ended q ≡ gone q
+    ends_exactly : (es : List (RowKey × Row)) (ended : List Text) → es ≡ rows_under rows kind.Token [] → IsDescent s es ended → (q : Text)
+        → has ended q ≡ gone q
     ends_exactly es ended listed down =
         fated b.tokens s gone fate stands.sound.chains_end unnamed ended (subst (λ l. IsDescent s l ended) (listed ∙ lists_tokens b rows stands.tells) down)
 
@@ -58,40 +57,53 @@ module _ (forms : Forms) (b : Broker) (rows : Rows) (stands : RepresentsTokens f
     each c goes es ended listed down = record { once = down.once; exact = λ q. ends_exactly es ended listed down q ∙ sym (goes q) }
 
     left : (es fs : List (RowKey × Row)) (ended : List Text) → es ≡ rows_under rows kind.Token [] → fs ≡ rows_under rows kind.Token [] → IsDescent s es ended
-        → (p : Text → Bool) → ((q : Text) → gone q ≡ not (p q)) → Tells of_tokens (table_of (without_ended ended fs rows)) (record b { tokens = keep p b.tokens })
+        → (p : Text → Bool) → ((q : Text) → gone q ≡ not (p q)) → Tells of_tokens (table_of (without_ended ended fs rows))
+        (record b { tokens = keep p b.tokens })
     left es fs ended listed again down p opposite =
-        subst (λ l. Tells of_tokens (table_of (without_ended ended l rows)) (record b { tokens = keep p b.tokens })) (sym (again ∙ lists_tokens b rows stands.tells))
+        subst (λ l. Tells of_tokens (table_of (without_ended ended l rows)) (record b { tokens = keep p b.tokens }))
+        (sym (again ∙ lists_tokens b rows stands.tells))
         (tells_kept forms b stands.sound stands.one_place ended p (λ q. ends_exactly es ended listed down q ∙ opposite q) rows stands.tells)
 
   -- ---- revocation
 
-  pub revoked_each : (t : Text) (es : List (RowKey × Row)) (ended : List Text) → es ≡ rows_under rows kind.Token [] → IsDescent (is_named t) es ended → AreEnded b (revoke b t) ended
+  pub revoked_each : (t : Text) (es : List (RowKey × Row)) (ended : List Text) → es ≡ rows_under rows kind.Token [] → IsDescent (is_named t) es ended
+      → AreEnded b (revoke b t) ended
   revoked_each t es ended listed down = each (is_named t) (λ q. is_under b.tokens q t) (under_fate b.tokens t stands.sound.chains_end) (revoke b t)
       (ended_by_revocation b t) es ended listed down
 
-  pub revoked_rows : (t : Text) (es fs : List (RowKey × Row)) (ended : List Text) → es ≡ rows_under rows kind.Token [] → fs ≡ rows_under rows kind.Token [] → IsDescent (is_named t) es ended
+  pub revoked_rows : (t : Text) (es fs : List (RowKey × Row)) (ended : List Text) → es ≡ rows_under rows kind.Token [] → fs ≡ rows_under rows kind.Token []
+      → IsDescent (is_named t) es ended
       → (new : Rows) → new ≡ without_ended ended fs rows → Tells of_tokens (table_of new) (revoke b t)
   revoked_rows t es fs ended listed again down new is =
       subst (λ m. Tells of_tokens (table_of m) (revoke b t)) (sym is)
-      (left (is_named t) (λ q. is_under b.tokens q t) (under_fate b.tokens t stands.sound.chains_end) es fs ended listed again down (λ q. not (is_under b.tokens q t)) (λ q. not_not (is_under b.tokens q t)))
+      (left (is_named t) (λ q. is_under b.tokens q t) (under_fate b.tokens t stands.sound.chains_end) es fs ended listed again down
+      (λ q. not (is_under b.tokens q t)) (λ q. sym (not-not (is_under b.tokens q t))))
 
   -- ---- expiry
 
-  pub swept_each : (now : ℕ) (es : List (RowKey × Row)) (ended : List Text) → es ≡ rows_under rows kind.Token [] → IsDescent (has_come now) es ended → AreEnded b (without_expired b now) ended
+  pub swept_each : (now : ℕ) (es : List (RowKey × Row)) (ended : List Text) → es ≡ rows_under rows kind.Token [] → IsDescent (has_come now) es ended
+      → AreEnded b (without_expired b now) ended
   swept_each now es ended listed down = each (has_come now) (λ q. not (is_alive now b.tokens q)) (expired_fate now b.tokens stands.sound.chains_end)
       (without_expired b now) (ended_by_now b now) es ended listed down
 
-  pub swept_rows : (now : ℕ) (es fs : List (RowKey × Row)) (ended : List Text) → es ≡ rows_under rows kind.Token [] → fs ≡ rows_under rows kind.Token [] → IsDescent (has_come now) es ended
+  pub swept_rows : (now : ℕ) (es fs : List (RowKey × Row)) (ended : List Text) → es ≡ rows_under rows kind.Token [] → fs ≡ rows_under rows kind.Token []
+      → IsDescent (has_come now) es ended
       → (new : Rows) → new ≡ without_ended ended fs rows → Tells of_tokens (table_of new) (without_expired b now)
   swept_rows now es fs ended listed again down new is k q h =
       ap (λ m. table_of m k q) is
-      ∙ left (has_come now) (λ q. not (is_alive now b.tokens q)) (expired_fate now b.tokens stands.sound.chains_end) es fs ended listed again down (is_alive now b.tokens) (λ q. refl) k q h
+      ∙ left (has_come now) (λ q. not (is_alive now b.tokens q)) (expired_fate now b.tokens stands.sound.chains_end) es fs ended listed again down
+      (is_alive now b.tokens) (λ q. refl) k q h
       ∙ tells_changed (record b { tokens = keep (is_alive now b.tokens) b.tokens }) (with_live_leases now) (λ x. refl) (λ x. refl) k q h
 
   -- by an unknown text nothing ends
-  pub revoked_unknown : (t : Text) → get b.tokens t ≡ None → (new : Rows) → Tells of_tokens (table_of new) (revoke b t) → KeepsOthers of_tokens (table_of rows) (table_of new)
+  pub revoked_unknown : (t : Text) → get b.tokens t ≡ None → (new : Rows) → Tells of_tokens (table_of new) (revoke b t)
+      → KeepsOthers of_tokens (table_of rows) (table_of new)
       → (ended : List Text) → AreEnded b (revoke b t) ended → (ended ≡ []) × (new ≡ rows)
-  revoked_unknown t none new after others ended each = (no_one ended (λ q. each.exact q ∙ ended_by_revocation b t q), table_of-injective new rows (λ i k q. at k q (of_tokens k) refl i))
+  revoked_unknown t none new after others ended each = (
+    no_one ended (λ q. each.exact q ∙ ended_by_revocation b t q),
+    table_of-injective new rows
+        (λ i k q. at k q (of_tokens k) refl i),
+  )
     where
       no_one : (list : List Text) → ((q : Text) → has list q ≡ is_under b.tokens q t) → list ≡ []
       no_one [] exact = refl

@@ -1,5 +1,6 @@
 -- What the passes collect is what ends: what does so by itself, and each child of what ends.
-use Rattle.std.specs.Prelude.{◌≡◌, ℕ, zero, suc, List, [], Bool, true, false, not, ◌&&◌, ◌||◌, nat_lt, nat_le, Option, Some, None, unwrap_or, is_none, option_and_then}
+use Rattle.std.specs.Prelude.{◌≡◌, ℕ, zero, suc, List, [], Bool, true, false, not, ◌&&◌, ◌||◌, nat_lt, nat_le, Option, Some, None, unwrap_or, is_none}
+use Rattle.std.specs.Prelude.{option_and_then}
 use Rattle.std.specs.List.{list_any, list_all}
 use Rattle.std.specs.Option.{option_map_or}
 use Rattle.std.proofs.Common.{refl, sym, ◌∙◌, ap, inl, inr, arith}
@@ -8,7 +9,7 @@ use Rattle.broker_types.specs.Text.{Text, same}
 use Rattle.broker_types.specs.Map.{get, len}
 use Rattle.broker_types.specs.Token.{Token, Tokens}
 use Rattle.broker_types.specs.Lineage.{lineage, is_under, is_alive, outlasts, ends_within, ChainsEnd}
-use Rattle.std.proofs.lemmas.Bool.{false≢true, or_right}
+use Rattle.std.proofs.lemmas.Bool.{false≢true, or_left, or_right}
 use Rattle.broker_types.specs.OptionLaws.{found_or_not}
 use Rattle.broker_types.specs.TreeLaws.{lineage_none, lineage_orphan, lineage_child}
 use Rattle.records.specs.Children.{has}
@@ -25,15 +26,12 @@ both_ways true b f g = sym (f refl)
 both_ways false true f g = g refl
 both_ways false false f g = refl
 
-or_left : (a b : Bool) → a ≡ true → (a || b) ≡ true
-or_left true b e = refl
-or_left false b e = absurd (false≢true e)
+is_nothing : {X : Type 0} (o : Option X) → is_none o ≡ true → o ≡ None
+is_nothing None h = refl
+is_nothing (Some x) h = absurd (false≢true h)
 
-none_of : {X : Type 0} (o : Option X) → is_none o ≡ true → o ≡ None
-none_of None h = refl
-none_of (Some x) h = absurd (false≢true h)
-
-module _ (ts : Tokens) (s : Start) (gone : Text → Bool) (fate : IsFate ts s gone) (chains : ChainsEnd ts) (unnamed : get ts [] ≡ None) (ended : List Text) (down : IsDescent s (listing ts) ended) where
+module _ (ts : Tokens) (s : Start) (gone : Text → Bool) (fate : IsFate ts s gone) (chains : ChainsEnd ts) (unnamed : get ts [] ≡ None) (ended : List Text)
+    (down : IsDescent s (listing ts) ended) where
   starts_at : (t : Text) (x : Token) → get ts t ≡ Some x → s (node t x) ≡ true → gone t ≡ true
   starts_at t x is h = fate.known t x is ∙ or_left _ _ h
 
@@ -52,7 +50,8 @@ module _ (ts : Tokens) (s : Start) (gone : Text → Bool) (fate : IsFate ts s go
       settle true b e m = refl
       settle false b e m = absurd (false≢true (sym e ∙ m))
 
-  moved : (q : Text) (x : Token) (within : Text → Bool) → ((p : Text) → within p ≡ true → gone p ≡ true → has ended p ≡ true) → option_map_or within x.parent true ≡ true
+  moved : (q : Text) (x : Token) (within : Text → Bool) → ((p : Text) → within p ≡ true → gone p ≡ true → has ended p ≡ true)
+      → option_map_or within x.parent true ≡ true
       → (s (node q x) || option_map_or gone x.parent false) ≡ true → (s (node q x) || has ended (unwrap_or x.parent [])) ≡ true
   moved q x within later above v =
       elim (s (node q x)) as (λ b. (b || option_map_or gone x.parent false) ≡ true → (b || has ended (unwrap_or x.parent [])) ≡ true) [
@@ -64,17 +63,20 @@ module _ (ts : Tokens) (s : Start) (gone : Text → Bool) (fate : IsFate ts s go
       ] v
 
   reached : (n : ℕ) (q : Text) → ends_within n ts q ≡ true → gone q ≡ true → has ended q ≡ true
-  reached zero q within h = absurd (false≢true (sym (fate.unknown q (none_of _ within)) ∙ h))
+  reached zero q within h = absurd (false≢true (sym (fate.unknown q (is_nothing _ within)) ∙ h))
   reached (suc n) q within h =
       elim (found_or_not (get ts q)) [
         | inl none ↦ absurd (false≢true (sym (fate.unknown q none) ∙ h))
-        | inr x ↦ into q x.0 x.1 (moved q x.0 (ends_within n ts) (reached n) (sym (ap (λ o. option_map_or (λ (x : Token). option_map_or (ends_within n ts) x.parent true) o true) x.1) ∙ within) (sym (fate.known q x.0 x.1) ∙ h))
+        | inr x ↦ into q x.0 x.1 (moved q x.0 (ends_within n ts) (reached n)
+            (sym (ap (λ o. option_map_or (λ (x : Token). option_map_or (ends_within n ts) x.parent true) o true) x.1) ∙ within)
+            (sym (fate.known q x.0 x.1) ∙ h))
       ]
 
   pub fated : (q : Text) → has ended q ≡ gone q
   fated q =
       both_ways _ _
-      (down.least gone (each_listed ts (λ e. s e ≡ true → gone e.0.1 ≡ true) starts_at) (each_listed ts (λ e. gone e.1.owner ≡ true → gone e.0.1 ≡ true) closed_at) q)
+      (down.least gone (each_listed ts (λ e. s e ≡ true → gone e.0.1 ≡ true) starts_at)
+      (each_listed ts (λ e. gone e.1.owner ≡ true → gone e.0.1 ≡ true) closed_at) q)
       (reached (len ts) q (chains q))
 
 -- ---- revocation
@@ -85,9 +87,11 @@ under_fate ts t chains = record {
   known = λ q x is. at q x is x.parent refl;
 }
   where
-    at : (q : Text) (x : Token) → get ts q ≡ Some x → (p : Option Text) → x.parent ≡ p → is_under ts q t ≡ (same t q || option_map_or (λ p. is_under ts p t) x.parent false)
+    at : (q : Text) (x : Token) → get ts q ≡ Some x → (p : Option Text) → x.parent ≡ p
+        → is_under ts q t ≡ (same t q || option_map_or (λ p. is_under ts p t) x.parent false)
     at q x is None ip = ap (list_any (same t)) (lineage_orphan ts q x is ip) ∙ sym (ap (λ o. same t q || option_map_or (λ p. is_under ts p t) o false) ip)
-    at q x is (Some p) ip = ap (list_any (same t)) (lineage_child ts q p x chains is ip) ∙ sym (ap (λ o. same t q || option_map_or (λ p. is_under ts p t) o false) ip)
+    at q x is (Some p) ip = ap (list_any (same t)) (lineage_child ts q p x chains is ip)
+        ∙ sym (ap (λ o. same t q || option_map_or (λ p. is_under ts p t) o false) ip)
 
 -- ---- expiry
 

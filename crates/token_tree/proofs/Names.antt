@@ -1,5 +1,6 @@
 -- The rows of accessors, and the tokens that they name.
-use Rattle.std.specs.Prelude.{◌≡◌, List, [], ◌∷◌, ◌++◌, Bool, true, false, cond, if◌then◌else◌, Option, Some, None, option_map, option_and_then, map, filter, All, T}
+use Rattle.std.specs.Prelude.{◌≡◌, List, [], ◌∷◌, ◌++◌, Bool, true, false, cond, if◌then◌else◌, Option, Some, None, option_map, option_and_then, map, filter}
+use Rattle.std.specs.Prelude.{All, T}
 use Rattle.std.specs.Cmp.Lexicographic.{nat_list_cmp_total}
 use Rattle.std.specs.FinMap as fin
 use Rattle.std.specs.FinMap.{find, is_sorted, from_entries, get-from_entries, get-entries, entries_sorted, slice_cmp-IsAntisymmetric, nat_cmp-IsAntisymmetric}
@@ -8,6 +9,7 @@ use Rattle.std.specs.List.{AllByRecursion, find as first}
 use Rattle.std.specs.Option.{option_map_or}
 use Rattle.std.specs.Ordering.{eq_by_cmp}
 use Rattle.std.proofs.Common.{refl, sym, ◌∙◌, ap, subst, append_assoc}
+use Rattle.std.proofs.lemmas.List.{append-nil}
 use Rattle.std.proofs.lemmas.List.Elements.{All-head, All-tail}
 use Rattle.broker_types.specs.Text.{Text, text_cmp, same}
 use Rattle.broker_types.specs.TextLaws.{same-text_cmp, same_self, same_true, same_equiv}
@@ -99,7 +101,8 @@ module _ (b : Broker) where
   all_found q =
       get-from_entries nat_list_cmp_total _ q
       ∙ find-append q (map (λ e. (e.1.accessor, of_token e)) (entries b.tokens)) (map (λ e. (e.1.accessor, of_waiting e)) (entries b.waiting))
-      ∙ (λ i. or_else (made_found q (λ (x : Token). x.accessor) of_token (entries b.tokens) i) (made_found q (λ (w : Waiting). w.accessor) of_waiting (entries b.waiting) i))
+      ∙ (λ i. or_else (made_found q (λ (x : Token). x.accessor) of_token (entries b.tokens) i)
+      (made_found q (λ (w : Waiting). w.accessor) of_waiting (entries b.waiting) i))
 
   token_found : (q : Text) → find_accessor b q ≡ option_map (λ e. e.0) (token_with q)
   token_found q = get-from_entries nat_list_cmp_total _ q ∙ made_found q (λ (x : Token). x.accessor) (λ e. e.0) (entries b.tokens)
@@ -152,11 +155,7 @@ module _ (b : Broker) where
 
   gathered : (es : List (Text × Named)) → All (λ e. get all_named e.0 ≡ Some e.1) es → (names : List Text)
       → with_accessors (map placed es) names ≡ names ++ map (λ e. e.0) (where_key text_cmp passes es)
-  gathered [] all names = sym (append_nil names)
-    where
-      append_nil : (xs : List Text) → xs ++ [] ≡ xs
-      append_nil [] = refl
-      append_nil (x ∷ xs) = ap (λ l. x ∷ l) (append_nil xs)
+  gathered [] all names = sym (append-nil names)
   gathered (e ∷ es) all names =
       ap (λ v. with_accessors (map placed es) (if v then names ++ e.0 ∷ [] else names))
       (names_token_is e.1 ∙ sym (ap (λ o. option_map_or (λ (x : Named). is_of_token x.1) o false) (All-head (λ e. get all_named e.0 ≡ Some e.1) e es all)))

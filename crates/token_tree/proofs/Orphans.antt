@@ -1,7 +1,9 @@
 -- The rows of tokens after one of them is revoked alone.
-use Rattle.std.specs.Prelude.{◌≡◌, List, [], ◌∷◌, Bool, true, false, not, cond, ◌&&◌, ◌||◌, if◌then◌else◌, Option, Some, None, option_map, option_and_then, unwrap_or, is_some, is_none, map}
+use Rattle.std.specs.Prelude.{◌≡◌, List, [], ◌∷◌, Bool, true, false, not, cond, ◌&&◌, ◌||◌, if◌then◌else◌, Option, Some, None, option_map, option_and_then}
+use Rattle.std.specs.Prelude.{unwrap_or, is_some, is_none, map}
 use Rattle.std.specs.List.{list_any, find, IsDistinct}
 use Rattle.std.specs.FinMap as fin
+use Rattle.std.proofs.Math.Bool.{and-false}
 use Rattle.std.proofs.Common.{refl, sym, ◌∙◌, ap, subst, inl, inr}
 use Rattle.broker_types.specs.Text.{Text, same}
 use Rattle.broker_types.specs.Map.{get, entries, keep, without, first_where, map_values}
@@ -44,16 +46,19 @@ parents_keep t [] rows k q h = refl
 parents_keep t (e ∷ es) rows k q h =
     parents_keep t es (if is_child t e then fin.insert rows (kind.Token, e.0.1) (without_owner e.1) else rows) k q h
     ∙ elim (is_child t e) as (λ v. table_of (if v then fin.insert rows (kind.Token, e.0.1) (without_owner e.1) else rows) k q ≡ table_of rows k q) [
-      | true ↦ ap (λ (table : Table). table k q) (table_of-insert rows kind.Token e.0.1 (without_owner e.1)) ∙ put_keeps (table_of rows) e.0.1 (without_owner e.1) k q h
+      | true ↦ ap (λ (table : Table). table k q) (table_of-insert rows kind.Token e.0.1 (without_owner e.1))
+          ∙ put_keeps (table_of rows) e.0.1 (without_owner e.1) k q h
       | false ↦ refl
     ]
 
 -- and so do accessors
-pub parents_accessors : (t : Text) (es : List (RowKey × Row)) (rows : Rows) (q : Text) → table_of (without_parent t es rows) kind.Accessor q ≡ table_of rows kind.Accessor q
+pub parents_accessors : (t : Text) (es : List (RowKey × Row)) (rows : Rows) (q : Text)
+    → table_of (without_parent t es rows) kind.Accessor q ≡ table_of rows kind.Accessor q
 parents_accessors t [] rows q = refl
 parents_accessors t (e ∷ es) rows q =
     parents_accessors t es (if is_child t e then fin.insert rows (kind.Token, e.0.1) (without_owner e.1) else rows) q
-    ∙ elim (is_child t e) as (λ v. table_of (if v then fin.insert rows (kind.Token, e.0.1) (without_owner e.1) else rows) kind.Accessor q ≡ table_of rows kind.Accessor q) [
+    ∙ elim (is_child t e) as (λ v. table_of (if v then fin.insert rows (kind.Token, e.0.1) (without_owner e.1) else rows) kind.Accessor q
+    ≡ table_of rows kind.Accessor q) [
       | true ↦ ap (λ (table : Table). table kind.Accessor q) (table_of-insert rows kind.Token e.0.1 (without_owner e.1))
       | false ↦ refl
     ]
@@ -76,21 +81,26 @@ module _ (ts : Tokens) (t : Text) where
   edits q u x = is_child t (node u x) && same q u
 
   edited : (es : List (Text × Token)) → All (λ e. get ts e.0 ≡ Some e.1) es → (rows : Rows) (q : Text)
-      → table_of (without_parent t (map (λ e. node e.0 e.1) es) rows) kind.Token q ≡ (if list_any (λ e. edits q e.0 e.1) es then written q else table_of rows kind.Token q)
+      → table_of (without_parent t (map (λ e. node e.0 e.1) es) rows) kind.Token q
+      ≡ (if list_any (λ e. edits q e.0 e.1) es then written q else table_of rows kind.Token q)
   edited [] all rows q = refl
   edited (e ∷ es) all rows q =
-      edited es (All-tail (λ e. get ts e.0 ≡ Some e.1) e es all) (if is_child t (node e.0 e.1) then fin.insert rows (kind.Token, e.0) (orphan_row e.1) else rows) q
+      edited es (All-tail (λ e. get ts e.0 ≡ Some e.1) e es all)
+      (if is_child t (node e.0 e.1) then fin.insert rows (kind.Token, e.0) (orphan_row e.1) else rows) q
       ∙ ap (λ o. if list_any (λ e. edits q e.0 e.1) es then written q else o) one
       ∙ turned (list_any (λ e. edits q e.0 e.1) es) (edits q e.0 e.1) (written q) (table_of rows kind.Token q)
     where
       value : same q e.0 ≡ true → Some (orphan_row e.1) ≡ written q
       value at = sym (ap (option_map orphan_row) (ap (get ts) (same_true q e.0 at) ∙ All-head (λ e. get ts e.0 ≡ Some e.1) e es all))
 
-      one : table_of (if is_child t (node e.0 e.1) then fin.insert rows (kind.Token, e.0) (orphan_row e.1) else rows) kind.Token q ≡ (if edits q e.0 e.1 then written q else table_of rows kind.Token q)
+      one : table_of (if is_child t (node e.0 e.1) then fin.insert rows (kind.Token, e.0) (orphan_row e.1) else rows) kind.Token q
+          ≡ (if edits q e.0 e.1 then written q else table_of rows kind.Token q)
       one =
-          elim (is_child t (node e.0 e.1)) as (λ v. table_of (if v then fin.insert rows (kind.Token, e.0) (orphan_row e.1) else rows) kind.Token q ≡ (if (v && same q e.0) then written q else table_of rows kind.Token q)) [
+          elim (is_child t (node e.0 e.1)) as (λ v. table_of (if v then fin.insert rows (kind.Token, e.0) (orphan_row e.1) else rows) kind.Token q
+          ≡ (if (v && same q e.0) then written q else table_of rows kind.Token q)) [
             | true ↦ ap (λ (table : Table). table kind.Token q) (table_of-insert rows kind.Token e.0 (orphan_row e.1))
-                ∙ elim (same q e.0) as (λ v. same q e.0 ≡ v → (if v then Some (orphan_row e.1) else table_of rows kind.Token q) ≡ (if v then written q else table_of rows kind.Token q)) [
+                ∙ elim (same q e.0) as (λ v. same q e.0 ≡ v → (if v then Some (orphan_row e.1) else table_of rows kind.Token q)
+                ≡ (if v then written q else table_of rows kind.Token q)) [
                   | true ↦ λ at. value at
                   | false ↦ λ _. refl
                 ] refl
@@ -128,7 +138,8 @@ module _ (ts : Tokens) (t : Text) where
       same_parent : x.parent ≡ option_and_then (λ p. if same p t then None else Some p) x.parent
       same_parent = at x.parent h
 
-  token_orphaned : (q : Text) → (if is_some (first_where (edits q) ts) then written q else option_map token_row (get others q)) ≡ option_map token_row (option_map (orphaned_by t) (get others q))
+  token_orphaned : (q : Text) → (if is_some (first_where (edits q) ts) then written q else option_map token_row (get others q))
+      ≡ option_map token_row (option_map (orphaned_by t) (get others q))
   token_orphaned q =
       elim (found_or_not (first_where (edits q) ts)) [
         | inr found ↦
@@ -137,7 +148,8 @@ module _ (ts : Tokens) (t : Text) where
             let child = and_parts (same (unwrap_or found.0.1.parent []) t) (not (same found.0.0 t)) two.0 in
             let at : q ≡ found.0.0 = same_true q found.0.0 two.1 in
             let here : get ts q ≡ Some found.0.1 = ap (get ts) at ∙ is.0 in
-            let stays : get others q ≡ Some found.0.1 = get-keep (λ q. not (same q t)) ts q ∙ (λ i. cond ((ap (λ u. not (same u t)) at ∙ child.1) i) (here i) None) in
+            let stays : get others q ≡ Some found.0.1 = get-keep (λ q. not (same q t)) ts q
+            ∙ (λ i. cond ((ap (λ u. not (same u t)) at ∙ child.1) i) (here i) None) in
             ap (λ o. if is_some o then written q else option_map token_row (get others q)) found.1
             ∙ ap (option_map orphan_row) here
             ∙ ap Some (child_row found.0.1 child.0)
@@ -149,7 +161,8 @@ module _ (ts : Tokens) (t : Text) where
               | inr x ↦
                   let stood = kept q x.0 x.1 in
                   let fails = first_where_none (edits q) ts q x.0 none stood.0 in
-                  let apart : same (unwrap_or x.0.parent []) t ≡ false = unchild (same (unwrap_or x.0.parent []) t) (not (same q t)) (same q q) stood.1 (same_self q) fails in
+                  let apart : same (unwrap_or x.0.parent []) t ≡ false = unchild (same (unwrap_or x.0.parent []) t) (not (same q t)) (same q q) stood.1
+                  (same_self q) fails in
                   ap (option_map token_row) x.1 ∙ ap Some (stranger_row x.0 apart) ∙ sym (ap (λ o. option_map token_row (option_map (orphaned_by t) o)) x.1)
             ]
       ]
@@ -178,18 +191,22 @@ pub tells_orphaned : (b : Broker) (t : Text) (rows : Rows) → Tells of_tokens (
     → Tells of_tokens (table_of (without_parent t (listing b.tokens) rows)) (revoke_orphan b t)
 unfolding rows_of
 tells_orphaned b t rows tells k q h =
-    by_kind (λ k. table_of (without_parent t (listing b.tokens) rows) k q ≡ rows_of (record b { tokens = map_values (λ q. orphaned_by t) (keep (λ q. not (same q t)) b.tokens) }) k q)
+    by_kind (λ k. table_of (without_parent t (listing b.tokens) rows) k q
+    ≡ rows_of (record b { tokens = map_values (λ q. orphaned_by t) (keep (λ q. not (same q t)) b.tokens) }) k q)
     (edited b.tokens t (entries b.tokens) (each_entry (λ e. get b.tokens e.0 ≡ Some e.1) b.tokens (λ u x is. is)) rows q
     ∙ (λ i. if edited-first b.tokens t q i then option_map (λ x. record (token_row x) { owner = [] }) (get b.tokens q) else tells kind.Token q refl i)
     ∙ token_orphaned b.tokens t q
     ∙ ap (option_map token_row) (sym (get-map_values (λ q. orphaned_by t) (keep (λ q. not (same q t)) b.tokens) q)))
     (parents_accessors t (listing b.tokens) rows q ∙ tells kind.Accessor q refl
     ∙ sym (ap (joined b q) (first_where-map_values (λ q. orphaned_by t) (has_accessor q) (has_accessor q) (keep (λ q. not (same q t)) b.tokens) (λ u x. refl))
-    ∙ ap (λ o. or_else o (waits b q)) (mapped_unseen (λ (e : Text × Token). accessor_row e.0 holder.Token) (λ e. (e.0, orphaned_by t e.1)) (λ e. refl) (first_where (has_accessor q) (keep (λ q. not (same q t)) b.tokens)))))
+    ∙ ap (λ o. or_else o (waits b q))
+    (mapped_unseen (λ (e : Text × Token). accessor_row e.0 holder.Token) (λ e. (e.0, orphaned_by t e.1)) (λ e. refl)
+    (first_where (has_accessor q) (keep (λ q. not (same q t)) b.tokens)))))
     k h
     ∙ ap (λ ts. rows_of (record b { tokens = map_values (λ q. orphaned_by t) ts }) k q) (sym (without-kept b.tokens t))
 
-pub revoked_one : (forms : Forms) (b : Broker) (rows : Rows) → RepresentsTokens forms (table_of rows) b → (t : Text) (es fs : List (RowKey × Row)) (ended : List Text)
+pub revoked_one : (forms : Forms) (b : Broker) (rows : Rows) → RepresentsTokens forms (table_of rows) b
+    → (t : Text) (es fs : List (RowKey × Row)) (ended : List Text)
     → es ≡ rows_under rows kind.Token [] → fs ≡ rows_under rows kind.Token [] → ended ≡ t ∷ []
     → (mid : Rows) → mid ≡ without_ended ended es rows → (new : Rows) → new ≡ without_parent t fs mid → Tells of_tokens (table_of new) (revoke_orphan b t)
 revoked_one forms b rows stands t es fs ended listed again one mid is_mid new is_new =
@@ -237,13 +254,9 @@ module _ (forms : Forms) (b : Broker) (rows : Rows) (stands : RepresentsTokens f
     once = alone;
     exact = λ q. elim (same q t) as (λ v. same q t ≡ v → (v || false) ≡ (is_some (get b.tokens q) && v)) [
       | true ↦ λ at. sym (ap (λ o. is_some o && true) (ap (get b.tokens) (same_true q t at) ∙ (is_token r is).1))
-      | false ↦ λ _. sym (and_false (is_some (get b.tokens q)))
+      | false ↦ λ _. sym (and-false (is_some (get b.tokens q)))
     ] refl ∙ sym (ended_by_revocation_alone b t q);
   })
     where
-      and_false : (v : Bool) → (v && false) ≡ false
-      and_false true = refl
-      and_false false = refl
-
       alone : IsDistinct same (t ∷ [])
       alone = IsDistinct-push same_equiv [] t nobody refl

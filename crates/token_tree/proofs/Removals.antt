@@ -1,5 +1,6 @@
 -- The table without the rows of tokens that ended.
-use Rattle.std.specs.Prelude.{◌≡◌, ◌<◌, ◌^◌, ◌++◌, ℕ, List, [], ◌∷◌, Bool, true, false, not, cond, ◌&&◌, ◌||◌, Option, Some, None, option_map, is_some, length, take, map, if◌then◌else◌}
+use Rattle.std.specs.Prelude.{◌≡◌, ◌<◌, ◌^◌, ◌++◌, ℕ, List, [], ◌∷◌, Bool, true, false, not, cond, ◌&&◌, ◌||◌, Option, Some, None, option_map, is_some, length}
+use Rattle.std.specs.Prelude.{take, map, if◌then◌else◌}
 use Rattle.std.specs.List.{list_any, find}
 use Rattle.std.specs.FinMap as fin
 use Rattle.std.specs.Int.{w32, to_be_bytes, from_be_bytes}
@@ -12,6 +13,7 @@ use Rattle.broker_types.specs.Token.{Token, Tokens}
 use Rattle.broker_types.specs.Broker.{Broker, Waiting}
 use Rattle.broker_types.specs.Sound.{Forms, SoundTokens}
 use Rattle.broker_types.specs.Places.{Place, token, accessor, lease, credential, wrapping_token, wrapping_accessor, OnePlaceEach}
+use Rattle.std.proofs.Math.Bool.{or-false}
 use Rattle.std.proofs.lemmas.Bool.{false≢true, and_parts}
 use Rattle.broker_types.specs.OptionLaws.{found_or_not}
 use Rattle.broker_types.specs.MapLaws.{get-keep, get-map_values, first_where-map_values}
@@ -41,12 +43,14 @@ use Rattle.token_tree.proofs.Listed.{node, listing}
 
 text_first : (a p q r s : List ℕ) → length a < 2 ^ 32 → take (from_be_bytes w32 (to_be_bytes w32 (length a))) (a ++ p ++ q ++ r ++ s) ≡ a
 text_first a p q r s short =
-    let one : a ++ p ++ q ++ r ++ s ≡ a ++ (p ++ q ++ r ++ s) = ap (λ l. l ++ r ++ s) (append_assoc a p q) ∙ ap (λ l. l ++ s) (append_assoc a (p ++ q) r) ∙ append_assoc a (p ++ q ++ r) s in
+    let one : a ++ p ++ q ++ r ++ s ≡ a ++ (p ++ q ++ r ++ s) = ap (λ l. l ++ r ++ s) (append_assoc a p q) ∙ ap (λ l. l ++ s) (append_assoc a (p ++ q) r)
+    ∙ append_assoc a (p ++ q ++ r) s in
     ap (λ n. take n (a ++ p ++ q ++ r ++ s)) (from_be_bytes-to_be_bytes_4 (length a) short) ∙ ap (take (length a)) one ∙ take-append_seam a (p ++ q ++ r ++ s)
 
 pub accessor_told : (x : TokenEntry) → IsTokenInRange x → accessor_in (entry_row x) ≡ x.accessor
 unfolding count
-accessor_told x h = text_first x.accessor (listed text x.policies) (number x.issued ++ number x.ttl ++ number x.explicit_max_ttl ++ number x.period) (optional_field number x.uses_left) (listed pair x.meta) h.accessor.short
+accessor_told x h = text_first x.accessor (listed text x.policies) (number x.issued ++ number x.ttl ++ number x.explicit_max_ttl ++ number x.period)
+    (optional_field number x.uses_left) (listed pair x.meta) h.accessor.short
 
 -- ---- which rows are taken out
 
@@ -57,20 +61,18 @@ nested false b o = refl
 turned : {X : Type 0} (a b : Bool) (o : Option X) → (if a then None else (if b then None else o)) ≡ (if (b || a) then None else o)
 turned true true o = refl
 turned true false o = refl
-turned false b o = ap (λ v. if v then None else o) (or_false b)
-  where
-    or_false : (b : Bool) → b ≡ (b || false)
-    or_false true = refl
-    or_false false = refl
+turned false b o = ap (λ v. if v then None else o) (sym (or-false b))
 
 module _ (ended : List Text) where
   -- the removal of the entry takes the row out
   abbrev pub takes : Kind → Text → RowKey × Row → Bool
   takes k q e = has ended e.0.1 && (is_at kind.Token e.0.1 k q || is_at kind.Accessor (accessor_in e.1) k q)
 
-  one : (e : RowKey × Row) (rows : Rows) (k : Kind) (q : Text) → table_of (if has ended e.0.1 then without_token rows e else rows) k q ≡ (if takes k q e then None else table_of rows k q)
+  one : (e : RowKey × Row) (rows : Rows) (k : Kind) (q : Text) → table_of (if has ended e.0.1 then without_token rows e else rows) k q
+      ≡ (if takes k q e then None else table_of rows k q)
   one e rows k q =
-      elim (has ended e.0.1) as (λ v. table_of (if v then without_token rows e else rows) k q ≡ (if (v && (is_at kind.Token e.0.1 k q || is_at kind.Accessor (accessor_in e.1) k q)) then None else table_of rows k q)) [
+      elim (has ended e.0.1) as (λ v. table_of (if v then without_token rows e else rows) k q
+      ≡ (if (v && (is_at kind.Token e.0.1 k q || is_at kind.Accessor (accessor_in e.1) k q)) then None else table_of rows k q)) [
         | true ↦
             (λ i. table_of-remove (fin.remove rows (kind.Accessor, accessor_in e.1)) kind.Token e.0.1 i k q)
             ∙ (λ i. without_row (table_of-remove rows kind.Accessor (accessor_in e.1) i) kind.Token e.0.1 k q)
@@ -78,7 +80,8 @@ module _ (ended : List Text) where
         | false ↦ refl
       ]
 
-  pub table_of-without_ended : (es : List (RowKey × Row)) (rows : Rows) (k : Kind) (q : Text) → table_of (without_ended ended es rows) k q ≡ (if list_any (takes k q) es then None else table_of rows k q)
+  pub table_of-without_ended : (es : List (RowKey × Row)) (rows : Rows) (k : Kind) (q : Text)
+      → table_of (without_ended ended es rows) k q ≡ (if list_any (takes k q) es then None else table_of rows k q)
   table_of-without_ended [] rows k q = refl
   table_of-without_ended (e ∷ es) rows k q =
       table_of-without_ended es (if has ended e.0.1 then without_token rows e else rows) k q
@@ -110,10 +113,11 @@ module _ (ended : List Text) where
     where
       walk : (es : List (Text × Token)) → list_any (takes k q) (map (λ e. node e.0 e.1) es) ≡ is_some (find (λ e. takes k q (node e.0 e.1)) es)
       walk [] = refl
-      walk (e ∷ es) = elim (takes k q (node e.0 e.1)) as (λ v. (v || list_any (takes k q) (map (λ e. node e.0 e.1) es)) ≡ is_some (cond v (Some e) (find (λ e. takes k q (node e.0 e.1)) es))) [
-        | true ↦ refl
-        | false ↦ walk es
-      ]
+      walk (e ∷ es) = elim (takes k q (node e.0 e.1)) as (λ v. (v || list_any (takes k q) (map (λ e. node e.0 e.1) es))
+          ≡ is_some (cond v (Some e) (find (λ e. takes k q (node e.0 e.1)) es))) [
+            | true ↦ refl
+            | false ↦ walk es
+          ]
 
 -- ---- the rows that are left are those of the tokens that are kept
 
@@ -128,9 +132,11 @@ place_text (wrapping_accessor t) = t
 -- no two tokens of a sound broker have one accessor
 pub one_accessor : (b : Broker) → OnePlaceEach b → (q : Text) → OnePasses (has_accessor q) b.tokens
 one_accessor b one_place q t u x y is js f g =
-    ap place_text (one_place (accessor t) (accessor u) q (ap (option_map (λ (x : Token). x.accessor)) is ∙ ap Some (same_true x.accessor q f)) (ap (option_map (λ (x : Token). x.accessor)) js ∙ ap Some (same_true y.accessor q g)))
+    ap place_text (one_place (accessor t) (accessor u) q (ap (option_map (λ (x : Token). x.accessor)) is ∙ ap Some (same_true x.accessor q f))
+    (ap (option_map (λ (x : Token). x.accessor)) js ∙ ap Some (same_true y.accessor q g)))
 
-module _ (forms : Forms) (b : Broker) (sound : SoundTokens forms b.tokens) (one_place : OnePlaceEach b) (ended : List Text) (p : Text → Bool) (exact : (q : Text) → has ended q ≡ not (p q)) where
+module _ (forms : Forms) (b : Broker) (sound : SoundTokens forms b.tokens) (one_place : OnePlaceEach b) (ended : List Text) (p : Text → Bool)
+    (exact : (q : Text) → has ended q ≡ not (p q)) where
   abbrev kept : Broker
   kept = record b { tokens = keep p b.tokens }
 
@@ -140,10 +146,6 @@ module _ (forms : Forms) (b : Broker) (sound : SoundTokens forms b.tokens) (one_
   abbrev left : Kind → Text → Option Row
   left k q = if is_some (search k q) then None else rows_of b k q
 
-  or_none : (b : Bool) → (b || false) ≡ true → b ≡ true
-  or_none true h = refl
-  or_none false h = absurd (false≢true h)
-
   token_left : (q : Text) → left kind.Token q ≡ rows_of kept kind.Token q
   unfolding rows_of
   token_left q =
@@ -151,7 +153,7 @@ module _ (forms : Forms) (b : Broker) (sound : SoundTokens forms b.tokens) (one_
         | inr found ↦
             let is = first_where_is (λ t x. takes ended kind.Token q (node t x)) b.tokens found.0 found.1 in
             let two = and_parts (has ended found.0.0) (same q found.0.0 || false) is.1 in
-            let at : q ≡ found.0.0 = same_true q found.0.0 (or_none _ two.1) in
+            let at : q ≡ found.0.0 = same_true q found.0.0 (sym (or-false _) ∙ two.1) in
             let gone : not (p q) ≡ true = sym (exact q) ∙ ap (has ended) at ∙ two.0 in
             ap (λ o. if is_some o then None else rows_of b kind.Token q) found.1
             ∙ sym (ap (option_map token_row) (get-keep p b.tokens q ∙ out (p q) (get b.tokens q) gone))
@@ -165,7 +167,8 @@ module _ (forms : Forms) (b : Broker) (sound : SoundTokens forms b.tokens) (one_
       out true o h = absurd (false≢true h)
       out false o h = refl
 
-      stays : search kind.Token q ≡ None → (o : Option Token) → get b.tokens q ≡ o → option_map token_row (get b.tokens q) ≡ option_map token_row (cond (p q) (get b.tokens q) None)
+      stays : search kind.Token q ≡ None → (o : Option Token) → get b.tokens q ≡ o
+          → option_map token_row (get b.tokens q) ≡ option_map token_row (cond (p q) (get b.tokens q) None)
       stays none None is = ap (option_map token_row) is ∙ sym (ap (λ o. option_map token_row (cond (p q) o None)) is ∙ nothing (p q))
         where
           nothing : (v : Bool) → option_map token_row (cond v None None) ≡ None
@@ -195,7 +198,8 @@ module _ (forms : Forms) (b : Broker) (sound : SoundTokens forms b.tokens) (one_
     | inr found ↦
         let e = first_where_is (λ t (w : Waiting). same w.accessor q) b.waiting found.0 found.1 in
         let one : accessor u ≡ wrapping_accessor found.0.0 =
-        one_place (accessor u) (wrapping_accessor found.0.0) q (ap (option_map (λ (x : Token). x.accessor)) is ∙ ap Some named) (ap (option_map (λ (w : Waiting). w.accessor)) e.0 ∙ ap Some (same_true _ q e.1)) in
+        one_place (accessor u) (wrapping_accessor found.0.0) q (ap (option_map (λ (x : Token). x.accessor)) is ∙ ap Some named)
+        (ap (option_map (λ (w : Waiting). w.accessor)) e.0 ∙ ap Some (same_true _ q e.1)) in
         absurd (cc)
   ]
 
@@ -228,7 +232,8 @@ module _ (forms : Forms) (b : Broker) (sound : SoundTokens forms b.tokens) (one_
             elim (found_or_not (search kind.Accessor q)) [
               | inr found ↦
                   let by = taker q found.0 found.1 in
-                  let one : found.0.0 ≡ u.0.0 = one_accessor b one_place q found.0.0 u.0.0 found.0.1 u.0.1 by.0 is.0 (ap (λ a. same a q) by.2 ∙ same_self q) is.1 in
+                  let one : found.0.0 ≡ u.0.0 = one_accessor b one_place q found.0.0 u.0.0 found.0.1 u.0.1 by.0 is.0
+                  (ap (λ a. same a q) by.2 ∙ same_self q) is.1 in
                   let gone : not (p u.0.0) ≡ true = sym (exact u.0.0) ∙ ap (has ended) (sym one) ∙ by.1 in
                   ap (λ o. if is_some o then None else rows_of b kind.Accessor q) found.1
                   ∙ sym (ap (joined q) (kept_search q ∙ ap (if_kept p) u.1 ∙ out (p u.0.0) u.0 gone) ∙ none_waits q u.0.0 u.0.1 is.0 named)
@@ -275,10 +280,13 @@ tells_changed b f rows accessors kind.Token q h = sym (ap (option_map token_row)
     at (Some x) = ap Some (rows x)
 tells_changed b f rows accessors kind.Accessor q h =
     sym (ap (λ o. or_else o (option_map (λ e. accessor_row e.0 holder.WrappingToken) (first_where (λ t (w : Waiting). same w.accessor q) b.waiting))) (
-    ap (option_map (λ e. accessor_row e.0 holder.Token)) (first_where-map_values (λ t. f) (λ t (x : Token). same x.accessor q) (λ t (x : Token). same x.accessor q) b.tokens (λ u x. ap (λ a. same a q) (accessors x)))
+    ap (option_map (λ e. accessor_row e.0 holder.Token))
+    (first_where-map_values (λ t. f) (λ t (x : Token). same x.accessor q) (λ t (x : Token). same x.accessor q) b.tokens
+    (λ u x. ap (λ a. same a q) (accessors x)))
     ∙ at (first_where (λ t (x : Token). same x.accessor q) b.tokens)))
   where
-    at : (o : Option (Text × Token)) → option_map (λ (e : Text × Token). accessor_row e.0 holder.Token) (option_map (λ (e : Text × Token). (e.0, f e.1)) o) ≡ option_map (λ (e : Text × Token). accessor_row e.0 holder.Token) o
+    at : (o : Option (Text × Token)) → option_map (λ (e : Text × Token). accessor_row e.0 holder.Token) (option_map (λ (e : Text × Token). (e.0, f e.1)) o)
+        ≡ option_map (λ (e : Text × Token). accessor_row e.0 holder.Token) o
     at None = refl
     at (Some e) = refl
 tells_changed b f rows accessors _ q h = absurd (false≢true h)

@@ -38,7 +38,8 @@ pub row_told : (b : Broker) (table : Table) → Tells of_tokens table b → (t :
 unfolding rows_of
 row_told b table tells t = tells kind.Token t refl
 
-pub token_row_at : (b : Broker) (rows : Rows) → Tells of_tokens (table_of rows) b → (t : Text) → fin.get rows (kind.Token, t) ≡ option_map token_row (get b.tokens t)
+pub token_row_at : (b : Broker) (rows : Rows) → Tells of_tokens (table_of rows) b → (t : Text)
+    → fin.get rows (kind.Token, t) ≡ option_map token_row (get b.tokens t)
 token_row_at b rows tells t = row_told b (table_of rows) tells t
 
 -- a part of two kinds
@@ -58,7 +59,8 @@ accessor_keeps table t r _ q h = refl
 
 -- ---- a new token
 
-module _ (b : Broker) (one_place : OnePlaceEach b) (all_used : AllUsed b) (t : Text) (x : Token) (new_token : IsNew b (token_identifier t)) (new_accessor : IsNew b x.accessor) where
+module _ (b : Broker) (one_place : OnePlaceEach b) (all_used : AllUsed b) (t : Text) (x : Token) (new_token : IsNew b (token_identifier t))
+    (new_accessor : IsNew b x.accessor) where
   absent : get b.tokens t ≡ None
   absent = elim (found_or_not (get b.tokens t)) [
     | inl none ↦ none
@@ -89,13 +91,18 @@ module _ (b : Broker) (one_place : OnePlaceEach b) (all_used : AllUsed b) (t : T
   one_each : (q : Text) → OnePasses (has_accessor q) (put b.tokens t x)
   one_each q u v y z is js f g =
       after u y is (u ≡ v)
-      (λ ut yx. after v z js (u ≡ v) (λ vt zx. ut ∙ sym vt) (λ old. absurd (apart v z old (same_true z.accessor q g ∙ sym (same_true y.accessor q f) ∙ ap (λ (w : Token). w.accessor) yx))))
-      (λ old. after v z js (u ≡ v) (λ vt zx. absurd (apart u y old (same_true y.accessor q f ∙ sym (same_true z.accessor q g) ∙ ap (λ (w : Token). w.accessor) zx))) (λ other. one_accessor b one_place q u v y z old other f g))
+      (λ ut yx. after v z js (u ≡ v) (λ vt zx. ut ∙ sym vt)
+      (λ old. absurd (apart v z old (same_true z.accessor q g ∙ sym (same_true y.accessor q f) ∙ ap (λ (w : Token). w.accessor) yx))))
+      (λ old. after v z js (u ≡ v) (λ vt zx. absurd
+      (apart u y old (same_true y.accessor q f ∙ sym (same_true z.accessor q g) ∙ ap (λ (w : Token). w.accessor) zx)))
+      (λ other. one_accessor b one_place q u v y z old other f g))
 
   searched : (q : Text) → first_where (has_accessor q) (put b.tokens t x) ≡ (if same q x.accessor then Some (t, x) else first_where (has_accessor q) b.tokens)
   searched q =
-      elim (same q x.accessor) as (λ v. same q x.accessor ≡ v → first_where (has_accessor q) (put b.tokens t x) ≡ (if v then Some (t, x) else first_where (has_accessor q) b.tokens)) [
-        | true ↦ λ at. first_where_only (has_accessor q) (put b.tokens t x) t x (one_each q) here (ap (λ a. same a q) (sym (same_true q x.accessor at)) ∙ same_self q)
+      elim (same q x.accessor) as (λ v. same q x.accessor ≡ v → first_where (has_accessor q) (put b.tokens t x)
+      ≡ (if v then Some (t, x) else first_where (has_accessor q) b.tokens)) [
+        | true ↦ λ at. first_where_only (has_accessor q) (put b.tokens t x) t x (one_each q) here
+            (ap (λ a. same a q) (sym (same_true q x.accessor at)) ∙ same_self q)
         | false ↦ λ other. elim (found_or_not (first_where (has_accessor q) b.tokens)) [
           | inr found ↦
               let is = first_where_is (has_accessor q) b.tokens found.0 found.1 in
@@ -111,36 +118,45 @@ module _ (b : Broker) (one_place : OnePlaceEach b) (all_used : AllUsed b) (t : T
         ]
       ] refl
 
-  pub tells_created : (table : Table) → Tells of_tokens table b → Tells of_tokens (with_row (with_row table kind.Token t (token_row x)) kind.Accessor x.accessor (accessor_row t holder.Token)) (with_token b t x)
+  pub tells_created : (table : Table) → Tells of_tokens table b → Tells of_tokens
+      (with_row (with_row table kind.Token t (token_row x)) kind.Accessor x.accessor (accessor_row t holder.Token)) (with_token b t x)
   unfolding rows_of
   tells_created table tells k q h =
-      by_kind (λ k. with_row (with_row table kind.Token t (token_row x)) kind.Accessor x.accessor (accessor_row t holder.Token) k q ≡ rows_of (with_token b t x) k q)
-      (ap (λ o. if same q t then Some (token_row x) else o) (tells kind.Token q refl) ∙ at_token (same q t) (get b.tokens q) ∙ ap (option_map token_row) (sym (get-put b.tokens t x q)))
-      (ap (λ o. if same q x.accessor then Some (accessor_row t holder.Token) else o) (tells kind.Accessor q refl) ∙ at_accessor (same q x.accessor) (first_where (has_accessor q) b.tokens) ∙ ap (joined b q) (sym (searched q)))
+      by_kind (λ k. with_row (with_row table kind.Token t (token_row x)) kind.Accessor x.accessor (accessor_row t holder.Token) k q
+      ≡ rows_of (with_token b t x) k q)
+      (ap (λ o. if same q t then Some (token_row x) else o) (tells kind.Token q refl) ∙ at_token (same q t) (get b.tokens q)
+      ∙ ap (option_map token_row) (sym (get-put b.tokens t x q)))
+      (ap (λ o. if same q x.accessor then Some (accessor_row t holder.Token) else o) (tells kind.Accessor q refl)
+      ∙ at_accessor (same q x.accessor) (first_where (has_accessor q) b.tokens) ∙ ap (joined b q) (sym (searched q)))
       k h
     where
       at_token : (v : Bool) (o : Option Token) → (if v then Some (token_row x) else option_map token_row o) ≡ option_map token_row (cond v (Some x) o)
       at_token true o = refl
       at_token false o = refl
 
-      at_accessor : (v : Bool) (o : Option (Text × Token)) → (if v then Some (accessor_row t holder.Token) else joined b q o) ≡ joined b q (if v then Some (t, x) else o)
+      at_accessor : (v : Bool) (o : Option (Text × Token)) → (if v then Some (accessor_row t holder.Token) else joined b q o)
+          ≡ joined b q (if v then Some (t, x) else o)
       at_accessor true o = refl
       at_accessor false o = refl
 
 -- ---- a token changed
 
-pub tells_changed_at : (b : Broker) (t : Text) (x : Token) (f : Token → Token) → get b.tokens t ≡ Some x → ((y : Token) → (f y).accessor ≡ y.accessor) → (table : Table) → Tells of_tokens table b
+pub tells_changed_at : (b : Broker) (t : Text) (x : Token) (f : Token → Token) → get b.tokens t ≡ Some x → ((y : Token) → (f y).accessor ≡ y.accessor)
+    → (table : Table) → Tells of_tokens table b
     → Tells of_tokens (with_row table kind.Token t (token_row (f x))) (record b { tokens = change b.tokens t f })
 unfolding rows_of
 tells_changed_at b t x f here keeps table tells k q h =
     by_kind (λ k. with_row table kind.Token t (token_row (f x)) k q ≡ rows_of (record b { tokens = change b.tokens t f }) k q)
-    (ap (λ o. if same q t then Some (token_row (f x)) else o) (tells kind.Token q refl) ∙ at_token ∙ ap (option_map token_row) (sym (get-change b.tokens t f q)))
+    (ap (λ o. if same q t then Some (token_row (f x)) else o) (tells kind.Token q refl) ∙ at_token
+    ∙ ap (option_map token_row) (sym (get-change b.tokens t f q)))
     (tells kind.Accessor q refl ∙ ap (joined b q) (sym at_accessor) ∙ seen)
     k h
   where
-    at_token : (if same q t then Some (token_row (f x)) else option_map token_row (get b.tokens q)) ≡ option_map token_row (option_map (λ y. if same q t then f y else y) (get b.tokens q))
+    at_token : (if same q t then Some (token_row (f x)) else option_map token_row (get b.tokens q))
+        ≡ option_map token_row (option_map (λ y. if same q t then f y else y) (get b.tokens q))
     at_token =
-        elim (same q t) as (λ v. same q t ≡ v → (if v then Some (token_row (f x)) else option_map token_row (get b.tokens q)) ≡ option_map token_row (option_map (λ y. if v then f y else y) (get b.tokens q))) [
+        elim (same q t) as (λ v. same q t ≡ v → (if v then Some (token_row (f x)) else option_map token_row (get b.tokens q))
+        ≡ option_map token_row (option_map (λ y. if v then f y else y) (get b.tokens q))) [
           | true ↦ λ at. sym (ap (λ o. option_map token_row (option_map f o)) (ap (get b.tokens) (same_true q t at) ∙ here))
           | false ↦ λ _. sym (mapped_unseen token_row (λ y. y) (λ y. refl) (get b.tokens q))
         ] refl
@@ -150,8 +166,11 @@ tells_changed_at b t x f here keeps table tells k q h =
 
     seen : joined b q (first_where (has_accessor q) b.tokens) ≡ joined b q (first_where (has_accessor q) (change b.tokens t f))
     seen =
-        sym (ap (joined b q) (first_where-map_values (λ u y. if same u t then f y else y) (has_accessor q) (has_accessor q) b.tokens (λ u y. unseen (λ (z : Token). same z.accessor q) f (λ z. ap (λ a. same a q) (keeps z)) (same u t) y))
-        ∙ ap (λ o. or_else o (waits b q)) (mapped_unseen (λ (e : Text × Token). accessor_row e.0 holder.Token) (λ e. (e.0, if same e.0 t then f e.1 else e.1)) (λ e. refl) (first_where (has_accessor q) b.tokens)))
+        sym (ap (joined b q) (first_where-map_values (λ u y. if same u t then f y else y) (has_accessor q) (has_accessor q) b.tokens
+        (λ u y. unseen (λ (z : Token). same z.accessor q) f (λ z. ap (λ a. same a q) (keeps z)) (same u t) y))
+        ∙ ap (λ o. or_else o (waits b q))
+        (mapped_unseen (λ (e : Text × Token). accessor_row e.0 holder.Token) (λ e. (e.0, if same e.0 t then f e.1 else e.1)) (λ e. refl)
+        (first_where (has_accessor q) b.tokens)))
 
 -- a change that leaves what stands as it is
 pub change_same : (ts : Tokens) (t : Text) (f : Token → Token) → ((x : Token) → get ts t ≡ Some x → f x ≡ x) → change ts t f ≡ ts

@@ -1,8 +1,10 @@
 -- Which tokens end by revocation and by expiry.
-use Rattle.std.specs.Prelude.{◌≡◌, ℕ, Bool, true, false, not, cond, ◌&&◌, Option, Some, None, option_map, is_some, is_none}
+use Rattle.std.specs.Prelude.{◌≡◌, ℕ, Bool, true, false, not, cond, ◌&&◌, Option, Some, None, option_map, is_some}
+use Rattle.std.specs.Prelude.{is_none}
 use Rattle.std.specs.Prelude.{option_and_then}
 use Rattle.std.specs.List.{list_any, list_all}
 use Rattle.std.proofs.Common.{refl, sym, ◌∙◌, ap, inl, inr}
+use Rattle.std.proofs.Math.Bool.{not-not}
 use Rattle.broker_types.specs.Text.{Text, same}
 use Rattle.broker_types.specs.Map.{get, keep, without}
 use Rattle.broker_types.specs.Token.{Token, Tokens}
@@ -12,10 +14,6 @@ use Rattle.broker_types.specs.OptionLaws.{found_or_not}
 use Rattle.broker_types.specs.MapLaws.{get-keep, get-without, get-map_values}
 use Rattle.broker_types.specs.TreeLaws.{lineage_none}
 use Rattle.token_tree.specs.Tokens.{has_ended, without_expired}
-
-not_not : (b : Bool) → not (not b) ≡ b
-not_not true = refl
-not_not false = refl
 
 none_changed : (f : Token → Token) (o : Option Token) → is_none (option_map f o) ≡ is_none o
 none_changed f None = refl
@@ -40,7 +38,7 @@ pub ended_by_revocation : (b : Broker) (t q : Text) → has_ended b (revoke b t)
 ended_by_revocation b t q =
     kept_ended b.tokens (λ q. not (is_under b.tokens q t)) q
     (λ none. ap (λ l. not (list_any (same t) l)) (lineage_none b.tokens q none))
-    ∙ not_not (is_under b.tokens q t)
+    ∙ not-not (is_under b.tokens q t)
 
 -- by revocation of t alone, t ends if it is a token
 pub ended_by_revocation_alone : (b : Broker) (t q : Text)

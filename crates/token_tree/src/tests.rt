@@ -1,6 +1,8 @@
 //! Tokens over rows in memory.
 
-use crate::{accessors, create, find, find_accessor, renew, revoke, revoke_one, spend, sweep_tokens};
+use crate::{
+    accessors, create, find, find_accessor, renew, revoke, revoke_one, spend, sweep_tokens,
+};
 use broker_types::{Bytes, Fault, Moment, TextBuf};
 use records::{Due, Kind, ListRecords, ListTx, RecordsTx, Row, read_token};
 use std::alloc::Global;
@@ -96,10 +98,14 @@ fn uses_and_ends(rt: HostRuntime) -> Result<(), Fail> {
     let mut tx = tree(alloc)?;
     spend(alloc, &mut tx, "low")?;
     renew(alloc, &mut tx, "low", Due::at(200))?;
-    assert!(rt; find(alloc, &mut tx, "low")?
-        .is_some_and(|x| x.uses_left == Some(1) && x.ends == Due::new(200)));
-    assert!(rt; find(alloc, &mut tx, "mid")?
-        .is_some_and(|x| x.uses_left == Some(2) && x.ends == Due::new(100)));
+    assert!(rt;
+        find(alloc, &mut tx, "low")?.is_some_and(|x| x.uses_left == Some(1)
+            && x.ends == Due::new(200))
+    );
+    assert!(rt;
+        find(alloc, &mut tx, "mid")?.is_some_and(|x| x.uses_left == Some(2)
+            && x.ends == Due::new(100))
+    );
     assert!(rt; find_accessor(&mut tx, "low")?.is_some_and(|token| token.as_str() == "low"));
     assert!(rt; find_accessor(&mut tx, "not")?.is_none());
     Ok(())

@@ -9,7 +9,8 @@ pub returns-clause-found : goal.returns-clause-found
 returns-clause-found g c honest forms b stands =
     let rows = (g.T.RecordsTx.seen c.args.tx.now).rows in
     IfOk-weaker c.names_of.result _ _ (λ names is.
-    is ∙ ap (λ es. with_accessors es []) (c.deref.ensures.value ∙ c.in_ok-listed.ensures.listed honest) ∙ accessors_listed b rows stands.tells) c.names_of.ensures.ok
+    is ∙ ap (λ es. with_accessors es []) (c.deref.ensures.value ∙ c.in_ok-listed.ensures.listed honest)
+    ∙ accessors_listed b rows stands.tells) c.names_of.ensures.ok
 
 pub returns-clause-undamaged : goal.returns-clause-undamaged
 returns-clause-undamaged g c honest forms b stands =

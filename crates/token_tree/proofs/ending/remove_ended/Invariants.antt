@@ -9,7 +9,8 @@ abbrev pub invariant-loop-entry : goal.invariant-loop-entry
 invariant-loop-entry g l =
     let seen = g.T.RecordsTx.seen in
     record {
-      rows : IsHonest (seen l.tx) → without_ended l.ended (drop l.entry-index l.entries) (seen l.tx).rows ≡ without_ended l.ended l.entries (seen l.initial.tx).rows;
+      rows : IsHonest (seen l.tx) → without_ended l.ended (drop l.entry-index l.entries) (seen l.tx).rows
+          ≡ without_ended l.ended l.entries (seen l.initial.tx).rows;
       left : AllByRecursion IsTokenRow l.entries → AllByRecursion IsTokenRow (drop l.entry-index l.entries);
       goes_on : GoesOn (seen l.initial.tx) (seen l.tx) false;
     }
