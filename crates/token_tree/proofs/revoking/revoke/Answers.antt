@@ -1,0 +1,50 @@
+use Rattle.std.proofs.Common.{sym, ap, ◌∙◌, subst}
+use Rattle.std.proofs.lemmas.Result.{err_from_is_err_and}
+use Rattle.records.specs.Parts.{of_tokens, KeepsOthers}
+use Rattle.records.specs.Table.{table_of}
+use Rattle.records.specs.CallLaws.{honest_before}
+use Rattle.token_tree.specs.Ended.{IsDescent}
+use Rattle.token_tree.specs.Removed.{without_ended}
+use Rattle.token_tree.proofs.Removals.{others_stay}
+use Rattle.token_tree.proofs.Ends.{readable, revoked_each, revoked_rows, revoked_unknown}
+use Rattle.token_tree.proofs.revoking.revoke.Goals as goal
+
+pub returns-in_err-remove_ended-clause-undamaged : goal.returns-in_err-remove_ended-clause-undamaged
+returns-in_err-remove_ended-clause-undamaged g c honest forms b stands =
+    let seen = g.T.RecordsTx.seen in
+    let mid = honest_before (seen c.under.new.self) (seen c.remove_ended.new.tx) _ c.remove_ended.ensures.goes_on honest in
+    let p = err_from_is_err_and c.from_residual-in_err-remove_ended.result c.from_residual-in_err-remove_ended.ensures.1 in
+    rw (p.1, p.2) (c.in_err-remove_ended.ensures.undamaged
+    (readable forms b (seen c.args.tx.now).rows stands c.deref-2.result.now (c.deref-2.ensures.value ∙ c.in_ok-entries.ensures.listed mid)))
+
+pub returns-clause-ok : goal.returns-clause-ok
+returns-clause-ok g c honest forms b stands =
+    let seen = g.T.RecordsTx.seen in
+    let mid = honest_before (seen c.under.new.self) (seen c.remove_ended.new.tx) _ c.remove_ended.ensures.goes_on honest in
+    let listed = c.in_ok-entries.ensures.listed mid in
+    revoked_rows forms b (seen c.args.tx.now).rows stands c.args.token.now c.deref.result.now c.deref-2.result.now c.deref-3.result.now
+    (c.deref.ensures.value ∙ listed) (c.deref-2.ensures.value ∙ listed)
+    (subst (IsDescent _ _) (sym c.deref-3.ensures.value) c.in_ok-ended.ensures.ok) (seen c.remove_ended.new.tx).rows
+    (c.in_ok-remove_ended.ensures.rows honest ∙ ap (without_ended c.deref-3.result.now c.deref-2.result.now) (c.in_ok-entries.ensures.same mid))
+
+pub returns-clause-ended : goal.returns-clause-ended
+returns-clause-ended g c honest forms b stands =
+    let seen = g.T.RecordsTx.seen in
+    let mid = honest_before (seen c.under.new.self) (seen c.remove_ended.new.tx) _ c.remove_ended.ensures.goes_on honest in
+    revoked_each forms b (seen c.args.tx.now).rows stands c.args.token.now c.deref.result.now c.in_ok-ended.ended.items
+    (c.deref.ensures.value ∙ c.in_ok-entries.ensures.listed mid) c.in_ok-ended.ensures.ok
+
+pub returns-clause-others : goal.returns-clause-others
+returns-clause-others g c honest =
+    let seen = g.T.RecordsTx.seen in
+    let mid = honest_before (seen c.under.new.self) (seen c.remove_ended.new.tx) _ c.remove_ended.ensures.goes_on honest in
+    subst (λ rows. KeepsOthers of_tokens (table_of (seen c.args.tx.now).rows) (table_of rows))
+    (sym (c.in_ok-remove_ended.ensures.rows honest ∙ ap (without_ended c.deref-3.result.now c.deref-2.result.now) (c.in_ok-entries.ensures.same mid)))
+    (others_stay c.deref-3.result.now c.deref-2.result.now (seen c.args.tx.now).rows)
+
+pub returns-clause-unknown : goal.returns-clause-unknown
+returns-clause-unknown g c honest forms b stands none =
+    let rows = (g.T.RecordsTx.seen c.args.tx.now).rows in
+    revoked_unknown forms b rows stands c.args.token.now none (g.T.RecordsTx.seen c.remove_ended.new.tx).rows
+    (returns-clause-ok g c honest forms b stands) (returns-clause-others g c honest) c.in_ok-ended.ended.items
+    (returns-clause-ended g c honest forms b stands)

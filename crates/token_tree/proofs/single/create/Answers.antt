@@ -1,0 +1,40 @@
+use Rattle.std.proofs.Common.{◌≡◌, sym, ap, ◌∙◌, subst}
+use Rattle.records.specs.declared.kind.Kind.TheVariants as kind
+use Rattle.records.specs.Parts.{of_tokens, Tells}
+use Rattle.records.specs.RowForms.{entry_row}
+use Rattle.records.specs.Table.{Table, table_of, with_row}
+use Rattle.records.specs.TokenEntry.{TokenEntry}
+use Rattle.std.proofs.lemmas.Result.{on_ok_weaker}
+use Rattle.records.specs.CallLaws.{honest_before}
+use Rattle.records.specs.TableLaws.{table_of-insert}
+use Rattle.token_tree.specs.Tokens.{with_token}
+use Rattle.token_tree.proofs.Singles.{tells_created, put_keeps, accessor_keeps}
+use Rattle.token_tree.proofs.single.create.Goals as goal
+
+pub returns-clause-ok : goal.returns-clause-ok
+returns-clause-ok g c honest forms b stands x is all_used new_token new_accessor =
+    let seen = g.T.RecordsTx.seen in
+    let mid = honest_before (seen c.put_token.new.tx) (seen c.put.new.self) _ c.put.ensures.goes_on honest in
+    let rows = (seen c.args.tx.now).rows in
+    let t = c.args.token.now in
+    let first : table_of (seen c.put_token.new.tx).rows ≡ with_row (table_of rows) kind.Token t (entry_row c.args.entry.now) =
+    ap table_of (c.in_ok-put_token.ensures.rows mid) ∙ table_of-insert rows kind.Token t (entry_row c.args.entry.now) in
+    let accessor : c.as_str.result.now ≡ x.accessor = c.as_str.ensures ∙ ap (λ (e : TokenEntry). e.accessor) (c.entry.view_is ∙ sym is) in
+    on_ok_weaker c.put.result (λ put.
+    subst (λ (table : Table). Tells of_tokens table (with_token b t x))
+    (sym (ap table_of put ∙ table_of-insert (seen c.put_token.new.tx).rows kind.Accessor c.as_str.result.now c.in_ok-row.row
+    ∙ (λ i. with_row ((first ∙ ap (λ e. with_row (table_of rows) kind.Token t (entry_row e)) (sym is)) i) kind.Accessor (accessor i) (c.in_ok-row.ensures i))))
+    (tells_created b stands.one_place all_used t x new_token new_accessor (table_of rows) stands.tells)) (c.put.ensures.rows honest)
+
+pub returns-clause-others : goal.returns-clause-others
+returns-clause-others g c honest =
+    let seen = g.T.RecordsTx.seen in
+    let mid = honest_before (seen c.put_token.new.tx) (seen c.put.new.self) _ c.put.ensures.goes_on honest in
+    let rows = (seen c.args.tx.now).rows in
+    let t = c.args.token.now in
+    let r = entry_row c.args.entry.now in
+    on_ok_weaker c.put.result (λ put k q h.
+    ap (λ (table : Table). table k q) (ap table_of put ∙ table_of-insert (seen c.put_token.new.tx).rows kind.Accessor c.as_str.result.now c.in_ok-row.row)
+    ∙ accessor_keeps (table_of (seen c.put_token.new.tx).rows) c.as_str.result.now c.in_ok-row.row k q h
+    ∙ ap (λ (table : Table). table k q) (ap table_of (c.in_ok-put_token.ensures.rows mid) ∙ table_of-insert rows kind.Token t r)
+    ∙ put_keeps (table_of rows) t r k q h) (c.put.ensures.rows honest)

@@ -1,0 +1,29 @@
+use Rattle.std.proofs.Common.{sym, ap, ◌∙◌, subst}
+use Rattle.records.specs.declared.kind.Kind.TheVariants as kind
+use Rattle.records.specs.Parts.{of_tokens, Tells}
+use Rattle.records.specs.RowForms.{entry_row}
+use Rattle.records.specs.Table.{Table, table_of, with_row}
+use Rattle.std.proofs.lemmas.Result.{on_ok_weaker}
+use Rattle.records.specs.TableLaws.{table_of-insert}
+use Rattle.broker_types.specs.Map.{change}
+use Rattle.token_tree.proofs.Singles.{tells_changed_at, put_keeps}
+use Rattle.token_tree.proofs.single.rewrite.Goals as goal
+
+pub returns-clause-ok : goal.returns-clause-ok
+returns-clause-ok g c honest b x f tells here is keeps =
+    let rows = (g.T.RecordsTx.seen c.args.tx.now).rows in
+    let t = c.args.token.now in
+    on_ok_weaker c.put_token.result (λ put.
+    subst (λ (table : Table). Tells of_tokens table (record b { tokens = change b.tokens t f }))
+    (sym (ap table_of put ∙ table_of-insert rows kind.Token t (entry_row c.args.entry.now)
+    ∙ ap (λ e. with_row (table_of rows) kind.Token t (entry_row e)) (sym is)))
+    (tells_changed_at b t x f here keeps (table_of rows) tells)) (c.put_token.ensures.rows honest)
+
+pub returns-clause-others : goal.returns-clause-others
+returns-clause-others g c honest =
+    let rows = (g.T.RecordsTx.seen c.args.tx.now).rows in
+    let t = c.args.token.now in
+    let r = entry_row c.args.entry.now in
+    on_ok_weaker c.put_token.result
+    (λ put k q h. ap (λ (table : Table). table k q) (ap table_of put ∙ table_of-insert rows kind.Token t r) ∙ put_keeps (table_of rows) t r k q h)
+    (c.put_token.ensures.rows honest)

@@ -1,0 +1,73 @@
+use Rattle.std.proofs.Common.{◌≡◌, ◌<◌, ◌^◌, ◌-◌, ℕ, Some, None, sym, ap, ◌∙◌, subst, arith, refl}
+use Rattle.std.specs.Prelude.{option_map}
+use Rattle.std.proofs.lemmas.Result.{err_from_is_err_and}
+use Rattle.broker_types.specs.Map.{get}
+use Rattle.broker_types.specs.Token.{Token}
+use Rattle.records.specs.Parts.{of_tokens, Tells}
+use Rattle.records.specs.Rows.{rows_of}
+use Rattle.records.specs.Table.{table_of}
+use Rattle.records.specs.TokenEntry.{TokenEntry, token_entry}
+use Rattle.records.specs.Ranges.{IsTokenInRange}
+use Rattle.std.proofs.lemmas.Option.{none-some, same_Some}
+use Rattle.broker_types.specs.OptionLaws.{mapped, mapped_none}
+use Rattle.records.specs.ValueLaws.{none_of}
+use Rattle.records.specs.CallLaws.{honest_before}
+use Rattle.broker_types.specs.Spending.{one_less}
+use Rattle.token_tree.proofs.Singles.{change_same}
+use Rattle.token_tree.proofs.single.spend.Goals as goal
+
+pub returns-in_default-clause-ok : goal.returns-in_default-clause-ok
+returns-in_default-clause-ok g c honest forms b stands k q h =
+    let t = c.args.token.now in
+    let none : get b.tokens t ≡ None = mapped_none token_entry (get b.tokens t)
+    (sym (c.in_ok-record.ensures.found honest forms b stands) ∙ none_of _ c.in_default.not-Some) in
+    let still = change_same b.tokens t one_less (λ x is. absurd (none-some _ (sym none ∙ is))) in
+    ap (λ rows. table_of rows k q) (c.in_ok-record.ensures.same honest) ∙ stands.tells k q h ∙ ap (λ ts. rows_of (record b { tokens = ts }) k q) (sym still)
+
+unlimited : (x : Token) → x.uses_left ≡ None → one_less x ≡ x
+unlimited x none = λ i. record x { uses_left = (ap (option_map (λ (n : ℕ). n - 1)) none ∙ sym none) i }
+
+pub returns-in_default-uses_left-clause-ok : goal.returns-in_default-uses_left-clause-ok
+returns-in_default-uses_left-clause-ok g c honest forms b stands k q h =
+    let t = c.args.token.now in
+    let x = mapped token_entry (get b.tokens t) c.in-Some.record (sym (c.in_ok-record.ensures.found honest forms b stands) ∙ c.in-Some.is) in
+    let none : x.0.uses_left ≡ None = ap (λ (e : TokenEntry). e.uses_left) (sym (c.record.view_is ∙ x.2)) ∙ none_of _ c.in_default-uses_left.not-Some in
+    let still = change_same b.tokens t one_less (λ y is. unlimited y (ap (λ (z : Token). z.uses_left) ((same_Some _ _ (sym is ∙ x.1))) ∙ none)) in
+    ap (λ rows. table_of rows k q) (c.in_ok-record.ensures.same honest) ∙ stands.tells k q h ∙ ap (λ ts. rows_of (record b { tokens = ts }) k q) (sym still)
+
+pub rewrite-requires : goal.rewrite-requires
+rewrite-requires g c =
+    let told : IsTokenInRange c.in-Some.record = c.in_ok-record.ensures.in_range c.in-Some.record c.in-Some.is in
+    let here = subst IsTokenInRange (sym c.record.view_is) told in
+    let wide : c.in-Some-uses_left.uses < 2 ^ 64 = here.uses_left c.in-Some-uses_left.uses c.in-Some-uses_left.is in
+    let less : c.saturating_sub.result ≡ c.in-Some-uses_left.uses - 1 = c.saturating_sub.ensures in
+    record {
+      parent = here.parent;
+      accessor = here.accessor;
+      policies = here.policies;
+      issued = here.issued;
+      ends = here.ends;
+      ttl = here.ttl;
+      explicit_max_ttl = here.explicit_max_ttl;
+      period = here.period;
+      uses_left = λ n e. let is : c.saturating_sub.result ≡ n = (same_Some _ _ e) in omega (arith, wide, less, is);
+      meta = here.meta;
+    }
+
+pub returns-clause-ok : goal.returns-clause-ok
+returns-clause-ok g c honest forms b stands =
+    let seen = g.T.RecordsTx.seen in
+    let mid = honest_before (seen c.find.new.tx) (seen c.rewrite.new.tx) _ c.rewrite.ensures.call.goes_on honest in
+    let t = c.args.token.now in
+    let x = mapped token_entry (get b.tokens t) c.in-Some.record (sym (c.in_ok-record.ensures.found mid forms b stands) ∙ c.in-Some.is) in
+    let whole = c.record.view_is ∙ x.2 in
+    let uses : x.0.uses_left ≡ Some c.in-Some-uses_left.uses = ap (λ (e : TokenEntry). e.uses_left) (sym whole) ∙ c.in-Some-uses_left.is in
+    let less : option_map (λ (n : ℕ). n - 1) x.0.uses_left ≡ Some c.saturating_sub.result = ap (option_map (λ (n : ℕ). n - 1)) uses
+    ∙ ap Some (sym c.saturating_sub.ensures) in
+    c.rewrite.ensures.ok honest b x.0 one_less (subst (λ rows. Tells of_tokens (table_of rows) b) (sym (c.in_ok-record.ensures.same mid)) stands.tells) x.1
+    (λ i. record (sym whole i) { uses_left = less i }) (λ y. refl)
+
+pub returns-in_err-record-clause-undamaged : goal.returns-in_err-record-clause-undamaged
+returns-in_err-record-clause-undamaged g c honest forms b stands =
+    let p = err_from_is_err_and c.from_residual.result c.from_residual.ensures.1 in
+    rw (p.1, p.2) (c.in_err-record.ensures.undamaged honest forms b stands)

@@ -1,0 +1,57 @@
+-- Passes over the rows of tokens that collect what ends (this project's definition).
+use Rattle.std.specs.Prelude.{◌≡◌, ℕ, List, [], ◌∷◌, ◌++◌, Bool, true, false, not, ◌&&◌, ◌||◌, nat_le, if◌then◌else◌}
+use Rattle.std.specs.Prelude.{map}
+use Rattle.std.specs.List.{IsDistinct, AllByRecursion}
+use Rattle.std.specs.Option.{option_map_or}
+use Rattle.broker_types.specs.Text.{Text, same}
+use Rattle.records.specs.Children.{has}
+use Rattle.records.specs.declared.row.Row.{Row}
+use Rattle.records.specs.Kind.{RowKey}
+
+-- the texts that the entries have as keys
+abbrev pub has_key : List (RowKey × Row) → Text → Bool
+has_key es q = has (map (λ e. e.0.1) es) q
+
+-- which rows end by themselves
+abbrev pub Start : Type 0
+Start = RowKey × Row → Bool
+
+-- the row of the token
+abbrev pub is_named : Text → Start
+is_named t e = same t e.0.1
+
+-- a row whose due moment has come
+abbrev pub has_come : ℕ → Start
+has_come now e = option_map_or (λ due. nat_le due now) e.1.due false
+
+-- a row not yet among the ended, that ends by itself or is a child of one that ends
+abbrev pub goes : Start → List Text → RowKey × Row → Bool
+goes t ended e = not (has ended e.0.1) && (t e || has ended e.1.owner)
+
+-- the ended, with the row's token if it goes
+abbrev pub ends_too : Start → RowKey × Row → List Text → List Text
+ends_too t e ended = if goes t ended e then ended ++ e.0.1 ∷ [] else ended
+
+-- one pass
+abbrev pub grown : Start → List (RowKey × Row) → List Text → List Text
+grown t [] ended = ended
+grown t (e ∷ es) ended = grown t es (ends_too t e ended)
+
+-- the rows that no pass would add
+abbrev pub AllStay : Start → List Text → List (RowKey × Row) → Type 0
+AllStay t ended es = AllByRecursion (λ e. goes t ended e ≡ false) es
+
+-- every child of a text that passes passes as well
+abbrev pub IsClosed : (Text → Bool) → List (RowKey × Row) → Type 0
+IsClosed p es = AllByRecursion (λ e. p e.1.owner ≡ true → p e.0.1 ≡ true) es
+
+-- what ends by itself passes
+abbrev pub Starts : (Text → Bool) → Start → List (RowKey × Row) → Type 0
+Starts p t es = AllByRecursion (λ e. t e ≡ true → p e.0.1 ≡ true) es
+
+-- the least list of keys that has what ends by itself and the children of each of its own, each once
+pub record IsDescent (t : Start) (es : List (RowKey × Row)) (ended : List Text) : Type 0 where
+  pub once : IsDistinct same ended
+  pub stay : AllStay t ended es
+  pub keys : (q : Text) → has ended q ≡ true → has_key es q ≡ true
+  pub least : (p : Text → Bool) → Starts p t es → IsClosed p es → (q : Text) → has ended q ≡ true → p q ≡ true

@@ -1,0 +1,61 @@
+-- Laws of tokens as rows, as statements (this project's; Vault's documentation, "Tokens").
+use Rattle.std.specs.Prelude.{◌≡◌, ◌≢◌, ℕ, true, false, not, ◌&&◌, Some, None, is_some}
+use Rattle.broker_types.specs.Text.{Text, same}
+use Rattle.broker_types.specs.Map.{get}
+use Rattle.broker_types.specs.Token.{Token}
+use Rattle.broker_types.specs.Lineage.{is_under, is_alive}
+use Rattle.broker_types.specs.Broker.{Broker, revoke, revoke_orphan}
+use Rattle.broker_types.specs.Places.{OnePlaceEach}
+use Rattle.records.specs.declared.kind.Kind.TheVariants as kind
+use Rattle.records.specs.Parts.{of_tokens, Tells}
+use Rattle.records.specs.RowForms.{token_row}
+use Rattle.records.specs.Table.{Table}
+use Rattle.token_tree.specs.Tokens.{find_accessor, has_ended, without_expired}
+
+-- ---- what is found after revocation
+
+-- no token under the revoked one is found afterwards
+abbrev pub RevokedAreNotFound : Type 0
+RevokedAreNotFound =
+    (b : Broker) (t q : Text) (rows : Table) → Tells of_tokens rows (revoke b t)
+    → is_under b.tokens q t ≡ true → rows kind.Token q ≡ None
+
+-- a token that is not under it is found as before
+abbrev pub OthersAreFound : Type 0
+OthersAreFound =
+    (b : Broker) (t q : Text) (old new : Table) → Tells of_tokens old b → Tells of_tokens new (revoke b t)
+    → is_under b.tokens q t ≡ false → new kind.Token q ≡ old kind.Token q
+
+-- the children of a token that was revoked alone have no parent
+abbrev pub ChildrenAreOrphans : Type 0
+ChildrenAreOrphans =
+    (b : Broker) (t q : Text) (x : Token) (rows : Table) → Tells of_tokens rows (revoke_orphan b t) → q ≢ t
+    → get b.tokens q ≡ Some x → x.parent ≡ Some t → rows kind.Token q ≡ Some (token_row (record x { parent = None }))
+
+-- ---- which tokens end
+
+-- by revocation, a token and all under it
+abbrev pub EndedByRevocation : Type 0
+EndedByRevocation = (b : Broker) (t q : Text) → has_ended b (revoke b t) q ≡ is_under b.tokens q t
+
+-- by revocation alone, the token
+abbrev pub EndedAlone : Type 0
+EndedAlone = (b : Broker) (t q : Text) → has_ended b (revoke_orphan b t) q ≡ (is_some (get b.tokens q) && same q t)
+
+-- by now, what is not alive
+abbrev pub EndedByNow : Type 0
+EndedByNow = (b : Broker) (now : ℕ) (q : Text) → has_ended b (without_expired b now) q ≡ not (is_alive now b.tokens q)
+
+-- ---- accessors
+
+-- the accessor of a token names it
+abbrev pub AccessorsNameTheirTokens : Type 0
+AccessorsNameTheirTokens =
+    (b : Broker) (t : Text) (x : Token) → OnePlaceEach b → get b.tokens t ≡ Some x
+    → find_accessor b x.accessor ≡ Some t
+
+-- and what an accessor names is a token that has it
+abbrev pub NamedTokensHaveTheirAccessors : Type 0
+NamedTokensHaveTheirAccessors =
+    (b : Broker) (t accessor : Text) → find_accessor b accessor ≡ Some t
+    → (x : Token) × (get b.tokens t ≡ Some x) × (x.accessor ≡ accessor)

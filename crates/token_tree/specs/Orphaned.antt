@@ -1,0 +1,22 @@
+-- The rows of a token's children without their parent (this project's definition).
+use Rattle.std.specs.Prelude.{List, [], ◌∷◌, Bool, not, ◌&&◌, if◌then◌else◌}
+use Rattle.std.specs.FinMap as fin
+use Rattle.broker_types.specs.Text.{Text, same}
+use Rattle.records.specs.declared.kind.Kind.TheVariants as kind
+use Rattle.records.specs.declared.row.Row.{Row}
+use Rattle.records.specs.Kind.{RowKey}
+use Rattle.records.specs.Transaction.{Rows}
+
+-- the row of a child of t
+abbrev pub is_child : Text → RowKey × Row → Bool
+is_child t e = same e.1.owner t && not (same e.0.1 t)
+
+-- the row without an owner
+abbrev pub without_owner : Row → Row
+without_owner row = record row { owner = [] }
+
+-- the rows, the children of t among the entries without a parent
+abbrev pub without_parent : Text → List (RowKey × Row) → Rows → Rows
+without_parent t [] rows = rows
+without_parent t (e ∷ es) rows =
+    without_parent t es (if is_child t e then fin.insert rows (kind.Token, e.0.1) (without_owner e.1) else rows)

@@ -1,0 +1,81 @@
+-- Tokens as rows: which rows are those of a broker's tokens, and what operations on tokens make of it (Vault's
+-- documentation, "Tokens").
+use Rattle.std.specs.Prelude.{◌≡◌, ℕ, List, Bool, Option, Some, None, is_some, is_none, ◌&&◌, map}
+use Rattle.std.specs.FinMap.{from_entries}
+use Rattle.std.specs.List.{IsDistinct}
+use Rattle.broker_types.specs.Text.{Text, same}
+use Rattle.broker_types.specs.Map.{Map, get, put, change, entries, keys}
+use Rattle.broker_types.specs.Token.{Token}
+use Rattle.broker_types.specs.Lineage.{alive_at}
+use Rattle.broker_types.specs.Broker.{Broker}
+use Rattle.broker_types.specs.Places.{OnePlaceEach}
+use Rattle.broker_types.specs.Sound.{Forms, SoundTokens}
+use Rattle.records.specs.Children.{has}
+use Rattle.records.specs.Parts.{of_tokens, Tells}
+use Rattle.records.specs.Table.{Table, table_of}
+use Rattle.records.specs.Transaction.{Seen, IsHonest}
+
+-- the rows that a transaction shows, as a table
+abbrev pub table : Seen → Table
+table s = table_of s.rows
+
+-- The rows of tokens and accessors are those of the broker b, whose tokens are sound, and which has each identifier in
+-- one place. This holds within a request too, where a caller may have spent its last use.
+pub record RepresentsTokens (forms : Forms) (rows : Table) (b : Broker) : Type 0 where
+  pub sound : SoundTokens forms b.tokens
+  pub one_place : OnePlaceEach b
+  pub tells : Tells of_tokens rows b
+
+-- it holds of each broker whose tokens the rows represented before the call, if the storage returned what was written
+abbrev pub OfEachBroker : Seen → Seen → (Broker → Type 0) → Type 0
+OfEachBroker old new Holds =
+    IsHonest new → (forms : Forms) (b : Broker) → RepresentsTokens forms (table old) b → Holds b
+
+-- ---- single tokens
+
+-- whether it is the accessor of the token
+abbrev pub has_accessor : Text → Text → Token → Bool
+has_accessor accessor t x = same x.accessor accessor
+
+-- the token of each accessor
+abbrev pub by_accessor : Broker → Map Text
+by_accessor b = from_entries (map (λ e. (e.1.accessor, e.0)) (entries b.tokens))
+
+-- the token that the accessor names
+abbrev pub find_accessor : Broker → Text → Option Text
+find_accessor b accessor = get (by_accessor b) accessor
+
+-- the accessors of all tokens, in the order of their bytes
+abbrev pub accessors_of : Broker → List Text
+accessors_of b = keys (by_accessor b)
+
+-- the broker with the token x at t
+abbrev pub with_token : Broker → Text → Token → Broker
+with_token b t x = record b { tokens = put b.tokens t x }
+
+-- the token with another end
+abbrev pub with_end : ℕ → Token → Token
+with_end ends x = record x { ends = Some ends }
+
+-- the broker whose token t has another end
+abbrev pub renew : Broker → Text → ℕ → Broker
+renew b t ends = record b { tokens = change b.tokens t (with_end ends) }
+
+-- ---- the end of tokens
+
+-- the broker without the tokens that have come to their end by now, and without all under them
+abbrev pub without_expired : Broker → ℕ → Broker
+without_expired b now = record b { tokens = alive_at now b.tokens }
+
+-- whether t is a token of b, and none of c
+abbrev pub has_ended : Broker → Broker → Text → Bool
+has_ended b c t = is_some (get b.tokens t) && is_none (get c.tokens t)
+
+-- the texts that pass, each once
+pub record AreEach (passes : Text → Bool) (list : List Text) : Type 0 where
+  pub once : IsDistinct same list
+  pub exact : (t : Text) → has list t ≡ passes t
+
+-- the tokens of b that are none of c, each once
+abbrev pub AreEnded : Broker → Broker → List Text → Type 0
+AreEnded b c list = AreEach (has_ended b c) list

@@ -1,0 +1,129 @@
+//! Tokens over rows in memory.
+
+use crate::{
+    accessors, create, find, find_accessor, renew, revoke, revoke_one, spend, sweep_tokens,
+};
+use broker_types::{Bytes, Fault, Moment, TextBuf};
+use records::{Due, Kind, ListRecords, ListTx, RecordsTx, Row, read_token};
+use std::alloc::Global;
+use std::test::Fail;
+
+/// Makes a token of three bytes with two uses, whose accessor is its own text.
+fn put(alloc: Global, tx: &mut ListTx, token: &str, parent: &str, ends: u64) -> Result<(), Fault> {
+    let mut body = Vec::new(alloc);
+    body.extend_from_slice(&[1, 0, 0, 0, 3])?;
+    body.extend_from_slice(token.as_bytes())?;
+    body.extend_from_slice(&[0; 36])?;
+    body.extend_from_slice(&[1, 0, 0, 0, 0, 0, 0, 0, 2])?;
+    body.extend_from_slice(&[0; 4])?;
+    let row = Row {
+        owner: TextBuf::copied(alloc, parent)?,
+        due: Due::new(ends),
+        body: Bytes::new(body),
+    };
+    let token_record = read_token(alloc, &row)?;
+    create(alloc, tx, token, &token_record)
+}
+
+/// A tree: `top`, its child `mid`, and the child `low` of that; beside it the orphan `odd`, which ends at 7, and its
+/// child `kid`.
+fn tree(alloc: Global) -> Result<ListTx, Fault> {
+    let mut tx = ListRecords::new(alloc).begin()?;
+    put(alloc, &mut tx, "mid", "top", 100)?;
+    put(alloc, &mut tx, "low", "mid", 100)?;
+    put(alloc, &mut tx, "top", "", 100)?;
+    put(alloc, &mut tx, "odd", "", 7)?;
+    put(alloc, &mut tx, "kid", "odd", 100)?;
+    Ok(tx)
+}
+
+/// How many tokens there are, and how many accessors.
+fn left(alloc: Global, tx: &mut ListTx) -> Result<(usize, usize), Fault> {
+    let tokens = tx.under(Kind::Token, "")?;
+    let names = accessors(alloc, tx)?;
+    Ok((tokens.len(), names.len()))
+}
+
+#[test]
+fn a_token_ends_with_all_under_it(rt: HostRuntime) -> Result<(), Fail> {
+    let alloc = rt.alloc();
+    for (token, ended, stay) in [
+        ("top", 3, 2),
+        ("mid", 2, 3),
+        ("low", 1, 4),
+        ("odd", 2, 3),
+        ("", 0, 5),
+        ("not", 0, 5),
+    ] {
+        let mut tx = tree(alloc)?;
+        let list = revoke(alloc, &mut tx, token)?;
+        assert!(rt; list.len() == ended);
+        assert!(rt; left(alloc, &mut tx)? == (stay, stay));
+    }
+    Ok(())
+}
+
+#[test]
+fn an_expired_parent_takes_its_children(rt: HostRuntime) -> Result<(), Fail> {
+    let alloc = rt.alloc();
+    for (clock, ended, stay) in [(6, 0, 5), (7, 2, 3), (100, 5, 0)] {
+        let mut tx = tree(alloc)?;
+        if let Some(clock) = Moment::new(clock) {
+            let list = sweep_tokens(alloc, &mut tx, clock)?;
+            assert!(rt; list.len() == ended);
+        }
+        assert!(rt; left(alloc, &mut tx)? == (stay, stay));
+    }
+    Ok(())
+}
+
+#[test]
+fn children_of_a_token_that_ends_alone_are_orphans(rt: HostRuntime) -> Result<(), Fail> {
+    let alloc = rt.alloc();
+    let mut tx = tree(alloc)?;
+    for (token, ended, stay) in [("", 0, 5), ("mid", 1, 4), ("mid", 0, 4)] {
+        let list = revoke_one(alloc, &mut tx, token)?;
+        assert!(rt; list.len() == ended);
+        assert!(rt; left(alloc, &mut tx)? == (stay, stay));
+    }
+    assert!(rt; find(alloc, &mut tx, "mid")?.is_none());
+    assert!(rt; find(alloc, &mut tx, "low")?.is_some_and(|x| x.parent.is_none()));
+    assert!(rt; find(alloc, &mut tx, "kid")?.is_some_and(|x| x.parent.is_some()));
+    Ok(())
+}
+
+#[test]
+fn uses_and_ends(rt: HostRuntime) -> Result<(), Fail> {
+    let alloc = rt.alloc();
+    let mut tx = tree(alloc)?;
+    spend(alloc, &mut tx, "low")?;
+    renew(alloc, &mut tx, "low", Due::at(200))?;
+    assert!(rt;
+        find(alloc, &mut tx, "low")?.is_some_and(|x| x.uses_left == Some(1)
+            && x.ends == Due::new(200))
+    );
+    assert!(rt;
+        find(alloc, &mut tx, "mid")?.is_some_and(|x| x.uses_left == Some(2)
+            && x.ends == Due::new(100))
+    );
+    assert!(rt; find_accessor(&mut tx, "low")?.is_some_and(|token| token.as_str() == "low"));
+    assert!(rt; find_accessor(&mut tx, "not")?.is_none());
+    Ok(())
+}
+
+#[test]
+fn a_chain_ends_with_its_first(rt: HostRuntime) -> Result<(), Fail> {
+    let alloc = rt.alloc();
+    let mut tx = ListRecords::new(alloc).begin()?;
+    let mut parent = String::new(alloc);
+    for number in 100..300 {
+        let token = format!(in alloc; "{number}")?;
+        put(alloc, &mut tx, token.as_str(), parent.as_str(), 100)?;
+        parent = token;
+    }
+    assert!(rt; left(alloc, &mut tx)? == (200, 200));
+    let list = revoke(alloc, &mut tx, "100")?;
+    assert!(rt; list.len() == 200);
+    assert!(rt; left(alloc, &mut tx)? == (0, 0));
+    Ok(())
+}
