@@ -5,7 +5,7 @@ ghost use Rattle.api_json.specs.Kinds as kind;
 ghost use Rattle.api_json.specs.Kinds.{without_spaces, comma_parts, each_item, each_count, each_text};
 
 use crate::from_member::{FromMember, count_text};
-use crate::lists::{Counts, Pairs, Texts};
+use crate::lists::{Counts, Listed, Pairs, Texts};
 use broker_types::TextBuf;
 use serde_json::{Map, Value};
 use std::alloc::{AllocError, Global};
@@ -17,12 +17,7 @@ impl FromMember for Texts {
     fn from_member(alloc: Global, member: &Value) -> Result<Option<Texts>, AllocError> {
         match member {
             Value::String(list) => Ok(Some(comma_parts(alloc, list.as_str())?)),
-            Value::Array(items) => {
-                let Some(list) = each_item(alloc, items)? else {
-                    return Ok(None);
-                };
-                Ok(Some(Texts::new(list)))
-            }
+            Value::Array(items) => each_item(alloc, items),
             Value::Null | Value::Bool(_) | Value::Number(_) | Value::Object(_) => Ok(None),
         }
     }
@@ -38,12 +33,7 @@ impl FromMember for Counts {
                 let parts = comma_parts(alloc, list.as_str())?;
                 part_counts(alloc, parts.as_slice())
             }
-            Value::Array(items) => {
-                let Some(list) = each_item(alloc, items)? else {
-                    return Ok(None);
-                };
-                Ok(Some(Counts::new(list)))
-            }
+            Value::Array(items) => each_item(alloc, items),
             Value::Null | Value::Bool(_) | Value::Number(_) | Value::Object(_) => Ok(None),
         }
     }
@@ -83,8 +73,11 @@ fn without_spaces(text: &str) -> &str
 }
 
 /// The items, if each is of the kind.
-fn each_item<X: FromMember>(alloc: Global, items: &Vec<Value>) -> Result<Option<Vec<X>>, AllocError>
-    ensures { IfOk result (λ o. option_map (λ v. v.items) o ≡ each_item X.kind (items_view items.now.items)) }
+fn each_item<X: FromMember>(
+    alloc: Global,
+    items: &Vec<Value>,
+) -> Result<Option<Listed<X>>, AllocError>
+    ensures { IfOk result (λ o. o ≡ each_item X.kind (items_view items.now.items)) }
 {
     let mut list = Vec::new(alloc);
     for item in items {
@@ -93,7 +86,7 @@ fn each_item<X: FromMember>(alloc: Global, items: &Vec<Value>) -> Result<Option<
             None => return Ok(None),
         }
     }
-    Ok(Some(list))
+    Ok(Some(Listed::new(list)))
 }
 
 fn part_counts(alloc: Global, parts: &[TextBuf]) -> Result<Option<Counts>, AllocError>
