@@ -10,4 +10,5 @@ pub mod PathParts
 pub mod PlaceLemmas
 pub mod RouteSteps
 pub mod Routers
+pub mod TableRows
 pub mod Tables

@@ -1,22 +1,21 @@
 -- What an operation takes from a path is a path.
-use Rattle.std.specs.Prelude.{◌≡◌, ◌<◌, ◌||◌, ◌&&◌, ◌++◌, ℕ, List, [], ◌∷◌, suc, zero, length, drop, get_or, Bool, true, false, not, cond, nat_eq, if◌then◌else◌}
-use Rattle.std.specs.Prelude.{Option, Some, None, option_map, Result, Ok, Err, is_ok, unwrap_or}
+use Rattle.std.specs.Prelude.{◌≡◌, ◌<◌, ◌||◌, ◌++◌, ℕ, List, [], ◌∷◌, suc, length, drop, get_or, Bool, true, false, not, cond, nat_eq, if◌then◌else◌}
+use Rattle.std.specs.Prelude.{Option, Some, None, option_map, Ok, is_ok, unwrap_or}
 use Rattle.std.specs.List.{list_all, find, starts_with}
-use Rattle.std.proofs.Common.{refl, sym, ◌∙◌, ap, subst, inl, inr, arith}
+use Rattle.std.proofs.Common.{refl, sym, ◌∙◌, ap, inl, inr}
 use Rattle.std.proofs.lemmas.Bool.{and_parts, and_from, false≢true, eqb-true, lt-ltb}
 use Rattle.std.proofs.lemmas.Option.{none-some, same_Some}
-use Rattle.broker_types.specs.Text.{Text, same}
+use Rattle.broker_types.specs.Text.{Text}
 use Rattle.broker_types.specs.TextLaws.{same_true}
 use Rattle.broker_types.specs.Path.{is_path}
 use Rattle.broker_types.specs.Refuse.{◌>>=◌, some_or}
 use Rattle.broker_types.specs.declared.ask.Verb.{Verb}
-use Rattle.broker_types.specs.declared.refusal.Refusal.{Refusal}
 use Rattle.broker_types.specs.declared.refusal.Refusal.TheVariants as refusal
 use Rattle.records.specs.Splits.{slash, split_once}
 use Rattle.records.specs.SplitLaws.{lacking_split}
 use Rattle.records.specs.ValueLaws.{ok_inj}
 use Rattle.mounts.specs.declared.operation.Operation.{Operation}
-use Rattle.mounts.specs.Forms.{Ending, nothing, segment, segments, form_of, has_form, is_ending, is_literal, ends_segment, has_parameter, parameter, are_bytes}
+use Rattle.mounts.specs.Forms.{Ending, nothing, segment, segments, form_of, is_ending, is_literal, ends_segment, has_parameter, parameter, are_bytes}
 use Rattle.mounts.specs.Operations.{takes_parameter}
 use Rattle.mounts.specs.Patterns.{fits, is_in_order, is_row, reads_as_form, tells, differ, pattern_found}
 use Rattle.mounts.specs.Route.{Route, cut, operation_for, methods_of, route_by}
@@ -66,7 +65,8 @@ not_empty segments some h = false≢true h
 
 form_is_path : (q literal : Text) (g : Ending) → IsRest q → ends_segment literal ≡ true → not (is_literal g) ≡ true → starts_with nat_eq q literal ≡ true
     → is_ending g (drop (length literal) q) ≡ true → is_path (drop (length literal) q) ≡ true
-form_is_path q literal g (inr good) ends some begins ending = behind_is_path literal (drop (length literal) q) ends (ap is_path (sym (begun literal q begins)) ∙ good)
+form_is_path q literal g (inr good) ends some begins ending =
+    behind_is_path literal (drop (length literal) q) ends (ap is_path (sym (begun literal q begins)) ∙ good)
 form_is_path q [] g (inl none) ends some begins ending = absurd (not_empty g some (ap (is_ending g) (sym none) ∙ ending))
 form_is_path q (x ∷ t) g (inl none) ends some begins ending = absurd (false≢true (ap (λ z. starts_with nat_eq z (x ∷ t)) (sym none) ∙ begins))
 

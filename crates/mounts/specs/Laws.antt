@@ -1,5 +1,5 @@
 -- Laws of routes and of mounts, as statements (this project's).
-use Rattle.std.specs.Prelude.{◌≡◌, ◌≤◌, ℕ, List, length, true, false, Option, Some, None, Ok}
+use Rattle.std.specs.Prelude.{◌≡◌, ◌≤◌, ℕ, List, length, true, false, All, Option, Some, None, Ok}
 use Rattle.broker_types.specs.Text.{Text}
 use Rattle.broker_types.specs.Map.{Map}
 use Rattle.broker_types.specs.Broker.{Broker, Mount}
@@ -12,6 +12,7 @@ use Rattle.mounts.specs.Forms.{form_of, has_form, are_bytes}
 use Rattle.mounts.specs.MountRows.{AreMounts}
 use Rattle.mounts.specs.Mounts.{enabled, disabled}
 use Rattle.mounts.specs.Patterns.{pattern_found, is_in_order, has_pattern}
+use Rattle.mounts.specs.Route.{operation_for}
 use Rattle.mounts.specs.Row.{Row}
 use Rattle.mounts.specs.Table.{rows_of}
 
@@ -20,6 +21,12 @@ use Rattle.mounts.specs.Table.{rows_of}
 -- the rows of each type of mounts are in order
 abbrev pub AreInOrder : Type 0
 AreInOrder = (type : MountType) → is_in_order (rows_of type) ≡ true
+
+-- in a table in order, the verb and the pattern of each row mean its operation
+abbrev pub RowsAreRoutes : Type 0
+RowsAreRoutes =
+    (rows : List Row) → is_in_order rows ≡ true
+    → All (λ (r : Row). operation_for rows r.pattern r.verb ≡ Some r.operation) rows
 
 -- The pattern is of the table, the path has its form, and no pattern of the table that the path has the form of has a
 -- longer text before its parameter.

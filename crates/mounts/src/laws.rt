@@ -1,11 +1,16 @@
 //! Laws of the definitions, each the contract of a function that does nothing.
 
-ghost use Rattle.mounts.specs.Laws.{AreInOrder, FoundByForm, NoneFoundByForm};
+ghost use Rattle.mounts.specs.Laws.{AreInOrder, RowsAreRoutes, FoundByForm, NoneFoundByForm};
 ghost use Rattle.mounts.specs.Laws.{EnableKeepsSoundness, DisableKeepsSoundness, MountsEvolve, MountsAreTold};
 
 /// A law: the table of each type of mounts is in order.
 pub fn tables_are_in_order()
     ensures { AreInOrder }
+{}
+
+/// A law: in each table that is in order, the verb and the pattern of each row mean its operation.
+pub fn rows_are_routes()
+    ensures { RowsAreRoutes }
 {}
 
 /// A law: in each table that is in order, a path finds the pattern whose form it has. If it has the forms of

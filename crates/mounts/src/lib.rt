@@ -12,7 +12,7 @@ mod table;
 
 pub use laws::{
     edits_evolve, edits_keep_soundness, mounts_are_told, patterns_are_found_by_form,
-    tables_are_in_order,
+    rows_are_routes, tables_are_in_order,
 };
 pub use listing::{NamedMount, list};
 pub use mount_type::MountType;

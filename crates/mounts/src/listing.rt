@@ -1,6 +1,6 @@
 //! The list of all mounts.
 
-ghost use Rattle.std.specs.Prelude.{◌≡◌, List, map, IfOk, IfErr, OnOk, MatchResult, All, false, true};
+ghost use Rattle.std.specs.Prelude.{◌≡◌, ◌≢◌, List, map, IfOk, IfErr, OnOk, MatchResult, All, false, true};
 ghost use Rattle.std.specs.FinMap as fin;
 ghost use Rattle.broker_types.specs.Text.{Text, text_cmp};
 ghost use Rattle.broker_types.specs.Fault.{IsMemoryOrStorage};
@@ -46,6 +46,7 @@ impl Model for NamedMount {
 pub fn list<T: RecordsTx>(alloc: Global, tx: &mut T) -> Result<Vec<NamedMount>, Fault>
     ensures told { IsHonest (T.seen tx.new) → (mounts : Map Mount) → AreMounts (table_of (T.seen tx.old).rows) mounts
         → MatchResult result (λ list. list.items ≡ spec.listed mounts) IsMemoryOrStorage }
+    ensures started { IfErr result (λ fault. fault ≢ Fault.BadStart) }
     ensures same { IsHonest (T.seen tx.new) → OnOk result ((T.seen tx.new).rows ≡ (T.seen tx.old).rows) }
     ensures goes_on { GoesOn (T.seen tx.old) (T.seen tx.new) (is_storage result) }
 {
@@ -62,6 +63,7 @@ fn read_types(alloc: Global, rows: &[Entry]) -> Result<Vec<NamedMount>, Fault>
         → rows.now ≡ map at_mount mounts
         → MatchResult result (λ list. list.items ≡ map typed mounts) IsMemoryOrStorage }
     ensures faults { is_storage result ≡ false }
+    ensures started { IfErr result (λ fault. fault ≢ Fault.BadStart) }
 {
     let mut list = Vec::new(alloc);
     for entry in rows {
@@ -76,6 +78,7 @@ fn read_type(alloc: Global, entry: &Entry) -> Result<NamedMount, Fault>
     ensures told { (mount : Mount) → IsMountInRange mount → entry.now.1 ≡ mount_row mount
         → MatchResult result (λ found. found ≡ (entry.now.0.1, type_of mount)) IsMemoryOrStorage }
     ensures faults { is_storage result ≡ false }
+    ensures started { IfErr result (λ fault. fault ≢ Fault.BadStart) }
 {
     let mount = read_mount(&entry.row)?;
     let name = TextBuf::copied(alloc, entry.key.as_str())?;
