@@ -69,8 +69,8 @@ pub(crate) fn started(alloc: Global, moment: Moment) -> Result<Hub<ListStore>, F
     Ok(Hub::new(alloc, store))
 }
 
-/// Computes `Effect`, `request_effect`, `front_effect`, `Turns`, `history_at`, `history_after`,
-/// `put_history`, `Next`, `OpenedAs`, `closed_at`, `AnswersOne`.
+/// Computes `history_at`, `history_after`, `put_history`, `TurnsOpen`, `NextConnections`, `OpenedAs`,
+/// `closed_at`.
 #[test]
 fn pieces_of_two_connections(rt: HostRuntime) -> Result<(), Fail> {
     let alloc = rt.alloc();
@@ -107,7 +107,7 @@ fn pieces_of_two_connections(rt: HostRuntime) -> Result<(), Fail> {
     Ok(())
 }
 
-/// Computes `close_history`, `IsLater`, `Keeps`, `StopsAt`.
+/// Computes `close_history`, `FaultsAt`, `IsLater`, `Keeps`, `StopsTurns`.
 #[test]
 fn a_fault_closes_its_connection_alone(rt: HostRuntime) -> Result<(), Fail> {
     let alloc = rt.alloc();
