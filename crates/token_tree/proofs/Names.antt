@@ -1,9 +1,8 @@
 -- The rows of accessors, and the tokens that they name.
-use Rattle.std.specs.Prelude.{◌≡◌, List, [], ◌∷◌, ◌++◌, Bool, true, false, cond, if◌then◌else◌, Option, Some, None, option_map, option_and_then, map, filter}
-use Rattle.std.specs.Prelude.{All, T}
+use Rattle.std.specs.Prelude.{◌≡◌, List, [], ◌∷◌, ◌++◌, Bool, true, false, cond, if◌then◌else◌, Option, Some, None, option_map, option_and_then, map}
+use Rattle.std.specs.Prelude.{All}
 use Rattle.std.specs.Cmp.Lexicographic.{nat_list_cmp_total}
-use Rattle.std.specs.FinMap as fin
-use Rattle.std.specs.FinMap.{find, is_sorted, from_entries, get-from_entries, get-entries, entries_sorted, slice_cmp-IsAntisymmetric, nat_cmp-IsAntisymmetric}
+use Rattle.std.specs.FinMap.{find, from_entries, get-from_entries, get-entries, entries_sorted, slice_cmp-IsAntisymmetric, nat_cmp-IsAntisymmetric}
 use Rattle.std.specs.FinMap.Entries.{find-where_key, is_sorted-where_key, where_key}
 use Rattle.std.specs.List.{AllByRecursion, find as first}
 use Rattle.std.specs.Option.{option_map_or}
@@ -13,7 +12,7 @@ use Rattle.std.proofs.lemmas.List.{append-nil}
 use Rattle.std.proofs.lemmas.List.Elements.{All-head, All-tail}
 use Rattle.broker_types.specs.Text.{Text, text_cmp, same}
 use Rattle.broker_types.specs.TextLaws.{same-text_cmp, same_self, same_true, same_equiv}
-use Rattle.broker_types.specs.Map.{Map, get, entries, keys, first_where, with_values}
+use Rattle.broker_types.specs.Map.{Map, get, entries, first_where, with_values}
 use Rattle.broker_types.specs.MapLaws.{listing_is}
 use Rattle.broker_types.specs.SearchLaws.{each_entry, first_where_is, first_where_only}
 use Rattle.broker_types.specs.OptionLaws.{mapped}
@@ -32,7 +31,7 @@ use Rattle.records.specs.Rows.{rows_of, or_else}
 use Rattle.records.specs.Spelling.{number}
 use Rattle.records.specs.Table.{table_of}
 use Rattle.records.specs.Transaction.{Rows, rows_under}
-use Rattle.token_tree.specs.Accessors.{IsAccessorRow, names_token, with_accessor, with_accessors}
+use Rattle.token_tree.specs.Accessors.{IsAccessorRow, names_token, with_accessors}
 use Rattle.token_tree.specs.Tokens.{has_accessor, by_accessor, find_accessor, accessors_of}
 use Rattle.token_tree.proofs.Removals.{one_accessor}
 

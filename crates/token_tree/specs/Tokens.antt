@@ -1,6 +1,6 @@
 -- Tokens as rows: which rows are those of a broker's tokens, and what operations on tokens make of it (Vault's
 -- documentation, "Tokens").
-use Rattle.std.specs.Prelude.{◌≡◌, ℕ, List, Bool, Option, Some, None, is_some, is_none, ◌&&◌, map}
+use Rattle.std.specs.Prelude.{◌≡◌, ℕ, List, Bool, Option, Some, is_some, is_none, ◌&&◌, map}
 use Rattle.std.specs.FinMap.{from_entries}
 use Rattle.std.specs.List.{IsDistinct}
 use Rattle.broker_types.specs.Text.{Text, same}

@@ -6,7 +6,7 @@ use Rattle.records.specs.declared.kind.Kind.TheVariants as kind
 use Rattle.records.specs.declared.row.Row.{Row}
 use Rattle.records.specs.RowForms.{accessor_row}
 use Rattle.records.specs.ValueLaws.{none_of, ok_inj}
-use Rattle.token_tree.proofs.Names.{named_row, all_named, row_named, token_named, token_of, is_of_token}
+use Rattle.token_tree.proofs.Names.{named_row, all_named, row_named, token_named, token_of}
 use Rattle.token_tree.proofs.by_accessor.find_accessor.Goals as goal
 
 pub returns-in_default-clause-found : goal.returns-in_default-clause-found
