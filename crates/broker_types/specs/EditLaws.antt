@@ -1,8 +1,8 @@
 -- Laws of one token changed in place, which keeps its parent and its accessor, and gets no lease.
-use Rattle.std.specs.Prelude.{◌≡◌, if◌then◌else◌, true, false, Option, Some}
+use Rattle.std.specs.Prelude.{◌≡◌, if◌then◌else◌, true, false, Option}
 use Rattle.std.proofs.Common.{refl, sym, ◌∙◌, ap, subst}
 use Rattle.broker_types.specs.Text.{Text, same}
-use Rattle.broker_types.specs.Map.{get, change}
+use Rattle.broker_types.specs.Map.{change}
 use Rattle.broker_types.specs.Token.{Token, Tokens}
 use Rattle.broker_types.specs.Broker.{Broker}
 use Rattle.broker_types.specs.Evolves.{Evolves}
@@ -32,13 +32,12 @@ module _ (b : Broker) (t : Text) (f : Token → Token) (edit : IsEdit f) where
 
   edited_fewer : AreFewer b.tokens tokens
   edited_fewer q y e =
-      let x = valued_is (edited_at t f) b.tokens q y e in
-      (
+      let x = valued_is (edited_at t f) b.tokens q y e in (
         x.0,
         x.1,
         subst (IsLess x.0) (sym x.2)
-        (either_holds t f (IsLess x.0) q x.0 (record { same_accessor = refl; fewer_leases = λ _ _ is. is })
-        (edit.less x.0)),
+            (either_holds t f (IsLess x.0) q x.0 (record { same_accessor = refl; fewer_leases = λ _ _ is. is })
+            (edit.less x.0)),
       )
 
   edited_parent : (q : Text) (x : Token) → (edited_at t f q x).parent ≡ x.parent

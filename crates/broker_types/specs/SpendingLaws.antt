@@ -14,7 +14,7 @@ use Rattle.broker_types.specs.Spending.{spend, one_less, drop_waiting, is_spent,
 use Rattle.broker_types.specs.Evolves.{IsTakenOut, OriginIsGone, Evolves}
 use Rattle.broker_types.specs.Token.{Token, Tokens}
 use Rattle.broker_types.specs.Lineage as lineage
-use Rattle.broker_types.specs.Lineage.{is_under, orphaned_by, with_live_leases}
+use Rattle.broker_types.specs.Lineage.{is_under}
 use Rattle.broker_types.specs.Broker.{Broker, Waiting, revoke}
 use Rattle.broker_types.specs.Places.{wrapping_token, token_identifier}
 use Rattle.broker_types.specs.Laws.{EndTokens}

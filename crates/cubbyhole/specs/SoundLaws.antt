@@ -5,7 +5,6 @@ use Rattle.std.proofs.Common.{refl, sym, ◌∙◌, subst}
 use Rattle.std.proofs.lemmas.Option.{same_Some, none-some}
 use Rattle.broker_types.specs.Text.{Text, text_cmp, same}
 use Rattle.broker_types.specs.Map.{Map, get, empty, put, without}
-use Rattle.broker_types.specs.Token.{Token}
 use Rattle.broker_types.specs.Broker.{Broker}
 use Rattle.broker_types.specs.Evolves.{Evolves}
 use Rattle.broker_types.specs.Sound.{Forms, Sound, IsPathText, IsObjectText}
