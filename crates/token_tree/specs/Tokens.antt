@@ -63,7 +63,8 @@ renew b t ends = record b { tokens = change b.tokens t (with_end ends) }
 
 -- ---- the end of tokens
 
--- the broker without the tokens that have come to their end by now, and without all under them
+-- the broker without the tokens that have come to their end by now, and without all under them; each token that is left
+-- has its leases that end later (rows of leases are not of this part)
 abbrev pub without_expired : Broker → ℕ → Broker
 without_expired b now = record b { tokens = alive_at now b.tokens }
 
