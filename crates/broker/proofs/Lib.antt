@@ -1,6 +1,7 @@
 pub mod ClockCalls
 pub mod Clocks
 pub mod CubbyholeAnswers
+pub mod CubbyholeRoutes
 pub mod Examples
 pub mod FirstRows
 pub mod Operations
