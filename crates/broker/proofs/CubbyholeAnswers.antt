@@ -29,7 +29,6 @@ use Rattle.records.specs.Table.{table_of}
 use Rattle.records.specs.Transaction.{Rows}
 use Rattle.cubbyhole.specs.Cubbyhole.{object_at, with_cubbyhole, write}
 use Rattle.cubbyhole.specs.SoundLaws.{write_sound, write_evolves}
-use Rattle.mounts.specs.Operations.{takes_parameter}
 use Rattle.mounts.specs.Route.{Route}
 use Rattle.mounts.specs.declared.operation.Cubbyhole.{Cubbyhole}
 use Rattle.mounts.specs.declared.operation.Cubbyhole.TheVariants as operation
@@ -92,10 +91,6 @@ represents-write b old new t path object st is_path is_object tells =
 -- so far each operation is one on a cubbyhole
 pub is_cubbyhole : (o : Operation) → (operation : Cubbyhole) × (o ≡ Cubbyholes operation)
 is_cubbyhole (Cubbyholes operation) = (operation, refl)
-
-pub takes_path : (o : Operation) → takes_parameter o ≡ true
-takes_path (Cubbyholes operation.Read) = refl
-takes_path (Cubbyholes operation.Write) = refl
 
 -- what a route to an operation on a cubbyhole means
 pub meant_there : (r : Route) (a : Ask) (op : Cubbyhole) (path : Text) (body : List ℕ) → r.operation ≡ Cubbyholes op → r.parameter ≡ path → body ≡ a.body

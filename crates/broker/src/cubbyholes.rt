@@ -7,7 +7,9 @@ ghost use Rattle.broker_types.specs.Map.{get};
 ghost use Rattle.broker_types.specs.Names.{Names};
 ghost use Rattle.broker_types.specs.Path.{is_path};
 ghost use Rattle.records.specs.Transaction.{IsHonest};
+ghost use Rattle.mounts.specs.Operations.{takes_parameter};
 ghost use Rattle.mounts.specs.declared.operation.Cubbyhole.TheVariants as operations;
+ghost use Rattle.mounts.specs.declared.operation.Operation.TheVariants.{Cubbyholes};
 ghost use Rattle.broker.specs.ClockRow.{IsNotBadStart};
 ghost use Rattle.broker.specs.Command.{on_cubbyhole, on_cubbyholes};
 ghost use Rattle.broker.specs.Cubbyholes as part;
@@ -35,7 +37,8 @@ pub(crate) fn answer<T: RecordsTx>(
 ) -> Result<Answer, Fault>
     requires { length body.now ≤ longest_body }
     ensures ok { IsHonest (T.seen tx.new) → (b : Broker) (names : Names) → names.request ≡ request.now
-        → Represents None (T.seen tx.old).rows b → get b.tokens caller.now ≢ None → is_path path.now ≡ true
+        → Represents None (T.seen tx.old).rows b → get b.tokens caller.now ≢ None
+        → (takes_parameter (Cubbyholes operation) ≡ true → is_path path.now ≡ true)
         → IfOk result (λ a. Gives a (T.seen tx.new).rows
         (carried_out b caller.now names (on_cubbyholes operation path.now body.now))) }
 
