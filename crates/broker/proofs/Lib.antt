@@ -1,8 +1,9 @@
 pub mod ClockCalls
 pub mod Clocks
+pub mod CubbyholeAnswers
+pub mod CubbyholeRoutes
 pub mod Examples
 pub mod FirstRows
-pub mod Cubbyholes
 pub mod Operations
 pub mod Routes
 pub mod Serving
