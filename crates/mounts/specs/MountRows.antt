@@ -25,6 +25,14 @@ pub record IsMountAt (rows : Table) (name : Text) (o : Option Mount) : Type 0 wh
 abbrev pub IsKnownAt : Table → Text → Option Mount → Type 0
 IsKnownAt rows name o = fixed_type name ≡ None → IsMountAt rows name o
 
+-- the row at a name can be read: a mount that is always there needs none, and any other row is that of a mount
+abbrev pub IsReadableAt : Table → Text → Type 0
+IsReadableAt rows name = (mount : Option Mount) × IsKnownAt rows name mount
+
+-- the row at a name is that of no mount, and a mount that is always there has not the name
+abbrev pub IsDamagedAt : Table → Text → Type 0
+IsDamagedAt rows name = (mount : Option Mount) → IsKnownAt rows name mount → ⊥
+
 -- the rows of mounts are those of the map
 abbrev pub AreMounts : Table → Map Mount → Type 0
 AreMounts rows ms = (name : Text) → IsMountAt rows name (get ms name)
