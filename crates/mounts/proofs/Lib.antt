@@ -1,8 +1,10 @@
 pub mod Cuts
 pub mod FormFound
+pub mod FormPatterns
 pub mod FormRouters
 pub mod FormSearch
 pub mod FormSeek
+pub mod FormsApart
 pub mod MountEdits
 pub mod MountLists
 pub mod Parameters
