@@ -9,7 +9,6 @@ pub mod MountEdits
 pub mod MountLists
 pub mod Parameters
 pub mod PathParts
-pub mod PlaceLemmas
 pub mod RouteSteps
 pub mod Routers
 pub mod TableRows

@@ -1,17 +1,17 @@
 //! The list of all mounts.
 
 ghost use Rattle.std.specs.Prelude.{◌≡◌, ◌≢◌, List, [], map, IfOk, IfErr, OnOk, MatchResult, All, Ok, false, true};
-ghost use Rattle.broker_types.specs.Text.{Text};
+ghost use Rattle.broker_types.specs.Text.{Text, text_cmp};
 ghost use Rattle.broker_types.specs.Fault.{IsMemoryOrStorage};
 ghost use Rattle.broker_types.specs.Map.{Map};
 ghost use Rattle.broker_types.specs.Broker.{Mount};
+ghost use Rattle.records.specs.Places.{rank, is_met};
 ghost use Rattle.records.specs.Ranges.{IsMountInRange};
 ghost use Rattle.records.specs.RowForms.{mount_row};
 ghost use Rattle.records.specs.Table.{table_of};
 ghost use Rattle.records.specs.Transaction.{IsHonest, GoesOn, is_storage, rows_under};
 ghost use Rattle.mounts.specs.MountRows.{AreMounts, IsMountRow, at_mount, placed, in_places};
 ghost use Rattle.mounts.specs.Mounts as spec;
-ghost use Rattle.mounts.specs.Places.{rank, is_met};
 ghost use Rattle.mounts.specs.Types.{type_of};
 
 use crate::mount_type::{MountType, engine_type};
@@ -122,10 +122,10 @@ fn printed(alloc: Global, name: &str) -> Result<TextBuf, AllocError>
 
 /// The place of a name, or the place where it would go.
 fn place(list: &[NamedMount], name: &str) -> Result<usize, usize>
-    ensures at { IfOk result (λ i. i ≡ rank name.now list.now) }
-    ensures met { OnOk result (is_met name.now list.now ≡ true) }
-    ensures gap { IfErr result (λ i. i ≡ rank name.now list.now) }
-    ensures missed { IfErr result (λ i. is_met name.now list.now ≡ false) }
+    ensures at { IfOk result (λ i. i ≡ rank text_cmp name.now list.now) }
+    ensures met { OnOk result (is_met text_cmp name.now list.now ≡ true) }
+    ensures gap { IfErr result (λ i. i ≡ rank text_cmp name.now list.now) }
+    ensures missed { IfErr result (λ i. is_met text_cmp name.now list.now ≡ false) }
 {
     for (i, mount) in list.iter().enumerate() {
         match name.cmp(mount.name.as_str()) {
