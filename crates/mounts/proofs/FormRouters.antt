@@ -1,64 +1,60 @@
 -- The router of rows has the tokens of their patterns' forms, and no others.
-use Rattle.std.specs.Prelude.{◌≡◌, ◌⊎◌, ◌≤◌, ℕ, List, [], ◌∷◌, length, true, false, cond, Option, Some, None, Result, Ok, Err, if◌then◌else◌}
+use Rattle.std.specs.Prelude.{◌≡◌, ◌⊎◌, ℕ, List, [], ◌∷◌, true, false, cond, Option, Some, None, Result, Ok, Err, if◌then◌else◌}
 use Rattle.std.specs.List.{list_all}
 use Rattle.std.proofs.Common.{refl, sym, ◌∙◌, ap, subst, inl, inr}
-use Rattle.std.proofs.lemmas.Bool.{and_parts, and_from, false≢true, false_from_ne_true, or_left, or_right, or_cases}
-use Rattle.std.proofs.lemmas.Option.{none-some, same_Some}
+use Rattle.std.proofs.lemmas.Bool.{and_parts, and_from, false≢true, or_left, or_right, or_cases}
+use Rattle.std.proofs.lemmas.Option.{same_Some}
 use Rattle.matchit.specs.Order.{placed}
 use Rattle.matchit.specs.Rows.{comes_before}
 use Rattle.matchit.specs.Route.{Scan, parse_route}
 use Rattle.matchit.specs.Router.{RouteOf, route_from}
-use Rattle.matchit.specs.Seek.{first}
 use Rattle.matchit.specs.declared.error.InsertError.{InsertError}
-use Rattle.broker_types.specs.OptionLaws.{mapped, mapped_none}
 use Rattle.broker_types.specs.Text.{Text, same}
 use Rattle.broker_types.specs.TextLaws.{same_self, same_true}
-use Rattle.mounts.specs.Forms.{Ending, form_of, has_form, are_bytes}
-use Rattle.mounts.specs.Laws.{IsForm}
-use Rattle.mounts.specs.Patterns.{Router, with_next, placed_as, is_again, router_behind, router_of, pattern_found, tokens, is_read_as, reads_as_form}
-use Rattle.mounts.specs.Patterns.{fits, is_in_order, has_pattern}
+use Rattle.mounts.specs.Forms.{Ending, form_of, are_bytes}
+use Rattle.mounts.specs.Patterns.{Router, with_next, placed_as, is_again, router_behind, tokens, is_read_as, reads_as_form}
+use Rattle.mounts.specs.Patterns.{has_pattern}
 use Rattle.mounts.specs.Row.{Row}
-use Rattle.mounts.proofs.FormSearch.{FormOf, Has, search}
-use Rattle.mounts.proofs.FormSeek.{rows, all_bytes, seek_search}
-use Rattle.mounts.proofs.FormFound.{found_is, found_none}
+use Rattle.mounts.proofs.FormSearch.{FormOf, Has}
+use Rattle.mounts.proofs.FormSeek.{rows, all_bytes}
 
-abbrev Keys : Type 0
+abbrev pub Keys : Type 0
 Keys = RouteOf Text
 
 -- the tokens of a route are those of its pattern's form
-record IsRoute (t : List ℕ) (k : Keys) : Type 0 where
+pub record IsRoute (t : List ℕ) (k : Keys) : Type 0 where
   pub tokens_are : t ≡ tokens (form_of k.value)
   pub bytes : are_bytes (form_of k.value).literal ≡ true
 
-abbrev AreRoutes : Router → Type 0
+abbrev pub AreRoutes : Router → Type 0
 AreRoutes [] = Unit {0}
 AreRoutes (e ∷ es) = IsRoute e.0 e.1 × AreRoutes es
 
 -- the router has a route with this pattern
-abbrev HasPattern : Text → Router → Type 0
+abbrev pub HasPattern : Text → Router → Type 0
 HasPattern p [] = ⊥
 HasPattern p (e ∷ es) = (e.1.value ≡ p) ⊎ HasPattern p es
 
-abbrev forms_of : Router → List (FormOf Keys)
+abbrev pub forms_of : Router → List (FormOf Keys)
 forms_of [] = []
 forms_of (e ∷ es) = ((form_of e.1.value).literal, (form_of e.1.value).ending, e.1) ∷ forms_of es
 
 -- ---- the router as forms
 
-rows_forms : (router : Router) → AreRoutes router → router ≡ rows (forms_of router)
+pub rows_forms : (router : Router) → AreRoutes router → router ≡ rows (forms_of router)
 rows_forms [] are = refl
 rows_forms (e ∷ es) are = λ i. (are.0.tokens_are i, e.1) ∷ rows_forms es are.1 i
 
-bytes_forms : (router : Router) → AreRoutes router → all_bytes (forms_of router) ≡ true
+pub bytes_forms : (router : Router) → AreRoutes router → all_bytes (forms_of router) ≡ true
 bytes_forms [] are = refl
 bytes_forms (e ∷ es) are = and_from _ _ are.0.bytes (bytes_forms es are.1)
 
-record IsOf (router : Router) (l : Text) (g : Ending) (k : Keys) : Type 0 where
+pub record IsOf (router : Router) (l : Text) (g : Ending) (k : Keys) : Type 0 where
   pub literal : l ≡ (form_of k.value).literal
   pub ending : g ≡ (form_of k.value).ending
   pub has : HasPattern k.value router
 
-has_is : (router : Router) (l : Text) (g : Ending) (k : Keys) → Has l g k (forms_of router) → IsOf router l g k
+pub has_is : (router : Router) (l : Text) (g : Ending) (k : Keys) → Has l g k (forms_of router) → IsOf router l g k
 has_is [] l g k has = absurd has
 has_is (e ∷ es) l g k (inl is) =
     let key : k ≡ e.1 = ap (λ (z : FormOf Keys). z.2) is in
@@ -69,7 +65,7 @@ has_is (e ∷ es) l g k (inl is) =
     }
 has_is (e ∷ es) l g k (inr later) = let r = has_is es l g k later in record { literal = r.literal; ending = r.ending; has = inr r.has }
 
-is_has : (router : Router) (p : Text) → HasPattern p router → (k : Keys) × Has (form_of p).literal (form_of p).ending k (forms_of router)
+pub is_has : (router : Router) (p : Text) → HasPattern p router → (k : Keys) × Has (form_of p).literal (form_of p).ending k (forms_of router)
 is_has [] p has = absurd has
 is_has (e ∷ es) p (inl is) = (e.1, inl (ap (λ (q : Text). ((form_of q).literal, (form_of q).ending, e.1)) (sym is)))
 is_has (e ∷ es) p (inr later) = let r = is_has es p later in (r.0, inr r.1)
@@ -105,7 +101,7 @@ module _ (t : List ℕ) (k : Keys) where
       kept deeper (inl is) = inl is
       kept deeper (inr later) = inr (deeper later)
 
-  placed_from : (router : Router) (p : Text) → HasPattern p (placed (t, k) router) → (k.value ≡ p) ⊎ HasPattern p router
+  pub placed_from : (router : Router) (p : Text) → HasPattern p (placed (t, k) router) → (k.value ≡ p) ⊎ HasPattern p router
   placed_from [] p has = has
   placed_from (e ∷ es) p has =
       elim (comes_before t e.0) as (λ v. HasPattern p (cond v ((t, k) ∷ e ∷ es) (e ∷ placed (t, k) es)) → (k.value ≡ p) ⊎ HasPattern p (e ∷ es)) [
@@ -124,14 +120,14 @@ module _ (t : List ℕ) (k : Keys) where
 -- ---- the router of rows
 
 -- the next router has the pattern and those of the router
-record IsNext (p : Text) (router next : Router) : Type 0 where
+pub record IsNext (p : Text) (router next : Router) : Type 0 where
   pub are : AreRoutes next
   pub here : HasPattern p next
   pub keeps : (q : Text) → HasPattern q router → HasPattern q next
   pub from : (q : Text) → HasPattern q next → (p ≡ q) ⊎ HasPattern q router
 
 -- the pattern of the row before is in the router
-abbrev IsBefore : Option Text → Router → Type 0
+abbrev pub IsBefore : Option Text → Router → Type 0
 IsBefore before router = (q : Text) → before ≡ Some q → HasPattern q router
 
 next_placed : (p : Text) (router : Router) (r : Result Scan InsertError) → are_bytes (form_of p).literal ≡ true → is_read_as (tokens (form_of p)) r ≡ true
@@ -147,7 +143,7 @@ next_placed p router (Ok s) bytes read are =
       from = λ q has. placed_from s.pattern k router q has;
     }
 
-next_is : (before : Option Text) (p : Text) (router : Router) → reads_as_form p ≡ true → AreRoutes router → IsBefore before router
+pub next_is : (before : Option Text) (p : Text) (router : Router) → reads_as_form p ≡ true → AreRoutes router → IsBefore before router
     → IsNext p router (with_next before p router)
 next_is before p router reads are known =
     let parts = and_parts _ _ reads in
@@ -161,13 +157,13 @@ next_is before p router reads are known =
     again_here (Some b) h again = subst (λ q. HasPattern q router) (same_true b p again) (h b refl)
 
 -- the last router has the patterns of the rows and those of the router
-record IsLast (table : List Row) (router last : Router) : Type 0 where
+pub record IsLast (table : List Row) (router last : Router) : Type 0 where
   pub are : AreRoutes last
   pub listed : (p : Text) → has_pattern table p ≡ true → HasPattern p last
   pub keeps : (p : Text) → HasPattern p router → HasPattern p last
   pub from : (p : Text) → HasPattern p last → (has_pattern table p ≡ true) ⊎ HasPattern p router
 
-last_is : (before : Option Text) (table : List Row) (router : Router) → list_all (λ (r : Row). reads_as_form r.pattern) table ≡ true → AreRoutes router
+pub last_is : (before : Option Text) (table : List Row) (router : Router) → list_all (λ (r : Row). reads_as_form r.pattern) table ≡ true → AreRoutes router
     → IsBefore before router → IsLast table router (router_behind before table router)
 unfolding router_behind
 last_is before [] router reads are known =
@@ -192,42 +188,3 @@ last_is before (r ∷ table) router reads are known =
         ]
       ];
     }
-
--- ---- the pattern that a path finds
-
-module _ (table : List Row) (path : Text) (ordered : is_in_order table ≡ true) (bytes : are_bytes path ≡ true) where
-  router_is : IsLast table [] (router_of table)
-  unfolding router_of
-  router_is =
-      last_is None table [] (and_parts _ _ (and_parts (fits table) _ ordered).1).0 tt (λ q is. absurd (none-some q is))
-
-  searched : first (router_of table) path ≡ search (forms_of (router_of table)) path
-  searched =
-      ap (λ (rs : Router). first rs path) (rows_forms (router_of table) router_is.are)
-      ∙ seek_search (forms_of (router_of table)) path (bytes_forms (router_of table) router_is.are) bytes
-
-  pub found_by_form : (p : Text) → pattern_found table path ≡ Some p → IsForm table path p
-  found_by_form p h =
-      let key = mapped (λ (r : Keys). r.value) (first (router_of table) path) p h in
-      let found = found_is (forms_of (router_of table)) path key.0 (sym searched ∙ key.1) in
-      let of = has_is (router_of table) found.literal found.ending key.0 found.has in
-      record {
-        listed = elim (router_is.from key.0.value of.has) [
-          | inl is ↦ ap (has_pattern table) key.2 ∙ is
-          | inr none ↦ absurd none
-        ];
-        form =
-            ap (λ q. has_form (form_of q) path) key.2
-            ∙ (λ i. has_form (record { literal = sym of.literal i; ending = sym of.ending i }) path) ∙ found.form;
-        longest = λ other listed form.
-            let there = is_has (router_of table) other (router_is.listed other listed) in
-            let least = found.longest (form_of other).literal (form_of other).ending there.0 there.1 form in
-            subst (λ (n : ℕ). length (form_of other).literal ≤ n) (ap length of.literal ∙ ap (λ q. length (form_of q).literal) (sym key.2)) least;
-      }
-
-  pub none_by_form : (p : Text) → pattern_found table path ≡ None → has_pattern table p ≡ true → has_form (form_of p) path ≡ false
-  none_by_form p h listed =
-      let none = mapped_none (λ (r : Keys). r.value) (first (router_of table) path) h in
-      let there = is_has (router_of table) p (router_is.listed p listed) in
-      false_from_ne_true (has_form (form_of p) path)
-      (λ form. found_none (forms_of (router_of table)) path (sym searched ∙ none) (form_of p).literal (form_of p).ending there.0 there.1 form)

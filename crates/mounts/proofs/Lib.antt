@@ -1,13 +1,14 @@
 pub mod Cuts
 pub mod FormFound
+pub mod FormPatterns
 pub mod FormRouters
 pub mod FormSearch
 pub mod FormSeek
+pub mod FormsApart
 pub mod MountEdits
 pub mod MountLists
 pub mod Parameters
 pub mod PathParts
-pub mod PlaceLemmas
 pub mod RouteSteps
 pub mod Routers
 pub mod TableRows

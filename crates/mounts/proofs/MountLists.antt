@@ -1,12 +1,14 @@
 -- The list of mounts, from the rows of mounts.
-use Rattle.std.specs.Prelude.{◌≡◌, ◌<◌, ◌≤◌, ℕ, List, [], map, length, take, get_or, codes, All}
+use Rattle.std.specs.Prelude.{◌≡◌, ◌<◌, ◌+◌, ℕ, List, [], ◌∷◌, map, length, take, get_or, codes, All}
 use Rattle.std.specs.Cmp.Lexicographic.{nat_list_cmp_total}
 use Rattle.std.specs.FinMap as fin
-use Rattle.std.proofs.Common.{◌∙◌, ap, arith}
-use Rattle.std.proofs.lemmas.List.{get_or-map, length-map, take_all}
-use Rattle.broker_types.specs.Text.{Text, text_cmp}
-use Rattle.broker_types.specs.Map.{Map, entries, put, map_values}
-use Rattle.broker_types.specs.MapLaws.{entries-map_values}
+use Rattle.std.specs.List.{fold}
+use Rattle.std.proofs.Common.{refl, ◌∙◌, ap, arith}
+use Rattle.std.proofs.lemmas.List.{get_or-map, length-map, map_more}
+use Rattle.std.proofs.lemmas.List.Sums.{fold-append}
+use Rattle.broker_types.specs.Text.{Text}
+use Rattle.broker_types.specs.Map.{Map, empty, entries}
+use Rattle.broker_types.specs.MapLaws.{entries-empty}
 use Rattle.broker_types.specs.SearchLaws.{each_entry}
 use Rattle.broker_types.specs.Broker.{Mount, kv}
 use Rattle.records.specs.declared.kind.Kind.TheVariants as kind
@@ -19,18 +21,23 @@ use Rattle.records.specs.Table.{table_of}
 use Rattle.records.specs.Transaction.{Rows, rows_under}
 use Rattle.mounts.specs.declared.mount_type.MountType.{MountType}
 use Rattle.mounts.specs.declared.mount_type.MountType.TheVariants as mount
-use Rattle.mounts.specs.MountRows.{AreMounts, at_mount, typed}
-use Rattle.mounts.specs.Mounts.{listed, plain_mount}
-use Rattle.mounts.specs.Types.{type_of}
+use Rattle.mounts.specs.MountRows.{AreMounts, at_mount, placed, in_places}
+use Rattle.mounts.specs.Mounts.{typed, printed, with_type, listed, plain_mount}
+
+entries-fold : (types : Map MountType) (ms : List (Text × MountType)) → entries (fold with_type types ms) ≡ fold placed (entries types) ms
+entries-fold types [] = refl
+entries-fold types (m ∷ ms) =
+    entries-fold (with_type types m) ms ∙ ap (λ es. fold placed es ms) (fin.entries-insert nat_list_cmp_total types (printed m.0) m.1)
 
 -- the list is that of the mounts with rows, and two more put in their places
 pub listed_is : (mounts : Map Mount) → listed mounts
-    ≡ fin.put text_cmp (codes "sys") mount.System (fin.put text_cmp (codes "cubbyhole") mount.Cubbyhole (map typed (entries mounts)))
+    ≡ placed (placed (in_places (map typed (entries mounts))) (codes "cubbyhole", mount.Cubbyhole)) (codes "sys", mount.System)
 listed_is mounts =
-    let types : Map MountType = map_values (λ name m. type_of m) mounts in
-    fin.entries-insert nat_list_cmp_total (put types (codes "cubbyhole") mount.Cubbyhole) (codes "sys") mount.System
-    ∙ ap (fin.put text_cmp (codes "sys") mount.System) (fin.entries-insert nat_list_cmp_total types (codes "cubbyhole") mount.Cubbyhole
-    ∙ ap (fin.put text_cmp (codes "cubbyhole") mount.Cubbyhole) (entries-map_values (λ name m. type_of m) mounts))
+    let types : Map MountType = fold with_type empty (map typed (entries mounts)) in
+    fin.entries-insert nat_list_cmp_total (with_type types (codes "cubbyhole", mount.Cubbyhole)) (printed (codes "sys")) mount.System
+    ∙ ap (λ es. placed es (codes "sys", mount.System)) (fin.entries-insert nat_list_cmp_total types (printed (codes "cubbyhole")) mount.Cubbyhole
+    ∙ ap (λ es. placed es (codes "cubbyhole", mount.Cubbyhole)) (entries-fold empty (map typed (entries mounts))
+    ∙ ap (λ es. fold placed es (map typed (entries mounts))) entries-empty))
 
 -- the rows of mounts are those of the entries, in their order
 pub rows_are : (rows : Rows) (mounts : Map Mount) → AreMounts (table_of rows) mounts → rows_under rows kind.Mount [] ≡ map at_mount (entries mounts)
@@ -56,5 +63,8 @@ module _ (rows : List (RowKey × Row)) (mounts : List (Text × Mount)) (i : ℕ)
   pub row_at : (d : RowKey × Row) → i < length rows → get_or rows i d ≡ at_mount (get_or mounts i none)
   row_at d h = ap (λ rs. get_or rs i d) eq ∙ get_or-map at_mount mounts i none d (within_mounts h)
 
-  pub all_read : length rows ≤ i → take i mounts ≡ mounts
-  all_read h = let e = as_long in take_all i mounts (omega (arith, e, h))
+-- one more mount put in its place
+pub one_placed : (mounts : List (Text × Mount)) (i : ℕ) → i < length mounts
+    → in_places (map typed (take (i + 1) mounts)) ≡ placed (in_places (map typed (take i mounts))) (typed (get_or mounts i none))
+one_placed mounts i inside =
+    ap in_places (map_more typed mounts i none inside) ∙ fold-append placed [] (map typed (take i mounts)) (typed (get_or mounts i none) ∷ [])

@@ -20,7 +20,7 @@ use Rattle.mounts.specs.Operations.{takes_parameter}
 use Rattle.mounts.specs.Patterns.{fits, is_in_order, is_row, reads_as_form, tells, differ, pattern_found}
 use Rattle.mounts.specs.Route.{Route, cut, operation_for, methods_of, route_by}
 use Rattle.mounts.specs.Row.{Row}
-use Rattle.mounts.proofs.FormRouters.{found_by_form}
+use Rattle.mounts.proofs.FormPatterns.{found_by_form}
 use Rattle.mounts.proofs.PathParts.{IsRest, rest_is_path}
 use Rattle.mounts.proofs.RouteSteps.{begun}
 

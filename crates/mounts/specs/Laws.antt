@@ -28,13 +28,15 @@ RowsAreRoutes =
     (rows : List Row) → is_in_order rows ≡ true
     → All (λ (r : Row). operation_for rows r.pattern r.verb ≡ Some r.operation) rows
 
--- The pattern is of the table, the path has its form, and no pattern of the table that the path has the form of has a
--- longer text before its parameter.
+-- The pattern is of the table, the path has its form, and each other pattern of the table that the path has the form of
+-- has a shorter text before its parameter. So at most one pattern is that of a path.
 pub record IsForm (rows : List Row) (path pattern : Text) : Type 0 where
   pub listed : has_pattern rows pattern ≡ true
   pub form : has_form (form_of pattern) path ≡ true
   pub longest : (other : Text) → has_pattern rows other ≡ true → has_form (form_of other) path ≡ true
       → length (form_of other).literal ≤ length (form_of pattern).literal
+  pub only : (other : Text) → has_pattern rows other ≡ true → has_form (form_of other) path ≡ true
+      → length (form_of other).literal ≡ length (form_of pattern).literal → other ≡ pattern
 
 -- in a table in order, the path has the form of the pattern that it finds
 abbrev pub FoundByForm : Type 0

@@ -5,7 +5,6 @@ pub mod MountRows
 pub mod Mounts
 pub mod Operations
 pub mod Patterns
-pub mod Places
 pub mod Route
 pub mod Row
 pub mod SoundLaws

@@ -1,6 +1,8 @@
 -- Mounts as rows: each has one, at its name (this project's row format).
-use Rattle.std.specs.Prelude.{◌≡◌, Option, None, option_map, is_some, ℕ, Result, Ok}
-use Rattle.broker_types.specs.Text.{Text}
+use Rattle.std.specs.Prelude.{◌≡◌, Option, None, option_map, is_some, ℕ, List, [], Result, Ok}
+use Rattle.std.specs.FinMap as fin
+use Rattle.std.specs.List.{fold}
+use Rattle.broker_types.specs.Text.{Text, text_cmp}
 use Rattle.broker_types.specs.Map.{Map, get}
 use Rattle.broker_types.specs.Broker.{Mount}
 use Rattle.broker_types.specs.Refuse.{◌>>=◌}
@@ -14,7 +16,7 @@ use Rattle.records.specs.RowForms.{mount_row}
 use Rattle.records.specs.Table.{Table, with_row, without_row}
 use Rattle.mounts.specs.declared.mount_type.MountType.{MountType}
 use Rattle.mounts.specs.Mounts as mounts
-use Rattle.mounts.specs.Types.{type_of, fixed_type}
+use Rattle.mounts.specs.Types.{fixed_type}
 
 -- the row at a name is that of the mount, or there is none
 pub record IsMountAt (rows : Table) (name : Text) (o : Option Mount) : Type 0 where
@@ -24,6 +26,14 @@ pub record IsMountAt (rows : Table) (name : Text) (o : Option Mount) : Type 0 wh
 -- what is at a name is known: a mount that is always there, or the row is that of the mount, or there is none
 abbrev pub IsKnownAt : Table → Text → Option Mount → Type 0
 IsKnownAt rows name o = fixed_type name ≡ None → IsMountAt rows name o
+
+-- the row at a name can be read: a mount that is always there needs none, and any other row is that of a mount
+abbrev pub IsReadableAt : Table → Text → Type 0
+IsReadableAt rows name = (mount : Option Mount) × IsKnownAt rows name mount
+
+-- the row at a name is that of no mount, and a mount that is always there has not the name
+abbrev pub IsDamagedAt : Table → Text → Type 0
+IsDamagedAt rows name = (mount : Option Mount) → IsKnownAt rows name mount → ⊥
 
 -- the rows of mounts are those of the map
 abbrev pub AreMounts : Table → Map Mount → Type 0
@@ -47,6 +57,14 @@ disabled rows name = do
 abbrev pub at_mount : Text × Mount → RowKey × Row
 at_mount m = ((kind.Mount, m.0), mount_row m.1)
 
--- the type of a mount, with its name
-abbrev pub typed : Text × Mount → Text × MountType
-typed m = (m.0, type_of m.1)
+-- the row is that of a mount
+abbrev pub IsMountRow : Row → Type 0
+IsMountRow row = (mount : Mount) × IsMountInRange mount × (row ≡ mount_row mount)
+
+-- a type put in its place among types in the order of their printed names
+abbrev pub placed : List (Text × MountType) → Text × MountType → List (Text × MountType)
+placed types m = fin.put text_cmp (mounts.printed m.0) m.1 types
+
+-- types put in their places, one after another
+abbrev pub in_places : List (Text × MountType) → List (Text × MountType)
+in_places types = fold placed [] types

@@ -1,17 +1,18 @@
 -- Mounts, enabled, disabled and listed (Vault's documentation, "/sys/mounts"; the engine that issues credentials, and
 -- the names that are reserved, are this project's).
-use Rattle.std.specs.Prelude.{ℕ, ◌==◌, List, ◌∷◌, [], Bool, false, not, ◌&&◌, ◌||◌, if◌then◌else◌, Option, Some, None}
-use Rattle.std.specs.Prelude.{is_some, Result, Ok, codes, ⊤}
-use Rattle.std.specs.List.{list_any}
+use Rattle.std.specs.Prelude.{ℕ, ◌==◌, List, ◌∷◌, [], ◌++◌, map, Bool, false, not, ◌&&◌, ◌||◌, if◌then◌else◌, Option}
+use Rattle.std.specs.Prelude.{Some, None, is_some, Result, Ok, codes, ⊤}
+use Rattle.std.specs.List.{list_any, fold}
 use Rattle.std.specs.Option.{option_map_or}
 use Rattle.broker_types.specs.Text.{Text, same}
 use Rattle.broker_types.specs.Name.{is_name, reserved_names}
-use Rattle.broker_types.specs.Map.{Map, get, put, without, entries, map_values}
+use Rattle.broker_types.specs.Map.{Map, get, empty, put, without, entries}
 use Rattle.broker_types.specs.Broker.{Mount, Engine, kv, issued}
 use Rattle.broker_types.specs.Refuse.{◌>>=◌, some_or, unless}
 use Rattle.broker_types.specs.declared.refusal.Refusal.{Refusal}
 use Rattle.broker_types.specs.declared.refusal.Refusal.TheVariants as refusal
 use Rattle.broker_types.specs.declared.refusal.Reason.TheVariants as reason
+use Rattle.records.specs.Splits.{slash}
 use Rattle.mounts.specs.declared.mount_type.MountType.{MountType}
 use Rattle.mounts.specs.declared.mount_type.MountType.TheVariants as mount
 use Rattle.mounts.specs.Types.{type_of}
@@ -56,11 +57,26 @@ disabled mounts name = do
   free ← may_go name
   Ok (without mounts name)
 
--- the types of the mounts that are listed, by name: two are always there
+-- ---- the list of mounts
+
+-- the type of a mount, with its name
+abbrev pub typed : Text × Mount → Text × MountType
+typed m = (m.0, type_of m.1)
+
+-- a name as a reply prints it, with a slash behind it
+abbrev pub printed : Text → Text
+printed name = name ++ slash ∷ []
+
+-- types by printed names, with one more
+abbrev pub with_type : Map MountType → Text × MountType → Map MountType
+with_type types m = put types (printed m.0) m.1
+
+-- the types of the mounts that are listed, by their printed names: two are always there
 abbrev pub listed_types : Map Mount → Map MountType
 listed_types mounts =
-    put (put (map_values (λ name m. type_of m) mounts) (codes "cubbyhole") mount.Cubbyhole) (codes "sys") mount.System
+    let of_rows = fold with_type empty (map typed (entries mounts)) in
+    with_type (with_type of_rows (codes "cubbyhole", mount.Cubbyhole)) (codes "sys", mount.System)
 
--- the list of all mounts, in the order of their names
+-- the list of all mounts, in the order of their printed names by bytes: `db-2/` comes before `db/`
 abbrev pub listed : Map Mount → List (Text × MountType)
 listed mounts = entries (listed_types mounts)

@@ -14,7 +14,7 @@ pub fn rows_are_routes()
 {}
 
 /// A law: in each table that is in order, a path finds the pattern whose form it has. If it has the forms of
-/// several, it finds one with the longest text before its parameter.
+/// several, it finds the one with the longest text before its parameter, and no two have texts of one length.
 pub fn patterns_are_found_by_form()
     ensures found { FoundByForm }
     ensures none { NoneFoundByForm }

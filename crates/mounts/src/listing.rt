@@ -1,23 +1,22 @@
 //! The list of all mounts.
 
-ghost use Rattle.std.specs.Prelude.{◌≡◌, ◌≢◌, List, map, IfOk, IfErr, OnOk, MatchResult, All, false, true};
-ghost use Rattle.std.specs.FinMap as fin;
+ghost use Rattle.std.specs.Prelude.{◌≡◌, ◌≢◌, List, [], map, IfOk, IfErr, OnOk, MatchResult, All, Ok, false, true};
 ghost use Rattle.broker_types.specs.Text.{Text, text_cmp};
 ghost use Rattle.broker_types.specs.Fault.{IsMemoryOrStorage};
 ghost use Rattle.broker_types.specs.Map.{Map};
 ghost use Rattle.broker_types.specs.Broker.{Mount};
+ghost use Rattle.records.specs.Places.{rank, is_met};
 ghost use Rattle.records.specs.Ranges.{IsMountInRange};
 ghost use Rattle.records.specs.RowForms.{mount_row};
 ghost use Rattle.records.specs.Table.{table_of};
-ghost use Rattle.records.specs.Transaction.{IsHonest, GoesOn, is_storage};
-ghost use Rattle.mounts.specs.MountRows.{AreMounts, at_mount, typed};
+ghost use Rattle.records.specs.Transaction.{IsHonest, GoesOn, is_storage, rows_under};
+ghost use Rattle.mounts.specs.MountRows.{AreMounts, IsMountRow, at_mount, placed, in_places};
 ghost use Rattle.mounts.specs.Mounts as spec;
-ghost use Rattle.mounts.specs.Places.{rank, is_met};
 ghost use Rattle.mounts.specs.Types.{type_of};
 
 use crate::mount_type::{MountType, engine_type};
 use broker_types::{Fault, TextBuf};
-use records::{Entry, Kind, RecordsTx, read_mount};
+use records::{Entry, Kind, RecordsTx, Row, read_mount};
 use std::alloc::{AllocError, Global};
 use std::cmp::Ordering;
 use std::marker::Model;
@@ -25,7 +24,7 @@ use std::marker::Model;
 /// The name of a mount and its type, which contracts see as a pair.
 #[derive(Drop)]
 pub struct NamedMount {
-    /// The name, without a slash.
+    /// The name with a slash behind it, as a reply prints it.
     pub name: TextBuf,
     /// The type.
     pub mount_type: MountType,
@@ -40,12 +39,16 @@ impl Model for NamedMount {
     ghost view = { λ m. (m.name, m.mount_type) };
 }
 
-/// The mounts that have rows, and those that are always there and are listed, in the order of their names by
-/// bytes. The rows stay. It fails with `Damaged` if a row cannot be read, and also if memory runs out or the
-/// storage fails (Vault's documentation, "/sys/mounts", list mounted secrets engines).
+/// The mounts that have rows, and those that are always there and are listed. Each name has a slash behind it, and
+/// they are in the order of these names by bytes. The rows stay. It fails with `Damaged` if a row cannot be read, and
+/// also if memory runs out or the storage fails (Vault's documentation, "/sys/mounts", list mounted secrets engines).
 pub fn list<T: RecordsTx>(alloc: Global, tx: &mut T) -> Result<Vec<NamedMount>, Fault>
     ensures told { IsHonest (T.seen tx.new) → (mounts : Map Mount) → AreMounts (table_of (T.seen tx.old).rows) mounts
         → MatchResult result (λ list. list.items ≡ spec.listed mounts) IsMemoryOrStorage }
+
+    // Whatever the rows are: no list leaves a damaged row out.
+    ensures undamaged { IsHonest (T.seen tx.new)
+        → IfOk result (λ list. All (λ e. IsMountRow e.1) (rows_under (T.seen tx.old).rows Kind.Mount [])) }
     ensures started { IfErr result (λ fault. fault ≢ Fault.BadStart) }
     ensures same { IsHonest (T.seen tx.new) → OnOk result ((T.seen tx.new).rows ≡ (T.seen tx.old).rows) }
     ensures goes_on { GoesOn (T.seen tx.old) (T.seen tx.new) (is_storage result) }
@@ -61,31 +64,28 @@ pub fn list<T: RecordsTx>(alloc: Global, tx: &mut T) -> Result<Vec<NamedMount>, 
 fn read_types(alloc: Global, rows: &[Entry]) -> Result<Vec<NamedMount>, Fault>
     ensures told { (mounts : List (Text × Mount)) → All (λ m. IsMountInRange m.1) mounts
         → rows.now ≡ map at_mount mounts
-        → MatchResult result (λ list. list.items ≡ map typed mounts) IsMemoryOrStorage }
+        → MatchResult result (λ list. list.items ≡ in_places (map spec.typed mounts)) IsMemoryOrStorage }
+    ensures undamaged { IfOk result (λ list. All (λ e. IsMountRow e.1) rows.now) }
     ensures faults { is_storage result ≡ false }
     ensures started { IfErr result (λ fault. fault ≢ Fault.BadStart) }
 {
     let mut list = Vec::new(alloc);
     for entry in rows {
-        let mount = read_type(alloc, entry)?;
-        list.push(mount)?;
+        let mount_type = read_type(&entry.row)?;
+        put_type(alloc, &mut list, entry.key.as_str(), mount_type)?;
     }
     Ok(list)
 }
 
-/// The name and the type of the mount of a row. It fails as `Damaged` if the row is not one of a mount.
-fn read_type(alloc: Global, entry: &Entry) -> Result<NamedMount, Fault>
-    ensures told { (mount : Mount) → IsMountInRange mount → entry.now.1 ≡ mount_row mount
-        → MatchResult result (λ found. found ≡ (entry.now.0.1, type_of mount)) IsMemoryOrStorage }
-    ensures faults { is_storage result ≡ false }
-    ensures started { IfErr result (λ fault. fault ≢ Fault.BadStart) }
+/// The type of the mount of a row. It fails as `Damaged` if the row is not one of a mount.
+fn read_type(row: &Row) -> Result<MountType, Fault>
+    ensures told { (mount : Mount) → IsMountInRange mount → row.now ≡ mount_row mount
+        → result ≡ Ok (type_of mount) }
+    ensures undamaged { IfOk result (λ found. IsMountRow row.now) }
+    ensures damaged { IfErr result (λ fault. fault ≡ Fault.Damaged) }
 {
-    let mount = read_mount(&entry.row)?;
-    let name = TextBuf::copied(alloc, entry.key.as_str())?;
-    Ok(NamedMount {
-        name,
-        mount_type: engine_type(mount.engine),
-    })
+    let mount = read_mount(row)?;
+    Ok(engine_type(mount.engine))
 }
 
 /// Puts a mount among mounts in the order of their names.
@@ -95,28 +95,37 @@ fn put_type(
     name: &str,
     mount_type: MountType,
 ) -> Result<(), AllocError>
-    ensures { OnOk result (list.new.items ≡ fin.put text_cmp name.now mount_type list.old.items) }
+    ensures { OnOk result (list.new.items ≡ placed list.old.items (name.now, mount_type)) }
 {
-    match place(list, name) {
+    let name = printed(alloc, name)?;
+    match place(list, name.as_str()) {
         Ok(i) => {
             let found = &mut list[i];
             found.mount_type = mount_type;
             Ok(())
         }
         Err(i) => {
-            let name = TextBuf::copied(alloc, name)?;
             list.insert(i, NamedMount { name, mount_type })?;
             Ok(())
         }
     }
 }
 
+/// A name with a slash behind it.
+fn printed(alloc: Global, name: &str) -> Result<TextBuf, AllocError>
+    ensures { IfOk result (λ text. text ≡ spec.printed name.now) }
+{
+    let mut text = String::from_str(alloc, name)?;
+    text.push_str("/")?;
+    Ok(TextBuf::new(text))
+}
+
 /// The place of a name, or the place where it would go.
 fn place(list: &[NamedMount], name: &str) -> Result<usize, usize>
-    ensures at { IfOk result (λ i. i ≡ rank name.now list.now) }
-    ensures met { OnOk result (is_met name.now list.now ≡ true) }
-    ensures gap { IfErr result (λ i. i ≡ rank name.now list.now) }
-    ensures missed { IfErr result (λ i. is_met name.now list.now ≡ false) }
+    ensures at { IfOk result (λ i. i ≡ rank text_cmp name.now list.now) }
+    ensures met { OnOk result (is_met text_cmp name.now list.now ≡ true) }
+    ensures gap { IfErr result (λ i. i ≡ rank text_cmp name.now list.now) }
+    ensures missed { IfErr result (λ i. is_met text_cmp name.now list.now ≡ false) }
 {
     for (i, mount) in list.iter().enumerate() {
         match name.cmp(mount.name.as_str()) {

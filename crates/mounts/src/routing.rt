@@ -11,7 +11,7 @@ ghost use Rattle.records.specs.Table.{table_of};
 ghost use Rattle.records.specs.Transaction.{IsHonest, GoesOn, is_storage};
 ghost use Rattle.mounts.specs.Calls.{OnAnswer, OnFault};
 ghost use Rattle.mounts.specs.Forms as forms;
-ghost use Rattle.mounts.specs.MountRows.{IsKnownAt, AreMounts};
+ghost use Rattle.mounts.specs.MountRows.{IsKnownAt, IsReadableAt, IsDamagedAt, AreMounts};
 ghost use Rattle.mounts.specs.Operations.{takes_parameter};
 ghost use Rattle.mounts.specs.Patterns as patterns;
 ghost use Rattle.mounts.specs.Row.{rows_in, shown};
@@ -42,6 +42,13 @@ pub fn route<'p, T: RecordsTx>(
         → Ends (λ found known. found ≡ known) ⊤ result (spec.route_at mount verb path.now) }
     ensures told { IsHonest (T.seen tx.new) → (mounts : Map Mount) → AreMounts (table_of (T.seen tx.old).rows) mounts
         → Ends (λ found known. found ≡ known) ⊤ result (spec.route_of mounts verb path.now) }
+
+    // Whatever the rows are: a damaged row is answered neither as another mount nor as an absent one.
+    ensures undamaged { IsHonest (T.seen tx.new)
+        → OnAnswer result (IsReadableAt (table_of (T.seen tx.old).rows) (spec.cut path.now).0) }
+    ensures damaged { IsHonest (T.seen tx.new)
+        → OnFault result (λ fault. fault ≡ Fault.Damaged
+        → IsDamagedAt (table_of (T.seen tx.old).rows) (spec.cut path.now).0) }
     ensures parameter { is_path path.now ≡ true
         → IfOk result (λ found. takes_parameter found.operation ≡ true → is_path found.parameter ≡ true) }
     ensures same { IsHonest (T.seen tx.new) → OnAnswer result ((T.seen tx.new).rows ≡ (T.seen tx.old).rows) }
@@ -75,6 +82,8 @@ fn type_of<T: RecordsTx>(tx: &mut T, name: &str) -> Result<Option<MountType>, Fa
     ensures found { IsHonest (T.seen tx.new) → (mount : Option Mount)
         → IsKnownAt (table_of (T.seen tx.old).rows) name.now mount
         → IfOk result (λ found. found ≡ types.type_at mount name.now) }
+    ensures undamaged { IsHonest (T.seen tx.new)
+        → IfOk result (λ found. IsReadableAt (table_of (T.seen tx.old).rows) name.now) }
     ensures same { IsHonest (T.seen tx.new) → OnOk result ((T.seen tx.new).rows ≡ (T.seen tx.old).rows) }
     ensures wants { IsHonest (T.seen tx.new) → (mount : Option Mount)
         → IsKnownAt (table_of (T.seen tx.old).rows) name.now mount → IfErr result IsMemoryOrStorage }

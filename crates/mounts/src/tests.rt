@@ -233,14 +233,16 @@ fn all_mounts_are_listed_in_order(rt: HostRuntime) -> Result<(), Fail> {
     let mut tx = with_mounts(&rt)?;
     assert!(rt; enable(alloc, &mut tx, "a", "kv-v2", None) == Ok(()));
     assert!(rt; enable(alloc, &mut tx, "z", "issued", None) == Ok(()));
+    assert!(rt; enable(alloc, &mut tx, "db-2", "kv-v2", None) == Ok(()));
     let mounts = list(alloc, &mut tx)?;
     let expected = [
-        ("a", MountType::Kv),
-        ("cubbyhole", MountType::Cubbyhole),
-        ("db", MountType::Issued),
-        ("secret", MountType::Kv),
-        ("sys", MountType::System),
-        ("z", MountType::Issued),
+        ("a/", MountType::Kv),
+        ("cubbyhole/", MountType::Cubbyhole),
+        ("db-2/", MountType::Kv),
+        ("db/", MountType::Issued),
+        ("secret/", MountType::Kv),
+        ("sys/", MountType::System),
+        ("z/", MountType::Issued),
     ];
     assert!(rt; mounts.len() == expected.len());
     assert!(rt;

@@ -1,4 +1,4 @@
-use Rattle.mounts.proofs.FormRouters.{found_by_form, none_by_form}
+use Rattle.mounts.proofs.FormPatterns.{found_by_form, none_by_form}
 use Rattle.mounts.proofs.laws.patterns_are_found_by_form.Goals as goal
 
 pub returns-clause-found : goal.returns-clause-found

@@ -1,10 +1,10 @@
-use Rattle.std.proofs.Common.{◌≡◌, sym, ap, ◌∙◌, Err, codes, map}
-use Rattle.std.specs.FinMap as fin
+use Rattle.std.proofs.Common.{◌≡◌, sym, ap, subst, ◌∙◌, Err, codes, map, All}
 use Rattle.std.proofs.lemmas.Result.{err_from_is_err_and}
-use Rattle.broker_types.specs.Text.{text_cmp}
 use Rattle.broker_types.specs.Map.{entries}
+use Rattle.records.specs.declared.row.Row.{Row}
+use Rattle.records.specs.Kind.{RowKey}
 use Rattle.mounts.specs.declared.mount_type.MountType.TheVariants as mount
-use Rattle.mounts.specs.MountRows.{at_mount}
+use Rattle.mounts.specs.MountRows.{IsMountRow, at_mount, placed}
 use Rattle.mounts.proofs.MountLists.{listed_is, rows_are, each_in_range}
 use Rattle.mounts.proofs.listing.list.Goals as goal
 
@@ -20,6 +20,10 @@ returns-clause-told g c honest mounts are =
     let rows = (g.T.RecordsTx.seen c.args.tx.now).rows in
     let read : c.deref.result.now ≡ map at_mount (entries mounts) = c.deref.ensures.value ∙ c.in_ok-rows.ensures.listed honest ∙ rows_are rows mounts are in
     c.in_ok-put_type-2.ensures
-    ∙ ap (fin.put text_cmp (codes "sys") mount.System) (c.in_ok-put_type.ensures
-    ∙ ap (fin.put text_cmp (codes "cubbyhole") mount.Cubbyhole) (c.in_ok-list.ensures.told (entries mounts) (each_in_range rows mounts are) read))
+    ∙ ap (λ list. placed list (codes "sys", mount.System)) (c.in_ok-put_type.ensures
+    ∙ ap (λ list. placed list (codes "cubbyhole", mount.Cubbyhole)) (c.in_ok-list.ensures.told (entries mounts) (each_in_range rows mounts are) read))
     ∙ sym (listed_is mounts)
+
+pub returns-clause-undamaged : goal.returns-clause-undamaged
+returns-clause-undamaged g c honest =
+    subst (λ rows. All (λ (e : RowKey × Row). IsMountRow e.1) rows) (c.deref.ensures.value ∙ c.in_ok-rows.ensures.listed honest) c.in_ok-list.ensures.undamaged

@@ -1,6 +1,7 @@
 use Rattle.std.proofs.Common.{◌≡◌, arith, sym, ap, subst, ◌∙◌, Err, true, option_map}
 use Rattle.std.proofs.lemmas.Bool.{and_parts}
 use Rattle.std.proofs.lemmas.Result.{err_from_is_err_and}
+use Rattle.broker_types.specs.Fault.{IsMemoryOrStorage}
 use Rattle.broker_types.specs.Map.{get}
 use Rattle.records.specs.Table.{table_of}
 use Rattle.records.specs.ValueLaws.{none_of}
@@ -21,6 +22,14 @@ returns-in_err-mount_type-clause-found g c honest mount at =
     let here = subst (λ n. IsKnownAt rows n mount) (sym c.cut.ensures.name) at in
     let p = err_from_is_err_and c.from_residual.result c.from_residual.ensures.1 in
     rw (p.1 ∙ ap Err p.2) (c.in_err-mount_type.ensures.wants honest mount here)
+
+pub returns-in_err-mount_type-clause-damaged : goal.returns-in_err-mount_type-clause-damaged
+returns-in_err-mount_type-clause-damaged g c honest =
+    let rows = table_of (g.T.RecordsTx.seen c.args.tx.now).rows in
+    let p = err_from_is_err_and c.from_residual.result c.from_residual.ensures.1 in
+    rw (p.1 ∙ ap Err p.2) (λ damaged mount at.
+    let here = subst (λ n. IsKnownAt rows n mount) (sym c.cut.ensures.name) at in
+    subst IsMemoryOrStorage damaged (c.in_err-mount_type.ensures.wants honest mount here))
 
 pub returns-in_default-clause-found : goal.returns-in_default-clause-found
 returns-in_default-clause-found g c honest mount at =
