@@ -29,7 +29,7 @@ RowsAreRoutes =
     → All (λ (r : Row). operation_for rows r.pattern r.verb ≡ Some r.operation) rows
 
 -- The pattern is of the table, the path has its form, and each other pattern of the table that the path has the form of
--- has a shorter text before its parameter. So at most one pattern is that of a path.
+-- has a shorter text before its parameter.
 pub record IsForm (rows : List Row) (path pattern : Text) : Type 0 where
   pub listed : has_pattern rows pattern ≡ true
   pub form : has_form (form_of pattern) path ≡ true
@@ -43,6 +43,10 @@ abbrev pub FoundByForm : Type 0
 FoundByForm =
     (rows : List Row) (path pattern : Text) → is_in_order rows ≡ true → are_bytes path ≡ true
     → pattern_found rows path ≡ Some pattern → IsForm rows path pattern
+
+-- and there is one such pattern at most
+abbrev pub OneByForm : Type 0
+OneByForm = (rows : List Row) (path p q : Text) → IsForm rows path p → IsForm rows path q → p ≡ q
 
 -- and if it finds none, it has the form of none
 abbrev pub NoneFoundByForm : Type 0

@@ -1,6 +1,6 @@
 //! Laws of the definitions, each the contract of a function that does nothing.
 
-ghost use Rattle.mounts.specs.Laws.{AreInOrder, RowsAreRoutes, FoundByForm, NoneFoundByForm};
+ghost use Rattle.mounts.specs.Laws.{AreInOrder, RowsAreRoutes, FoundByForm, OneByForm, NoneFoundByForm};
 ghost use Rattle.mounts.specs.Laws.{EnableKeepsSoundness, DisableKeepsSoundness, MountsEvolve, MountsAreTold};
 
 /// A law: the table of each type of mounts is in order.
@@ -17,6 +17,7 @@ pub fn rows_are_routes()
 /// several, it finds the one with the longest text before its parameter, and no two have texts of one length.
 pub fn patterns_are_found_by_form()
     ensures found { FoundByForm }
+    ensures one { OneByForm }
     ensures none { NoneFoundByForm }
 {}
 
