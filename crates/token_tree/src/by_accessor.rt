@@ -1,6 +1,6 @@
 //! Tokens by their accessors.
 
-ghost use Rattle.std.specs.Prelude.{◌≡◌, false, [], IfOk, IfErr, OnOk};
+ghost use Rattle.std.specs.Prelude.{◌≡◌, ◌≢◌, false, [], IfOk, IfErr, OnOk};
 ghost use Rattle.std.specs.List.{AllByRecursion};
 ghost use Rattle.broker_types.specs.Fault.{IsMemoryOrStorage};
 ghost use Rattle.records.specs.Transaction.{IsHonest, GoesOn, is_storage};
@@ -19,6 +19,7 @@ pub fn find_accessor<T: RecordsTx>(tx: &mut T, accessor: &str) -> Result<Option<
     ensures found { OfEachBroker (T.seen tx.old) (T.seen tx.new) (λ b.
         IfOk result (λ found. found ≡ tokens.find_accessor b accessor.now)) }
     ensures same { IsHonest (T.seen tx.new) → OnOk result ((T.seen tx.new).rows ≡ (T.seen tx.old).rows) }
+    ensures started { IfErr result (λ fault. fault ≢ Fault.BadStart) }
     ensures undamaged { OfEachBroker (T.seen tx.old) (T.seen tx.new) (λ b. IfErr result IsMemoryOrStorage) }
     ensures goes_on { GoesOn (T.seen tx.old) (T.seen tx.new) (is_storage result) }
 {
@@ -35,6 +36,7 @@ pub fn find_accessor<T: RecordsTx>(tx: &mut T, accessor: &str) -> Result<Option<
 /// Adds an accessor to the names, if it names a token.
 fn add_accessor(alloc: Global, names: &mut Vec<TextBuf>, entry: &Entry) -> Result<(), Fault>
     ensures ok { OnOk result (names.new.items ≡ with_accessor entry.now names.old.items) }
+    ensures started { IfErr result (λ fault. fault ≢ Fault.BadStart) }
     ensures undamaged { IsAccessorRow entry.now → IfErr result IsMemoryOrStorage }
     ensures faults { is_storage result ≡ false }
 {
@@ -51,6 +53,7 @@ fn add_accessor(alloc: Global, names: &mut Vec<TextBuf>, entry: &Entry) -> Resul
 /// The accessors among the entries that name tokens.
 fn names_of(alloc: Global, entries: &[Entry]) -> Result<Vec<TextBuf>, Fault>
     ensures ok { IfOk result (λ names. names.items ≡ with_accessors entries.now []) }
+    ensures started { IfErr result (λ fault. fault ≢ Fault.BadStart) }
     ensures undamaged { AllByRecursion IsAccessorRow entries.now → IfErr result IsMemoryOrStorage }
     ensures faults { is_storage result ≡ false }
 {
@@ -68,6 +71,7 @@ pub fn accessors<T: RecordsTx>(alloc: Global, tx: &mut T) -> Result<Vec<TextBuf>
     ensures found { OfEachBroker (T.seen tx.old) (T.seen tx.new) (λ b.
         IfOk result (λ names. names.items ≡ accessors_of b)) }
     ensures same { IsHonest (T.seen tx.new) → OnOk result ((T.seen tx.new).rows ≡ (T.seen tx.old).rows) }
+    ensures started { IfErr result (λ fault. fault ≢ Fault.BadStart) }
     ensures undamaged { OfEachBroker (T.seen tx.old) (T.seen tx.new) (λ b. IfErr result IsMemoryOrStorage) }
     ensures goes_on { GoesOn (T.seen tx.old) (T.seen tx.new) (is_storage result) }
 {

@@ -1,6 +1,6 @@
 //! Revocation of one token, whose children have no parent then.
 
-ghost use Rattle.std.specs.Prelude.{[], ◌≡◌, None, IfOk, IfErr, OnOk};
+ghost use Rattle.std.specs.Prelude.{[], ◌≡◌, ◌≢◌, None, IfOk, IfErr, OnOk};
 ghost use Rattle.broker_types.specs.Broker as broker;
 ghost use Rattle.broker_types.specs.Fault.{IsMemoryOrStorage};
 ghost use Rattle.broker_types.specs.Map.{get};
@@ -31,6 +31,7 @@ pub fn revoke_one<T: RecordsTx>(
         → IfOk result (λ list. (list.items ≡ []) × ((T.seen tx.new).rows ≡ (T.seen tx.old).rows))) }
     ensures others { IsHonest (T.seen tx.new)
         → OnOk result (KeepsOthers of_tokens (table (T.seen tx.old)) (table (T.seen tx.new))) }
+    ensures started { IfErr result (λ fault. fault ≢ Fault.BadStart) }
     ensures undamaged { OfEachBroker (T.seen tx.old) (T.seen tx.new) (λ b. IfErr result IsMemoryOrStorage) }
     ensures goes_on { GoesOn (T.seen tx.old) (T.seen tx.new) (is_storage result) }
 {

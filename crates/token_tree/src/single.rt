@@ -1,6 +1,6 @@
 //! Single tokens: looked up, made, and changed.
 
-ghost use Rattle.std.specs.Prelude.{◌≡◌, Some, option_map, IfOk, IfErr, OnOk};
+ghost use Rattle.std.specs.Prelude.{◌≡◌, ◌≢◌, Some, option_map, IfOk, IfErr, OnOk};
 ghost use Rattle.std.specs.FinMap as fin;
 ghost use Rattle.broker_types.specs.Broker.{Broker};
 ghost use Rattle.broker_types.specs.Evolves.{IsNew};
@@ -36,6 +36,7 @@ pub fn find<T: RecordsTx>(
         IfOk result (λ found. found ≡ option_map token_entry (get b.tokens token.now))) }
     ensures in_range { IfOk result (IsSomeIn IsTokenInRange) }
     ensures same { IsHonest (T.seen tx.new) → OnOk result ((T.seen tx.new).rows ≡ (T.seen tx.old).rows) }
+    ensures started { IfErr result (λ fault. fault ≢ Fault.BadStart) }
     ensures undamaged { OfEachBroker (T.seen tx.old) (T.seen tx.new) (λ b. IfErr result IsMemoryOrStorage) }
     ensures goes_on { GoesOn (T.seen tx.old) (T.seen tx.new) (is_storage result) }
 {
@@ -109,6 +110,7 @@ pub fn spend<T: RecordsTx>(alloc: Global, tx: &mut T, token: &str) -> Result<(),
         OnOk result (Tells of_tokens (table (T.seen tx.new)) (spending.spend b token.now))) }
     ensures others { IsHonest (T.seen tx.new)
         → OnOk result (KeepsOthers of_tokens (table (T.seen tx.old)) (table (T.seen tx.new))) }
+    ensures started { IfErr result (λ fault. fault ≢ Fault.BadStart) }
     ensures undamaged { OfEachBroker (T.seen tx.old) (T.seen tx.new) (λ b. IfErr result IsMemoryOrStorage) }
     ensures goes_on { GoesOn (T.seen tx.old) (T.seen tx.new) (is_storage result) }
 {
@@ -131,6 +133,7 @@ pub fn renew<T: RecordsTx>(alloc: Global, tx: &mut T, token: &str, ends: Due) ->
         OnOk result (Tells of_tokens (table (T.seen tx.new)) (tokens.renew b token.now ends))) }
     ensures others { IsHonest (T.seen tx.new)
         → OnOk result (KeepsOthers of_tokens (table (T.seen tx.old)) (table (T.seen tx.new))) }
+    ensures started { IfErr result (λ fault. fault ≢ Fault.BadStart) }
     ensures undamaged { OfEachBroker (T.seen tx.old) (T.seen tx.new) (λ b. IfErr result IsMemoryOrStorage) }
     ensures goes_on { GoesOn (T.seen tx.old) (T.seen tx.new) (is_storage result) }
 {

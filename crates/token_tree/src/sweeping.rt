@@ -1,6 +1,6 @@
 //! Expiry: what has come to its end is removed, with all under it.
 
-ghost use Rattle.std.specs.Prelude.{IfOk, IfErr, OnOk};
+ghost use Rattle.std.specs.Prelude.{◌≢◌, IfOk, IfErr, OnOk};
 ghost use Rattle.broker_types.specs.Fault.{IsMemoryOrStorage};
 ghost use Rattle.records.specs.Parts.{of_tokens, Tells, KeepsOthers};
 ghost use Rattle.records.specs.Transaction.{IsHonest, GoesOn, is_storage};
@@ -27,6 +27,7 @@ pub fn sweep_tokens<T: RecordsTx>(
         IfOk result (λ list. AreEnded b (without_expired b clock) list.items)) }
     ensures others { IsHonest (T.seen tx.new)
         → OnOk result (KeepsOthers of_tokens (table (T.seen tx.old)) (table (T.seen tx.new))) }
+    ensures started { IfErr result (λ fault. fault ≢ Fault.BadStart) }
     ensures undamaged { OfEachBroker (T.seen tx.old) (T.seen tx.new) (λ b. IfErr result IsMemoryOrStorage) }
     ensures goes_on { GoesOn (T.seen tx.old) (T.seen tx.new) (is_storage result) }
 {
