@@ -6,3 +6,4 @@ pub mod Orphaned
 pub mod Removed
 pub mod Starts
 pub mod Tokens
+pub mod TokenRows
