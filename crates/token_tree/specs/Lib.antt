@@ -1,5 +1,6 @@
 pub mod Accessors
 pub mod Ended
+pub mod Endings
 pub mod EndedLaws
 pub mod Laws
 pub mod Orphaned
