@@ -43,7 +43,8 @@ module _ (forms : Forms) (b : Broker) (rows : Rows) (stands : RepresentsTokens f
 
   pub readable : (ended : List Text) (es : List (RowKey × Row)) → es ≡ rows_under rows kind.Token [] → AreReadable ended es
   readable ended es listed = subst (AreReadable ended) (sym (listed ∙ lists_tokens b rows stands.tells))
-      (each_listed b.tokens (λ e. has ended e.0.1 ≡ true → IsTokenRow e) (λ t x is gone. (token_entry x, token_in_range forms b.tokens stands.sound t x is, refl)))
+      (each_listed b.tokens (λ e. has ended e.0.1 ≡ true → IsTokenRow e) (λ t x is gone.
+      (token_entry x, token_in_range forms b.tokens stands.sound t x is, refl)))
 
   module _ (s : Start) (gone : Text → Bool) (fate : IsFate b.tokens s gone) where
     ends_exactly : (es : List (RowKey × Row)) (ended : List Text) → es ≡ rows_under rows kind.Token [] → IsDescent s es ended → (q : Text)

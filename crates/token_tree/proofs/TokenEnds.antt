@@ -236,10 +236,11 @@ module _ (t : Text) where
             elim (same q t) as (λ b. (if (same r.owner t && not b) then Some (without_owner r) else (if (b || false) then None else Some r))
             ≡ option_map (λ (x : Row). if same x.owner t && not b then without_owner x else x) (if (b || false) then None else Some r)) [
               | true ↦ elim (same r.owner t) as (λ a. (if (a && false) then Some (without_owner r) else None) ≡ None) [ true ↦ refl | false ↦ refl ]
-              | false ↦ elim (same r.owner t) as (λ a. (if (a && true) then Some (without_owner r) else Some r) ≡ Some (if a && true then without_owner r else r)) [
-                | true ↦ refl
-                | false ↦ refl
-              ]
+              | false ↦ elim (same r.owner t) as (λ a. (if (a && true) then Some (without_owner r) else Some r)
+                  ≡ Some (if a && true then without_owner r else r)) [
+                    | true ↦ refl
+                    | false ↦ refl
+                  ]
             ]
 
     pub table_of-without_children : table_of (without_parent t es mid) ≡ without_children_of t (without_tokens (t ∷ []) (table_of rows))

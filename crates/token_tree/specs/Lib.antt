@@ -5,6 +5,7 @@ pub mod EndedLaws
 pub mod Laws
 pub mod Orphaned
 pub mod Removed
+pub mod SoundLaws
 pub mod Starts
 pub mod Tokens
 pub mod TokenRows

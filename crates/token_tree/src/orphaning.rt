@@ -18,8 +18,8 @@ use records::{Entry, Kind, RecordsTx};
 use std::alloc::Global;
 
 /// Ends a token alone: its children have no parent then. It answers the tokens that ended: this one, or none if the
-/// text is unknown, and then nothing changes. It fails as `Damaged` if its row is not one of a token, and also if memory
-/// runs out or the storage fails (Vault's documentation, "Tokens", orphan tokens).
+/// text is unknown, and then nothing changes. It fails as `Damaged` if its row is not one of a token, and also if
+/// memory runs out or the storage fails (Vault's documentation, "Tokens", orphan tokens).
 pub fn revoke_one<T: RecordsTx>(
     alloc: Global,
     tx: &mut T,

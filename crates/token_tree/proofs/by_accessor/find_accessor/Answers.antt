@@ -44,10 +44,16 @@ returns-in-WrappingToken-clause-told g c honest forms b stands =
 
 pub returns-in-Token-clause-found : goal.returns-in-Token-clause-found
 returns-in-Token-clause-found g c honest =
-    let row = sym (c.in_ok-kept.ensures.found honest) ∙ c.in-Some.is in
-    (Some (c.in-Some.kept.owner, holder.Token), row ∙ ap Some (c.in_ok-holder.ensures.exact.1 ∙ ap (accessor_row c.in-Some.kept.owner) c.in-Token.is), refl)
+    let row = sym (c.in_ok-kept.ensures.found honest) ∙ c.in-Some.is in (
+      Some (c.in-Some.kept.owner, holder.Token),
+      row ∙ ap Some (c.in_ok-holder.ensures.exact.1 ∙ ap (accessor_row c.in-Some.kept.owner) c.in-Token.is),
+      refl,
+    )
 
 pub returns-in-WrappingToken-clause-found : goal.returns-in-WrappingToken-clause-found
 returns-in-WrappingToken-clause-found g c honest =
-    let row = sym (c.in_ok-kept.ensures.found honest) ∙ c.in-Some.is in
-    (Some (c.in-Some.kept.owner, holder.WrappingToken), row ∙ ap Some (c.in_ok-holder.ensures.exact.1 ∙ ap (accessor_row c.in-Some.kept.owner) c.in-WrappingToken.is), refl)
+    let row = sym (c.in_ok-kept.ensures.found honest) ∙ c.in-Some.is in (
+      Some (c.in-Some.kept.owner, holder.WrappingToken),
+      row ∙ ap Some (c.in_ok-holder.ensures.exact.1 ∙ ap (accessor_row c.in-Some.kept.owner) c.in-WrappingToken.is),
+      refl,
+    )

@@ -16,7 +16,8 @@ returns-in_err-remove_ended-clause-undamaged g c honest forms b stands =
     let mid = honest_before (seen c.under.new.self) (seen c.remove_ended.new.tx) _ c.remove_ended.ensures.goes_on honest in
     let p = err_from_is_err_and c.from_residual-in_err-remove_ended.result c.from_residual-in_err-remove_ended.ensures.1 in
     rw (p.1, p.2) (c.in_err-remove_ended.ensures.undamaged
-    (readable forms b (seen c.args.tx.now).rows stands c.deref-3.result.now c.deref-2.result.now (c.deref-2.ensures.value ∙ c.in_ok-entries.ensures.listed mid)))
+    (readable forms b (seen c.args.tx.now).rows stands c.deref-3.result.now c.deref-2.result.now
+    (c.deref-2.ensures.value ∙ c.in_ok-entries.ensures.listed mid)))
 
 pub returns-clause-ok : goal.returns-clause-ok
 returns-clause-ok g c honest forms b stands =

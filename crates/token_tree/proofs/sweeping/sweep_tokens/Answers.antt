@@ -16,7 +16,8 @@ returns-in_err-remove_ended-clause-undamaged g c honest forms b stands =
     let mid = honest_before (seen c.under.new.self) (seen c.remove_ended.new.tx) _ c.remove_ended.ensures.goes_on honest in
     let p = err_from_is_err_and c.from_residual-in_err-remove_ended.result c.from_residual-in_err-remove_ended.ensures.1 in
     rw (p.1, p.2) (c.in_err-remove_ended.ensures.undamaged
-    (readable forms b (seen c.args.tx.now).rows stands c.deref-3.result.now c.deref-2.result.now (c.deref-2.ensures.value ∙ c.in_ok-entries.ensures.listed mid)))
+    (readable forms b (seen c.args.tx.now).rows stands c.deref-3.result.now c.deref-2.result.now
+    (c.deref-2.ensures.value ∙ c.in_ok-entries.ensures.listed mid)))
 
 pub returns-clause-ok : goal.returns-clause-ok
 returns-clause-ok g c honest forms b stands =
@@ -65,4 +66,5 @@ returns-in_err-remove_ended-clause-damaged g c honest =
     let p = err_from_is_err_and c.from_residual-in_err-remove_ended.result c.from_residual-in_err-remove_ended.ensures.1 in
     rw (p.1, p.2) (no_damage (has_come c.args.clock) (seen c.args.tx.now).rows c.deref.result.now c.deref-2.result.now c.deref-3.result.now
     c.in_ok-ended.ended.items (c.deref.ensures.value ∙ listed) (c.deref-2.ensures.value ∙ listed) c.deref-3.ensures.value
-    (subst (λ n. IsDescent (has_come n) c.deref.result.now c.in_ok-ended.ended.items) c.seconds.ensures.value c.in_ok-ended.ensures.ok) _ c.in_err-remove_ended.ensures.undamaged)
+    (subst (λ n. IsDescent (has_come n) c.deref.result.now c.in_ok-ended.ended.items) c.seconds.ensures.value c.in_ok-ended.ensures.ok)
+    _ c.in_err-remove_ended.ensures.undamaged)
