@@ -36,8 +36,8 @@ pub renew_evolves : (b : Broker) (t : Text) (ends : ℕ) → Evolves b (renew b 
 renew_evolves b t ends = edit_evolves b t (with_end ends) (ends_edit ends)
 
 -- a renewal by an end in range leaves a sound broker sound
-pub renew_sound : (forms : Forms) (who : Option Text) (b : Broker) (t : Text) (ends : ℕ) → Sound forms who b → IsEnd ends
-    → Sound forms who (renew b t ends)
+pub renew_sound : (forms : Forms) (who : Option Text) (b : Broker) (t : Text) (ends : ℕ) → Sound forms who b
+    → IsEnd ends → Sound forms who (renew b t ends)
 renew_sound forms who b t ends sound good =
     edit_sound b t (with_end ends) (ends_edit ends) forms who who sound
     (λ q x s. edited_sound forms q x s x.parent (Some ends) x.uses_left x.cubbyhole x.leases
