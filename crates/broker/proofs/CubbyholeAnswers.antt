@@ -5,7 +5,7 @@ use Rattle.std.proofs.lemmas.Bool.{false≢true}
 use Rattle.serde_json.specs.Data as json
 use Rattle.serde_json.specs.Written.{compact_text}
 use Rattle.broker_types.specs.Text.{Text, same}
-use Rattle.broker_types.specs.Map.{get, put}
+use Rattle.broker_types.specs.Map.{Map, get, put}
 use Rattle.broker_types.specs.Token.{Token}
 use Rattle.broker_types.specs.Broker.{Broker}
 use Rattle.broker_types.specs.Answer.{response_of, refused}
@@ -27,7 +27,7 @@ use Rattle.records.specs.Rows.{token_len}
 use Rattle.records.specs.ValueLaws.{ok_inj}
 use Rattle.records.specs.Table.{table_of}
 use Rattle.records.specs.Transaction.{Rows}
-use Rattle.cubbyhole.specs.Cubbyhole.{object_at, with_cubbyhole, write}
+use Rattle.cubbyhole.specs.Cubbyhole.{object_at, with_cubbyhole, edited, write}
 use Rattle.cubbyhole.specs.SoundLaws.{write_sound, write_evolves}
 use Rattle.mounts.specs.Route.{Route}
 use Rattle.mounts.specs.declared.operation.Cubbyhole.{Cubbyhole}
@@ -46,19 +46,19 @@ use Rattle.broker.specs.Serving.{carried_out}
 use Rattle.broker.proofs.Operations.{no_ok, plainly_proper}
 use Rattle.broker.proofs.Serving.{gives_refused, gives_done, everything}
 
--- ---- a write leaves what the requests served so far can leave
+-- ---- an edit leaves what the requests served so far can leave
 
-root_still : (v : Bool) (path object : Text) (x : Token) → IsRoot x → IsRoot (if v then with_cubbyhole (λ m. put m path object) x else x)
-root_still true path object x l = ap (λ (z : Token). record z { cubbyhole = put x.cubbyhole path object }) l
-root_still false path object x l = l
+root_still : (v : Bool) (edit : Map Text → Map Text) (x : Token) → IsRoot x → IsRoot (if v then with_cubbyhole edit x else x)
+root_still true edit x l = ap (λ (z : Token). record z { cubbyhole = edit x.cubbyhole }) l
+root_still false edit x l = l
 
-served-write : (b : Broker) (t path object : Text) → AsServed b → AsServed (write b t path object)
-served-write b t path object s =
+served-edited : (b : Broker) (t : Text) (edit : Map Text → Map Text) → AsServed b → AsServed (edited b t edit)
+served-edited b t edit s =
     record {
       root_alone = λ q y is.
-          let written = λ (x : Token). if same q t then with_cubbyhole (λ m. put m path object) x else x in
-          let x = mapped written (get b.tokens q) y (sym (get-change b.tokens t (with_cubbyhole (λ m. put m path object)) q) ∙ is) in
-          subst IsRoot (sym x.2) (root_still (same q t) path object x.0 (s.root_alone q x.0 x.1));
+          let one = λ (x : Token). if same q t then with_cubbyhole edit x else x in
+          let x = mapped one (get b.tokens q) y (sym (get-change b.tokens t (with_cubbyhole edit) q) ∙ is) in
+          subst IsRoot (sym x.2) (root_still (same q t) edit x.0 (s.root_alone q x.0 x.1));
       none_waits = s.none_waits;
       no_secrets = s.no_secrets;
       no_roles = s.no_roles;
@@ -83,7 +83,7 @@ represents-write b old new t path object st is_path is_object tells =
     record {
       rows = λ i k q. tells k q refl i;
       sound = write_sound forms None b t st.sound path object is_path is_object;
-      served = served-write b t path object st.served;
+      served = served-edited b t (λ m. put m path object) st.served;
     }
 
 -- ---- the operation of a route
