@@ -7,7 +7,7 @@ ghost use Rattle.broker_types.specs.Map.{get};
 ghost use Rattle.broker_types.specs.Names.{Names};
 ghost use Rattle.broker_types.specs.Path.{is_path};
 ghost use Rattle.records.specs.Transaction.{IsHonest};
-ghost use Rattle.mounts.specs.Operations.{takes_parameter};
+ghost use Rattle.mounts.specs.Table.{takes_parameter};
 ghost use Rattle.mounts.specs.declared.operation.Cubbyhole.TheVariants as operations;
 ghost use Rattle.mounts.specs.declared.operation.Operation.TheVariants.{Cubbyholes};
 ghost use Rattle.broker.specs.ClockRow.{IsNotBadStart};

@@ -3,7 +3,6 @@ pub mod Forms
 pub mod Laws
 pub mod MountRows
 pub mod Mounts
-pub mod Operations
 pub mod Patterns
 pub mod Route
 pub mod Row

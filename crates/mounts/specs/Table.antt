@@ -1,9 +1,11 @@
 -- The table of routes: for each type of mounts the verb, the pattern of the path within the mount, and the operation
--- (Vault's documentation, "HTTP API"). Rows of one pattern stand together. A route that is not served has no row.
-use Rattle.std.specs.Prelude.{List, [], ◌∷◌, codes}
+-- (Vault's documentation, "HTTP API"). Rows of one pattern stand together. A route that is not served has no row. And
+-- which operations take a name or a path from the path of their request (this project's definition).
+use Rattle.std.specs.Prelude.{List, [], ◌∷◌, Bool, true, codes}
 use Rattle.broker_types.specs.declared.ask.Verb.TheVariants as verb
 use Rattle.mounts.specs.declared.mount_type.MountType.{MountType}
 use Rattle.mounts.specs.declared.mount_type.MountType.TheVariants as mount
+use Rattle.mounts.specs.declared.operation.Operation.{Operation}
 use Rattle.mounts.specs.declared.operation.Operation.TheVariants.{Cubbyholes}
 use Rattle.mounts.specs.declared.operation.Cubbyhole.TheVariants as cubbyhole
 use Rattle.mounts.specs.Row.{Row, on}
@@ -18,3 +20,8 @@ rows_of mount.Cubbyhole =
     ∷ []
 rows_of mount.Kv = []
 rows_of mount.Issued = []
+
+-- whether the operation needs what a path has in place of the parameter
+abbrev pub takes_parameter : Operation → Bool
+takes_parameter (Cubbyholes cubbyhole.Read) = true
+takes_parameter (Cubbyholes cubbyhole.Write) = true

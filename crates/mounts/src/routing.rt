@@ -12,7 +12,7 @@ ghost use Rattle.records.specs.Transaction.{IsHonest, GoesOn, is_storage};
 ghost use Rattle.mounts.specs.Calls.{OnAnswer, OnFault};
 ghost use Rattle.mounts.specs.Forms as forms;
 ghost use Rattle.mounts.specs.MountRows.{IsKnownAt, IsReadableAt, IsDamagedAt, AreMounts};
-ghost use Rattle.mounts.specs.Operations.{takes_parameter};
+ghost use Rattle.mounts.specs.Table.{takes_parameter};
 ghost use Rattle.mounts.specs.Patterns as patterns;
 ghost use Rattle.mounts.specs.Row.{rows_in, shown};
 ghost use Rattle.mounts.specs.Route as spec;
