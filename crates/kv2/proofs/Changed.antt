@@ -27,12 +27,12 @@ use Rattle.records.specs.SplitLaws.{eqb_self}
 use Rattle.records.specs.Table.{Table, with_row}
 use Rattle.records.specs.ValueLaws.{mapped_unseen, unseen}
 use Rattle.kv2.specs.SecretRows.{HasVersion, HasVersions, AreChanged, is_key_of}
+use Rattle.kv2.specs.VersionLaws.{get-change_versions}
 use Rattle.kv2.specs.Versions.{version_of, with_changed, is_among}
 use Rattle.kv2.proofs.Digits.{KeyLaws}
 use Rattle.kv2.proofs.Found.{none_is, some_is}
 use Rattle.kv2.proofs.Parts.{secrets_by}
 use Rattle.kv2.proofs.SecretsTold.{key_rows, version_rows, version_row_at, small_number, has_version}
-use Rattle.kv2.proofs.VersionMaps.{get-change_versions}
 use Rattle.kv2.proofs.VersionRows.{at_parts, by_parts}
 
 or_none : (v : Bool) → (v || false) ≡ v

@@ -11,6 +11,7 @@ use Rattle.records.specs.Rows.{padded, version_of_digits}
 use Rattle.records.specs.Splits.{line_feed, lacks}
 use Rattle.records.specs.SplitLaws.{lacking_split}
 use Rattle.records.specs.ValueLaws.{none_of}
+use Rattle.kv2.specs.VersionLaws.{eq-nat_cmp}
 use Rattle.records.specs.VersionKeys.{DigitsTellTheVersion, OnlyDigitsTellAVersion, DigitsAreInOrder, NamesAreSplitOff}
 
 -- the laws of the keys of versions
@@ -23,9 +24,6 @@ pub record KeyLaws : Type 0 where
 -- a version's number has 64 bits
 pub wide : (n : ℕ) → n ≤ greatest_version → n < 2 ^ 64
 wide n h = omega (arith, h)
-
-pub eq-nat_cmp : (m n : ℕ) → is_eq (nat_cmp m n) ≡ (m == n)
-eq-nat_cmp m n = grind arith
 
 ranks : (n m : ℕ) → is_le (nat_cmp n m) ≡ not (nat_lt m n)
 ranks n m = grind arith

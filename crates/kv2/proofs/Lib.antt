@@ -4,6 +4,7 @@ pub mod Changed
 pub mod Digits
 pub mod Edits
 pub mod Found
+pub mod KeyHistory
 pub mod KeysListed
 pub mod Others
 pub mod Parts
@@ -12,7 +13,6 @@ pub mod ReadCalls
 pub mod Removals
 pub mod SecretNames
 pub mod SecretsTold
-pub mod VersionMaps
 pub mod VersionNames
 pub mod VersionRows
 pub mod WriteCalls

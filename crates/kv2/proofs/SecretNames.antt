@@ -1,6 +1,6 @@
 -- Names of secrets.
 use Rattle.std.specs.Prelude.{◌≡◌, ◌<◌, ◌==◌, ◌&&◌, ◌∷◌, [], not, true}
-use Rattle.std.proofs.Common.{refl, sym, ◌∙◌, append_assoc, lit<}
+use Rattle.std.proofs.Common.{refl, sym, ◌∙◌, lit<}
 use Rattle.std.proofs.lemmas.Bool.{and_parts}
 use Rattle.std.proofs.lemmas.List.Elements.{All-cons, All-nil}
 use Rattle.std.proofs.lemmas.List.Folds.{list_all-append}
@@ -8,20 +8,11 @@ use Rattle.std.proofs.lemmas.Str.{IsUtf8-from_ascii}
 use Rattle.std.proofs.lemmas.Str.Ascii.{IsAscii-from_all}
 use Rattle.broker_types.specs.Text.{Text}
 use Rattle.broker_types.specs.Name.{is_mount_name}
-use Rattle.broker_types.specs.Sound.{IsPathText, IsSecretName}
+use Rattle.broker_types.specs.Sound.{IsPathText}
 use Rattle.records.specs.Splits.{slash, line_feed, lacks}
 use Rattle.kv2.specs.Secrets.{secret_name}
+use Rattle.kv2.specs.SoundLaws.{is_secret_name}
 use Rattle.kv2.proofs.Digits.{KeyLaws, name_lacks}
-
--- the name of a mount, a slash and a path
-pub is_secret_name : (mount path : Text) → is_mount_name mount ≡ true → IsPathText path → IsSecretName (secret_name mount path)
-is_secret_name mount path m p = record {
-  mount = mount;
-  path = path;
-  mount_name = m;
-  is_path_text = p;
-  parts = sym (append_assoc mount (slash ∷ []) path);
-}
 
 a_path : IsPathText (97 ∷ [])
 a_path = record {

@@ -1,19 +1,15 @@
 -- A write: what its calls say of the rows, and what the rows say of the broker.
-use Rattle.std.specs.Prelude.{◌≡◌, ◌≤◌, ◌+◌, ◌||◌, ℕ, nat_lt, Bool, true, false, Option, Some, None, option_map, unwrap_or, Result, Ok, Err, is_ok, ⊤}
+use Rattle.std.specs.Prelude.{◌≡◌, ◌+◌, ◌||◌, ℕ, false, Option, Some, None, option_map, unwrap_or, Result, Ok, Err, ⊤}
 use Rattle.std.proofs.Common.{refl, sym, ◌∙◌, ap, subst, arith}
-use Rattle.std.proofs.lemmas.Bool.{false≢true}
 use Rattle.broker_types.specs.Text.{Text}
-use Rattle.broker_types.specs.Limits.{greatest_version}
 use Rattle.broker_types.specs.Map.{get}
-use Rattle.broker_types.specs.Refuse.{◌>>=◌, some_or, unless}
+use Rattle.broker_types.specs.Refuse.{◌>>=◌, some_or}
 use Rattle.broker_types.specs.RequestError.{Ends, EndsOk}
 use Rattle.broker_types.specs.Secret.{Key}
 use Rattle.broker_types.specs.Broker.{Broker, Mount}
 use Rattle.broker_types.specs.Sound.{Forms, SoundSecrets, SoundMounts, IsPathText, IsSecretName}
 use Rattle.broker_types.specs.declared.refusal.Refusal.{Refusal}
 use Rattle.broker_types.specs.declared.refusal.Refusal.TheVariants as refusal
-use Rattle.broker_types.specs.declared.refusal.Reason.TheVariants as reason
-use Rattle.broker_types.specs.declared.refusal.Field.TheVariants as field
 use Rattle.broker_types.specs.declared.request_error.RequestError.{RequestError}
 use Rattle.broker_types.specs.declared.request_error.RequestError.TheVariants.{Refused, Fault as Given}
 use Rattle.records.specs.KeyEntry.{KeyEntry, key_entry}
@@ -23,9 +19,9 @@ use Rattle.records.specs.ValueLaws.{none_of}
 use Rattle.kv2.specs.SecretRows as rows
 use Rattle.kv2.specs.SecretRows.{WrittenRows, new_entry, with_version}
 use Rattle.kv2.specs.Secrets.{Written, secret_name, write, write_over, written}
-use Rattle.kv2.specs.Versions.{version_of, key_or_new, check_and_set, checked, or_if_zero, versions_kept}
+use Rattle.kv2.specs.SoundLaws.{room, is_secret_name}
+use Rattle.kv2.specs.Versions.{version_of, key_or_new, checked, or_if_zero, versions_kept}
 use Rattle.kv2.proofs.Digits.{KeyLaws, name_lacks}
-use Rattle.kv2.proofs.SecretNames.{is_secret_name}
 use Rattle.kv2.proofs.Writes.{written_told}
 
 -- ---- the rows, from the calls
@@ -44,23 +40,6 @@ rows_written old new m k name object now limit cas e is passed kept left =
     (ap (λ (z : KeyEntry). z.current + 1) is, left ∙ (λ i. with_version old name (is i) (kept i) now object))
 
 -- ---- the broker, from the rows
-
-lower : (x : ℕ) → nat_lt x greatest_version ≡ true → x + 1 ≤ greatest_version
-lower x h = grind (arith, h)
-
--- a write that passed has a number for the version
-room : (required : Bool) (current : ℕ) (cas : Option ℕ) → checked required current cas ≡ Ok tt → current + 1 ≤ greatest_version
-room required current cas h =
-    elim (check_and_set required current cas) as (λ (r : Result ⊤ Refusal).
-    (r >>= (λ _. unless (nat_lt current greatest_version) (refusal.BadRequest (reason.InvalidField field.Version)))) ≡ Ok tt → current + 1 ≤ greatest_version) [
-      | Err e ↦ λ z. absurd (false≢true (ap is_ok z))
-      | Ok x ↦ λ z.
-          elim (nat_lt current greatest_version) as (λ b. nat_lt current greatest_version ≡ b
-          → unless b (refusal.BadRequest (reason.InvalidField field.Version)) ≡ Ok tt → current + 1 ≤ greatest_version) [
-            | true ↦ λ is _. lower current is
-            | false ↦ λ _ y. absurd (false≢true (ap is_ok y))
-          ] refl z
-    ] h
 
 module _ {X Y Z : Type 0} (P : X → Y → Type 0) (Q : X → Z → Type 0) where
   ends_refused : (r : Refusal) (result : Result X RequestError) → Ends P ⊤ result (Err r) → Ends Q ⊤ result (Err r)

@@ -1,8 +1,7 @@
 -- A write: its rows are those of the next broker.
 use Rattle.std.specs.Prelude.{◌≡◌, ◌≤◌, ◌+◌, ◌-◌, ◌==◌, ◌&&◌, ℕ, suc, zero, nat_lt, not, nat_eq, Bool, true, false, cond, if◌then◌else◌, Option}
 use Rattle.std.specs.Prelude.{Some, None, option_map}
-use Rattle.std.specs.Ordering.{nat_cmp, is_le}
-use Rattle.std.specs.FinMap as fin
+use Rattle.std.specs.Ordering.{is_le}
 use Rattle.std.specs.List.{starts_with}
 use Rattle.std.proofs.Common.{refl, sym, ◌∙◌, ap, arith}
 use Rattle.std.proofs.lemmas.Bool.{false_from_ne_true}
@@ -25,16 +24,12 @@ use Rattle.records.specs.Table.{Table, with_row}
 use Rattle.kv2.specs.SecretRows as rows
 use Rattle.kv2.specs.SecretRows.{versions_prefix, next_entry, without_upto}
 use Rattle.kv2.specs.Secrets.{written}
+use Rattle.kv2.specs.VersionLaws.{next_versions}
 use Rattle.kv2.specs.Versions.{version_of, new_version, with_version, versions_kept, key_or_new}
 use Rattle.kv2.proofs.Digits.{KeyLaws, wide, same_digits, upto_digits}
 use Rattle.kv2.proofs.SecretsTold.{key_rows, version_rows, version_row_of-some}
 use Rattle.kv2.proofs.Parts.{secrets_by}
-use Rattle.kv2.proofs.VersionMaps.{get-insert, get-kept_under}
 use Rattle.kv2.proofs.VersionRows.{ByParts, at_parts, with_part, without_parts_to, at_parts-with_part, at_parts-without_to}
-
-old_versions : (now : ℕ) (o : Option Key) (n : ℕ) → fin.get (key_or_new now o).versions n ≡ version_of o n
-old_versions now None n = fin.get-empty nat_cmp n
-old_versions now (Some k) n = refl
 
 not_below : (x : ℕ) → nat_lt x 0 ≡ false
 not_below x = grind arith
@@ -60,14 +55,6 @@ module _ (now limit : ℕ) (object : Text) (o : Option Key) where
 
   abbrev row : Row
   row = version_row (new_version now object)
-
-  -- the versions after the write
-  pub next_versions : (n : ℕ) → fin.get next_key.versions n
-      ≡ cond (nat_lt (v - limit) n) (cond (n == v) (Some (new_version now object)) (version_of o n)) None
-  next_versions n =
-      get-kept_under v limit (fin.insert k.versions v (new_version now object)) n
-      ∙ ap (λ x. cond (nat_lt (v - limit) n) x None) (get-insert k.versions v (new_version now object) n
-      ∙ ap (cond (n == v) (Some (new_version now object))) (old_versions now o n))
 
   -- if the limit leaves all, none is left out
   unpruned : nat_lt limit v ≡ false → version_of o 0 ≡ None → (n : ℕ)
@@ -114,7 +101,7 @@ module _ (now limit : ℕ) (object : Text) (o : Option Key) where
               (λ i. if (ap (λ z. is_le (text_cmp z (padded (v - limit)))) told.1 ∙ upto_digits laws n (v - limit) (wide n told.0) (wide (v - limit) few)) i then None
               else (if (ap (λ z. same z (padded v)) told.1 ∙ same_digits laws n v (wide n told.0) (wide v h)) i then Some row else version_row_of-some o n i))
               ∙ at_number (nat_lt (v - limit) n) (n == v) (version_of o n)
-              ∙ ap (option_map version_row) (sym (next_versions n))
+              ∙ ap (option_map version_row) (sym (next_versions now limit object o n))
         ] refl
 
     put_digits : nat_lt limit v ≡ false → version_of o 0 ≡ None → (d : Text)
@@ -127,7 +114,7 @@ module _ (now limit : ℕ) (object : Text) (o : Option Key) where
               let told = laws.exact d n e in
               (λ i. if (ap (λ z. same z (padded v)) told.1 ∙ same_digits laws n v (wide n told.0) (wide v h)) i then Some row else version_row_of-some o n i)
               ∙ put_number (n == v) (version_of o n)
-              ∙ ap (option_map version_row) (sym (next_versions n ∙ unpruned all first n))
+              ∙ ap (option_map version_row) (sym (next_versions now limit object o n ∙ unpruned all first n))
         ] refl
 
 module _ (secrets : Map Key) (name object : Text) (now limit : ℕ) (laws : KeyLaws) where

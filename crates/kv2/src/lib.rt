@@ -4,6 +4,7 @@
 mod changing;
 mod finding;
 mod keys;
+mod laws;
 mod listing;
 mod pruning;
 mod reading;
@@ -13,6 +14,10 @@ mod settings;
 mod writing;
 
 pub use changing::{delete, delete_versions, destroy, undelete};
+pub use laws::{
+    destroyed_secrets_stay_away, numbers_are_given_once, operations_evolve, operations_keep_soundness,
+    other_keys_stay,
+};
 pub use listing::list;
 pub use reading::read;
 pub use removing::{drop_mount, remove_key};

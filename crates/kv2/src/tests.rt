@@ -31,20 +31,30 @@ fn moment(seconds: u64) -> Result<Moment, Fail> {
     }
 }
 
-/// The number that a write at second 1,000 answers; 0 if it is refused for this reason.
+/// The number that a write at second 1,000 answers.
 fn writes(
     rt: &HostRuntime,
     tx: &mut ListTx,
     path: &str,
     cas: Option<u64>,
     object: &str,
-    reason: Reason,
 ) -> Result<u64, Fail> {
-    let now = moment(1000)?;
-    match write(rt.alloc(), tx, now, "secret", path, cas, object) {
+    match write(rt.alloc(), tx, moment(1000)?, "secret", path, cas, object) {
         Ok(number) => Ok(number),
-        Err(RequestError::Refused(refusal)) if refusal == Refusal::BadRequest(reason) => Ok(0),
-        Err(_) => Err(Fail::from("another refusal, or a fault")),
+        Err(_) => Err(Fail::from("no write")),
+    }
+}
+
+/// Whether a write is refused for this reason.
+fn refuses(
+    rt: &HostRuntime,
+    tx: &mut ListTx,
+    cas: Option<u64>,
+    reason: Reason,
+) -> Result<bool, Fail> {
+    match write(rt.alloc(), tx, moment(1000)?, "secret", "x", cas, TWO) {
+        Err(RequestError::Refused(refusal)) => Ok(refusal == Refusal::BadRequest(reason)),
+        _ => Ok(false),
     }
 }
 
@@ -86,12 +96,12 @@ fn check_and_set_goes_by_the_current_version(rt: HostRuntime) -> Result<(), Fail
     let alloc = rt.alloc();
     let mut tx = started(&rt)?;
     let now = moment(1000)?;
-    assert!(rt; writes(&rt, &mut tx, "x", Some(0), ONE, Reason::MissingData)? == 1);
+    assert!(rt; writes(&rt, &mut tx, "x", Some(0), ONE)? == 1);
     delete(alloc, &mut tx, now, "secret", "x")?;
-    assert!(rt; writes(&rt, &mut tx, "x", Some(0), TWO, Reason::CheckAndSetFailed)? == 0);
-    assert!(rt; writes(&rt, &mut tx, "x", Some(1), TWO, Reason::MissingData)? == 2);
+    assert!(rt; refuses(&rt, &mut tx, Some(0), Reason::CheckAndSetFailed)?);
+    assert!(rt; writes(&rt, &mut tx, "x", Some(1), TWO)? == 2);
     set_config(alloc, &mut tx, "secret", Some(true), None)?;
-    assert!(rt; writes(&rt, &mut tx, "x", None, ONE, Reason::CheckAndSetRequired)? == 0);
+    assert!(rt; refuses(&rt, &mut tx, None, Reason::CheckAndSetRequired)?);
     assert!(rt; config(&mut tx, "secret")?.is_some_and(|mount| mount.cas_required));
     assert!(rt;
         matches!(
@@ -107,13 +117,13 @@ fn the_oldest_of_eleven_versions_is_gone(rt: HostRuntime) -> Result<(), Fail> {
     let alloc = rt.alloc();
     let mut tx = started(&rt)?;
     for _ in 0..11 {
-        writes(&rt, &mut tx, "x", None, ONE, Reason::MissingData)?;
+        writes(&rt, &mut tx, "x", None, ONE)?;
     }
     assert!(rt; read(alloc, &mut tx, "secret", "x", 1)?.is_none());
     assert!(rt; reads(&rt, &mut tx, 2, (2, None, Some(ONE)))?);
     set_config(alloc, &mut tx, "secret", None, Some(2))?;
     assert!(rt; reads(&rt, &mut tx, 2, (2, None, Some(ONE)))?);
-    assert!(rt; writes(&rt, &mut tx, "x", None, TWO, Reason::MissingData)? == 12);
+    assert!(rt; writes(&rt, &mut tx, "x", None, TWO)? == 12);
     assert!(rt; read(alloc, &mut tx, "secret", "x", 10)?.is_none());
     assert!(rt; reads(&rt, &mut tx, 11, (11, None, Some(ONE)))?);
     assert!(rt; reads(&rt, &mut tx, 0, (12, None, Some(TWO)))?);
@@ -124,8 +134,8 @@ fn the_oldest_of_eleven_versions_is_gone(rt: HostRuntime) -> Result<(), Fail> {
 fn versions_are_deleted_restored_and_destroyed(rt: HostRuntime) -> Result<(), Fail> {
     let alloc = rt.alloc();
     let mut tx = started(&rt)?;
-    writes(&rt, &mut tx, "x", None, ONE, Reason::MissingData)?;
-    writes(&rt, &mut tx, "x", None, TWO, Reason::MissingData)?;
+    writes(&rt, &mut tx, "x", None, ONE)?;
+    writes(&rt, &mut tx, "x", None, TWO)?;
     delete_versions(alloc, &mut tx, moment(1000)?, "secret", "x", &[1, 7])?;
     delete_versions(alloc, &mut tx, moment(1001)?, "secret", "x", &[1])?;
     destroy(alloc, &mut tx, "secret", "x", &[2])?;
@@ -161,7 +171,7 @@ fn folders_are_listed_and_mounts_are_dropped(rt: HostRuntime) -> Result<(), Fail
     let alloc = rt.alloc();
     let mut tx = started(&rt)?;
     for path in &["c/d/e", "a/b", "a/c", "a"] {
-        writes(&rt, &mut tx, path, None, ONE, Reason::MissingData)?;
+        writes(&rt, &mut tx, path, None, ONE)?;
     }
     write(alloc, &mut tx, moment(1000)?, "secret2", "z", None, ONE)?;
     assert!(rt; lists(&rt, &mut tx, "secret", "", &["a", "a/", "c/"])?);
@@ -178,7 +188,7 @@ fn folders_are_listed_and_mounts_are_dropped(rt: HostRuntime) -> Result<(), Fail
 fn a_damaged_row_is_told_where_it_is_read(rt: HostRuntime) -> Result<(), Fail> {
     let alloc = rt.alloc();
     let mut tx = started(&rt)?;
-    writes(&rt, &mut tx, "x", None, ONE, Reason::MissingData)?;
+    writes(&rt, &mut tx, "x", None, ONE)?;
     let row = Row {
         owner: TextBuf::copied(alloc, "")?,
         due: None,
