@@ -52,7 +52,8 @@ module _ (forms : Forms) (b : Broker) (sound : SoundSecrets forms b.secrets) (ol
         changed_told forms b sound old new told laws (secret_name mount path) is_name f ns (subst (λ q. AreChanged f ns q old new) is h)
 
     -- the broker with the current version changed
-    pub current_told : (f : Version → Version) (new : Table) → AreChanged f (current_of (option_map key_entry (get b.secrets (secret_name mount path)))) name old new
+    pub current_told : (f : Version → Version) (new : Table) → AreChanged f (current_of (option_map key_entry (get b.secrets
+        (secret_name mount path)))) name old new
         → Tells of_secrets new (with_key b mount path (λ k. with_changed f (k.current ∷ []) k))
     current_told f new h =
         subst (λ (m : Map Key). Tells of_secrets new (record b { secrets = m }))

@@ -48,7 +48,8 @@ module _ (b : Broker) (mount path : Text) (f : Version → Version) (numbers : K
       inner : (o : Option Key) → get b.secrets name ≡ o → version_of (option_map (λ k. with_changed f (numbers k) k) o) n ≡ Some v → v.secret ≡ None
       inner None is g = absurd (none-some _ g)
       inner (Some k) is g =
-          let x = mapped (λ v. if is_among (numbers k) n then f v else v) (fin.get k.versions n) v (sym (get-change_versions f (is_among (numbers k)) k.versions n) ∙ g) in
+          let x = mapped (λ v. if is_among (numbers k) n then f v else v) (fin.get k.versions n) v (sym (get-change_versions f (is_among
+          (numbers k)) k.versions n) ∙ g) in
           let gone : x.0.secret ≡ None = h x.0 (ap (λ o. version_of o n) is ∙ x.1) in
           subst (λ (z : Version). z.secret ≡ None) (sym x.2)
           (elim (is_among (numbers k) n) as (λ p. (if p then f x.0 else x.0).secret ≡ None) [

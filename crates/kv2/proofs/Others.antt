@@ -45,7 +45,8 @@ module _ (name : Text) (t : Table) where
       pruned_apart (nat_lt limit (e.current + 1))
       ∙ ap (λ b. if b then Some (key_entry_row (next_entry now e)) else (if own k q then Some (version_row (new_version now object)) else t k q)) not_key
       ∙ ap (λ b. if b then Some (version_row (new_version now object)) else t k q)
-      (both_false (kind_number k == kind_number kind.KvVersion) (starts_with nat_eq q (versions_prefix name)) (same q (version_key name (e.current + 1))) apart (λ one.
+      (both_false (kind_number k == kind_number kind.KvVersion) (starts_with nat_eq q (versions_prefix name)) (same q (version_key name
+      (e.current + 1))) apart (λ one.
       ap (λ z. starts_with nat_eq z (versions_prefix name)) (same_true q (version_key name (e.current + 1)) one) ∙ key_begins name _))
     where
       own : Kind → Text → Bool
@@ -55,7 +56,8 @@ module _ (name : Text) (t : Table) where
       before = with_row (with_row t kind.KvVersion (version_key name (e.current + 1)) (version_row (new_version now object)))
           kind.KvKey name (key_entry_row (next_entry now e))
 
-      pruned_apart : (p : Bool) → (if p then without_upto before kind.KvVersion (versions_prefix name) (version_key name (e.current + 1 - limit)) else before) k q
+      pruned_apart : (p : Bool) → (if p then without_upto before kind.KvVersion (versions_prefix name) (version_key name
+          (e.current + 1 - limit)) else before) k q
           ≡ before k q
       pruned_apart true = ap (λ b. if b && is_le (text_cmp q (version_key name (e.current + 1 - limit))) then None else before k q) apart
       pruned_apart false = refl

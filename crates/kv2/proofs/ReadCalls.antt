@@ -25,7 +25,7 @@ module _ (forms : Forms) (b : Broker) (sound : SoundSecrets forms b.secrets) (t 
   abbrev here : Option Key
   here = get b.secrets (secret_name mount path)
 
-  its_key : HasKey t name (option_map key_entry here)
+  pub its_key : HasKey t name (option_map key_entry here)
   its_key = subst (λ q. HasKey t q (option_map key_entry here)) (sym is) (has_key forms b sound t told (secret_name mount path))
 
   -- no key, nothing to read

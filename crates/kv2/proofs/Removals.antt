@@ -30,16 +30,19 @@ gone : (o : Option Row) → unless o None ≡ None
 gone None = refl
 gone (Some r) = refl
 
-get-without : (last : Text) (rows : Rows) (es : List (RowKey × Row)) (q : RowKey) → get (without_passing last rows es) q ≡ unless (find key_cmp q (filter (passes last) es)) (get rows q)
+get-without : (last : Text) (rows : Rows) (es : List (RowKey × Row)) (q : RowKey) → get (without_passing last rows es) q
+    ≡ unless (find key_cmp q (filter (passes last) es)) (get rows q)
 get-without last rows [] q = refl
 get-without last rows (e ∷ es) q =
     get-without last (if passes last e then remove rows e.0 else rows) es q
-    ∙ elim (passes last e) as (λ b. unless (find key_cmp q (filter (passes last) es)) (get (if b then remove rows e.0 else rows) q) ≡ unless (find key_cmp q (cond b (e ∷ filter (passes last) es) (filter (passes last) es))) (get rows q)) [
+    ∙ elim (passes last e) as (λ b. unless (find key_cmp q (filter (passes last) es)) (get (if b then remove rows e.0 else rows) q)
+    ≡ unless (find key_cmp q (cond b (e ∷ filter (passes last) es) (filter (passes last) es))) (get rows q)) [
       | true ↦ ap (unless (find key_cmp q (filter (passes last) es))) (get-remove key_cmp_total rows e.0 q) ∙ met (eq_by_cmp key_cmp q e.0)
       | false ↦ refl
     ]
   where
-    met : (b : Bool) → unless (find key_cmp q (filter (passes last) es)) (cond b None (get rows q)) ≡ unless (cond b (Some e.1) (find key_cmp q (filter (passes last) es))) (get rows q)
+    met : (b : Bool) → unless (find key_cmp q (filter (passes last) es)) (cond b None (get rows q))
+        ≡ unless (cond b (Some e.1) (find key_cmp q (filter (passes last) es))) (get rows q)
     met true = gone (find key_cmp q (filter (passes last) es))
     met false = refl
 
@@ -64,7 +67,8 @@ table_of-without_upto rows kind prefix last = λ i k q. at k q i
     at k q =
         get-without last rows (rows_under rows kind prefix) (k, q)
         ∙ ap (λ o. unless o (get rows (k, q))) (
-        find-where_key key_cmp (within last) (k, q) (λ x e. ap (within last) (sym (key_cmp_exact (k, q) x e))) (filter (λ e. under kind prefix e.0) (entries rows))
+        find-where_key key_cmp (within last) (k, q) (λ x e. ap (within last) (sym (key_cmp_exact (k, q) x e))) (filter
+        (λ e. under kind prefix e.0) (entries rows))
         ∙ ap (λ o. cond (within last (k, q)) o None) (
         find-where_key key_cmp (under kind prefix) (k, q) (λ x e. ap (under kind prefix) (sym (key_cmp_exact (k, q) x e))) (entries rows)
         ∙ ap (λ o. cond (under kind prefix (k, q)) o None) (sym (get-entries rows (k, q)))))

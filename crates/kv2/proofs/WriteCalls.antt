@@ -121,7 +121,8 @@ module _ (forms : Forms) (b : Broker) (sound : SoundSecrets forms b.secrets) (mo
   write_told result h =
       elim (get b.mounts mount) as (λ o. get b.mounts mount ≡ o
       → Ends (IsWritten new) ⊤ result (rows.write t o (option_map key_entry (get b.secrets name)) name b.clock cas object)
-      → Ends (λ v (w : Written). (v ≡ w.number) × Tells of_secrets new w.next) ⊤ result (some_or refusal.NotFound o >>= (λ m. write_over b m name cas object over))) [
+      → Ends (λ v (w : Written). (v ≡ w.number) × Tells of_secrets new w.next) ⊤ result (some_or refusal.NotFound o >>=
+      (λ m. write_over b m name cas object over))) [
         | None ↦ λ _ z. ends_refused (IsWritten new) (λ v (w : Written). (v ≡ w.number) × Tells of_secrets new w.next) refusal.NotFound result z
         | Some m ↦ λ some z.
             ends_tested (IsWritten new) (λ v (w : Written). (v ≡ w.number) × Tells of_secrets new w.next)

@@ -87,18 +87,21 @@ module _ (now limit : ℕ) (object : Text) (o : Option Key) where
     no_digits : (d : Text) → version_of_digits d ≡ None → same d (padded v) ≡ false
     no_digits d e = false_from_ne_true _ (λ s. absurd (none-some _ (sym e ∙ ap version_of_digits (same_true d (padded v) s) ∙ laws.told v h)))
 
-    at_digits : (d : Text) → (if is_le (text_cmp d (padded (v - limit))) then None else (if same d (padded v) then Some row else version_row_of o (version_of_digits d)))
+    at_digits : (d : Text) → (if is_le (text_cmp d (padded (v - limit))) then None else (if same d (padded v) then Some row else version_row_of o
+        (version_of_digits d)))
         ≡ version_row_of (Some next_key) (version_of_digits d)
     at_digits d =
         elim (version_of_digits d) as (λ t. version_of_digits d ≡ t
-        → (if is_le (text_cmp d (padded (v - limit))) then None else (if same d (padded v) then Some row else version_row_of o t)) ≡ version_row_of (Some next_key) t) [
+        → (if is_le (text_cmp d (padded (v - limit))) then None else (if same d (padded v) then Some row else version_row_of o t))
+        ≡ version_row_of (Some next_key) t) [
           | None ↦ λ e.
               ap (λ b. if is_le (text_cmp d (padded (v - limit))) then None else (if b then Some row else None)) (no_digits d e)
               ∙ neither (is_le (text_cmp d (padded (v - limit))))
           | Some n ↦ λ e.
               let told = laws.exact d n e in
               let few : v - limit ≤ greatest_version = omega (arith, h) in
-              (λ i. if (ap (λ z. is_le (text_cmp z (padded (v - limit)))) told.1 ∙ upto_digits laws n (v - limit) (wide n told.0) (wide (v - limit) few)) i then None
+              (λ i. if (ap (λ z. is_le (text_cmp z (padded (v - limit)))) told.1 ∙ upto_digits laws n (v - limit) (wide n told.0) (wide
+              (v - limit) few)) i then None
               else (if (ap (λ z. same z (padded v)) told.1 ∙ same_digits laws n v (wide n told.0) (wide v h)) i then Some row else version_row_of-some o n i))
               ∙ at_number (nat_lt (v - limit) n) (n == v) (version_of o n)
               ∙ ap (option_map version_row) (sym (next_versions now limit object o n))
@@ -234,5 +237,6 @@ module _ (t : Table) (b : Broker) (m : Mount) (name object : Text) (told : Tells
       ∙ ap (λ x. if nat_lt kept (over.current + 1)
       then (if starts_with nat_eq q (versions_prefix name) && is_le (text_cmp q (version_key name (over.current + 1 - kept))) then None
       else (if same q (version_key name (over.current + 1)) then Some (version_row (new_version b.clock object)) else x))
-      else (if same q (version_key name (over.current + 1)) then Some (version_row (new_version b.clock object)) else x)) (told kind.KvVersion q refl ∙ version_rows b q)
+      else (if same q (version_key name (over.current + 1)) then Some (version_row (new_version b.clock object)) else x)) (told kind.KvVersion q refl
+      ∙ version_rows b q)
       ∙ versions-written b.secrets name object b.clock kept laws l h first q)

@@ -157,6 +157,10 @@ pub fn delete<T: RecordsTx>(
         → Tells of_secrets (table_of (T.seen tx.old).rows) b → now ≡ b.clock
         → IsSecretName (secrets.secret_name mount.now path.now)
         → OnOk result (Tells of_secrets (table_of (T.seen tx.new).rows) (secrets.delete b mount.now path.now)) }
+    ensures readable { IsHonest (T.seen tx.new) → (k : Option KeyEntry)
+        → HasKey (table_of (T.seen tx.old).rows) (secrets.secret_name mount.now path.now) k
+        → HasVersions (table_of (T.seen tx.old).rows) (secrets.secret_name mount.now path.now)
+        → IfErr result IsMemoryOrStorage }
     ensures undamaged { IsHonest (T.seen tx.new) → (forms : Forms) (b : Broker) → SoundSecrets forms b.secrets
         → Tells of_secrets (table_of (T.seen tx.old).rows) b
         → IsSecretName (secrets.secret_name mount.now path.now) → IfErr result IsMemoryOrStorage }
@@ -187,6 +191,9 @@ pub fn delete_versions<T: RecordsTx>(
         → Tells of_secrets (table_of (T.seen tx.old).rows) b → now ≡ b.clock
         → IsSecretName (secrets.secret_name mount.now path.now) → OnOk result (Tells of_secrets
         (table_of (T.seen tx.new).rows) (secrets.delete_versions b mount.now path.now numbers.now)) }
+    ensures readable { IsHonest (T.seen tx.new)
+        → HasVersions (table_of (T.seen tx.old).rows) (secrets.secret_name mount.now path.now)
+        → IfErr result IsMemoryOrStorage }
     ensures undamaged { IsHonest (T.seen tx.new) → (forms : Forms) (b : Broker) → SoundSecrets forms b.secrets
         → Tells of_secrets (table_of (T.seen tx.old).rows) b
         → IsSecretName (secrets.secret_name mount.now path.now) → IfErr result IsMemoryOrStorage }
@@ -216,6 +223,9 @@ pub fn undelete<T: RecordsTx>(
         → Tells of_secrets (table_of (T.seen tx.old).rows) b
         → IsSecretName (secrets.secret_name mount.now path.now) → OnOk result (Tells of_secrets
         (table_of (T.seen tx.new).rows) (secrets.undelete b mount.now path.now numbers.now)) }
+    ensures readable { IsHonest (T.seen tx.new)
+        → HasVersions (table_of (T.seen tx.old).rows) (secrets.secret_name mount.now path.now)
+        → IfErr result IsMemoryOrStorage }
     ensures undamaged { IsHonest (T.seen tx.new) → (forms : Forms) (b : Broker) → SoundSecrets forms b.secrets
         → Tells of_secrets (table_of (T.seen tx.old).rows) b
         → IsSecretName (secrets.secret_name mount.now path.now) → IfErr result IsMemoryOrStorage }
@@ -244,6 +254,9 @@ pub fn destroy<T: RecordsTx>(
         → Tells of_secrets (table_of (T.seen tx.old).rows) b
         → IsSecretName (secrets.secret_name mount.now path.now) → OnOk result (Tells of_secrets
         (table_of (T.seen tx.new).rows) (secrets.destroy b mount.now path.now numbers.now)) }
+    ensures readable { IsHonest (T.seen tx.new)
+        → HasVersions (table_of (T.seen tx.old).rows) (secrets.secret_name mount.now path.now)
+        → IfErr result IsMemoryOrStorage }
     ensures undamaged { IsHonest (T.seen tx.new) → (forms : Forms) (b : Broker) → SoundSecrets forms b.secrets
         → Tells of_secrets (table_of (T.seen tx.old).rows) b
         → IsSecretName (secrets.secret_name mount.now path.now) → IfErr result IsMemoryOrStorage }

@@ -71,9 +71,11 @@ pub fn read<T: RecordsTx>(
         → Tells of_secrets (table_of (T.seen tx.old).rows) b
         → IfOk result (λ o. o ≡ secrets.read b mount.now path.now number) }
     ensures same { IsHonest (T.seen tx.new) → OnOk result ((T.seen tx.new).rows ≡ (T.seen tx.old).rows) }
-    ensures undamaged { IsHonest (T.seen tx.new) → (o : Option (ℕ × Version))
+    ensures readable { IsHonest (T.seen tx.new) → (o : Option (ℕ × Version))
         → IsReading (table_of (T.seen tx.old).rows) (secrets.secret_name mount.now path.now) number o
         → IfErr result IsMemoryOrStorage }
+    ensures undamaged { IsHonest (T.seen tx.new) → (forms : Forms) (b : Broker) → SoundSecrets forms b.secrets
+        → Tells of_secrets (table_of (T.seen tx.old).rows) b → IfErr result IsMemoryOrStorage }
     ensures started { IfErr result (λ fault. fault ≢ Fault.BadStart) }
     ensures goes_on { GoesOn (T.seen tx.old) (T.seen tx.new) (is_storage result) }
 {

@@ -24,8 +24,10 @@ pub fn config<T: RecordsTx>(tx: &mut T, mount: &str) -> Result<Option<MountRecor
     ensures told { IsHonest (T.seen tx.new) → (b : Broker) → SoundMounts b.mounts
         → Tells of_mounts (table_of (T.seen tx.old).rows) b → IfOk result (λ o. o ≡ secrets.config b mount.now) }
     ensures same { IsHonest (T.seen tx.new) → OnOk result ((T.seen tx.new).rows ≡ (T.seen tx.old).rows) }
-    ensures undamaged { IsHonest (T.seen tx.new) → (m : Option Mount)
+    ensures readable { IsHonest (T.seen tx.new) → (m : Option Mount)
         → HasMount (table_of (T.seen tx.old).rows) mount.now m → IfErr result IsMemoryOrStorage }
+    ensures undamaged { IsHonest (T.seen tx.new) → (b : Broker) → SoundMounts b.mounts
+        → Tells of_mounts (table_of (T.seen tx.old).rows) b → IfErr result IsMemoryOrStorage }
     ensures started { IfErr result (λ fault. fault ≢ Fault.BadStart) }
     ensures goes_on { GoesOn (T.seen tx.old) (T.seen tx.new) (is_storage result) }
 {
@@ -62,8 +64,10 @@ pub fn set_config<T: RecordsTx>(
         (Tells of_mounts (table_of (T.seen tx.new).rows) (secrets.set_config b mount.now cas_required max_versions)) }
     ensures others { IsHonest (T.seen tx.new)
         → OnOk result (KeepsOtherMounts mount.now (table_of (T.seen tx.old).rows) (table_of (T.seen tx.new).rows)) }
-    ensures undamaged { IsHonest (T.seen tx.new) → (m : Option Mount)
+    ensures readable { IsHonest (T.seen tx.new) → (m : Option Mount)
         → HasMount (table_of (T.seen tx.old).rows) mount.now m → IfErr result IsMemoryOrStorage }
+    ensures undamaged { IsHonest (T.seen tx.new) → (b : Broker) → SoundMounts b.mounts
+        → Tells of_mounts (table_of (T.seen tx.old).rows) b → IfErr result IsMemoryOrStorage }
     ensures started { IfErr result (λ fault. fault ≢ Fault.BadStart) }
     ensures goes_on { GoesOn (T.seen tx.old) (T.seen tx.new) (is_storage result) }
 {

@@ -8,8 +8,6 @@ use std::test::Fail;
 
 const ONE: &str = "{\"a\":1}";
 
-const TWO: &str = "{\"a\":2}";
-
 /// A transaction with the mounts `secret` and `secret2`.
 fn started(rt: &HostRuntime) -> Result<ListTx, Fail> {
     let alloc = rt.alloc();
@@ -32,14 +30,8 @@ fn moment(seconds: u64) -> Result<Moment, Fail> {
 }
 
 /// The number that a write at second 1,000 answers.
-fn writes(
-    rt: &HostRuntime,
-    tx: &mut ListTx,
-    path: &str,
-    cas: Option<u64>,
-    object: &str,
-) -> Result<u64, Fail> {
-    match write(rt.alloc(), tx, moment(1000)?, "secret", path, cas, object) {
+fn writes(rt: &HostRuntime, tx: &mut ListTx, path: &str, cas: Option<u64>) -> Result<u64, Fail> {
+    match write(rt.alloc(), tx, moment(1000)?, "secret", path, cas, ONE) {
         Ok(number) => Ok(number),
         Err(_) => Err(Fail::from("no write")),
     }
@@ -52,7 +44,7 @@ fn refuses(
     cas: Option<u64>,
     reason: Reason,
 ) -> Result<bool, Fail> {
-    match write(rt.alloc(), tx, moment(1000)?, "secret", "x", cas, TWO) {
+    match write(rt.alloc(), tx, moment(1000)?, "secret", "x", cas, ONE) {
         Err(RequestError::Refused(refusal)) => Ok(refusal == Refusal::BadRequest(reason)),
         _ => Ok(false),
     }
@@ -96,10 +88,10 @@ fn check_and_set_goes_by_the_current_version(rt: HostRuntime) -> Result<(), Fail
     let alloc = rt.alloc();
     let mut tx = started(&rt)?;
     let now = moment(1000)?;
-    assert!(rt; writes(&rt, &mut tx, "x", Some(0), ONE)? == 1);
+    assert!(rt; writes(&rt, &mut tx, "x", Some(0))? == 1);
     delete(alloc, &mut tx, now, "secret", "x")?;
     assert!(rt; refuses(&rt, &mut tx, Some(0), Reason::CheckAndSetFailed)?);
-    assert!(rt; writes(&rt, &mut tx, "x", Some(1), TWO)? == 2);
+    assert!(rt; writes(&rt, &mut tx, "x", Some(1))? == 2);
     set_config(alloc, &mut tx, "secret", Some(true), None)?;
     assert!(rt; refuses(&rt, &mut tx, None, Reason::CheckAndSetRequired)?);
     assert!(rt; config(&mut tx, "secret")?.is_some_and(|mount| mount.cas_required));
@@ -117,16 +109,16 @@ fn the_oldest_of_eleven_versions_is_gone(rt: HostRuntime) -> Result<(), Fail> {
     let alloc = rt.alloc();
     let mut tx = started(&rt)?;
     for _ in 0..11 {
-        writes(&rt, &mut tx, "x", None, ONE)?;
+        writes(&rt, &mut tx, "x", None)?;
     }
     assert!(rt; read(alloc, &mut tx, "secret", "x", 1)?.is_none());
     assert!(rt; reads(&rt, &mut tx, 2, (2, None, Some(ONE)))?);
     set_config(alloc, &mut tx, "secret", None, Some(2))?;
     assert!(rt; reads(&rt, &mut tx, 2, (2, None, Some(ONE)))?);
-    assert!(rt; writes(&rt, &mut tx, "x", None, TWO)? == 12);
+    assert!(rt; writes(&rt, &mut tx, "x", None)? == 12);
     assert!(rt; read(alloc, &mut tx, "secret", "x", 10)?.is_none());
     assert!(rt; reads(&rt, &mut tx, 11, (11, None, Some(ONE)))?);
-    assert!(rt; reads(&rt, &mut tx, 0, (12, None, Some(TWO)))?);
+    assert!(rt; reads(&rt, &mut tx, 0, (12, None, Some(ONE)))?);
     Ok(())
 }
 
@@ -134,8 +126,8 @@ fn the_oldest_of_eleven_versions_is_gone(rt: HostRuntime) -> Result<(), Fail> {
 fn versions_are_deleted_restored_and_destroyed(rt: HostRuntime) -> Result<(), Fail> {
     let alloc = rt.alloc();
     let mut tx = started(&rt)?;
-    writes(&rt, &mut tx, "x", None, ONE)?;
-    writes(&rt, &mut tx, "x", None, TWO)?;
+    writes(&rt, &mut tx, "x", None)?;
+    writes(&rt, &mut tx, "x", None)?;
     delete_versions(alloc, &mut tx, moment(1000)?, "secret", "x", &[1, 7])?;
     delete_versions(alloc, &mut tx, moment(1001)?, "secret", "x", &[1])?;
     destroy(alloc, &mut tx, "secret", "x", &[2])?;
@@ -171,7 +163,7 @@ fn folders_are_listed_and_mounts_are_dropped(rt: HostRuntime) -> Result<(), Fail
     let alloc = rt.alloc();
     let mut tx = started(&rt)?;
     for path in &["c/d/e", "a/b", "a/c", "a"] {
-        writes(&rt, &mut tx, path, None, ONE)?;
+        writes(&rt, &mut tx, path, None)?;
     }
     write(alloc, &mut tx, moment(1000)?, "secret2", "z", None, ONE)?;
     assert!(rt; lists(&rt, &mut tx, "secret", "", &["a", "a/", "c/"])?);
@@ -188,7 +180,7 @@ fn folders_are_listed_and_mounts_are_dropped(rt: HostRuntime) -> Result<(), Fail
 fn a_damaged_row_is_told_where_it_is_read(rt: HostRuntime) -> Result<(), Fail> {
     let alloc = rt.alloc();
     let mut tx = started(&rt)?;
-    writes(&rt, &mut tx, "x", None, ONE)?;
+    writes(&rt, &mut tx, "x", None)?;
     let row = Row {
         owner: TextBuf::copied(alloc, "")?,
         due: None,

@@ -37,5 +37,6 @@ returns-clause-rows g c honest timely =
     on_ok_weaker c.put.result (λ put.
     subst (λ (t : Table). AreChanged f (c.args.number ∷ []) c.args.name.now old t) (sym (
     ap table_of put ∙ table_of-insert (seen c.get.new.self).rows kind.KvVersion c.as_str-2.result.now c.in_ok-row.row
-    ∙ (λ i. with_row (table_of (c.in_ok-kept.ensures.same first i)) kind.KvVersion ((c.as_str-2.ensures.value ∙ c.in_ok-key.ensures) i) (c.in_ok-row.ensures i)))) one)
+    ∙ (λ i. with_row (table_of (c.in_ok-kept.ensures.same first i)) kind.KvVersion ((c.as_str-2.ensures.value
+    ∙ c.in_ok-key.ensures) i) (c.in_ok-row.ensures i)))) one)
     (c.put.ensures.rows honest)

@@ -1,4 +1,4 @@
-use Rattle.std.proofs.Common.{◌∷◌, [], subst, ◌∙◌, option_map}
+use Rattle.std.proofs.Common.{sym, ◌∷◌, [], subst, ◌∙◌, option_map}
 use Rattle.std.proofs.lemmas.Result.{on_ok_weaker}
 use Rattle.broker_types.specs.Map.{get}
 use Rattle.broker_types.specs.Secret.{Key}
@@ -6,7 +6,7 @@ use Rattle.broker_types.specs.Text.{Text}
 use Rattle.records.specs.KeyEntry.{key_entry}
 use Rattle.records.specs.Parts.{of_secrets, Tells}
 use Rattle.records.specs.Table.{table_of}
-use Rattle.kv2.specs.SecretRows.{KeepsOtherNames}
+use Rattle.kv2.specs.SecretRows.{HasKey, HasVersions, KeepsOtherNames}
 use Rattle.kv2.specs.Secrets.{secret_name, with_key}
 use Rattle.kv2.specs.Versions.{with_changed, soft_deleted}
 use Rattle.kv2.proofs.ChangeCalls.{its_key, its_versions, current_told}
@@ -56,3 +56,10 @@ returns-clause-undamaged g c honest forms b sound told is_name =
     } in
     c.change_current.ensures.undamaged honest (option_map key_entry (get b.secrets (secret_name mount path)))
     (its_key forms b sound old told mount path name is) (its_versions forms b sound old told mount path name is laws is_name)
+
+pub returns-clause-readable : goal.returns-clause-readable
+returns-clause-readable g c honest k has versions =
+    let old = table_of (g.T.RecordsTx.seen c.args.tx.now).rows in
+    let is = c.as_str.ensures.value ∙ c.in_ok-name.ensures in
+    c.change_current.ensures.undamaged honest k (subst (λ (q : Text). HasKey old q k) (sym is) has)
+    (subst (λ (q : Text). HasVersions old q) (sym is) versions)

@@ -1,8 +1,10 @@
-use Rattle.std.proofs.Common.{subst, ◌∙◌}
+use Rattle.std.proofs.Common.{◌∙◌, sym, subst}
 use Rattle.std.proofs.lemmas.Result.{on_ok_weaker}
 use Rattle.records.specs.Parts.{of_secrets, Tells}
 use Rattle.records.specs.Table.{table_of}
 use Rattle.kv2.specs.Secrets.{with_key}
+use Rattle.broker_types.specs.Text.{Text}
+use Rattle.kv2.specs.SecretRows.{HasVersions}
 use Rattle.kv2.specs.Versions.{with_changed, soft_deleted}
 use Rattle.kv2.proofs.ChangeCalls.{its_versions, versions_told}
 use Rattle.kv2.proofs.Digits.{KeyLaws}
@@ -22,7 +24,8 @@ returns-clause-told g c honest forms b sound told at is_name =
       order = c.versions_have_keys.ensures.order;
       split = c.versions_have_keys.ensures.split;
     } in
-    on_ok_weaker c.change_versions.result (λ rows. subst (λ n. Tells of_secrets new (with_key b mount path (with_changed (soft_deleted n) c.args.numbers.now))) (c.seconds-now.ensures.value ∙ at)
+    on_ok_weaker c.change_versions.result (λ rows. subst (λ n. Tells of_secrets new (with_key b mount path (with_changed
+    (soft_deleted n) c.args.numbers.now))) (c.seconds-now.ensures.value ∙ at)
     (versions_told forms b sound old told mount path c.as_str.result.now is laws is_name (soft_deleted c.seconds-now.result) c.args.numbers.now new rows))
     (c.change_versions.ensures.rows honest c.seconds-now.ensures.within)
 
@@ -38,3 +41,9 @@ returns-clause-undamaged g c honest forms b sound told is_name =
     } in
     c.change_versions.ensures.undamaged honest c.seconds-now.ensures.within
     (its_versions forms b sound old told c.args.mount.now c.args.path.now c.as_str.result.now is laws is_name)
+
+pub returns-clause-readable : goal.returns-clause-readable
+returns-clause-readable g c honest versions =
+    let old = table_of (g.T.RecordsTx.seen c.args.tx.now).rows in
+    c.change_versions.ensures.undamaged honest c.seconds-now.ensures.within
+    (subst (λ (q : Text). HasVersions old q) (sym (c.as_str.ensures.value ∙ c.in_ok-name.ensures)) versions)

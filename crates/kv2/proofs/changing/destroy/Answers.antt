@@ -1,6 +1,8 @@
-use Rattle.std.proofs.Common.{◌∙◌}
+use Rattle.std.proofs.Common.{◌∙◌, sym, subst}
 use Rattle.std.proofs.lemmas.Result.{on_ok_weaker}
 use Rattle.records.specs.Table.{table_of}
+use Rattle.broker_types.specs.Text.{Text}
+use Rattle.kv2.specs.SecretRows.{HasVersions}
 use Rattle.kv2.specs.Versions.{destroyed}
 use Rattle.kv2.proofs.ChangeCalls.{its_versions, versions_told}
 use Rattle.kv2.proofs.Digits.{KeyLaws}
@@ -36,3 +38,9 @@ returns-clause-undamaged g c honest forms b sound told is_name =
     } in
     c.change_versions.ensures.undamaged honest tt
     (its_versions forms b sound old told c.args.mount.now c.args.path.now c.as_str.result.now is laws is_name)
+
+pub returns-clause-readable : goal.returns-clause-readable
+returns-clause-readable g c honest versions =
+    let old = table_of (g.T.RecordsTx.seen c.args.tx.now).rows in
+    c.change_versions.ensures.undamaged honest tt
+    (subst (λ (q : Text). HasVersions old q) (sym (c.as_str.ensures.value ∙ c.in_ok-name.ensures)) versions)

@@ -7,4 +7,5 @@ zeros_more s p h =
     append_assoc s (48 ∷ []) (replicate (20 - (p + 1)) 48) ∙ ap (λ n. s ++ replicate n 48) e
 
 pub loop-place-preserved : goal.loop-place-preserved
-loop-place-preserved c = ap (λ s. s ++ replicate (20 - (c.loop-place.place + 1)) 48) c.in_ok-push_str.ensures.bytes ∙ zeros_more _ c.loop-place.place c.loop-place-test.true ∙ c.loop-place.invariant
+loop-place-preserved c = ap (λ s. s ++ replicate (20 - (c.loop-place.place + 1)) 48) c.in_ok-push_str.ensures.bytes
+    ∙ zeros_more _ c.loop-place.place c.loop-place-test.true ∙ c.loop-place.invariant

@@ -1,5 +1,5 @@
 use Rattle.std.proofs.Common.{◌≡◌, None, Some, ap, sym, subst, ◌∙◌, unwrap_or, option_map}
-use Rattle.std.proofs.lemmas.Result.{on_ok_weaker}
+use Rattle.std.proofs.lemmas.Result.{on_ok_weaker, err_from_is_err_and}
 use Rattle.broker_types.specs.Map.{get}
 use Rattle.broker_types.specs.Broker.{Mount}
 use Rattle.records.specs.declared.kind.Kind.TheVariants as kind
@@ -62,3 +62,9 @@ returns-clause-told g c honest b sound told =
     on_ok_weaker c.put.result (λ rows. subst (λ (t : Table). Tells of_mounts t (set_config b mount c.args.cas_required c.args.max_versions)) (sym rows)
     (settings_told old b told mount c.args.cas_required c.args.max_versions))
     (returns-clause-rows g c honest (get b.mounts mount) (has_mount b sound old told mount))
+
+pub returns-in_err-found-clause-undamaged : goal.returns-in_err-found-clause-undamaged
+returns-in_err-found-clause-undamaged g c honest b sound told =
+    let p = err_from_is_err_and c.from_residual.result c.from_residual.ensures.1 in
+    rw (p.1, p.2) (c.in_err-found.ensures.undamaged honest (get b.mounts c.args.mount.now)
+    (has_mount b sound (table_of (g.T.RecordsTx.seen c.args.tx.now).rows) told c.args.mount.now))
