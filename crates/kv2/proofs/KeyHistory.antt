@@ -1,0 +1,129 @@
+-- What stays of a key from one operation to the next.
+use Rattle.std.specs.Prelude.{◌≡◌, ◌≢◌, ◌≤◌, ◌+◌, ◌-◌, ◌==◌, ℕ, List, nat_lt, Bool, true, false, cond, if◌then◌else◌, Option, Some, None, option_map}
+use Rattle.std.specs.Prelude.{is_none, Ok}
+use Rattle.std.specs.Option.{option_map_or}
+use Rattle.std.specs.FinMap as fin
+use Rattle.std.proofs.Common.{refl, sym, ◌∙◌, ap, subst, arith}
+use Rattle.std.proofs.lemmas.Bool.{eqb-true}
+use Rattle.std.proofs.lemmas.Option.{none-some}
+use Rattle.broker_types.specs.Text.{Text, same}
+use Rattle.broker_types.specs.TextLaws.{same_self}
+use Rattle.broker_types.specs.Map.{get}
+use Rattle.broker_types.specs.MapLaws.{get-put, get-put_self, get-change}
+use Rattle.broker_types.specs.OptionLaws.{mapped}
+use Rattle.broker_types.specs.Secret.{Key, Version}
+use Rattle.broker_types.specs.Broker.{Broker}
+use Rattle.broker_types.specs.Sound.{Forms, SoundSecrets}
+use Rattle.kv2.specs.Laws.{last_number, version_at, HasNoSecret}
+use Rattle.kv2.specs.Secrets.{Written, secret_name, key_at, with_key, write}
+use Rattle.kv2.specs.SoundLaws.{write_is}
+use Rattle.kv2.specs.VersionLaws.{get-change_versions, next_versions}
+use Rattle.kv2.specs.Versions.{version_of, key_or_new, new_version, with_version, with_changed, is_among, versions_kept, soft_deleted, restored, destroyed}
+
+-- ---- changes of versions
+
+module _ (b : Broker) (mount path : Text) (f : Version → Version) (numbers : Key → List ℕ) where
+  abbrev name : Text
+  name = secret_name mount path
+
+  abbrev next : Broker
+  next = with_key b mount path (λ k. with_changed f (numbers k) k)
+
+  key_after : key_at next mount path ≡ option_map (λ k. with_changed f (numbers k) k) (get b.secrets name)
+  key_after = get-change b.secrets name (λ k. with_changed f (numbers k) k) name
+      ∙ ap (λ v. option_map (λ k. if v then with_changed f (numbers k) k else k) (get b.secrets name)) (same_self name)
+
+  pub number_stays : last_number next mount path ≡ last_number b mount path
+  number_stays = ap (λ o. option_map_or (λ (k : Key). k.current) o 0) key_after ∙ inner (get b.secrets name)
+    where
+      inner : (o : Option Key) → option_map_or (λ (k : Key). k.current) (option_map (λ k. with_changed f (numbers k) k) o) 0
+          ≡ option_map_or (λ (k : Key). k.current) o 0
+      inner None = refl
+      inner (Some k) = refl
+
+  pub nothing_restored : ((v : Version) → v.secret ≡ None → (f v).secret ≡ None) → (n : ℕ) → HasNoSecret (version_at b mount path n)
+      → HasNoSecret (version_at next mount path n)
+  nothing_restored keeps n h v e = inner (get b.secrets name) refl (sym (ap (λ o. version_of o n) key_after) ∙ e)
+    where
+      inner : (o : Option Key) → get b.secrets name ≡ o → version_of (option_map (λ k. with_changed f (numbers k) k) o) n ≡ Some v → v.secret ≡ None
+      inner None is g = absurd (none-some _ g)
+      inner (Some k) is g =
+          let x = mapped (λ v. if is_among (numbers k) n then f v else v) (fin.get k.versions n) v (sym (get-change_versions f (is_among
+          (numbers k)) k.versions n) ∙ g) in
+          let gone : x.0.secret ≡ None = h x.0 (ap (λ o. version_of o n) is ∙ x.1) in
+          subst (λ (z : Version). z.secret ≡ None) (sym x.2)
+          (elim (is_among (numbers k) n) as (λ p. (if p then f x.0 else x.0).secret ≡ None) [
+            | true ↦ keeps x.0 gone
+            | false ↦ gone
+          ])
+
+pub deleted_gone : (now : ℕ) (v : Version) → v.secret ≡ None → (soft_deleted now v).secret ≡ None
+deleted_gone now v e = elim (is_none v.deleted) as (λ p. (if p then record v { deleted = Some now } else v).secret ≡ None) [
+  | true ↦ e
+  | false ↦ e
+]
+
+pub restored_gone : (v : Version) → v.secret ≡ None → (restored v).secret ≡ None
+restored_gone v e = elim (is_none v.secret) as (λ p. (if p then v else record v { deleted = None }).secret ≡ None) [
+  | true ↦ e
+  | false ↦ e
+]
+
+pub destroyed_gone : (v : Version) → v.secret ≡ None → (destroyed v).secret ≡ None
+destroyed_gone v e = refl
+
+-- ---- a write
+
+module _ (b : Broker) (mount path : Text) (cas : Option ℕ) (object : Text) (w : Written) (is : write b mount path cas object ≡ Ok w) where
+  abbrev at : Text
+  at = secret_name mount path
+
+  abbrev over : Key
+  over = key_or_new b.clock (get b.secrets at)
+
+  last_is : (o : Option Key) → (key_or_new b.clock o).current ≡ option_map_or (λ (k : Key). k.current) o 0
+  last_is None = refl
+  last_is (Some k) = refl
+
+  pub new_number : (w.number ≡ last_number b mount path + 1) × (last_number w.next mount path ≡ w.number)
+  new_number =
+      let x = write_is b mount path cas object w is in (
+        ap (λ (z : Written). z.number) x.3 ∙ ap (λ n. n + 1) (last_is (get b.secrets at)),
+        ap (λ (z : Written). last_number z.next mount path) x.3
+            ∙ ap (λ o. option_map_or (λ (k : Key). k.current) o 0) (get-put_self b.secrets at (with_version b.clock (versions_kept x.0 over) object over))
+            ∙ sym (ap (λ (z : Written). z.number) x.3),
+      )
+
+  pub others_stay : (q : Text) → same q at ≡ false → get w.next.secrets q ≡ get b.secrets q
+  others_stay q apart =
+      let x = write_is b mount path cas object w is in
+      let k = with_version b.clock (versions_kept x.0 over) object over in
+      ap (λ (z : Written). get z.next.secrets q) x.3 ∙ get-put b.secrets at k q ∙ ap (λ v. cond v (Some k) (get b.secrets q)) apart
+
+  -- a version that is there is not above the current one
+  old_number : (forms : Forms) → SoundSecrets forms b.secrets → (n : ℕ) (v : Version) → version_of (get b.secrets at) n ≡ Some v → n ≤ over.current
+  old_number forms sound n v =
+      elim (get b.secrets at) as (λ o. get b.secrets at ≡ o → version_of o n ≡ Some v → n ≤ (key_or_new b.clock o).current) [
+        | None ↦ λ _ e. absurd (none-some _ e)
+        | Some k ↦ λ some e. ((sound at k some).versions n v e).last
+      ] refl
+
+  pub write_restores_nothing : (forms : Forms) (n : ℕ) → SoundSecrets forms b.secrets → version_at b mount path n ≢ None
+      → HasNoSecret (version_at b mount path n) → HasNoSecret (version_at w.next mount path n)
+  write_restores_nothing forms n sound there h v e =
+      let x = write_is b mount path cas object w is in
+      let limit = versions_kept x.0 over in
+      let k = with_version b.clock limit object over in
+      by (nat_lt (over.current + 1 - limit) n) (n == over.current + 1) refl
+      (sym (next_versions b.clock limit object (get b.secrets at) n) ∙ sym (ap (λ o. version_of o n) (get-put_self b.secrets at k))
+      ∙ sym (ap (λ (z : Written). version_at z.next mount path n) x.3) ∙ e)
+    where
+      too_high : (o : Option Version) → version_of (get b.secrets at) n ≡ o → n ≡ over.current + 1 → ⊥
+      too_high None gone above = there gone
+      too_high (Some v) here above = let low = old_number forms sound n v here in omega (arith, low, above)
+
+      by : (a c : Bool) → (n == over.current + 1) ≡ c
+          → cond a (cond c (Some (new_version b.clock object)) (version_of (get b.secrets at) n)) None ≡ Some v → v.secret ≡ None
+      by false c same g = absurd (none-some _ g)
+      by true true same g = absurd (too_high (version_of (get b.secrets at) n) refl (eqb-true n (over.current + 1) same))
+      by true false same g = h v g

@@ -1,0 +1,65 @@
+use Rattle.std.proofs.Common.{sym, ◌∷◌, [], subst, ◌∙◌, option_map}
+use Rattle.std.proofs.lemmas.Result.{on_ok_weaker}
+use Rattle.broker_types.specs.Map.{get}
+use Rattle.broker_types.specs.Secret.{Key}
+use Rattle.broker_types.specs.Text.{Text}
+use Rattle.records.specs.KeyEntry.{key_entry}
+use Rattle.records.specs.Parts.{of_secrets, Tells}
+use Rattle.records.specs.Table.{table_of}
+use Rattle.kv2.specs.SecretRows.{HasKey, HasVersions, KeepsOtherNames}
+use Rattle.kv2.specs.Secrets.{secret_name, with_key}
+use Rattle.kv2.specs.Versions.{with_changed, soft_deleted}
+use Rattle.kv2.proofs.ChangeCalls.{its_key, its_versions, current_told}
+use Rattle.kv2.proofs.Digits.{KeyLaws}
+use Rattle.kv2.proofs.changing.delete.Goals as goal
+
+pub returns-clause-others : goal.returns-clause-others
+returns-clause-others g c honest =
+    let seen = g.T.RecordsTx.seen in
+    on_ok_weaker c.change_current.result (λ keeps.
+    subst (λ (q : Text). KeepsOtherNames q (table_of (seen c.args.tx.now).rows) (table_of (seen c.change_current.new.tx).rows))
+    (c.as_str.ensures.value ∙ c.in_ok-name.ensures) keeps) (c.change_current.ensures.others honest c.seconds-now.ensures.within)
+
+pub returns-clause-told : goal.returns-clause-told
+returns-clause-told g c honest forms b sound told at is_name =
+    let seen = g.T.RecordsTx.seen in
+    let old = table_of (seen c.args.tx.now).rows in
+    let new = table_of (seen c.change_current.new.tx).rows in
+    let mount = c.args.mount.now in
+    let path = c.args.path.now in
+    let name = c.as_str.result.now in
+    let is = c.as_str.ensures.value ∙ c.in_ok-name.ensures in
+    let laws : KeyLaws = record {
+      told = c.versions_have_keys.ensures.told;
+      exact = c.versions_have_keys.ensures.exact;
+      order = c.versions_have_keys.ensures.order;
+      split = c.versions_have_keys.ensures.split;
+    } in
+    on_ok_weaker c.change_current.result (λ rows.
+    subst (λ n. Tells of_secrets new (with_key b mount path (λ (k : Key). with_changed (soft_deleted n) (k.current ∷ []) k))) (c.seconds-now.ensures.value ∙ at)
+    (current_told forms b sound old told mount path name is laws is_name (soft_deleted c.seconds-now.result) new rows))
+    (c.change_current.ensures.rows honest c.seconds-now.ensures.within (option_map key_entry (get b.secrets (secret_name mount path)))
+    (its_key forms b sound old told mount path name is))
+
+pub returns-clause-undamaged : goal.returns-clause-undamaged
+returns-clause-undamaged g c honest forms b sound told is_name =
+    let old = table_of (g.T.RecordsTx.seen c.args.tx.now).rows in
+    let mount = c.args.mount.now in
+    let path = c.args.path.now in
+    let name = c.as_str.result.now in
+    let is = c.as_str.ensures.value ∙ c.in_ok-name.ensures in
+    let laws : KeyLaws = record {
+      told = c.versions_have_keys.ensures.told;
+      exact = c.versions_have_keys.ensures.exact;
+      order = c.versions_have_keys.ensures.order;
+      split = c.versions_have_keys.ensures.split;
+    } in
+    c.change_current.ensures.undamaged honest (option_map key_entry (get b.secrets (secret_name mount path)))
+    (its_key forms b sound old told mount path name is) (its_versions forms b sound old told mount path name is laws is_name)
+
+pub returns-clause-readable : goal.returns-clause-readable
+returns-clause-readable g c honest k has versions =
+    let old = table_of (g.T.RecordsTx.seen c.args.tx.now).rows in
+    let is = c.as_str.ensures.value ∙ c.in_ok-name.ensures in
+    c.change_current.ensures.undamaged honest k (subst (λ (q : Text). HasKey old q k) (sym is) has)
+    (subst (λ (q : Text). HasVersions old q) (sym is) versions)

@@ -1,0 +1,67 @@
+use Rattle.std.proofs.Common.{◌<◌, ◌^◌, ap, sym, subst, ◌∙◌, arith, option_map}
+use Rattle.std.proofs.lemmas.Result.{IfOk-weaker, err_from_is_err_and}
+use Rattle.records.specs.CallLaws.{honest_before}
+use Rattle.records.specs.KeyEntry.{KeyEntry}
+use Rattle.records.specs.Table.{table_of}
+use Rattle.records.specs.Transaction.{IsHonest}
+use Rattle.records.specs.ValueLaws.{none_of}
+use Rattle.kv2.specs.SecretRows.{HasVersion}
+use Rattle.kv2.specs.Versions.{asked_number}
+use Rattle.kv2.proofs.Digits.{KeyLaws}
+use Rattle.broker_types.specs.Map.{get}
+use Rattle.records.specs.KeyEntry.{key_entry}
+use Rattle.kv2.specs.Secrets.{secret_name}
+use Rattle.kv2.proofs.ReadCalls.{its_key, read_none, read_some}
+use Rattle.kv2.proofs.reading.read.Goals as goal
+
+pub returns-in_default-clause-told : goal.returns-in_default-clause-told
+returns-in_default-clause-told g c honest forms b sound told =
+    let old = table_of (g.T.RecordsTx.seen c.args.tx.now).rows in
+    read_none forms b sound old told c.args.mount.now c.args.path.now c.as_str.result.now (c.as_str.ensures.value ∙ c.in_ok-name.ensures) c.args.number
+    c.in_ok-key.field-0 (λ k has. c.in_ok-key.ensures.found honest k has) (none_of _ c.in_default.not-Some)
+
+pub returns-clause-told : goal.returns-clause-told
+returns-clause-told g c honest forms b sound told =
+    let seen = g.T.RecordsTx.seen in
+    let first : IsHonest (seen c.find_key.new.tx) = honest_before _ _ _ c.find_version.ensures.goes_on honest in
+    let old = table_of (seen c.args.tx.now).rows in
+    let laws : KeyLaws = record {
+      told = c.versions_have_keys.ensures.told;
+      exact = c.versions_have_keys.ensures.exact;
+      order = c.versions_have_keys.ensures.order;
+      split = c.versions_have_keys.ensures.split;
+    } in
+    let small : c.asked_number-asked.result < 2 ^ 64 = omega arith in
+    let r = read_some forms b sound old told c.args.mount.now c.args.path.now c.as_str.result.now (c.as_str.ensures.value ∙ c.in_ok-name.ensures) c.args.number
+    laws c.in_ok-key.field-0 c.in-Some.key (λ k has. c.in_ok-key.ensures.found first k has) c.in-Some.is c.asked_number-asked.result
+    (c.asked_number-asked.ensures ∙ ap (λ (e : KeyEntry). asked_number e.current c.args.number) c.key.view_is) small in
+    IfOk-weaker c.find_version.result _ _ (λ o e. e ∙ r.2)
+    (c.find_version.ensures.found honest r.0
+    (subst (λ q. HasVersion q c.as_str-2.result.now c.asked_number-asked.result r.0) (ap table_of (sym (c.in_ok-key.ensures.same first)))
+    (subst (λ q. HasVersion old q c.asked_number-asked.result r.0) (c.as_str.ensures.value ∙ sym c.as_str-2.ensures.value) r.1)))
+
+pub returns-in_err-key-clause-undamaged : goal.returns-in_err-key-clause-undamaged
+returns-in_err-key-clause-undamaged g c honest forms b sound told =
+    let old = table_of (g.T.RecordsTx.seen c.args.tx.now).rows in
+    let p = err_from_is_err_and c.from_residual-in_err-key.result c.from_residual-in_err-key.ensures.1 in
+    rw (p.1, p.2) (c.in_err-key.ensures.undamaged honest (option_map key_entry (get b.secrets (secret_name c.args.mount.now c.args.path.now)))
+    (its_key forms b sound old told c.args.mount.now c.args.path.now c.as_str.result.now (c.as_str.ensures.value ∙ c.in_ok-name.ensures) c.args.number))
+
+pub returns-clause-undamaged : goal.returns-clause-undamaged
+returns-clause-undamaged g c honest forms b sound told =
+    let seen = g.T.RecordsTx.seen in
+    let first : IsHonest (seen c.find_key.new.tx) = honest_before _ _ _ c.find_version.ensures.goes_on honest in
+    let old = table_of (seen c.args.tx.now).rows in
+    let laws : KeyLaws = record {
+      told = c.versions_have_keys.ensures.told;
+      exact = c.versions_have_keys.ensures.exact;
+      order = c.versions_have_keys.ensures.order;
+      split = c.versions_have_keys.ensures.split;
+    } in
+    let small : c.asked_number-asked.result < 2 ^ 64 = omega arith in
+    let r = read_some forms b sound old told c.args.mount.now c.args.path.now c.as_str.result.now (c.as_str.ensures.value ∙ c.in_ok-name.ensures) c.args.number
+    laws c.in_ok-key.field-0 c.in-Some.key (λ k has. c.in_ok-key.ensures.found first k has) c.in-Some.is c.asked_number-asked.result
+    (c.asked_number-asked.ensures ∙ ap (λ (e : KeyEntry). asked_number e.current c.args.number) c.key.view_is) small in
+    c.find_version.ensures.undamaged honest r.0
+    (subst (λ q. HasVersion q c.as_str-2.result.now c.asked_number-asked.result r.0) (ap table_of (sym (c.in_ok-key.ensures.same first)))
+    (subst (λ q. HasVersion old q c.asked_number-asked.result r.0) (c.as_str.ensures.value ∙ sym c.as_str-2.ensures.value) r.1))

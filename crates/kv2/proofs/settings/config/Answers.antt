@@ -1,0 +1,14 @@
+use Rattle.broker_types.specs.Map.{get}
+use Rattle.records.specs.Table.{table_of}
+use Rattle.kv2.proofs.SecretsTold.{has_mount}
+use Rattle.kv2.proofs.settings.config.Goals as goal
+
+pub returns-clause-told : goal.returns-clause-told
+returns-clause-told g c honest b sound told =
+    c.find_mount.ensures.found honest (get b.mounts c.args.mount.now)
+    (has_mount b sound (table_of (g.T.RecordsTx.seen c.args.tx.now).rows) told c.args.mount.now)
+
+pub returns-clause-undamaged : goal.returns-clause-undamaged
+returns-clause-undamaged g c honest b sound told =
+    c.find_mount.ensures.undamaged honest (get b.mounts c.args.mount.now)
+    (has_mount b sound (table_of (g.T.RecordsTx.seen c.args.tx.now).rows) told c.args.mount.now)

@@ -1,0 +1,70 @@
+use Rattle.std.proofs.Common.{◌≡◌, None, Some, ap, sym, subst, ◌∙◌, unwrap_or, option_map}
+use Rattle.std.proofs.lemmas.Result.{on_ok_weaker, err_from_is_err_and}
+use Rattle.broker_types.specs.Map.{get}
+use Rattle.broker_types.specs.Broker.{Mount}
+use Rattle.records.specs.declared.kind.Kind.TheVariants as kind
+use Rattle.records.specs.CallLaws.{honest_before}
+use Rattle.records.specs.Parts.{of_mounts, Tells}
+use Rattle.records.specs.RowForms.{mount_row}
+use Rattle.records.specs.Table.{Table, table_of, with_row}
+use Rattle.records.specs.TableLaws.{table_of-insert}
+use Rattle.records.specs.Transaction.{IsHonest}
+use Rattle.records.specs.ValueLaws.{none_of}
+use Rattle.kv2.specs.SecretRows.{KeepsOtherMounts}
+use Rattle.kv2.specs.SecretRows as rows
+use Rattle.kv2.specs.Secrets.{set_config, with_settings}
+use Rattle.kv2.proofs.Edits.{settings_told}
+use Rattle.kv2.proofs.Others.{settings_keep}
+use Rattle.kv2.proofs.SecretsTold.{has_mount}
+use Rattle.kv2.proofs.settings.set_config.Goals as goal
+
+pub returns-in_default-clause-told : goal.returns-in_default-clause-told
+returns-in_default-clause-told g c honest b sound told =
+    let old = table_of (g.T.RecordsTx.seen c.args.tx.now).rows in
+    let mount = c.args.mount.now in
+    let edit = with_settings c.args.cas_required c.args.max_versions in
+    let next = set_config b mount c.args.cas_required c.args.max_versions in
+    let none : get b.mounts mount ≡ None =
+    sym (c.in_ok-found.ensures.found honest (get b.mounts mount) (has_mount b sound old told mount)) ∙ none_of _ c.in_default.not-Some in
+    subst (λ (t : Table). Tells of_mounts t next)
+    (ap (λ o. rows.with_settings old mount (option_map edit o)) none ∙ ap table_of (sym (c.in_ok-found.ensures.same honest)))
+    (settings_told old b told mount c.args.cas_required c.args.max_versions)
+
+pub returns-clause-rows : goal.returns-clause-rows
+returns-clause-rows g c honest m has =
+    let seen = g.T.RecordsTx.seen in
+    let first : IsHonest (seen c.find_mount.new.tx) = honest_before _ _ _ c.put.ensures.goes_on honest in
+    let old = table_of (seen c.args.tx.now).rows in
+    let mount = c.args.mount.now in
+    let edit = with_settings c.args.cas_required c.args.max_versions in
+    let some : Some c.in-Some.found ≡ m = sym c.in-Some.is ∙ c.in_ok-found.ensures.found first m has in
+    let max = c.count_or.ensures.value ∙ ap (λ (m : Mount). unwrap_or c.args.max_versions m.max_versions) c.found.view_is in
+    let cas = c.unwrap_or.ensures ∙ ap (λ (m : Mount). unwrap_or c.args.cas_required m.cas_required) c.found.view_is in
+    on_ok_weaker c.put.result (λ put.
+    ap table_of put ∙ table_of-insert (seen c.find_mount.new.tx).rows kind.Mount mount c.in_ok-row.row
+    ∙ (λ i. with_row (table_of (c.in_ok-found.ensures.same first i)) kind.Mount mount
+    ((c.in_ok-row.ensures ∙ (λ j. mount_row (record { engine = (c.found.view_is j).engine; cas_required = cas j; max_versions = max j }))) i))
+    ∙ ap (λ o. rows.with_settings old mount (option_map edit o)) some) (c.put.ensures.rows honest)
+
+pub returns-clause-others : goal.returns-clause-others
+returns-clause-others g c honest =
+    let seen = g.T.RecordsTx.seen in
+    let first : IsHonest (seen c.find_mount.new.tx) = honest_before _ _ _ c.put.ensures.goes_on honest in
+    let old = table_of (seen c.args.tx.now).rows in
+    let edit = with_settings c.args.cas_required c.args.max_versions in
+    on_ok_weaker c.put.result (λ rows. subst (λ (t : Table). KeepsOtherMounts c.args.mount.now old t) (sym rows)
+    (settings_keep c.args.mount.now old _)) (returns-clause-rows g c honest c.in_ok-found.field-0 (c.in_ok-found.ensures.exact first))
+
+pub returns-clause-told : goal.returns-clause-told
+returns-clause-told g c honest b sound told =
+    let old = table_of (g.T.RecordsTx.seen c.args.tx.now).rows in
+    let mount = c.args.mount.now in
+    on_ok_weaker c.put.result (λ rows. subst (λ (t : Table). Tells of_mounts t (set_config b mount c.args.cas_required c.args.max_versions)) (sym rows)
+    (settings_told old b told mount c.args.cas_required c.args.max_versions))
+    (returns-clause-rows g c honest (get b.mounts mount) (has_mount b sound old told mount))
+
+pub returns-in_err-found-clause-undamaged : goal.returns-in_err-found-clause-undamaged
+returns-in_err-found-clause-undamaged g c honest b sound told =
+    let p = err_from_is_err_and c.from_residual.result c.from_residual.ensures.1 in
+    rw (p.1, p.2) (c.in_err-found.ensures.undamaged honest (get b.mounts c.args.mount.now)
+    (has_mount b sound (table_of (g.T.RecordsTx.seen c.args.tx.now).rows) told c.args.mount.now))

@@ -1,0 +1,51 @@
+use Rattle.std.proofs.Common.{◌+◌, ap, sym, subst, ◌∙◌, unwrap_or}
+use Rattle.broker_types.specs.RequestError.{EndsOk}
+use Rattle.records.specs.CallLaws.{honest_before}
+use Rattle.records.specs.KeyEntry.{KeyEntry}
+use Rattle.records.specs.Table.{Table, table_of}
+use Rattle.records.specs.Transaction.{Rows, IsHonest}
+use Rattle.kv2.specs.SecretRows.{HasKey, KeepsOtherNames, new_entry, with_version}
+use Rattle.kv2.specs.SecretRows as rows
+use Rattle.kv2.specs.Versions.{checked}
+use Rattle.kv2.proofs.Others.{written_keeps}
+use Rattle.kv2.proofs.WriteCalls.{IsWritten, rows_written}
+use Rattle.kv2.proofs.writing.write_named.Goals as goal
+
+pub returns-clause-rows : goal.returns-clause-rows
+returns-clause-rows g c honest m k has_mount has_key =
+    let seen = g.T.RecordsTx.seen in
+    let second : IsHonest (seen c.find_key.new.tx) = honest_before _ _ _ c.put_version.ensures.call.goes_on honest in
+    let first : IsHonest (seen c.find_mount.new.tx) = honest_before _ _ _ c.find_key.ensures.goes_on second in
+    let same = c.in_ok-settings.ensures.same first in
+    let old = table_of (seen c.args.tx.now).rows in
+    let new = table_of (seen c.put_version.new.tx).rows in
+    let name = c.args.name.now in
+    let now = c.args.now in
+    let cas = c.args.cas in
+    let object = c.args.object.now in
+    let e = c.key_or_new-key.result in
+    let limit = c.versions_kept-limit.result in
+    let some = sym c.in-Some.is ∙ c.in_ok-settings.ensures.found first m has_mount in
+    let found = c.in_ok-found.ensures.found second k (subst (λ (r : Rows). HasKey (table_of r) name k) (sym same) has_key) in
+    subst (λ (e : KeyEntry). EndsOk (IsWritten new) (e.current + 1) (rows.write old m k name now cas object)) (sym c.key.view_is)
+    (subst (λ o. EndsOk (IsWritten new) (e.current + 1) (rows.write old o k name now cas object)) some
+    (rows_written old new c.in-Some.settings k name object now limit cas e
+    (c.key_or_new-key.ensures ∙ ap (λ o. unwrap_or o (new_entry now)) found)
+    (c.in_ok-check.ensures.checked ∙ (λ i. checked (c.settings.view_is i).cas_required (c.key.view_is i).current cas))
+    c.versions_kept-limit.ensures
+    (c.in_ok-put_version.ensures.rows honest
+    ∙ (λ i. with_version (table_of ((c.in_ok-found.ensures.same second ∙ same) i)) name e limit now object))))
+
+pub returns-clause-others : goal.returns-clause-others
+returns-clause-others g c honest =
+    let seen = g.T.RecordsTx.seen in
+    let second : IsHonest (seen c.find_key.new.tx) = honest_before _ _ _ c.put_version.ensures.call.goes_on honest in
+    let first : IsHonest (seen c.find_mount.new.tx) = honest_before _ _ _ c.find_key.ensures.goes_on second in
+    let same = c.in_ok-settings.ensures.same first in
+    let old = table_of (seen c.args.tx.now).rows in
+    let name = c.args.name.now in
+    let e = c.key_or_new-key.result in
+    let limit = c.versions_kept-limit.result in
+    subst (λ (t : Table). KeepsOtherNames name old t) (sym (c.in_ok-put_version.ensures.rows honest
+    ∙ (λ i. with_version (table_of ((c.in_ok-found.ensures.same second ∙ same) i)) name e limit c.args.now c.args.object.now)))
+    (written_keeps name old e limit c.args.now c.args.object.now)

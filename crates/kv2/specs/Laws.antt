@@ -1,0 +1,102 @@
+-- Laws of versioned secrets, as statements (this project's; Vault's documentation, "KV secrets engine - version 2").
+use Rattle.std.specs.Prelude.{◌≡◌, ◌≢◌, ◌<◌, ◌+◌, ◌^◌, ℕ, List, Bool, false, Option, Some, None, Ok}
+use Rattle.std.specs.Option.{option_map_or}
+use Rattle.broker_types.specs.Text.{Text, same}
+use Rattle.broker_types.specs.Map.{Map, get}
+use Rattle.broker_types.specs.Secret.{Key, Version}
+use Rattle.broker_types.specs.Broker.{Broker, Mount}
+use Rattle.broker_types.specs.Evolves.{Evolves}
+use Rattle.broker_types.specs.Sound.{Forms, Sound, SoundSecrets, IsPathText, IsObjectText}
+use Rattle.kv2.specs.Secrets.{Written, secret_name, key_at, write, delete, delete_versions, undelete, destroy, remove_key}
+use Rattle.kv2.specs.Secrets.{drop_mount, set_config}
+use Rattle.kv2.specs.Versions.{version_of}
+
+-- ---- soundness is kept, whoever may have spent its last use
+
+-- a write of an object at a path leaves a sound broker sound
+abbrev pub WriteKeepsSoundness : Type 0
+WriteKeepsSoundness =
+    (forms : Forms) (who : Option Text) (b : Broker) (mount path : Text) (cas : Option ℕ) (object : Text) (w : Written)
+    → Sound forms who b → IsPathText path → IsObjectText forms object → write b mount path cas object ≡ Ok w
+    → Sound forms who w.next
+
+-- so do changes of versions
+pub record ChangesKeepSoundness (forms : Forms) (who : Option Text) (b : Broker) (mount path : Text) (ns : List ℕ)
+    : Type 0 where
+  pub deleted : Sound forms who (delete b mount path)
+  pub versions_deleted : Sound forms who (delete_versions b mount path ns)
+  pub restored : Sound forms who (undelete b mount path ns)
+  pub destroyed : Sound forms who (destroy b mount path ns)
+
+-- removals
+pub record RemovalsKeepSoundness (forms : Forms) (who : Option Text) (b : Broker) (mount path : Text) : Type 0 where
+  pub removed : Sound forms who (remove_key b mount path)
+  pub dropped : Sound forms who (drop_mount b mount)
+
+-- and settings that are numbers of 64 bits
+abbrev pub SettingsKeepSoundness : Type 0
+SettingsKeepSoundness =
+    (forms : Forms) (who : Option Text) (b : Broker) (mount : Text) (cas_required : Option Bool)
+    (max_versions : Option ℕ) → Sound forms who b → ((n : ℕ) → max_versions ≡ Some n → n < 2 ^ 64)
+    → Sound forms who (set_config b mount cas_required max_versions)
+
+-- ---- brokers evolve
+
+-- a broker evolves when its secrets change
+abbrev pub SecretsEvolve : Type 0
+SecretsEvolve = (b : Broker) (secrets : Map Key) → Evolves b (record b { secrets = secrets })
+
+-- and when its mounts do
+abbrev pub SettingsEvolve : Type 0
+SettingsEvolve = (b : Broker) (mounts : Map Mount) → Evolves b (record b { mounts = mounts })
+
+-- ---- what a write does
+
+-- the last number that was given at a path; 0 for none
+abbrev pub last_number : Broker → Text → Text → ℕ
+last_number b mount path = option_map_or (λ (k : Key). k.current) (key_at b mount path) 0
+
+-- a write gives the number after the last one, which is the last from then on
+abbrev pub NumbersAreNew : Type 0
+NumbersAreNew =
+    (b : Broker) (mount path : Text) (cas : Option ℕ) (object : Text) (w : Written)
+    → write b mount path cas object ≡ Ok w
+    → (w.number ≡ last_number b mount path + 1) × (last_number w.next mount path ≡ w.number)
+
+-- no other operation on the key changes the last number, as long as the key is there
+pub record NumbersStay (b : Broker) (mount path : Text) (ns : List ℕ) : Type 0 where
+  pub deleted : last_number (delete b mount path) mount path ≡ last_number b mount path
+  pub versions_deleted : last_number (delete_versions b mount path ns) mount path ≡ last_number b mount path
+  pub restored : last_number (undelete b mount path ns) mount path ≡ last_number b mount path
+  pub destroyed : last_number (destroy b mount path ns) mount path ≡ last_number b mount path
+
+-- a write of one key changes no other
+abbrev pub OthersStay : Type 0
+OthersStay =
+    (b : Broker) (mount path : Text) (cas : Option ℕ) (object : Text) (w : Written)
+    → write b mount path cas object ≡ Ok w → (q : Text) → same q (secret_name mount path) ≡ false
+    → get w.next.secrets q ≡ get b.secrets q
+
+-- ---- what is destroyed stays so
+
+-- the version at a path
+abbrev pub version_at : Broker → Text → Text → ℕ → Option Version
+version_at b mount path n = version_of (key_at b mount path) n
+
+-- it has no secret, if it is there
+abbrev pub HasNoSecret : Option Version → Type 0
+HasNoSecret o = (v : Version) → o ≡ Some v → v.secret ≡ None
+
+-- a version that was there without a secret has none after a write
+abbrev pub WriteRestoresNothing : Type 0
+WriteRestoresNothing =
+    (forms : Forms) (b : Broker) (mount path : Text) (cas : Option ℕ) (object : Text) (w : Written) (n : ℕ)
+    → SoundSecrets forms b.secrets → write b mount path cas object ≡ Ok w → version_at b mount path n ≢ None
+    → HasNoSecret (version_at b mount path n) → HasNoSecret (version_at w.next mount path n)
+
+-- nor after a change of versions
+pub record ChangesRestoreNothing (b : Broker) (mount path : Text) (ns : List ℕ) (n : ℕ) : Type 0 where
+  pub deleted : HasNoSecret (version_at (delete b mount path) mount path n)
+  pub versions_deleted : HasNoSecret (version_at (delete_versions b mount path ns) mount path n)
+  pub restored : HasNoSecret (version_at (undelete b mount path ns) mount path n)
+  pub destroyed : HasNoSecret (version_at (destroy b mount path ns) mount path n)

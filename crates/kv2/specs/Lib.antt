@@ -1,0 +1,7 @@
+pub mod Changes
+pub mod Laws
+pub mod SecretRows
+pub mod Secrets
+pub mod SoundLaws
+pub mod VersionLaws
+pub mod Versions

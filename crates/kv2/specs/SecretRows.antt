@@ -1,0 +1,174 @@
+-- Versioned secrets as rows: a key has one at its name, and each version one at the name, a line feed and twenty digits
+-- (this project's row format).
+use Rattle.std.specs.Prelude.{◌≡◌, ◌<◌, ◌+◌, ◌-◌, ◌^◌, ◌&&◌, ◌==◌, ◌++◌, ℕ, List, [], ◌∷◌, nat_lt, Bool, true, false}
+use Rattle.std.specs.Prelude.{◌≢◌, if◌then◌else◌, Option, Some, None, option_map, unwrap_or, Result, Ok, Err, ⊤}
+use Rattle.std.specs.List.{list_any}
+use Rattle.std.specs.Ordering.{is_le}
+use Rattle.broker_types.specs.Text.{Text, text_cmp, same}
+use Rattle.broker_types.specs.Refuse.{◌>>=◌, some_or}
+use Rattle.broker_types.specs.Secret.{Version}
+use Rattle.broker_types.specs.Broker.{Mount}
+use Rattle.broker_types.specs.declared.fault.Fault.TheVariants as fault
+use Rattle.broker_types.specs.declared.refusal.Refusal.{Refusal}
+use Rattle.broker_types.specs.declared.refusal.Refusal.TheVariants as refusal
+use Rattle.broker_types.specs.declared.request_error.RequestError.{RequestError}
+use Rattle.broker_types.specs.declared.request_error.RequestError.TheVariants.{Refused, Fault as Given}
+use Rattle.records.specs.declared.kind.Kind.{Kind}
+use Rattle.records.specs.declared.kind.Kind.TheVariants as kind
+use Rattle.records.specs.declared.row.Row.{Row}
+use Rattle.records.specs.Kind.{kind_number}
+use Rattle.records.specs.Children.{children, keys_under}
+use Rattle.records.specs.KeyEntry.{KeyEntry}
+use Rattle.records.specs.Ranges.{IsKeyInRange, IsVersionInRange, IsMountInRange}
+use Rattle.records.specs.Reading.{IsSomeIn}
+use Rattle.records.specs.RowForms.{key_entry_row, version_row, mount_row}
+use Rattle.records.specs.Rows.{version_key}
+use Rattle.records.specs.Splits.{line_feed}
+use Rattle.records.specs.Transaction.{Rows}
+use Rattle.records.specs.Table.{Table, with_row, without_row, without_under, has_prefix, is_at}
+use Rattle.kv2.specs.Versions.{asked_number, numbered, or_if_zero, checked, new_version, is_among}
+
+-- ---- what is at a key
+
+-- a row is that of a record that rows can hold, or there is none
+pub record IsRowOf {X : Type 0} (IsInRange : X → Type 0) (row_of : X → Row) (row : Option Row)
+    (o : Option X) : Type 0 where
+  pub in_range : IsSomeIn IsInRange o
+  pub row_is : row ≡ option_map row_of o
+
+-- what the row of a name says of the key without its versions
+abbrev pub HasKey : Table → Text → Option KeyEntry → Type 0
+HasKey rows name o = IsRowOf IsKeyInRange key_entry_row (rows kind.KvKey name) o
+
+-- what the row of a version says
+abbrev pub HasVersion : Table → Text → ℕ → Option Version → Type 0
+HasVersion rows name n o = IsRowOf IsVersionInRange version_row (rows kind.KvVersion (version_key name n)) o
+
+-- each row of a version of the name says what it is
+abbrev pub HasVersions : Table → Text → Type 0
+HasVersions rows name = (n : ℕ) → n < 2 ^ 64 → (o : Option Version) × HasVersion rows name n o
+
+-- what the row of a mount says
+abbrev pub HasMount : Table → Text → Option Mount → Type 0
+HasMount rows name o = IsRowOf IsMountInRange mount_row (rows kind.Mount name) o
+
+-- how the keys of a name's versions begin
+abbrev pub versions_prefix : Text → Text
+versions_prefix name = name ++ line_feed ∷ []
+
+-- no row has changed but those of the name: its key's, and those whose keys begin as its versions' do
+abbrev pub KeepsOtherNames : Text → Table → Table → Type 0
+KeepsOtherNames name old new =
+    (k : Kind) (q : Text) → is_at kind.KvKey name k q ≡ false
+    → has_prefix kind.KvVersion (versions_prefix name) k q ≡ false → new k q ≡ old k q
+
+-- the call did not fail since a store was never started
+abbrev pub IsStarted : {A : Type 0} → Result A RequestError → Type 0
+IsStarted (Ok x) = ⊤
+IsStarted (Err (Refused r)) = ⊤
+IsStarted (Err (Given f)) = f ≢ fault.BadStart
+
+-- ---- settings
+
+-- the table with the row of a mount, if there is one
+abbrev pub with_settings : Table → Text → Option Mount → Table
+with_settings rows name None = rows
+with_settings rows name (Some m) = with_row rows kind.Mount name (mount_row m)
+
+-- no row has changed but that of the mount
+abbrev pub KeepsOtherMounts : Text → Table → Table → Type 0
+KeepsOtherMounts name old new = (k : Kind) (q : Text) → is_at kind.Mount name k q ≡ false → new k q ≡ old k q
+
+-- ---- reading
+
+-- what is read of a key that is there or not
+abbrev pub IsReadingOf : Table → Text → ℕ → Option KeyEntry → Option (ℕ × Version) → Type 0
+IsReadingOf rows name n None o = o ≡ None
+IsReadingOf rows name n (Some k) o =
+    let asked = asked_number k.current n in
+    (v : Option Version) × HasVersion rows name asked v × (o ≡ option_map (numbered asked) v)
+
+-- what is read at a name: the version that is asked for with its number, if its rows are there
+abbrev pub IsReading : Table → Text → ℕ → Option (ℕ × Version) → Type 0
+IsReading rows name n o = (k : Option KeyEntry) × HasKey rows name k × IsReadingOf rows name n k o
+
+-- the children of what begins with the prefix, among the names of keys
+abbrev pub children_in : Rows → Text → List Text
+children_in rows prefix = children prefix (keys_under rows kind.KvKey prefix)
+
+-- ---- writing
+
+-- whether the key is of this kind, begins with the prefix and is not above the last
+abbrev pub is_upto : Kind → Text → Text → Kind → Text → Bool
+is_upto kind prefix last k q = has_prefix kind prefix k q && is_le (text_cmp q last)
+
+-- the table without the rows of a kind whose keys begin with the prefix and are not above the last
+abbrev pub without_upto : Table → Kind → Text → Text → Table
+without_upto rows kind prefix last = λ k q. if is_upto kind prefix last k q then None else rows k q
+
+-- the table without the versions of a name that the limit does not leave under version v
+abbrev pub pruned : Table → Text → ℕ → ℕ → Table
+pruned rows name v limit =
+    if nat_lt limit v then without_upto rows kind.KvVersion (versions_prefix name) (version_key name (v - limit))
+    else rows
+
+-- a key without versions
+abbrev pub new_entry : ℕ → KeyEntry
+new_entry now = record { current = 0; created = now; updated = now }
+
+-- the key after one more version
+abbrev pub next_entry : ℕ → KeyEntry → KeyEntry
+next_entry now k = record { current = k.current + 1; created = k.created; updated = now }
+
+-- the table with one more version of a name, and without those that the limit does not leave
+abbrev pub with_version : Table → Text → KeyEntry → ℕ → ℕ → Text → Table
+with_version rows name k limit now object =
+    pruned (with_row (with_row rows kind.KvVersion (version_key name (k.current + 1))
+    (version_row (new_version now object))) kind.KvKey name (key_entry_row (next_entry now k)))
+    name (k.current + 1) limit
+
+-- the number that a write gave, and the next rows
+pub record WrittenRows : Type 0 where
+  pub number : ℕ
+  pub rows : Table
+
+-- one more version of a key
+abbrev pub written : Table → Mount → Text → ℕ → Text → KeyEntry → WrittenRows
+written rows m name now object k = record {
+  number = k.current + 1;
+  rows = with_version rows name k (or_if_zero m.max_versions 10) now object;
+}
+
+-- the object as the next version of a name, for what the rows have of the mount and of the key
+abbrev pub write : Table → Option Mount → Option KeyEntry → Text → ℕ → Option ℕ → Text → Result WrittenRows Refusal
+write rows mount key name now cas object = do
+  m ← some_or refusal.NotFound mount
+  passed ← checked m.cas_required (unwrap_or key (new_entry now)).current cas
+  Ok (written rows m name now object (unwrap_or key (new_entry now)))
+
+-- ---- deletion
+
+-- whether it is the key of one of these versions of the name
+abbrev pub is_key_of : List ℕ → Text → Text → Bool
+is_key_of ns name q = list_any (λ n. same q (version_key name n)) ns
+
+-- The versions of these numbers of the name are changed, where they are there, and no other row is.
+pub record AreChanged (f : Version → Version) (ns : List ℕ) (name : Text) (old new : Table) : Type 0 where
+  pub numbers : (n : ℕ) → is_among ns n ≡ true → n < 2 ^ 64
+  pub versions : (n : ℕ) (v : Option Version) → is_key_of ns name (version_key name n) ≡ true
+      → HasVersion old name n v → HasVersion new name n (option_map f v)
+  pub others : (k : Kind) (q : Text)
+      → ((kind_number k == kind_number kind.KvVersion) && is_key_of ns name q) ≡ false → new k q ≡ old k q
+
+-- the current version, if the key is there
+abbrev pub current_of : Option KeyEntry → List ℕ
+current_of None = []
+current_of (Some k) = k.current ∷ []
+
+-- the table without a key and its versions
+abbrev pub without_key : Table → Text → Table
+without_key rows name = without_under (without_row rows kind.KvKey name) kind.KvVersion (versions_prefix name)
+
+-- the table without the keys and the versions whose names begin with the prefix
+abbrev pub without_names : Table → Text → Table
+without_names rows prefix = without_under (without_under rows kind.KvKey prefix) kind.KvVersion prefix

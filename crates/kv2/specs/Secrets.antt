@@ -1,0 +1,111 @@
+-- Versioned secrets of mounts: what each operation does to the maps (Vault's documentation, "KV secrets engine -
+-- version 2 (API)").
+use Rattle.std.specs.Prelude.{ℕ, ◌+◌, ◌||◌, nat_eq, List, [], ◌∷◌, ◌++◌, Bool, not, Option, unwrap_or, option_map}
+use Rattle.std.specs.Prelude.{option_and_then, Result, Ok}
+use Rattle.std.specs.List.{starts_with}
+use Rattle.std.specs.FinMap as fin
+use Rattle.broker_types.specs.Text.{Text}
+use Rattle.broker_types.specs.Map.{get, put, without, keep, keys, change}
+use Rattle.broker_types.specs.Refuse.{◌>>=◌, some_or}
+use Rattle.broker_types.specs.Secret.{Key, Version}
+use Rattle.broker_types.specs.Broker.{Broker, Mount}
+use Rattle.broker_types.specs.declared.refusal.Refusal.{Refusal}
+use Rattle.broker_types.specs.declared.refusal.Refusal.TheVariants as refusal
+use Rattle.records.specs.Children.{folder, children}
+use Rattle.records.specs.Splits.{slash}
+use Rattle.kv2.specs.Versions.{asked_number, numbered, versions_kept, checked, key_or_new, with_version, with_changed}
+use Rattle.kv2.specs.Versions.{soft_deleted, restored, destroyed}
+
+-- the name of a secret among those of all mounts
+abbrev pub secret_name : Text → Text → Text
+secret_name mount path = mount ++ slash ∷ path
+
+-- the key at a path of a mount
+abbrev pub key_at : Broker → Text → Text → Option Key
+key_at b mount path = get b.secrets (secret_name mount path)
+
+-- ---- settings of a mount
+
+-- the settings of a mount
+abbrev pub config : Broker → Text → Option Mount
+config b mount = get b.mounts mount
+
+-- a mount with the settings that are given; the others stay
+abbrev pub with_settings : Option Bool → Option ℕ → Mount → Mount
+with_settings cas_required max_versions m = record m {
+  cas_required = unwrap_or cas_required m.cas_required;
+  max_versions = unwrap_or max_versions m.max_versions;
+}
+
+-- the broker with other settings of a mount
+abbrev pub set_config : Broker → Text → Option Bool → Option ℕ → Broker
+set_config b mount cas_required max_versions =
+    record b { mounts = change b.mounts mount (with_settings cas_required max_versions) }
+
+-- ---- reading
+
+-- a version that is kept, with its number, also if it is deleted or destroyed; 0 asks for the current one
+abbrev pub read : Broker → Text → Text → ℕ → Option (ℕ × Version)
+read b mount path n =
+    option_and_then (λ (k : Key). option_map (numbered (asked_number k.current n))
+    (fin.get k.versions (asked_number k.current n))) (key_at b mount path)
+
+-- the children of a folder of a mount; the empty path is for the whole mount
+abbrev pub list : Broker → Text → Text → List Text
+list b mount path = children (secret_name mount (folder path)) (keys b.secrets)
+
+-- ---- writing
+
+-- the number that a write gave, and the next broker
+pub record Written : Type 0 where
+  pub number : ℕ
+  pub next : Broker
+
+-- one more version of a key
+abbrev pub written : Broker → Mount → Text → Text → Key → Written
+written b m name object k = record {
+  number = k.current + 1;
+  next = record b { secrets = put b.secrets name (with_version b.clock (versions_kept m k) object k) };
+}
+
+-- a write over a key that is there or new
+abbrev pub write_over : Broker → Mount → Text → Option ℕ → Text → Key → Result Written Refusal
+write_over b m name cas object k = do
+  passed ← checked (k.cas_required || m.cas_required) k.current cas
+  Ok (written b m name object k)
+
+-- the object as the next version at a path of a mount
+abbrev pub write : Broker → Text → Text → Option ℕ → Text → Result Written Refusal
+write b mount path cas object = do
+  m ← some_or refusal.NotFound (get b.mounts mount)
+  write_over b m (secret_name mount path) cas object (key_or_new b.clock (key_at b mount path))
+
+-- ---- deletion
+
+-- the broker with a secret changed, if it is there
+abbrev pub with_key : Broker → Text → Text → (Key → Key) → Broker
+with_key b mount path f = record b { secrets = change b.secrets (secret_name mount path) f }
+
+-- the current version deleted
+abbrev pub delete : Broker → Text → Text → Broker
+delete b mount path = with_key b mount path (λ k. with_changed (soft_deleted b.clock) (k.current ∷ []) k)
+
+-- the versions of these numbers deleted
+abbrev pub delete_versions : Broker → Text → Text → List ℕ → Broker
+delete_versions b mount path ns = with_key b mount path (with_changed (soft_deleted b.clock) ns)
+
+-- the versions of these numbers restored
+abbrev pub undelete : Broker → Text → Text → List ℕ → Broker
+undelete b mount path ns = with_key b mount path (with_changed restored ns)
+
+-- the versions of these numbers destroyed
+abbrev pub destroy : Broker → Text → Text → List ℕ → Broker
+destroy b mount path ns = with_key b mount path (with_changed destroyed ns)
+
+-- the broker without a secret and all its versions
+abbrev pub remove_key : Broker → Text → Text → Broker
+remove_key b mount path = record b { secrets = without b.secrets (secret_name mount path) }
+
+-- the broker without the secrets of a mount
+abbrev pub drop_mount : Broker → Text → Broker
+drop_mount b mount = record b { secrets = keep (λ q. not (starts_with nat_eq q (secret_name mount []))) b.secrets }

@@ -1,0 +1,46 @@
+//! Laws of the definitions, each the contract of a function that does nothing.
+
+ghost use Rattle.std.specs.Prelude.{ℕ, List, Option};
+ghost use Rattle.broker_types.specs.Text.{Text};
+ghost use Rattle.broker_types.specs.Broker.{Broker};
+ghost use Rattle.broker_types.specs.Sound.{Forms, Sound};
+ghost use Rattle.kv2.specs.Laws.{WriteKeepsSoundness, ChangesKeepSoundness, RemovalsKeepSoundness};
+ghost use Rattle.kv2.specs.Laws.{SettingsKeepSoundness, SecretsEvolve, SettingsEvolve};
+ghost use Rattle.kv2.specs.Laws.{NumbersAreNew, NumbersStay, OthersStay, version_at, HasNoSecret};
+ghost use Rattle.kv2.specs.Laws.{WriteRestoresNothing, ChangesRestoreNothing};
+
+/// A law: the operations leave a sound broker sound, whoever may have spent its last use.
+pub fn operations_keep_soundness()
+    ensures written { WriteKeepsSoundness }
+    ensures changed { (forms : Forms) (who : Option Text) (b : Broker) (mount path : Text) (ns : List ℕ)
+        → Sound forms who b → ChangesKeepSoundness forms who b mount path ns }
+    ensures removed { (forms : Forms) (who : Option Text) (b : Broker) (mount path : Text) → Sound forms who b
+        → RemovalsKeepSoundness forms who b mount path }
+    ensures set { SettingsKeepSoundness }
+{}
+
+/// A law: the operations let a broker evolve.
+pub fn operations_evolve()
+    ensures secrets { SecretsEvolve }
+    ensures settings { SettingsEvolve }
+{}
+
+/// A law: a version's number is never given twice to a key that is there (Vault's documentation, "KV secrets
+/// engine - version 2").
+pub fn numbers_are_given_once()
+    ensures written { NumbersAreNew }
+    ensures changed { (b : Broker) (mount path : Text) (ns : List ℕ) → NumbersStay b mount path ns }
+{}
+
+/// A law: a write of one key changes no other.
+pub fn other_keys_stay()
+    ensures { OthersStay }
+{}
+
+/// A law: the secret of a version that is destroyed never comes back (Vault's documentation, "KV secrets engine -
+/// version 2 (API)", destroy secret versions).
+pub fn destroyed_secrets_stay_away()
+    ensures written { WriteRestoresNothing }
+    ensures changed { (b : Broker) (mount path : Text) (ns : List ℕ) (n : ℕ)
+        → HasNoSecret (version_at b mount path n) → ChangesRestoreNothing b mount path ns n }
+{}

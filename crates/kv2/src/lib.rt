@@ -1,0 +1,29 @@
+//! Versioned secrets of mounts, as rows.
+#![tactic(auto)]
+
+mod changing;
+mod finding;
+mod keys;
+mod laws;
+mod listing;
+mod pruning;
+mod reading;
+mod removing;
+mod secret_version;
+mod settings;
+mod writing;
+
+pub use changing::{delete, delete_versions, destroy, undelete};
+pub use laws::{
+    destroyed_secrets_stay_away, numbers_are_given_once, operations_evolve,
+    operations_keep_soundness, other_keys_stay,
+};
+pub use listing::list;
+pub use reading::read;
+pub use removing::{drop_mount, remove_key};
+pub use secret_version::SecretVersion;
+pub use settings::{config, set_config};
+pub use writing::write;
+
+#[cfg(test)]
+mod tests;

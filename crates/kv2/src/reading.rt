@@ -1,0 +1,89 @@
+//! Versions of secrets, read.
+
+ghost use Rattle.std.specs.Prelude.{◌≡◌, ◌≢◌, ℕ, Option, option_map, IfOk, IfErr, OnOk};
+ghost use Rattle.broker_types.specs.Broker.{Broker};
+ghost use Rattle.broker_types.specs.Fault.{IsMemoryOrStorage};
+ghost use Rattle.broker_types.specs.Secret.{Version};
+ghost use Rattle.broker_types.specs.Sound.{Forms, SoundSecrets};
+ghost use Rattle.records.specs.Parts.{of_secrets, Tells};
+ghost use Rattle.records.specs.Table.{table_of};
+ghost use Rattle.records.specs.Transaction.{IsHonest, GoesOn, is_storage};
+ghost use Rattle.kv2.specs.SecretRows.{HasVersion, IsReading};
+ghost use Rattle.kv2.specs.Secrets as secrets;
+ghost use Rattle.kv2.specs.Versions as versions;
+
+use crate::finding::find_key;
+use crate::keys::{secret_name, version_key};
+use crate::secret_version::SecretVersion;
+use broker_types::Fault;
+use records::{Kind, RecordsTx, read_version, versions_have_keys};
+use std::alloc::Global;
+
+/// A version of the secret of a name, if there is one. It fails as `Damaged` if the row is not one of a
+/// version, and also if memory runs out or the storage fails.
+fn find_version<T: RecordsTx>(
+    alloc: Global,
+    tx: &mut T,
+    name: &str,
+    number: u64,
+) -> Result<Option<SecretVersion>, Fault>
+    ensures found { IsHonest (T.seen tx.new) → (v : Option Version)
+        → HasVersion (table_of (T.seen tx.old).rows) name.now number v
+        → IfOk result (λ o. o ≡ option_map (versions.numbered number) v) }
+    ensures exact { IsHonest (T.seen tx.new) → IfOk result (λ o. (v : Option Version)
+        × HasVersion (table_of (T.seen tx.old).rows) name.now number v
+        × (o ≡ option_map (versions.numbered number) v)) }
+    ensures same { IsHonest (T.seen tx.new) → OnOk result ((T.seen tx.new).rows ≡ (T.seen tx.old).rows) }
+    ensures undamaged { IsHonest (T.seen tx.new) → (v : Option Version)
+        → HasVersion (table_of (T.seen tx.old).rows) name.now number v → IfErr result IsMemoryOrStorage }
+    ensures started { IfErr result (λ fault. fault ≢ Fault.BadStart) }
+    ensures goes_on { GoesOn (T.seen tx.old) (T.seen tx.new) (is_storage result) }
+{
+    let key = version_key(alloc, name, number)?;
+    let Some(kept) = tx.get(Kind::KvVersion, key.as_str())? else {
+        return Ok(None);
+    };
+    let version = read_version(&kept)?;
+    Ok(Some(SecretVersion::copied(alloc, number, &version)?))
+}
+
+/// The number that is asked for; 0 is the current one.
+fn asked_number(current: u64, number: u64) -> u64
+    ensures { result ≡ versions.asked_number current number }
+{
+    if number == 0 { current } else { number }
+}
+
+/// A version of the secret at a path of a mount with its number, also if it is deleted or destroyed; 0 asks
+/// for the current one. There is none if the secret or the version is not there. It fails as `Damaged` if a row
+/// that it reads is not one of a key or of a version, and also if memory runs out or the storage fails (Vault's
+/// documentation, "KV secrets engine - version 2 (API)", read secret version).
+pub fn read<T: RecordsTx>(
+    alloc: Global,
+    tx: &mut T,
+    mount: &str,
+    path: &str,
+    number: u64,
+) -> Result<Option<SecretVersion>, Fault>
+    ensures found { IsHonest (T.seen tx.new) → IfOk result
+        (IsReading (table_of (T.seen tx.old).rows) (secrets.secret_name mount.now path.now) number) }
+    ensures told { IsHonest (T.seen tx.new) → (forms : Forms) (b : Broker) → SoundSecrets forms b.secrets
+        → Tells of_secrets (table_of (T.seen tx.old).rows) b
+        → IfOk result (λ o. o ≡ secrets.read b mount.now path.now number) }
+    ensures same { IsHonest (T.seen tx.new) → OnOk result ((T.seen tx.new).rows ≡ (T.seen tx.old).rows) }
+    ensures readable { IsHonest (T.seen tx.new) → (o : Option (ℕ × Version))
+        → IsReading (table_of (T.seen tx.old).rows) (secrets.secret_name mount.now path.now) number o
+        → IfErr result IsMemoryOrStorage }
+    ensures undamaged { IsHonest (T.seen tx.new) → (forms : Forms) (b : Broker) → SoundSecrets forms b.secrets
+        → Tells of_secrets (table_of (T.seen tx.old).rows) b → IfErr result IsMemoryOrStorage }
+    ensures started { IfErr result (λ fault. fault ≢ Fault.BadStart) }
+    ensures goes_on { GoesOn (T.seen tx.old) (T.seen tx.new) (is_storage result) }
+{
+    versions_have_keys();
+    let name = secret_name(alloc, mount, path)?;
+    let Some(key) = find_key(tx, name.as_str())? else {
+        return Ok(None);
+    };
+    let asked = asked_number(key.current, number);
+    find_version(alloc, tx, name.as_str(), asked)
+}

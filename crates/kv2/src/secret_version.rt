@@ -1,0 +1,51 @@
+ghost use Rattle.std.specs.Prelude.{◌≡◌, IfOk};
+
+use broker_types::TextBuf;
+use records::VersionRecord;
+use std::alloc::{AllocError, Global};
+use std::marker::Model;
+
+/// A version of a secret with its number (Vault's documentation, "KV secrets engine - version 2"). Moments are
+/// seconds since 1970-01-01T00:00:00Z.
+#[derive(Drop)]
+pub struct SecretVersion {
+    /// Its number, from 1 on.
+    pub number: u64,
+    /// When it was written.
+    pub created: u64,
+    /// When it was deleted; none if it is not.
+    pub deleted: Option<u64>,
+    /// The compact text of its object; none if it is destroyed.
+    pub secret: Option<TextBuf>,
+}
+
+impl Model for SecretVersion {
+    ghost use Rattle.std.specs.Prelude.{ℕ};
+    ghost use Rattle.broker_types.specs.Secret.{Version};
+
+    ghost Value = { ℕ × Version };
+
+    ghost view = { λ v. (v.number, record { created = v.created; deleted = v.deleted; secret = v.secret }) };
+}
+
+impl SecretVersion {
+    /// A copy of a version with its number. The only error is running out of memory.
+    pub(crate) fn copied(
+        alloc: Global,
+        number: u64,
+        version: &VersionRecord<'_>,
+    ) -> Result<SecretVersion, AllocError>
+        ensures { IfOk result (λ v. v ≡ (number, version.now)) }
+    {
+        let secret = match version.secret {
+            None => None,
+            Some(text) => Some(TextBuf::copied(alloc, text)?),
+        };
+        Ok(SecretVersion {
+            number,
+            created: version.created,
+            deleted: version.deleted,
+            secret,
+        })
+    }
+}

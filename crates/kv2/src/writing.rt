@@ -1,0 +1,186 @@
+//! Secrets, written.
+
+ghost use Rattle.std.specs.Prelude.{◌≡◌, ◌<◌, ◌^◌, Option, unwrap_or, length, OnOk, ⊤};
+ghost use Rattle.broker_types.specs.Broker.{Broker, Mount};
+ghost use Rattle.broker_types.specs.Limits.{greatest_version};
+ghost use Rattle.broker_types.specs.RequestError.{Ends, step_fails};
+ghost use Rattle.broker_types.specs.Sound.{Forms, SoundSecrets, SoundMounts, IsPathText};
+ghost use Rattle.records.specs.KeyEntry.{KeyEntry};
+ghost use Rattle.records.specs.Parts.{of_secrets, of_mounts, Tells, OnRefused};
+ghost use Rattle.records.specs.Table.{table_of};
+ghost use Rattle.records.specs.Transaction.{IsHonest, GoesOn, IsCall};
+ghost use Rattle.kv2.specs.SecretRows as rows;
+ghost use Rattle.kv2.specs.SecretRows.{HasKey, HasMount, KeepsOtherNames, IsStarted};
+ghost use Rattle.kv2.specs.Secrets as secrets;
+ghost use Rattle.kv2.specs.Versions as versions;
+
+use crate::finding::{find_key, find_mount};
+use crate::keys::{secret_name, version_key};
+use crate::pruning::prune;
+use broker_types::{Fault, Field, Moment, Reason, Refusal, RequestError};
+use records::{
+    KeyRecord, Kind, MountRecord, RecordsTx, VersionRecord, versions_have_keys, write_key,
+    write_version,
+};
+use std::alloc::Global;
+
+/// The greatest version: each can be asked for in 18 digits.
+const GREATEST_VERSION: u64 = 999_999_999_999_999_999;
+
+/// How many versions of a secret are kept if no setting says it.
+const VERSIONS_KEPT: u64 = 10;
+
+/// The key, or a new one without versions.
+fn key_or_new(found: Option<KeyRecord>, now: u64) -> KeyRecord
+    ensures { result ≡ unwrap_or found (rows.new_entry now) }
+{
+    match found {
+        Some(key) => key,
+        None => KeyRecord {
+            current: 0,
+            created: now,
+            updated: now,
+        },
+    }
+}
+
+/// Check-and-set, and then whether there is a number for one more version (Vault's documentation, "KV secrets
+/// engine - version 2 (API)", create/update secret).
+fn check(required: bool, current: u64, cas: Option<u64>) -> Result<(), Refusal>
+    ensures checked { result ≡ versions.checked required current cas }
+    ensures room { OnOk result (current < greatest_version) }
+{
+    match cas {
+        None => {
+            if required {
+                return Err(Refusal::BadRequest(Reason::CheckAndSetRequired));
+            }
+        }
+        Some(version) => {
+            if version != current {
+                return Err(Refusal::BadRequest(Reason::CheckAndSetFailed));
+            }
+        }
+    }
+    if current >= GREATEST_VERSION {
+        return Err(Refusal::BadRequest(Reason::InvalidField(Field::Version)));
+    }
+    Ok(())
+}
+
+/// How many versions a mount keeps of a secret.
+fn versions_kept(mount: &MountRecord) -> u64
+    ensures { result ≡ versions.or_if_zero mount.now.max_versions 10 }
+{
+    if mount.max_versions == 0 {
+        VERSIONS_KEPT
+    } else {
+        mount.max_versions
+    }
+}
+
+/// Puts one more version and the key, and removes the versions that the limit does not leave.
+fn put_version<T: RecordsTx>(
+    alloc: Global,
+    tx: &mut T,
+    name: &str,
+    key: &KeyRecord,
+    limit: u64,
+    now: u64,
+    object: &str,
+) -> Result<(), Fault>
+    requires room { key.now.current < greatest_version }
+    requires short { length object.now < 2 ^ 32 }
+    ensures rows { IsHonest (T.seen tx.new) → OnOk result (table_of (T.seen tx.new).rows
+        ≡ rows.with_version (table_of (T.seen tx.old).rows) name.now key.now limit now object.now) }
+    ensures call { IsCall (T.seen tx.old) (T.seen tx.new) result }
+{
+    let number = key.current + 1;
+    let version = VersionRecord {
+        created: now,
+        deleted: None,
+        secret: Some(object),
+    };
+    let next = KeyRecord {
+        current: number,
+        created: key.created,
+        updated: now,
+    };
+    let place = version_key(alloc, name, number)?;
+    let version_row = write_version(alloc, &version)?;
+    let key_row = write_key(alloc, &next)?;
+    tx.put(Kind::KvVersion, place.as_str(), version_row)?;
+    tx.put(Kind::KvKey, name, key_row)?;
+    prune(alloc, tx, name, number, limit)
+}
+
+/// The write of an object at a moment, in seconds since 1970-01-01T00:00:00Z, over the rows of a mount and of a
+/// name.
+fn write_named<T: RecordsTx>(
+    alloc: Global,
+    tx: &mut T,
+    now: u64,
+    mount: &str,
+    name: &str,
+    cas: Option<u64>,
+    object: &str,
+) -> Result<u64, RequestError>
+    requires { length object.now < 2 ^ 32 }
+    ensures rows { IsHonest (T.seen tx.new) → (m : Option Mount) (k : Option KeyEntry)
+        → HasMount (table_of (T.seen tx.old).rows) mount.now m → HasKey (table_of (T.seen tx.old).rows) name.now k
+        → Ends (λ v w. (v ≡ w.number) × (table_of (T.seen tx.new).rows ≡ w.rows)) ⊤ result
+        (rows.write (table_of (T.seen tx.old).rows) m k name.now now cas object.now) }
+    ensures refused { IsHonest (T.seen tx.new) → OnRefused result ((T.seen tx.new).rows ≡ (T.seen tx.old).rows) }
+    ensures others { IsHonest (T.seen tx.new) → OnOk result
+        (KeepsOtherNames name.now (table_of (T.seen tx.old).rows) (table_of (T.seen tx.new).rows)) }
+    ensures started { IsStarted result }
+    ensures goes_on { GoesOn (T.seen tx.old) (T.seen tx.new) (step_fails result) }
+{
+    let Some(settings) = find_mount(tx, mount)? else {
+        return Err(RequestError::Refused(Refusal::NotFound));
+    };
+    let found = find_key(tx, name)?;
+    let key = key_or_new(found, now);
+    check(settings.cas_required, key.current, cas)?;
+    let limit = versions_kept(&settings);
+    put_version(alloc, tx, name, &key, limit, now, object)?;
+    Ok(key.current + 1)
+}
+
+/// Writes the compact text of an object as the next version of the secret at a path of a mount, and answers the
+/// version's number. `cas` is the version that the write follows, 0 for a secret without versions. It is
+/// refused, in this order, if the mount is not there, if `cas` is missing though the mount requires it, if it is
+/// not the current version, and if there is no number for one more version. It fails as `Damaged` if a row
+/// that it reads is not one of a mount or of a key, and also if memory runs out or the storage fails (Vault's
+/// documentation, "KV secrets engine - version 2 (API)", create/update secret).
+pub fn write<T: RecordsTx>(
+    alloc: Global,
+    tx: &mut T,
+    now: Moment,
+    mount: &str,
+    path: &str,
+    cas: Option<u64>,
+    object: &str,
+) -> Result<u64, RequestError>
+    requires { length object.now < 2 ^ 32 }
+    ensures rows { IsHonest (T.seen tx.new) → (m : Option Mount) (k : Option KeyEntry)
+        → HasMount (table_of (T.seen tx.old).rows) mount.now m
+        → HasKey (table_of (T.seen tx.old).rows) (secrets.secret_name mount.now path.now) k
+        → Ends (λ v w. (v ≡ w.number) × (table_of (T.seen tx.new).rows ≡ w.rows)) ⊤ result
+        (rows.write (table_of (T.seen tx.old).rows) m k (secrets.secret_name mount.now path.now) now cas object.now) }
+    ensures told { IsHonest (T.seen tx.new) → (forms : Forms) (b : Broker) → SoundSecrets forms b.secrets
+        → SoundMounts b.mounts → Tells of_secrets (table_of (T.seen tx.old).rows) b
+        → Tells of_mounts (table_of (T.seen tx.old).rows) b → now ≡ b.clock → IsPathText path.now
+        → Ends (λ v w. (v ≡ w.number) × Tells of_secrets (table_of (T.seen tx.new).rows) w.next) ⊤ result
+        (secrets.write b mount.now path.now cas object.now) }
+    ensures refused { IsHonest (T.seen tx.new) → OnRefused result ((T.seen tx.new).rows ≡ (T.seen tx.old).rows) }
+    ensures others { IsHonest (T.seen tx.new) → OnOk result (KeepsOtherNames
+        (secrets.secret_name mount.now path.now) (table_of (T.seen tx.old).rows) (table_of (T.seen tx.new).rows)) }
+    ensures started { IsStarted result }
+    ensures goes_on { GoesOn (T.seen tx.old) (T.seen tx.new) (step_fails result) }
+{
+    versions_have_keys();
+    let now = now.seconds();
+    let name = secret_name(alloc, mount, path)?;
+    write_named(alloc, tx, now, mount, name.as_str(), cas, object)
+}
