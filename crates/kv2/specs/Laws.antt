@@ -7,8 +7,8 @@ use Rattle.broker_types.specs.Secret.{Key, Version}
 use Rattle.broker_types.specs.Broker.{Broker, Mount}
 use Rattle.broker_types.specs.Evolves.{Evolves}
 use Rattle.broker_types.specs.Sound.{Forms, Sound, SoundSecrets, IsPathText, IsObjectText}
-use Rattle.kv2.specs.Secrets.{Written, secret_name, key_at, write, delete, delete_versions, undelete, destroy, remove_key}
-use Rattle.kv2.specs.Secrets.{drop_mount, set_config}
+use Rattle.kv2.specs.Secrets.{Written, secret_name, key_at, write, delete, delete_versions, undelete, destroy}
+use Rattle.kv2.specs.Secrets.{remove_key, drop_mount, set_config}
 use Rattle.kv2.specs.Versions.{version_of}
 
 -- ---- soundness is kept, whoever may have spent its last use

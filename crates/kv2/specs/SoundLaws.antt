@@ -81,7 +81,8 @@ module _ (forms : Forms) (keys : Map Key) (sound : SoundSecrets forms keys) wher
 
   -- one is changed
   pub change_sound : (name : Text) (f : Key → Key)
-      → ((q : Text) (k : Key) → IsSoundKey forms q k → IsSoundKey forms q (f k)) → SoundSecrets forms (change keys name f)
+      → ((q : Text) (k : Key) → IsSoundKey forms q k → IsSoundKey forms q (f k))
+      → SoundSecrets forms (change keys name f)
   change_sound name f keeps q y e =
       let x = valued_is (λ q x. if same q name then f x else x) keys q y e in
       subst (IsSoundKey forms q) (sym x.2)
@@ -195,7 +196,8 @@ room required current cas h =
       | Err e ↦ λ z. no_ok z
       | Ok x ↦ λ z.
           elim (nat_lt current greatest_version) as (λ b. nat_lt current greatest_version ≡ b
-          → unless b (refusal.BadRequest (reason.InvalidField field.Version)) ≡ Ok tt → current + 1 ≤ greatest_version) [
+          → unless b (refusal.BadRequest (reason.InvalidField field.Version)) ≡ Ok tt
+          → current + 1 ≤ greatest_version) [
             | true ↦ λ is _. add-one-le (ltb-true current greatest_version is)
             | false ↦ λ _ y. no_ok y
           ] refl z
@@ -271,7 +273,8 @@ module _ (forms : Forms) (name : Text) (now : ℕ) (is_name : IsSecretName name)
 
     next_sound : (n : ℕ) (v : Version) → fin.get next.versions n ≡ Some v → IsSoundVersion forms next n v
     next_sound n v e =
-        cases (nat_lt (k.current + 1 - limit) n) (n == k.current + 1) refl (sym (next_versions now limit object o n) ∙ e)
+        cases (nat_lt (k.current + 1 - limit) n) (n == k.current + 1) refl
+        (sym (next_versions now limit object o n) ∙ e)
       where
         cases : (a b : Bool) → (n == k.current + 1) ≡ b
             → cond a (cond b (Some (new_version now object)) (version_of o n)) None ≡ Some v
@@ -378,7 +381,8 @@ module _ (forms : Forms) (who : Option Text) (b : Broker) (sound : Sound forms w
     secrets = sound.secrets;
     waiting = sound.waiting;
     mounts = λ q y e.
-        let x = valued_is (λ q m. if same q mount then with_settings cas_required max_versions m else m) b.mounts q y e in
+        let x = valued_is (λ q m. if same q mount then with_settings cas_required max_versions m else m) b.mounts q y
+        e in
         subst (IsSoundMount q) (sym x.2)
         (elim (same q mount) as (λ v. IsSoundMount q (if v then with_settings cas_required max_versions x.0 else x.0)) [
           | true ↦ record {

@@ -1,6 +1,6 @@
 -- Laws of versions by number: what a key has after an edit.
-use Rattle.std.specs.Prelude.{◌≡◌, ◌+◌, ◌-◌, ◌==◌, ◌&&◌, ℕ, List, [], ◌∷◌, nat_lt, Bool, true, false, cond, if◌then◌else◌}
-use Rattle.std.specs.Prelude.{Option, Some, None, option_map, T}
+use Rattle.std.specs.Prelude.{◌≡◌, ◌+◌, ◌-◌, ◌==◌, ◌&&◌, ℕ, List, [], ◌∷◌, nat_lt, Bool, true, false, cond}
+use Rattle.std.specs.Prelude.{if◌then◌else◌, Option, Some, None, option_map, T}
 use Rattle.std.specs.declared.cmp.Ordering.{Ordering}
 use Rattle.std.specs.declared.cmp.Ordering.TheVariants.{Less, Equal, Greater}
 use Rattle.std.specs.Ordering.{nat_cmp, is_eq, is_lt, eq_by_cmp, ordering_then}

@@ -1,4 +1,5 @@
-//! Versioned secrets of mounts, as rows.
+//! Versioned secrets of mounts, as rows. A call of `versions_have_keys` does nothing when it runs: it brings the law
+//! of the keys of versions to the proof of its caller.
 #![tactic(auto)]
 
 mod changing;
