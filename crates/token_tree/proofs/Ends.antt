@@ -1,6 +1,5 @@
 -- What revocation and expiry leave of the rows, and which tokens they end.
 use Rattle.std.specs.Prelude.{◌≡◌, ◌||◌, ℕ, List, [], ◌∷◌, Bool, true, false, not, None}
-use Rattle.std.specs.List.{AllByRecursion}
 use Rattle.std.proofs.Common.{refl, sym, ◌∙◌, ap, subst, inl, inr}
 use Rattle.std.proofs.Math.Bool.{not-not}
 use Rattle.broker_types.specs.Text.{Text}
@@ -27,7 +26,7 @@ use Rattle.records.specs.Children.{has}
 use Rattle.token_tree.specs.Ended.{has_come, is_named, IsDescent, Start}
 use Rattle.token_tree.specs.Tokens.{RepresentsTokens, AreEnded, has_ended, without_expired}
 use Rattle.token_tree.specs.EndedLaws.{ended_by_revocation, ended_by_now}
-use Rattle.token_tree.specs.Removed.{without_ended, IsTokenRow}
+use Rattle.token_tree.specs.Removed.{without_ended, IsTokenRow, AreReadable}
 use Rattle.token_tree.proofs.Fates.{IsFate, fated, under_fate, expired_fate}
 use Rattle.token_tree.proofs.Listed.{each_listed, lists_tokens}
 use Rattle.token_tree.proofs.Removals.{tells_kept, tells_changed}
@@ -42,9 +41,10 @@ module _ (forms : Forms) (b : Broker) (rows : Rows) (stands : RepresentsTokens f
       no_text : IsTokenText [] → ⊥
       no_text h = absurd (let e = h.2 in cc)
 
-  pub readable : (es : List (RowKey × Row)) → es ≡ rows_under rows kind.Token [] → AllByRecursion IsTokenRow es
-  readable es listed = subst (AllByRecursion IsTokenRow) (sym (listed ∙ lists_tokens b rows stands.tells))
-      (each_listed b.tokens IsTokenRow (λ t x is. (token_entry x, token_in_range forms b.tokens stands.sound t x is, refl)))
+  pub readable : (ended : List Text) (es : List (RowKey × Row)) → es ≡ rows_under rows kind.Token [] → AreReadable ended es
+  readable ended es listed = subst (AreReadable ended) (sym (listed ∙ lists_tokens b rows stands.tells))
+      (each_listed b.tokens (λ e. has ended e.0.1 ≡ true → IsTokenRow e) (λ t x is gone.
+      (token_entry x, token_in_range forms b.tokens stands.sound t x is, refl)))
 
   module _ (s : Start) (gone : Text → Bool) (fate : IsFate b.tokens s gone) where
     ends_exactly : (es : List (RowKey × Row)) (ended : List Text) → es ≡ rows_under rows kind.Token [] → IsDescent s es ended → (q : Text)

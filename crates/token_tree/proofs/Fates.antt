@@ -21,7 +21,7 @@ pub record IsFate (ts : Tokens) (s : Start) (gone : Text → Bool) : Type 0 wher
   pub unknown : (q : Text) → get ts q ≡ None → gone q ≡ false
   pub known : (q : Text) (x : Token) → get ts q ≡ Some x → gone q ≡ (s (node q x) || option_map_or gone x.parent false)
 
-both_ways : (a b : Bool) → (a ≡ true → b ≡ true) → (b ≡ true → a ≡ true) → a ≡ b
+pub both_ways : (a b : Bool) → (a ≡ true → b ≡ true) → (b ≡ true → a ≡ true) → a ≡ b
 both_ways true b f g = sym (f refl)
 both_ways false true f g = g refl
 both_ways false false f g = refl

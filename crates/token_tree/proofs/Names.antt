@@ -1,6 +1,6 @@
 -- The rows of accessors, and the tokens that they name.
 use Rattle.std.specs.Prelude.{◌≡◌, List, [], ◌∷◌, ◌++◌, Bool, true, false, cond, if◌then◌else◌, Option, Some, None, option_map, option_and_then, map}
-use Rattle.std.specs.Prelude.{All}
+use Rattle.std.specs.Prelude.{All, filter}
 use Rattle.std.specs.Cmp.Lexicographic.{nat_list_cmp_total}
 use Rattle.std.specs.FinMap.{find, from_entries, get-from_entries, get-entries, entries_sorted, slice_cmp-IsAntisymmetric, nat_cmp-IsAntisymmetric}
 use Rattle.std.specs.FinMap.Entries.{find-where_key, is_sorted-where_key, where_key}
@@ -31,7 +31,7 @@ use Rattle.records.specs.Rows.{rows_of, or_else}
 use Rattle.records.specs.Spelling.{number}
 use Rattle.records.specs.Table.{table_of}
 use Rattle.records.specs.Transaction.{Rows, rows_under}
-use Rattle.token_tree.specs.Accessors.{IsAccessorRow, names_token, with_accessors}
+use Rattle.token_tree.specs.Accessors.{IsAccessorRow, Named, named_row, is_of_token, token_of, names_token, with_accessors}
 use Rattle.token_tree.specs.Tokens.{has_accessor, by_accessor, find_accessor, accessors_of}
 use Rattle.token_tree.proofs.Removals.{one_accessor}
 
@@ -57,17 +57,6 @@ find-append q (x ∷ xs) ys =
       | false ↦ refl
     ]
 
--- what an accessor names: a text, and whether that is a token
-abbrev pub Named : Type 0
-Named = Text × Holder
-
-abbrev pub is_of_token : Holder → Bool
-is_of_token holder.Token = true
-is_of_token holder.WrappingToken = false
-
-abbrev pub named_row : Named → Row
-named_row x = accessor_row x.0 x.1
-
 names_token_is : (x : Named) → names_token (named_row x) ≡ is_of_token x.1
 unfolding same number
 names_token_is (t, holder.Token) = refl
@@ -76,6 +65,16 @@ names_token_is (t, holder.WrappingToken) = refl
 -- what the row of an accessor says
 pub names_of_row : (row : Row) (what : Holder) → row ≡ accessor_row row.owner what → names_token row ≡ is_of_token what
 names_of_row row what is = ap names_token is ∙ names_token_is (row.owner, what)
+
+-- the names that a walk collects, listed
+pub collected : (es : List (RowKey × Row)) (names : List Text)
+    → with_accessors es names ≡ names ++ map (λ e. e.0.1) (filter (λ e. names_token e.1) es)
+collected [] names = sym (append-nil names)
+collected (e ∷ es) names = elim (names_token e.1) as (λ v. with_accessors es (if v then names ++ e.0.1 ∷ [] else names)
+    ≡ names ++ map (λ e. e.0.1) (cond v (e ∷ filter (λ e. names_token e.1) es) (filter (λ e. names_token e.1) es))) [
+      | true ↦ collected es (names ++ e.0.1 ∷ []) ∙ append_assoc names (e.0.1 ∷ []) (map (λ e. e.0.1) (filter (λ e. names_token e.1) es))
+      | false ↦ collected es names
+    ]
 
 module _ (b : Broker) where
   -- all accessors
@@ -130,10 +129,6 @@ module _ (b : Broker) where
       by None None = refl
       by None (Some w) = refl
       by (Some e) w = refl
-
-  -- the token that is named
-  abbrev pub token_of : Named → Option Text
-  token_of x = if is_of_token x.1 then Some x.0 else None
 
   pub token_named : (q : Text) → find_accessor b q ≡ option_and_then token_of (get all_named q)
   token_named q = token_found q ∙ by (token_with q) (waiting_with q) ∙ ap (option_and_then token_of) (sym (all_found q))

@@ -63,7 +63,7 @@ parents_accessors t (e ∷ es) rows q =
       | false ↦ refl
     ]
 
-turned : {X : Type 0} (a b : Bool) (v o : Option X) → (if a then v else (if b then v else o)) ≡ (if (b || a) then v else o)
+pub turned : {X : Type 0} (a b : Bool) (v o : Option X) → (if a then v else (if b then v else o)) ≡ (if (b || a) then v else o)
 turned true true v o = refl
 turned true false v o = refl
 turned false true v o = refl

@@ -184,3 +184,14 @@ change_same ts t f h = same_map (change ts t f) ts (λ q. get-change ts t f q �
       | true ↦ λ eq. h x (ap (get ts) (sym (same_true q t eq)) ∙ is)
       | false ↦ λ _. refl
     ] refl
+
+-- the row that is there, put again
+pub row_again : (table : Table) (t : Text) (r : Row) → table kind.Token t ≡ Some r → with_row table kind.Token t r ≡ table
+row_again table t r is = λ i k q. at k q i
+  where
+    at : (k : Kind) (q : Text) → with_row table kind.Token t r k q ≡ table k q
+    at kind.Token q = elim (same q t) as (λ v. same q t ≡ v → (if v then Some r else table kind.Token q) ≡ table kind.Token q) [
+      | true ↦ λ one. sym (ap (table kind.Token) (same_true q t one) ∙ is)
+      | false ↦ λ _. refl
+    ] refl
+    at _ q = refl

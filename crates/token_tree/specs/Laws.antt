@@ -1,16 +1,18 @@
 -- Laws of tokens as rows, as statements (this project's; Vault's documentation, "Tokens").
-use Rattle.std.specs.Prelude.{◌≡◌, ◌≢◌, ℕ, true, false, not, ◌&&◌, Some, None, is_some}
+use Rattle.std.specs.Prelude.{◌≡◌, ◌≢◌, ℕ, true, false, not, ◌&&◌, Option, Some, None, is_some}
 use Rattle.broker_types.specs.Text.{Text, same}
-use Rattle.broker_types.specs.Map.{get}
+use Rattle.broker_types.specs.Map.{get, empty}
 use Rattle.broker_types.specs.Token.{Token}
 use Rattle.broker_types.specs.Lineage.{is_under, is_alive}
 use Rattle.broker_types.specs.Broker.{Broker, revoke, revoke_orphan}
-use Rattle.broker_types.specs.Places.{OnePlaceEach}
+use Rattle.broker_types.specs.Places.{OnePlaceEach, token_identifier}
+use Rattle.broker_types.specs.Evolves.{Evolves, IsNew}
+use Rattle.broker_types.specs.Sound.{Forms, Sound, IsEnd}
 use Rattle.records.specs.declared.kind.Kind.TheVariants as kind
 use Rattle.records.specs.Parts.{of_tokens, Tells}
 use Rattle.records.specs.RowForms.{token_row}
 use Rattle.records.specs.Table.{Table}
-use Rattle.token_tree.specs.Tokens.{find_accessor, has_ended, without_expired}
+use Rattle.token_tree.specs.Tokens.{find_accessor, has_ended, without_expired, created, renew, MayBeMade}
 
 -- ---- what is found after revocation
 
@@ -59,3 +61,28 @@ abbrev pub NamedTokensHaveTheirAccessors : Type 0
 NamedTokensHaveTheirAccessors =
     (b : Broker) (t accessor : Text) → find_accessor b accessor ≡ Some t
     → (x : Token) × (get b.tokens t ≡ Some x) × (x.accessor ≡ accessor)
+
+-- ---- a token made or renewed leaves a sound broker sound, whoever may have spent its last use
+
+-- a token made under new identifiers
+abbrev pub CreationKeepsSoundness : Type 0
+CreationKeepsSoundness =
+    (forms : Forms) (who : Option Text) (b : Broker) (t : Text) (x : Token) → Sound forms who b
+    → MayBeMade forms b t x → Sound forms who (created b t x)
+
+-- a token renewed by an end in range
+abbrev pub RenewalKeepsSoundness : Type 0
+RenewalKeepsSoundness =
+    (forms : Forms) (who : Option Text) (b : Broker) (t : Text) (ends : ℕ) → Sound forms who b → IsEnd ends
+    → Sound forms who (renew b t ends)
+
+-- ---- and lets a broker evolve
+
+-- a token made under a new identifier, without leases
+abbrev pub CreationEvolves : Type 0
+CreationEvolves =
+    (b : Broker) (t : Text) (x : Token) → IsNew b (token_identifier t) → x.leases ≡ empty → Evolves b (created b t x)
+
+-- a token renewed
+abbrev pub RenewalEvolves : Type 0
+RenewalEvolves = (b : Broker) (t : Text) (ends : ℕ) → Evolves b (renew b t ends)

@@ -1,8 +1,11 @@
 pub mod Accessors
 pub mod Ended
+pub mod Endings
 pub mod EndedLaws
 pub mod Laws
 pub mod Orphaned
 pub mod Removed
+pub mod SoundLaws
 pub mod Starts
 pub mod Tokens
+pub mod TokenRows

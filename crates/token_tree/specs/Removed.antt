@@ -1,5 +1,6 @@
 -- The rows of tokens that ended, and of their accessors, taken out (this project's definition).
-use Rattle.std.specs.Prelude.{◌≡◌, ℕ, List, [], ◌∷◌, take, if◌then◌else◌}
+use Rattle.std.specs.Prelude.{◌≡◌, ℕ, List, [], ◌∷◌, true, take, if◌then◌else◌}
+use Rattle.std.specs.List.{AllByRecursion}
 use Rattle.std.specs.Int.{w32, from_be_bytes}
 use Rattle.std.specs.FinMap as fin
 use Rattle.broker_types.specs.Text.{Text}
@@ -24,6 +25,10 @@ accessor_in row = first_text row.body
 -- the row of a token, which can be read
 abbrev pub IsTokenRow : RowKey × Row → Type 0
 IsTokenRow e = (x : TokenEntry) × IsTokenInRange x × (e.1 ≡ entry_row x)
+
+-- the rows of the ended among the entries can be read
+abbrev pub AreReadable : List Text → List (RowKey × Row) → Type 0
+AreReadable ended es = AllByRecursion (λ e. has ended e.0.1 ≡ true → IsTokenRow e) es
 
 -- the rows without that of a token and that of its accessor
 abbrev pub without_token : Rows → RowKey × Row → Rows

@@ -1,15 +1,17 @@
 -- Tokens as rows: which rows are those of a broker's tokens, and what operations on tokens make of it (Vault's
 -- documentation, "Tokens").
-use Rattle.std.specs.Prelude.{◌≡◌, ℕ, List, Bool, Option, Some, is_some, is_none, ◌&&◌, map}
+use Rattle.std.specs.Prelude.{◌≡◌, ◌≢◌, ℕ, List, [], ◌∷◌, Bool, Option, Some, None, is_some, is_none, ◌&&◌, map}
 use Rattle.std.specs.FinMap.{from_entries}
 use Rattle.std.specs.List.{IsDistinct}
 use Rattle.broker_types.specs.Text.{Text, same}
-use Rattle.broker_types.specs.Map.{Map, get, put, change, entries, keys}
+use Rattle.broker_types.specs.Map.{Map, get, put, change, empty, entries, keys}
 use Rattle.broker_types.specs.Token.{Token}
 use Rattle.broker_types.specs.Lineage.{alive_at}
 use Rattle.broker_types.specs.Broker.{Broker}
-use Rattle.broker_types.specs.Places.{OnePlaceEach}
-use Rattle.broker_types.specs.Sound.{Forms, SoundTokens}
+use Rattle.broker_types.specs.Places.{OnePlaceEach, token_identifier}
+use Rattle.broker_types.specs.Evolves.{IsNew}
+use Rattle.broker_types.specs.Used.{use_up}
+use Rattle.broker_types.specs.Sound.{Forms, SoundTokens, IsSoundToken}
 use Rattle.records.specs.Children.{has}
 use Rattle.records.specs.Parts.{of_tokens, Tells}
 use Rattle.records.specs.Table.{Table, table_of}
@@ -52,6 +54,21 @@ accessors_of b = keys (by_accessor b)
 -- the broker with the token x at t
 abbrev pub with_token : Broker → Text → Token → Broker
 with_token b t x = record b { tokens = put b.tokens t x }
+
+-- the same, and the identifiers of the token and of its accessor have been given out
+abbrev pub created : Broker → Text → Token → Broker
+created b t x = record (with_token b t x) { used = use_up b.used (token_identifier t ∷ x.accessor ∷ []) }
+
+-- The token x may be made at t: it is sound, both its identifiers are new and differ, its parent is a token, it has no
+-- leases, and its last use is not spent.
+pub record MayBeMade (forms : Forms) (b : Broker) (t : Text) (x : Token) : Type 0 where
+  pub sound : IsSoundToken forms t x
+  pub token_is_new : IsNew b (token_identifier t)
+  pub accessor_is_new : IsNew b x.accessor
+  pub differ : token_identifier t ≢ x.accessor
+  pub parent : (p : Text) → x.parent ≡ Some p → get b.tokens p ≢ None
+  pub no_lease : x.leases ≡ empty
+  pub unspent : x.uses_left ≢ Some 0
 
 -- the token with another end
 abbrev pub with_end : ℕ → Token → Token

@@ -1,10 +1,9 @@
 //! The rows of tokens that ended are taken out.
 
-ghost use Rattle.std.specs.Prelude.{◌≡◌, IfErr, OnOk};
-ghost use Rattle.std.specs.List.{AllByRecursion};
+ghost use Rattle.std.specs.Prelude.{◌≡◌, ◌≢◌, IfErr, OnOk};
 ghost use Rattle.broker_types.specs.Fault.{IsMemoryOrStorage};
 ghost use Rattle.records.specs.Transaction.{IsHonest, GoesOn, is_storage};
-ghost use Rattle.token_tree.specs.Removed.{without_token, without_ended, IsTokenRow};
+ghost use Rattle.token_tree.specs.Removed.{without_token, without_ended, IsTokenRow, AreReadable};
 
 use crate::descending::is_among;
 use broker_types::{Fault, TextBuf};
@@ -15,6 +14,8 @@ use std::alloc::Global;
 fn remove_token<T: RecordsTx>(alloc: Global, tx: &mut T, entry: &Entry) -> Result<(), Fault>
     ensures rows { IsHonest (T.seen tx.new)
         → OnOk result ((T.seen tx.new).rows ≡ without_token (T.seen tx.old).rows entry.now) }
+    ensures readable { OnOk result (IsTokenRow entry.now) }
+    ensures started { IfErr result (λ fault. fault ≢ Fault.BadStart) }
     ensures undamaged { IsTokenRow entry.now → IfErr result IsMemoryOrStorage }
     ensures goes_on { GoesOn (T.seen tx.old) (T.seen tx.new) (is_storage result) }
 {
@@ -32,7 +33,9 @@ pub(crate) fn remove_ended<T: RecordsTx>(
 ) -> Result<(), Fault>
     ensures rows { IsHonest (T.seen tx.new)
         → OnOk result ((T.seen tx.new).rows ≡ without_ended ended.now entries.now (T.seen tx.old).rows) }
-    ensures undamaged { AllByRecursion IsTokenRow entries.now → IfErr result IsMemoryOrStorage }
+    ensures readable { OnOk result (AreReadable ended.now entries.now) }
+    ensures started { IfErr result (λ fault. fault ≢ Fault.BadStart) }
+    ensures undamaged { AreReadable ended.now entries.now → IfErr result IsMemoryOrStorage }
     ensures goes_on { GoesOn (T.seen tx.old) (T.seen tx.new) (is_storage result) }
 {
     for entry in entries {

@@ -3,6 +3,7 @@
 ghost use Rattle.token_tree.specs.Laws.{RevokedAreNotFound, OthersAreFound, ChildrenAreOrphans};
 ghost use Rattle.token_tree.specs.Laws.{EndedByRevocation, EndedAlone, EndedByNow};
 ghost use Rattle.token_tree.specs.Laws.{AccessorsNameTheirTokens, NamedTokensHaveTheirAccessors};
+ghost use Rattle.token_tree.specs.Laws.{CreationKeepsSoundness, RenewalKeepsSoundness, CreationEvolves, RenewalEvolves};
 
 /// A law: after a revocation no token under the revoked one is found, and each other is found as before. The children
 /// of a token that was revoked alone have no parent (Vault's documentation, "Tokens", token hierarchies and orphan
@@ -26,4 +27,17 @@ pub fn tokens_end_as_defined()
 pub fn accessors_name_their_tokens()
     ensures named { AccessorsNameTheirTokens }
     ensures only { NamedTokensHaveTheirAccessors }
+{}
+
+/// A law: a token made under new identifiers, or renewed by an end in range, leaves a sound broker sound, whoever may
+/// have spent its last use.
+pub fn edits_keep_soundness()
+    ensures created { CreationKeepsSoundness }
+    ensures renewed { RenewalKeepsSoundness }
+{}
+
+/// A law: a token made under a new identifier, or renewed, lets a broker evolve.
+pub fn edits_evolve()
+    ensures created { CreationEvolves }
+    ensures renewed { RenewalEvolves }
 {}

@@ -12,7 +12,10 @@ mod start;
 mod sweeping;
 
 pub use by_accessor::{accessors, find_accessor};
-pub use laws::{accessors_name_their_tokens, revoked_tokens_are_not_found, tokens_end_as_defined};
+pub use laws::{
+    accessors_name_their_tokens, edits_evolve, edits_keep_soundness, revoked_tokens_are_not_found,
+    tokens_end_as_defined,
+};
 pub use orphaning::revoke_one;
 pub use revoking::revoke;
 pub use single::{create, find, renew, spend};

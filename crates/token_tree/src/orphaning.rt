@@ -1,12 +1,14 @@
 //! Revocation of one token, whose children have no parent then.
 
-ghost use Rattle.std.specs.Prelude.{[], ◌≡◌, None, IfOk, IfErr, OnOk};
+ghost use Rattle.std.specs.Prelude.{[], ◌≡◌, ◌≢◌, None, IfOk, IfErr, OnOk};
 ghost use Rattle.broker_types.specs.Broker as broker;
 ghost use Rattle.broker_types.specs.Fault.{IsMemoryOrStorage};
 ghost use Rattle.broker_types.specs.Map.{get};
 ghost use Rattle.records.specs.Parts.{of_tokens, Tells, KeepsOthers};
 ghost use Rattle.records.specs.Transaction.{IsHonest, GoesOn, IsCall, is_storage};
+ghost use Rattle.token_tree.specs.Endings.{EndsAlone};
 ghost use Rattle.token_tree.specs.Orphaned.{without_parent};
+ghost use Rattle.token_tree.specs.TokenRows.{IsDamagedToken};
 ghost use Rattle.token_tree.specs.Tokens.{table, OfEachBroker, AreEnded};
 
 use crate::descending::is_same;
@@ -16,13 +18,15 @@ use records::{Entry, Kind, RecordsTx};
 use std::alloc::Global;
 
 /// Ends a token alone: its children have no parent then. It answers the tokens that ended: this one, or none if the
-/// text is unknown, and then nothing changes. It fails as `Damaged` if the row of the token is not one, and also if
+/// text is unknown, and then nothing changes. It fails as `Damaged` if its row is not one of a token, and also if
 /// memory runs out or the storage fails (Vault's documentation, "Tokens", orphan tokens).
 pub fn revoke_one<T: RecordsTx>(
     alloc: Global,
     tx: &mut T,
     token: &str,
 ) -> Result<Vec<TextBuf>, Fault>
+    ensures rows { IsHonest (T.seen tx.new) → IfOk result (λ list.
+        EndsAlone token.now (T.seen tx.old).rows list.items (T.seen tx.new).rows) }
     ensures ok { OfEachBroker (T.seen tx.old) (T.seen tx.new) (λ b.
         OnOk result (Tells of_tokens (table (T.seen tx.new)) (broker.revoke_orphan b token.now))) }
     ensures ended { OfEachBroker (T.seen tx.old) (T.seen tx.new) (λ b.
@@ -31,6 +35,9 @@ pub fn revoke_one<T: RecordsTx>(
         → IfOk result (λ list. (list.items ≡ []) × ((T.seen tx.new).rows ≡ (T.seen tx.old).rows))) }
     ensures others { IsHonest (T.seen tx.new)
         → OnOk result (KeepsOthers of_tokens (table (T.seen tx.old)) (table (T.seen tx.new))) }
+    ensures started { IfErr result (λ fault. fault ≢ Fault.BadStart) }
+    ensures damaged { IsHonest (T.seen tx.new) → IfErr result
+        (λ fault. fault ≡ Fault.Damaged → IsDamagedToken (table (T.seen tx.old)) token.now) }
     ensures undamaged { OfEachBroker (T.seen tx.old) (T.seen tx.new) (λ b. IfErr result IsMemoryOrStorage) }
     ensures goes_on { GoesOn (T.seen tx.old) (T.seen tx.new) (is_storage result) }
 {

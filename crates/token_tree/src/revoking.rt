@@ -1,11 +1,13 @@
 //! Revocation: a token ends with all under it.
 
-ghost use Rattle.std.specs.Prelude.{[], ◌≡◌, None, IfOk, IfErr, OnOk};
+ghost use Rattle.std.specs.Prelude.{[], ◌≡◌, ◌≢◌, None, IfOk, IfErr, OnOk};
 ghost use Rattle.broker_types.specs.Broker as broker;
 ghost use Rattle.broker_types.specs.Fault.{IsMemoryOrStorage};
 ghost use Rattle.broker_types.specs.Map.{get};
 ghost use Rattle.records.specs.Parts.{of_tokens, Tells, KeepsOthers};
 ghost use Rattle.records.specs.Transaction.{IsHonest, GoesOn, is_storage};
+ghost use Rattle.token_tree.specs.Ended.{is_named};
+ghost use Rattle.token_tree.specs.Endings.{EndsDescent, IsDamagedDescent};
 ghost use Rattle.token_tree.specs.Tokens.{table, OfEachBroker, AreEnded};
 
 use crate::descending::descent;
@@ -16,9 +18,11 @@ use records::{Kind, RecordsTx};
 use std::alloc::Global;
 
 /// Ends a token with all under it, and answers the tokens that ended, each once. An unknown text ends none, and nothing
-/// changes. It fails as `Damaged` if the row of a token is not one, and also if memory runs out or the storage fails
-/// (Vault's documentation, "Tokens", token hierarchies).
+/// changes. It fails as `Damaged` if the row of a token that ends is not one of a token, and also if memory runs out or
+/// the storage fails (Vault's documentation, "Tokens", token hierarchies).
 pub fn revoke<T: RecordsTx>(alloc: Global, tx: &mut T, token: &str) -> Result<Vec<TextBuf>, Fault>
+    ensures rows { IsHonest (T.seen tx.new) → IfOk result (λ list.
+        EndsDescent (is_named token.now) (T.seen tx.old).rows list.items (T.seen tx.new).rows) }
     ensures ok { OfEachBroker (T.seen tx.old) (T.seen tx.new) (λ b.
         OnOk result (Tells of_tokens (table (T.seen tx.new)) (broker.revoke b token.now))) }
     ensures ended { OfEachBroker (T.seen tx.old) (T.seen tx.new) (λ b.
@@ -27,6 +31,9 @@ pub fn revoke<T: RecordsTx>(alloc: Global, tx: &mut T, token: &str) -> Result<Ve
         → IfOk result (λ list. (list.items ≡ []) × ((T.seen tx.new).rows ≡ (T.seen tx.old).rows))) }
     ensures others { IsHonest (T.seen tx.new)
         → OnOk result (KeepsOthers of_tokens (table (T.seen tx.old)) (table (T.seen tx.new))) }
+    ensures started { IfErr result (λ fault. fault ≢ Fault.BadStart) }
+    ensures damaged { IsHonest (T.seen tx.new) → IfErr result
+        (λ fault. fault ≡ Fault.Damaged → IsDamagedDescent (is_named token.now) (T.seen tx.old).rows) }
     ensures undamaged { OfEachBroker (T.seen tx.old) (T.seen tx.new) (λ b. IfErr result IsMemoryOrStorage) }
     ensures goes_on { GoesOn (T.seen tx.old) (T.seen tx.new) (is_storage result) }
 {

@@ -1,6 +1,6 @@
 //! Single tokens: looked up, made, and changed.
 
-ghost use Rattle.std.specs.Prelude.{◌≡◌, Some, option_map, IfOk, IfErr, OnOk};
+ghost use Rattle.std.specs.Prelude.{◌≡◌, ◌≢◌, Some, option_map, IfOk, IfErr, OnOk};
 ghost use Rattle.std.specs.FinMap as fin;
 ghost use Rattle.broker_types.specs.Broker.{Broker};
 ghost use Rattle.broker_types.specs.Evolves.{IsNew};
@@ -16,8 +16,11 @@ ghost use Rattle.records.specs.Parts.{of_tokens, Tells, KeepsOthers};
 ghost use Rattle.records.specs.Ranges.{IsTokenInRange};
 ghost use Rattle.records.specs.Reading.{IsSomeIn};
 ghost use Rattle.records.specs.RowForms.{entry_row};
+ghost use Rattle.records.specs.Table.{with_row};
 ghost use Rattle.records.specs.TokenEntry.{token_entry};
 ghost use Rattle.records.specs.Transaction.{IsHonest, GoesOn, IsCall, is_storage};
+ghost use Rattle.token_tree.specs.TokenRows.{IsTokenAt, IsDamagedToken, ChangesToken, with_created, spent_entry};
+ghost use Rattle.token_tree.specs.TokenRows.{renewed_entry};
 ghost use Rattle.token_tree.specs.Tokens as tokens;
 ghost use Rattle.token_tree.specs.Tokens.{table, OfEachBroker, with_token};
 
@@ -32,10 +35,14 @@ pub fn find<T: RecordsTx>(
     tx: &mut T,
     token: &str,
 ) -> Result<Option<TokenRecord>, Fault>
-    ensures found { OfEachBroker (T.seen tx.old) (T.seen tx.new) (λ b.
+    ensures found { IsHonest (T.seen tx.new) → IfOk result (IsTokenAt (table (T.seen tx.old)) token.now) }
+    ensures told { OfEachBroker (T.seen tx.old) (T.seen tx.new) (λ b.
         IfOk result (λ found. found ≡ option_map token_entry (get b.tokens token.now))) }
     ensures in_range { IfOk result (IsSomeIn IsTokenInRange) }
     ensures same { IsHonest (T.seen tx.new) → OnOk result ((T.seen tx.new).rows ≡ (T.seen tx.old).rows) }
+    ensures started { IfErr result (λ fault. fault ≢ Fault.BadStart) }
+    ensures damaged { IsHonest (T.seen tx.new) → IfErr result
+        (λ fault. fault ≡ Fault.Damaged → IsDamagedToken (table (T.seen tx.old)) token.now) }
     ensures undamaged { OfEachBroker (T.seen tx.old) (T.seen tx.new) (λ b. IfErr result IsMemoryOrStorage) }
     ensures goes_on { GoesOn (T.seen tx.old) (T.seen tx.new) (is_storage result) }
 {
@@ -70,6 +77,8 @@ pub fn create<T: RecordsTx>(
     entry: &TokenRecord,
 ) -> Result<(), Fault>
     requires { IsTokenInRange entry.now }
+    ensures rows { IsHonest (T.seen tx.new) → OnOk result (table (T.seen tx.new)
+        ≡ with_created (table (T.seen tx.old)) token.now entry.now) }
     ensures ok { OfEachBroker (T.seen tx.old) (T.seen tx.new) (λ b. (x : Token) → token_entry x ≡ entry.now
         → AllUsed b → IsNew b (token_identifier token.now) → IsNew b x.accessor
         → OnOk result (Tells of_tokens (table (T.seen tx.new)) (with_token b token.now x))) }
@@ -90,6 +99,8 @@ fn rewrite<T: RecordsTx>(
     entry: &TokenRecord,
 ) -> Result<(), Fault>
     requires { IsTokenInRange entry.now }
+    ensures rows { IsHonest (T.seen tx.new) → OnOk result (table (T.seen tx.new)
+        ≡ with_row (table (T.seen tx.old)) kind.Token token.now (entry_row entry.now)) }
     ensures ok { IsHonest (T.seen tx.new) → (b : Broker) (x : Token) (f : Token → Token)
         → Tells of_tokens (table (T.seen tx.old)) b → get b.tokens token.now ≡ Some x
         → token_entry (f x) ≡ entry.now → ((y : Token) → (f y).accessor ≡ y.accessor)
@@ -105,10 +116,15 @@ fn rewrite<T: RecordsTx>(
 /// nothing. It fails as `Damaged` if the row of the token is not one, and also if memory runs out or the storage fails
 /// (Vault's documentation, "Tokens", use limits).
 pub fn spend<T: RecordsTx>(alloc: Global, tx: &mut T, token: &str) -> Result<(), Fault>
+    ensures rows { IsHonest (T.seen tx.new)
+        → OnOk result (ChangesToken token.now spent_entry (table (T.seen tx.old)) (table (T.seen tx.new))) }
     ensures ok { OfEachBroker (T.seen tx.old) (T.seen tx.new) (λ b.
         OnOk result (Tells of_tokens (table (T.seen tx.new)) (spending.spend b token.now))) }
     ensures others { IsHonest (T.seen tx.new)
         → OnOk result (KeepsOthers of_tokens (table (T.seen tx.old)) (table (T.seen tx.new))) }
+    ensures started { IfErr result (λ fault. fault ≢ Fault.BadStart) }
+    ensures damaged { IsHonest (T.seen tx.new) → IfErr result
+        (λ fault. fault ≡ Fault.Damaged → IsDamagedToken (table (T.seen tx.old)) token.now) }
     ensures undamaged { OfEachBroker (T.seen tx.old) (T.seen tx.new) (λ b. IfErr result IsMemoryOrStorage) }
     ensures goes_on { GoesOn (T.seen tx.old) (T.seen tx.new) (is_storage result) }
 {
@@ -127,10 +143,15 @@ pub fn spend<T: RecordsTx>(alloc: Global, tx: &mut T, token: &str) -> Result<(),
 /// documentation, "Tokens", renew).
 pub fn renew<T: RecordsTx>(alloc: Global, tx: &mut T, token: &str, ends: Due) -> Result<(), Fault>
     requires { IsEnd ends }
+    ensures rows { IsHonest (T.seen tx.new)
+        → OnOk result (ChangesToken token.now (renewed_entry ends) (table (T.seen tx.old)) (table (T.seen tx.new))) }
     ensures ok { OfEachBroker (T.seen tx.old) (T.seen tx.new) (λ b.
         OnOk result (Tells of_tokens (table (T.seen tx.new)) (tokens.renew b token.now ends))) }
     ensures others { IsHonest (T.seen tx.new)
         → OnOk result (KeepsOthers of_tokens (table (T.seen tx.old)) (table (T.seen tx.new))) }
+    ensures started { IfErr result (λ fault. fault ≢ Fault.BadStart) }
+    ensures damaged { IsHonest (T.seen tx.new) → IfErr result
+        (λ fault. fault ≡ Fault.Damaged → IsDamagedToken (table (T.seen tx.old)) token.now) }
     ensures undamaged { OfEachBroker (T.seen tx.old) (T.seen tx.new) (λ b. IfErr result IsMemoryOrStorage) }
     ensures goes_on { GoesOn (T.seen tx.old) (T.seen tx.new) (is_storage result) }
 {

@@ -1,9 +1,11 @@
 //! Expiry: what has come to its end is removed, with all under it.
 
-ghost use Rattle.std.specs.Prelude.{IfOk, IfErr, OnOk};
+ghost use Rattle.std.specs.Prelude.{◌≡◌, ◌≢◌, IfOk, IfErr, OnOk};
 ghost use Rattle.broker_types.specs.Fault.{IsMemoryOrStorage};
 ghost use Rattle.records.specs.Parts.{of_tokens, Tells, KeepsOthers};
 ghost use Rattle.records.specs.Transaction.{IsHonest, GoesOn, is_storage};
+ghost use Rattle.token_tree.specs.Ended.{has_come};
+ghost use Rattle.token_tree.specs.Endings.{EndsDescent, IsDamagedDescent};
 ghost use Rattle.token_tree.specs.Tokens.{table, OfEachBroker, AreEnded, without_expired};
 
 use crate::descending::descent;
@@ -14,19 +16,24 @@ use records::{Kind, RecordsTx};
 use std::alloc::Global;
 
 /// Ends the tokens whose end has come by the clock, with all under them, and answers the tokens that ended, each once.
-/// It fails as `Damaged` if the row of a token is not one, and also if memory runs out or the storage fails (Vault's
-/// documentation, "Lease, renew, and revoke").
+/// It fails as `Damaged` if the row of a token that ends is not one of a token, and also if memory runs out or the
+/// storage fails (Vault's documentation, "Lease, renew, and revoke").
 pub fn sweep_tokens<T: RecordsTx>(
     alloc: Global,
     tx: &mut T,
     clock: Moment,
 ) -> Result<Vec<TextBuf>, Fault>
+    ensures rows { IsHonest (T.seen tx.new) → IfOk result (λ list.
+        EndsDescent (has_come clock) (T.seen tx.old).rows list.items (T.seen tx.new).rows) }
     ensures ok { OfEachBroker (T.seen tx.old) (T.seen tx.new) (λ b.
         OnOk result (Tells of_tokens (table (T.seen tx.new)) (without_expired b clock))) }
     ensures ended { OfEachBroker (T.seen tx.old) (T.seen tx.new) (λ b.
         IfOk result (λ list. AreEnded b (without_expired b clock) list.items)) }
     ensures others { IsHonest (T.seen tx.new)
         → OnOk result (KeepsOthers of_tokens (table (T.seen tx.old)) (table (T.seen tx.new))) }
+    ensures started { IfErr result (λ fault. fault ≢ Fault.BadStart) }
+    ensures damaged { IsHonest (T.seen tx.new) → IfErr result
+        (λ fault. fault ≡ Fault.Damaged → IsDamagedDescent (has_come clock) (T.seen tx.old).rows) }
     ensures undamaged { OfEachBroker (T.seen tx.old) (T.seen tx.new) (λ b. IfErr result IsMemoryOrStorage) }
     ensures goes_on { GoesOn (T.seen tx.old) (T.seen tx.new) (is_storage result) }
 {

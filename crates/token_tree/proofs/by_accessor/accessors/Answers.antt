@@ -2,11 +2,11 @@ use Rattle.std.proofs.Common.{[], ap, ◌∙◌, sym, subst}
 use Rattle.std.specs.List.{AllByRecursion}
 use Rattle.std.proofs.lemmas.Result.{IfOk-weaker}
 use Rattle.token_tree.specs.Accessors.{IsAccessorRow, with_accessors}
-use Rattle.token_tree.proofs.Names.{accessors_listed, accessors_readable}
+use Rattle.token_tree.proofs.Names.{accessors_listed, accessors_readable, collected}
 use Rattle.token_tree.proofs.by_accessor.accessors.Goals as goal
 
-pub returns-clause-found : goal.returns-clause-found
-returns-clause-found g c honest forms b stands =
+pub returns-clause-told : goal.returns-clause-told
+returns-clause-told g c honest forms b stands =
     let rows = (g.T.RecordsTx.seen c.args.tx.now).rows in
     IfOk-weaker c.names_of.result _ _ (λ names is.
     is ∙ ap (λ es. with_accessors es []) (c.deref.ensures.value ∙ c.in_ok-listed.ensures.listed honest)
@@ -17,3 +17,8 @@ returns-clause-undamaged g c honest forms b stands =
     let rows = (g.T.RecordsTx.seen c.args.tx.now).rows in
     c.names_of.ensures.undamaged
     (subst (AllByRecursion IsAccessorRow) (sym (c.deref.ensures.value ∙ c.in_ok-listed.ensures.listed honest)) (accessors_readable b rows stands.tells))
+
+pub returns-clause-found : goal.returns-clause-found
+returns-clause-found g c honest =
+    IfOk-weaker c.names_of.result _ _ (λ names is.
+    is ∙ ap (λ es. with_accessors es []) (c.deref.ensures.value ∙ c.in_ok-listed.ensures.listed honest) ∙ collected _ []) c.names_of.ensures.ok

@@ -9,4 +9,5 @@ invariant-loop-entry l =
     record {
       names : with_accessors (drop l.entry-index l.entries) l.names.items ≡ with_accessors l.entries [];
       left : AllByRecursion IsAccessorRow l.entries → AllByRecursion IsAccessorRow (drop l.entry-index l.entries);
+      read : AllByRecursion IsAccessorRow (drop l.entry-index l.entries) → AllByRecursion IsAccessorRow l.entries;
     }

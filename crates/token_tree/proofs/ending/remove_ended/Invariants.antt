@@ -1,7 +1,6 @@
 use Rattle.std.proofs.Common.{◌≡◌, false, drop}
-use Rattle.std.specs.List.{AllByRecursion}
 use Rattle.records.specs.Transaction.{IsHonest, GoesOn}
-use Rattle.token_tree.specs.Removed.{without_ended, IsTokenRow}
+use Rattle.token_tree.specs.Removed.{without_ended, AreReadable}
 use Rattle.token_tree.proofs.ending.remove_ended.Given as goal
 
 -- to take out what is left leads to the same rows
@@ -11,6 +10,7 @@ invariant-loop-entry g l =
     record {
       rows : IsHonest (seen l.tx) → without_ended l.ended (drop l.entry-index l.entries) (seen l.tx).rows
           ≡ without_ended l.ended l.entries (seen l.initial.tx).rows;
-      left : AllByRecursion IsTokenRow l.entries → AllByRecursion IsTokenRow (drop l.entry-index l.entries);
+      left : AreReadable l.ended l.entries → AreReadable l.ended (drop l.entry-index l.entries);
+      read : AreReadable l.ended (drop l.entry-index l.entries) → AreReadable l.ended l.entries;
       goes_on : GoesOn (seen l.initial.tx) (seen l.tx) false;
     }

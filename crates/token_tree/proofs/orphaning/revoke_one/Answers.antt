@@ -7,6 +7,7 @@ use Rattle.records.specs.ValueLaws.{none_of}
 use Rattle.records.specs.declared.kind.Kind.TheVariants as kind
 use Rattle.records.specs.Transaction.{rows_under}
 use Rattle.token_tree.specs.Removed.{without_ended}
+use Rattle.token_tree.proofs.TokenEnds.{ends_alone, no_damage_alone}
 use Rattle.token_tree.proofs.Ends.{readable}
 use Rattle.token_tree.proofs.Orphans.{revoked_one, revoked_one_each, orphaned_unknown, orphaned_none, is_token, parents_keep}
 use Rattle.token_tree.proofs.Removals.{others_stay}
@@ -36,7 +37,7 @@ returns-in_err-remove_ended-clause-undamaged g c honest forms b stands =
     let listed = c.in_ok-entries.ensures.listed early ∙ ap (λ rows. rows_under rows kind.Token []) (c.in_ok-get.ensures.same first) in
     let p = err_from_is_err_and c.from_residual-in_err-remove_ended.result c.from_residual-in_err-remove_ended.ensures.1 in
     rw (p.1, p.2) (c.in_err-remove_ended.ensures.undamaged
-    (readable forms b (seen c.args.tx.now).rows stands c.deref.result.now (c.deref.ensures.value ∙ listed)))
+    (readable forms b (seen c.args.tx.now).rows stands c.deref-2.result.now c.deref.result.now (c.deref.ensures.value ∙ listed)))
 
 pub returns-clause-ok : goal.returns-clause-ok
 returns-clause-ok g c honest forms b stands =
@@ -81,3 +82,29 @@ returns-clause-others g c honest k q h =
     ∙ ap (λ m. table_of m k q) (c.in_ok-remove_ended.ensures.rows mid
     ∙ ap (without_ended c.deref-2.result.now c.deref.result.now) (c.in_ok-entries.ensures.same early ∙ c.in_ok-get.ensures.same first))
     ∙ others_stay c.deref-2.result.now c.deref.result.now (seen c.args.tx.now).rows k q h
+
+pub returns-clause-rows : goal.returns-clause-rows
+returns-clause-rows g c honest =
+    let seen = g.T.RecordsTx.seen in
+    let mid = honest_before (seen c.remove_ended.new.tx) (seen c.orphan_children.new.tx) _ c.orphan_children.ensures.call.goes_on honest in
+    let early = honest_before (seen c.under.new.self) (seen c.remove_ended.new.tx) _ c.in_ok-remove_ended.ensures.goes_on mid in
+    let first = honest_before (seen c.get.new.self) (seen c.under.new.self) _ c.in_ok-entries.ensures.goes_on early in
+    let was = c.in_ok-get.ensures.same first in
+    let listed = c.in_ok-entries.ensures.listed early ∙ ap (λ rows. rows_under rows kind.Token []) was in
+    let made : c.in_ok-ended.ended.items ≡ c.args.token.now ∷ [] = c.in_ok-ended.ensures.items ∙ ap (λ t. t ∷ []) c.in_ok-one.ensures in
+    ends_alone (seen c.args.tx.now).rows c.args.token.now _ (sym (c.in_ok-get.ensures.found first) ∙ c.in-Some.is) c.deref.result.now c.deref-2.result.now
+    (c.deref.ensures.value ∙ listed) (c.deref-2.ensures.value ∙ made) c.in_ok-remove_ended.ensures.readable c.deref-3.result.now
+    (c.deref-3.ensures.value ∙ listed) (seen c.remove_ended.new.tx).rows (seen c.orphan_children.new.tx).rows
+    (c.in_ok-remove_ended.ensures.rows mid ∙ ap (without_ended c.deref-2.result.now c.deref.result.now) (c.in_ok-entries.ensures.same early ∙ was))
+    (c.in_ok-orphan_children.ensures.rows honest) c.in_ok-ended.ended.items made
+
+pub returns-in_err-remove_ended-clause-damaged : goal.returns-in_err-remove_ended-clause-damaged
+returns-in_err-remove_ended-clause-damaged g c honest =
+    let seen = g.T.RecordsTx.seen in
+    let early = honest_before (seen c.under.new.self) (seen c.remove_ended.new.tx) _ c.remove_ended.ensures.goes_on honest in
+    let first = honest_before (seen c.get.new.self) (seen c.under.new.self) _ c.in_ok-entries.ensures.goes_on early in
+    let listed = c.in_ok-entries.ensures.listed early ∙ ap (λ rows. rows_under rows kind.Token []) (c.in_ok-get.ensures.same first) in
+    let made : c.in_ok-ended.ended.items ≡ c.args.token.now ∷ [] = c.in_ok-ended.ensures.items ∙ ap (λ t. t ∷ []) c.in_ok-one.ensures in
+    let p = err_from_is_err_and c.from_residual-in_err-remove_ended.result c.from_residual-in_err-remove_ended.ensures.1 in
+    rw (p.1, p.2) (no_damage_alone (seen c.args.tx.now).rows c.args.token.now _ (sym (c.in_ok-get.ensures.found first) ∙ c.in-Some.is) c.deref.result.now
+    c.deref-2.result.now (c.deref.ensures.value ∙ listed) (c.deref-2.ensures.value ∙ made) _ c.in_err-remove_ended.ensures.undamaged)

@@ -3,9 +3,10 @@ use Rattle.std.proofs.lemmas.Result.{err_from_is_err_and}
 use Rattle.records.specs.Parts.{of_tokens, KeepsOthers}
 use Rattle.records.specs.Table.{table_of}
 use Rattle.records.specs.CallLaws.{honest_before}
-use Rattle.token_tree.specs.Ended.{IsDescent}
+use Rattle.token_tree.specs.Ended.{IsDescent, is_named}
 use Rattle.token_tree.specs.Removed.{without_ended}
 use Rattle.token_tree.proofs.Removals.{others_stay}
+use Rattle.token_tree.proofs.TokenEnds.{ends_descent, no_damage}
 use Rattle.token_tree.proofs.Ends.{readable, revoked_each, revoked_rows, revoked_unknown}
 use Rattle.token_tree.proofs.revoking.revoke.Goals as goal
 
@@ -15,7 +16,8 @@ returns-in_err-remove_ended-clause-undamaged g c honest forms b stands =
     let mid = honest_before (seen c.under.new.self) (seen c.remove_ended.new.tx) _ c.remove_ended.ensures.goes_on honest in
     let p = err_from_is_err_and c.from_residual-in_err-remove_ended.result c.from_residual-in_err-remove_ended.ensures.1 in
     rw (p.1, p.2) (c.in_err-remove_ended.ensures.undamaged
-    (readable forms b (seen c.args.tx.now).rows stands c.deref-2.result.now (c.deref-2.ensures.value ∙ c.in_ok-entries.ensures.listed mid)))
+    (readable forms b (seen c.args.tx.now).rows stands c.deref-3.result.now c.deref-2.result.now
+    (c.deref-2.ensures.value ∙ c.in_ok-entries.ensures.listed mid)))
 
 pub returns-clause-ok : goal.returns-clause-ok
 returns-clause-ok g c honest forms b stands =
@@ -48,3 +50,24 @@ returns-clause-unknown g c honest forms b stands none =
     revoked_unknown forms b rows stands c.args.token.now none (g.T.RecordsTx.seen c.remove_ended.new.tx).rows
     (returns-clause-ok g c honest forms b stands) (returns-clause-others g c honest) c.in_ok-ended.ended.items
     (returns-clause-ended g c honest forms b stands)
+
+pub returns-clause-rows : goal.returns-clause-rows
+returns-clause-rows g c honest =
+    let seen = g.T.RecordsTx.seen in
+    let mid = honest_before (seen c.under.new.self) (seen c.remove_ended.new.tx) _ c.remove_ended.ensures.goes_on honest in
+    let listed = c.in_ok-entries.ensures.listed mid in
+    ends_descent (is_named c.args.token.now) (seen c.args.tx.now).rows c.deref.result.now c.deref-2.result.now c.deref-3.result.now c.in_ok-ended.ended.items
+    (c.deref.ensures.value ∙ listed) (c.deref-2.ensures.value ∙ listed) c.deref-3.ensures.value
+    c.in_ok-ended.ensures.ok
+    c.in_ok-remove_ended.ensures.readable (seen c.remove_ended.new.tx).rows
+    (c.in_ok-remove_ended.ensures.rows honest ∙ ap (without_ended c.deref-3.result.now c.deref-2.result.now) (c.in_ok-entries.ensures.same mid))
+
+pub returns-in_err-remove_ended-clause-damaged : goal.returns-in_err-remove_ended-clause-damaged
+returns-in_err-remove_ended-clause-damaged g c honest =
+    let seen = g.T.RecordsTx.seen in
+    let mid = honest_before (seen c.under.new.self) (seen c.remove_ended.new.tx) _ c.remove_ended.ensures.goes_on honest in
+    let listed = c.in_ok-entries.ensures.listed mid in
+    let p = err_from_is_err_and c.from_residual-in_err-remove_ended.result c.from_residual-in_err-remove_ended.ensures.1 in
+    rw (p.1, p.2) (no_damage (is_named c.args.token.now) (seen c.args.tx.now).rows c.deref.result.now c.deref-2.result.now c.deref-3.result.now
+    c.in_ok-ended.ended.items (c.deref.ensures.value ∙ listed) (c.deref-2.ensures.value ∙ listed) c.deref-3.ensures.value
+    c.in_ok-ended.ensures.ok _ c.in_err-remove_ended.ensures.undamaged)

@@ -38,3 +38,16 @@ returns-clause-others g c honest =
     ∙ accessor_keeps (table_of (seen c.put_token.new.tx).rows) c.as_str.result.now c.in_ok-row.row k q h
     ∙ ap (λ (table : Table). table k q) (ap table_of (c.in_ok-put_token.ensures.rows mid) ∙ table_of-insert rows kind.Token t r)
     ∙ put_keeps (table_of rows) t r k q h) (c.put.ensures.rows honest)
+
+pub returns-clause-rows : goal.returns-clause-rows
+returns-clause-rows g c honest =
+    let seen = g.T.RecordsTx.seen in
+    let mid = honest_before (seen c.put_token.new.tx) (seen c.put.new.self) _ c.put.ensures.goes_on honest in
+    let rows = (seen c.args.tx.now).rows in
+    let t = c.args.token.now in
+    let first : table_of (seen c.put_token.new.tx).rows ≡ with_row (table_of rows) kind.Token t (entry_row c.args.entry.now) =
+    ap table_of (c.in_ok-put_token.ensures.rows mid) ∙ table_of-insert rows kind.Token t (entry_row c.args.entry.now) in
+    let accessor : c.as_str.result.now ≡ c.args.entry.now.accessor = c.as_str.ensures ∙ ap (λ (e : TokenEntry). e.accessor) c.entry.view_is in
+    on_ok_weaker c.put.result (λ put.
+    ap table_of put ∙ table_of-insert (seen c.put_token.new.tx).rows kind.Accessor c.as_str.result.now c.in_ok-row.row
+    ∙ (λ i. with_row (first i) kind.Accessor (accessor i) (c.in_ok-row.ensures i))) (c.put.ensures.rows honest)

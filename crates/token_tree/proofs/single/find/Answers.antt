@@ -11,8 +11,8 @@ use Rattle.records.specs.RangeLaws.{token_in_range}
 use Rattle.token_tree.proofs.Singles.{token_row_at}
 use Rattle.token_tree.proofs.single.find.Goals as goal
 
-pub returns-in_default-clause-found : goal.returns-in_default-clause-found
-returns-in_default-clause-found g c honest forms b stands =
+pub returns-in_default-clause-told : goal.returns-in_default-clause-told
+returns-in_default-clause-told g c honest forms b stands =
     let found = token_row_at b (g.T.RecordsTx.seen c.args.tx.now).rows stands.tells c.args.token.now in
     sym (ap (option_map token_entry)
     (mapped_none token_row (get b.tokens c.args.token.now) (sym found ∙ sym (c.in_ok-kept.ensures.found honest) ∙ none_of _ c.in_default.not-Some)))
@@ -25,8 +25,8 @@ returns-in_err-read_token-clause-undamaged g c honest forms b stands =
     rw (p.1, p.2) (subst IsMemoryOrStorage
     (sym (c.in_err-read_token.ensures.again (token_entry x.0) (token_in_range forms b.tokens stands.sound c.args.token.now x.0 x.1) x.2)) tt)
 
-pub returns-clause-found : goal.returns-clause-found
-returns-clause-found g c honest forms b stands =
+pub returns-clause-told : goal.returns-clause-told
+returns-clause-told g c honest forms b stands =
     let found = token_row_at b (g.T.RecordsTx.seen c.args.tx.now).rows stands.tells c.args.token.now in
     let x = mapped token_row (get b.tokens c.args.token.now) c.in-Some.kept (sym found ∙ sym (c.in_ok-kept.ensures.found honest) ∙ c.in-Some.is) in
     ap Some (c.in_ok-read_token.ensures.again (token_entry x.0) (token_in_range forms b.tokens stands.sound c.args.token.now x.0 x.1) x.2)

@@ -19,7 +19,7 @@ pub returns-in_default-clause-ok : goal.returns-in_default-clause-ok
 returns-in_default-clause-ok g c honest forms b stands k q h =
     let t = c.args.token.now in
     let none : get b.tokens t ≡ None = mapped_none token_entry (get b.tokens t)
-    (sym (c.in_ok-record.ensures.found honest forms b stands) ∙ none_of _ c.in_default.not-Some) in
+    (sym (c.in_ok-record.ensures.told honest forms b stands) ∙ none_of _ c.in_default.not-Some) in
     let still = change_same b.tokens t (with_end c.args.ends) (λ x is. absurd (none-some _ (sym none ∙ is))) in
     ap (λ rows. table_of rows k q) (c.in_ok-record.ensures.same honest) ∙ stands.tells k q h ∙ ap (λ ts. rows_of (record b { tokens = ts }) k q) (sym still)
 
@@ -45,7 +45,7 @@ returns-clause-ok g c honest forms b stands =
     let seen = g.T.RecordsTx.seen in
     let mid = honest_before (seen c.find.new.tx) (seen c.rewrite.new.tx) _ c.rewrite.ensures.call.goes_on honest in
     let t = c.args.token.now in
-    let x = mapped token_entry (get b.tokens t) c.in-Some.record (sym (c.in_ok-record.ensures.found mid forms b stands) ∙ c.in-Some.is) in
+    let x = mapped token_entry (get b.tokens t) c.in-Some.record (sym (c.in_ok-record.ensures.told mid forms b stands) ∙ c.in-Some.is) in
     let whole = c.record.view_is ∙ x.2 in
     c.rewrite.ensures.ok honest b x.0 (with_end c.args.ends)
     (subst (λ rows. Tells of_tokens (table_of rows) b) (sym (c.in_ok-record.ensures.same mid)) stands.tells) x.1

@@ -5,7 +5,9 @@ use Rattle.broker_types.specs.Map.{get}
 use Rattle.broker_types.specs.Token.{Token}
 use Rattle.records.specs.Parts.{of_tokens, Tells}
 use Rattle.records.specs.Rows.{rows_of}
-use Rattle.records.specs.Table.{table_of}
+use Rattle.records.specs.declared.kind.Kind.TheVariants as kind
+use Rattle.records.specs.RowForms.{entry_row}
+use Rattle.records.specs.Table.{table_of, with_row}
 use Rattle.records.specs.TokenEntry.{TokenEntry, token_entry}
 use Rattle.records.specs.Ranges.{IsTokenInRange}
 use Rattle.std.proofs.lemmas.Option.{none-some, same_Some}
@@ -13,14 +15,15 @@ use Rattle.broker_types.specs.OptionLaws.{mapped, mapped_none}
 use Rattle.records.specs.ValueLaws.{none_of}
 use Rattle.records.specs.CallLaws.{honest_before}
 use Rattle.broker_types.specs.Spending.{one_less}
-use Rattle.token_tree.proofs.Singles.{change_same}
+use Rattle.token_tree.specs.TokenRows.{spent_entry}
+use Rattle.token_tree.proofs.Singles.{change_same, row_again}
 use Rattle.token_tree.proofs.single.spend.Goals as goal
 
 pub returns-in_default-clause-ok : goal.returns-in_default-clause-ok
 returns-in_default-clause-ok g c honest forms b stands k q h =
     let t = c.args.token.now in
     let none : get b.tokens t ≡ None = mapped_none token_entry (get b.tokens t)
-    (sym (c.in_ok-record.ensures.found honest forms b stands) ∙ none_of _ c.in_default.not-Some) in
+    (sym (c.in_ok-record.ensures.told honest forms b stands) ∙ none_of _ c.in_default.not-Some) in
     let still = change_same b.tokens t one_less (λ x is. absurd (none-some _ (sym none ∙ is))) in
     ap (λ rows. table_of rows k q) (c.in_ok-record.ensures.same honest) ∙ stands.tells k q h ∙ ap (λ ts. rows_of (record b { tokens = ts }) k q) (sym still)
 
@@ -30,7 +33,7 @@ unlimited x none = λ i. record x { uses_left = (ap (option_map (λ (n : ℕ). n
 pub returns-in_default-uses_left-clause-ok : goal.returns-in_default-uses_left-clause-ok
 returns-in_default-uses_left-clause-ok g c honest forms b stands k q h =
     let t = c.args.token.now in
-    let x = mapped token_entry (get b.tokens t) c.in-Some.record (sym (c.in_ok-record.ensures.found honest forms b stands) ∙ c.in-Some.is) in
+    let x = mapped token_entry (get b.tokens t) c.in-Some.record (sym (c.in_ok-record.ensures.told honest forms b stands) ∙ c.in-Some.is) in
     let none : x.0.uses_left ≡ None = ap (λ (e : TokenEntry). e.uses_left) (sym (c.record.view_is ∙ x.2)) ∙ none_of _ c.in_default-uses_left.not-Some in
     let still = change_same b.tokens t one_less (λ y is. unlimited y (ap (λ (z : Token). z.uses_left) ((same_Some _ _ (sym is ∙ x.1))) ∙ none)) in
     ap (λ rows. table_of rows k q) (c.in_ok-record.ensures.same honest) ∙ stands.tells k q h ∙ ap (λ ts. rows_of (record b { tokens = ts }) k q) (sym still)
@@ -59,7 +62,7 @@ returns-clause-ok g c honest forms b stands =
     let seen = g.T.RecordsTx.seen in
     let mid = honest_before (seen c.find.new.tx) (seen c.rewrite.new.tx) _ c.rewrite.ensures.call.goes_on honest in
     let t = c.args.token.now in
-    let x = mapped token_entry (get b.tokens t) c.in-Some.record (sym (c.in_ok-record.ensures.found mid forms b stands) ∙ c.in-Some.is) in
+    let x = mapped token_entry (get b.tokens t) c.in-Some.record (sym (c.in_ok-record.ensures.told mid forms b stands) ∙ c.in-Some.is) in
     let whole = c.record.view_is ∙ x.2 in
     let uses : x.0.uses_left ≡ Some c.in-Some-uses_left.uses = ap (λ (e : TokenEntry). e.uses_left) (sym whole) ∙ c.in-Some-uses_left.is in
     let less : option_map (λ (n : ℕ). n - 1) x.0.uses_left ≡ Some c.saturating_sub.result = ap (option_map (λ (n : ℕ). n - 1)) uses
@@ -71,3 +74,21 @@ pub returns-in_err-record-clause-undamaged : goal.returns-in_err-record-clause-u
 returns-in_err-record-clause-undamaged g c honest forms b stands =
     let p = err_from_is_err_and c.from_residual.result c.from_residual.ensures.1 in
     rw (p.1, p.2) (c.in_err-record.ensures.undamaged honest forms b stands)
+
+unlimited_entry : (x : TokenEntry) → x.uses_left ≡ None → spent_entry x ≡ x
+unlimited_entry x none = λ i. record x { uses_left = (ap (option_map (λ (n : ℕ). n - 1)) none ∙ sym none) i }
+
+pub returns-in_default-uses_left-clause-rows : goal.returns-in_default-uses_left-clause-rows
+returns-in_default-uses_left-clause-rows g c honest =
+    let old = table_of (g.T.RecordsTx.seen c.args.tx.now).rows in
+    let t = c.args.token.now in
+    let x = c.in-Some.record in
+    let here = c.in_ok-record.ensures.found honest ∙ ap (option_map entry_row) c.in-Some.is in
+    let none : x.uses_left ≡ None = ap (λ (e : TokenEntry). e.uses_left) (sym c.record.view_is) ∙ none_of _ c.in_default-uses_left.not-Some in
+    record {
+      entry = Some x;
+      in_range = λ y e. c.in_ok-record.ensures.in_range y (c.in-Some.is ∙ e);
+      was = here;
+      is = ap table_of (c.in_ok-record.ensures.same honest) ∙ sym (row_again old t (entry_row x) here)
+          ∙ ap (λ (e : TokenEntry). with_row old kind.Token t (entry_row e)) (sym (unlimited_entry x none));
+    }

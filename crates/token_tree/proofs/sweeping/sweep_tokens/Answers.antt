@@ -6,6 +6,7 @@ use Rattle.records.specs.CallLaws.{honest_before}
 use Rattle.token_tree.specs.Ended.{has_come, IsDescent}
 use Rattle.token_tree.specs.Removed.{without_ended}
 use Rattle.token_tree.proofs.Removals.{others_stay}
+use Rattle.token_tree.proofs.TokenEnds.{ends_descent, no_damage}
 use Rattle.token_tree.proofs.Ends.{readable, swept_each, swept_rows}
 use Rattle.token_tree.proofs.sweeping.sweep_tokens.Goals as goal
 
@@ -15,7 +16,8 @@ returns-in_err-remove_ended-clause-undamaged g c honest forms b stands =
     let mid = honest_before (seen c.under.new.self) (seen c.remove_ended.new.tx) _ c.remove_ended.ensures.goes_on honest in
     let p = err_from_is_err_and c.from_residual-in_err-remove_ended.result c.from_residual-in_err-remove_ended.ensures.1 in
     rw (p.1, p.2) (c.in_err-remove_ended.ensures.undamaged
-    (readable forms b (seen c.args.tx.now).rows stands c.deref-2.result.now (c.deref-2.ensures.value ∙ c.in_ok-entries.ensures.listed mid)))
+    (readable forms b (seen c.args.tx.now).rows stands c.deref-3.result.now c.deref-2.result.now
+    (c.deref-2.ensures.value ∙ c.in_ok-entries.ensures.listed mid)))
 
 pub returns-clause-ok : goal.returns-clause-ok
 returns-clause-ok g c honest forms b stands =
@@ -44,3 +46,25 @@ returns-clause-others g c honest =
     subst (λ rows. KeepsOthers of_tokens (table_of (seen c.args.tx.now).rows) (table_of rows))
     (sym (c.in_ok-remove_ended.ensures.rows honest ∙ ap (without_ended c.deref-3.result.now c.deref-2.result.now) (c.in_ok-entries.ensures.same mid)))
     (others_stay c.deref-3.result.now c.deref-2.result.now (seen c.args.tx.now).rows)
+
+pub returns-clause-rows : goal.returns-clause-rows
+returns-clause-rows g c honest =
+    let seen = g.T.RecordsTx.seen in
+    let mid = honest_before (seen c.under.new.self) (seen c.remove_ended.new.tx) _ c.remove_ended.ensures.goes_on honest in
+    let listed = c.in_ok-entries.ensures.listed mid in
+    ends_descent (has_come c.args.clock) (seen c.args.tx.now).rows c.deref.result.now c.deref-2.result.now c.deref-3.result.now c.in_ok-ended.ended.items
+    (c.deref.ensures.value ∙ listed) (c.deref-2.ensures.value ∙ listed) c.deref-3.ensures.value
+    (subst (λ n. IsDescent (has_come n) c.deref.result.now c.in_ok-ended.ended.items) c.seconds.ensures.value c.in_ok-ended.ensures.ok)
+    c.in_ok-remove_ended.ensures.readable (seen c.remove_ended.new.tx).rows
+    (c.in_ok-remove_ended.ensures.rows honest ∙ ap (without_ended c.deref-3.result.now c.deref-2.result.now) (c.in_ok-entries.ensures.same mid))
+
+pub returns-in_err-remove_ended-clause-damaged : goal.returns-in_err-remove_ended-clause-damaged
+returns-in_err-remove_ended-clause-damaged g c honest =
+    let seen = g.T.RecordsTx.seen in
+    let mid = honest_before (seen c.under.new.self) (seen c.remove_ended.new.tx) _ c.remove_ended.ensures.goes_on honest in
+    let listed = c.in_ok-entries.ensures.listed mid in
+    let p = err_from_is_err_and c.from_residual-in_err-remove_ended.result c.from_residual-in_err-remove_ended.ensures.1 in
+    rw (p.1, p.2) (no_damage (has_come c.args.clock) (seen c.args.tx.now).rows c.deref.result.now c.deref-2.result.now c.deref-3.result.now
+    c.in_ok-ended.ended.items (c.deref.ensures.value ∙ listed) (c.deref-2.ensures.value ∙ listed) c.deref-3.ensures.value
+    (subst (λ n. IsDescent (has_come n) c.deref.result.now c.in_ok-ended.ended.items) c.seconds.ensures.value c.in_ok-ended.ensures.ok)
+    _ c.in_err-remove_ended.ensures.undamaged)
