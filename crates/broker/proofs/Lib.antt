@@ -2,7 +2,9 @@ pub mod ClockCalls
 pub mod Clocks
 pub mod CubbyholeAnswers
 pub mod CubbyholeRoutes
+pub mod Ended
 pub mod Examples
+pub mod Expired
 pub mod FirstRows
 pub mod Operations
 pub mod Routes

@@ -2,6 +2,7 @@ pub mod Act
 pub mod ClockRow
 pub mod Command
 pub mod Cubbyholes
+pub mod Ending
 pub mod Forms
 pub mod Kept
 pub mod Laws
