@@ -27,7 +27,7 @@ use Rattle.token_tree.specs.Tokens.{AreEnded}
 use Rattle.cubbyhole.specs.Cubbyhole.{object_at}
 use Rattle.cubbyhole.specs.Laws.{without_owners}
 use Rattle.cubbyhole.specs.Objects.{object_key}
-use Rattle.broker.specs.Ending.{AreTokenLong, LosesObjects, HaveNoLeases}
+use Rattle.broker.specs.Ending.{of_ended, AreTokenLong, LosesObjects, HaveNoLeases}
 
 -- ---- on any rows
 
@@ -104,6 +104,41 @@ no_credential_row b none q = elim (found_or_not (first_where (λ t x. not (is_no
 abbrev pub KeepCubbyholes : Tokens → Tokens → Type 0
 KeepCubbyholes ts us = (t : Text) (y : Token) → get us t ≡ Some y → (x : Token) × (get ts t ≡ Some x) × (y.cubbyhole ≡ x.cubbyhole)
 
+-- rows of tokens and cubbyholes that are those of other tokens, where nothing else has changed
+pub other_tokens : (b : Broker) (us : Tokens) (old new : Table) → old ≡ rows_of b → Tells of_tokens new (record b { tokens = us })
+    → Tells of_cubbyholes new (record b { tokens = us }) → KeepsOthers of_ended old new → HaveNoLeases b.tokens → HaveNoLeases us
+    → new ≡ rows_of (record b { tokens = us })
+other_tokens b us old new was tokens objects others none none_after =
+    joined_rows of_tokens_and_theirs old new b c was told keeps (rows_of-other_tokens b us)
+  where
+    c : Broker
+    c = record b { tokens = us }
+
+    told : Tells of_tokens_and_theirs new c
+    told kind.Token q h = tokens kind.Token q refl
+    told kind.Accessor q h = tokens kind.Accessor q refl
+    told kind.Cubby q h = objects kind.Cubby q refl
+    told kind.Lease q h =
+        others kind.Lease q refl ∙ ap (λ (t : Table). t kind.Lease q) was ∙ no_lease_row b none q ∙ sym (no_lease_row c none_after q)
+    told kind.Credential q h =
+        others kind.Credential q refl ∙ ap (λ (t : Table). t kind.Credential q) was ∙ no_credential_row b none q
+        ∙ sym (no_credential_row c none_after q)
+    told _ q h = absurd (false≢true h)
+
+    keeps : KeepsOthers of_tokens_and_theirs old new
+    keeps kind.Token q h = absurd (true≢false h)
+    keeps kind.Accessor q h = absurd (true≢false h)
+    keeps kind.Cubby q h = absurd (true≢false h)
+    keeps kind.Lease q h = absurd (true≢false h)
+    keeps kind.Credential q h = absurd (true≢false h)
+    keeps k q h = others k q refl
+
+-- a row of a token or of an accessor is none of a cubbyhole
+pub no_cubbyhole : (k : Kind) → of_tokens k ≡ true → of_cubbyholes k ≡ false
+no_cubbyhole kind.Token h = refl
+no_cubbyhole kind.Accessor h = refl
+no_cubbyhole _ h = absurd (false≢true h)
+
 module _ (b : Broker) (us : Tokens) (ended : List Text) (are : AreEnded b (record b { tokens = us }) ended) where
   abbrev c : Broker
   c = record b { tokens = us }
@@ -138,24 +173,7 @@ module _ (b : Broker) (us : Tokens) (ended : List Text) (are : AreEnded b (recor
   -- the rows are those of the broker without them
   pub rows_left : (old mid new : Table) → old ≡ rows_of b → Tells of_tokens mid c → KeepsOthers of_tokens old mid → Tells of_cubbyholes new c
       → KeepsOthers of_cubbyholes mid new → HaveNoLeases b.tokens → HaveNoLeases us → new ≡ rows_of c
-  rows_left old mid new was tells others objects kept none none_after = joined_rows of_tokens_and_theirs old new b c was told keeps (rows_of-other_tokens b us)
-    where
-      told : Tells of_tokens_and_theirs new c
-      told kind.Token q h = kept kind.Token q refl ∙ tells kind.Token q refl
-      told kind.Accessor q h = kept kind.Accessor q refl ∙ tells kind.Accessor q refl
-      told kind.Cubby q h = objects kind.Cubby q refl
-      told kind.Lease q h =
-          kept kind.Lease q refl ∙ others kind.Lease q refl ∙ ap (λ (t : Table). t kind.Lease q) was ∙ no_lease_row b none q
-          ∙ sym (no_lease_row c none_after q)
-      told kind.Credential q h =
-          kept kind.Credential q refl ∙ others kind.Credential q refl ∙ ap (λ (t : Table). t kind.Credential q) was
-          ∙ no_credential_row b none q ∙ sym (no_credential_row c none_after q)
-      told _ q h = absurd (false≢true h)
-
-      keeps : KeepsOthers of_tokens_and_theirs old new
-      keeps kind.Token q h = absurd (true≢false h)
-      keeps kind.Accessor q h = absurd (true≢false h)
-      keeps kind.Cubby q h = absurd (true≢false h)
-      keeps kind.Lease q h = absurd (true≢false h)
-      keeps kind.Credential q h = absurd (true≢false h)
-      keeps k q h = kept k q refl ∙ others k q refl
+  rows_left old mid new was tells others objects kept none none_after =
+      other_tokens b us old new was (λ k q h. kept k q (no_cubbyhole k h) ∙ tells k q h) objects
+      (λ k q h. let parts = neither (of_tokens k) (of_cubbyholes k) h in kept k q parts.1 ∙ others k q parts.0)
+      none none_after

@@ -1,6 +1,6 @@
 -- Expiry: from the rows to the broker, and what it leaves on any rows.
 use Rattle.std.specs.Prelude.{◌≡◌, ◌≢◌, ◌≤◌, ◌&&◌, ◌||◌, ◌==◌, ℕ, max, List, [], ◌∷◌, length, map as each, filter, nat_eq, Bool, true, false, cond, if◌then◌else◌}
-use Rattle.std.specs.Prelude.{Some, None}
+use Rattle.std.specs.Prelude.{Option, Some, None}
 use Rattle.std.specs.FinMap as map
 use Rattle.std.specs.FinMap.{find, entries, get-entries}
 use Rattle.std.specs.List.{starts_with}
@@ -39,14 +39,14 @@ use Rattle.broker.specs.Ending.{of_ended, of_expired, AreTokenLong, HasTokenKeys
 use Rattle.broker.specs.Forms.{forms}
 use Rattle.broker.specs.ReadableRow.{IsReadable}
 use Rattle.broker.specs.Representing.{Represents}
-use Rattle.broker.proofs.Clocks.{expired_is, no_leases, served-at_moment}
+use Rattle.broker.proofs.Clocks.{expired_is, served-at_moment}
 use Rattle.broker.proofs.Ended.{others_kept, neither, left_alone, KeepCubbyholes, ended_long, objects_lost, rows_left}
 use Rattle.broker.proofs.Serving.{tells_part}
 
 -- ---- on the rows of a broker
 
 -- rows that represent a broker represent its tokens
-pub represents_tokens : (b : Broker) (rows : Rows) → Represents None rows b → RepresentsTokens forms (table_of rows) b
+pub represents_tokens : {who : Option Text} (b : Broker) (rows : Rows) → Represents who rows b → RepresentsTokens forms (table_of rows) b
 represents_tokens b rows st = record {
   sound = st.sound.tokens;
   one_place = st.sound.identifiers.one_place;
@@ -54,7 +54,7 @@ represents_tokens b rows st = record {
 }
 
 -- the tokens of a broker have the length of tokens
-pub tokens_long : (b : Broker) (rows : Rows) → Represents None rows b → (t : Text) (x : Token) → get b.tokens t ≡ Some x → length t ≡ token_len
+pub tokens_long : {who : Option Text} (b : Broker) (rows : Rows) → Represents who rows b → (t : Text) (x : Token) → get b.tokens t ≡ Some x → length t ≡ token_len
 tokens_long b rows st t x is = length-token t (st.sound.tokens.each t x is).name
 
 alive_keep : (b : Broker) (n : ℕ) → KeepCubbyholes b.tokens (alive_at n b.tokens)
@@ -76,7 +76,7 @@ pub record IsSwept (b : Broker) (old mid new : Rows) (ended : List Text) (n : �
   pub drops : Drops mid new ended (with_clock b n) (without_expired (with_clock b n) n)
   pub kept : KeepsOthers of_cubbyholes (table_of mid) (table_of new)
 
-no_token : (k : Kind) → of_cubbyholes k ≡ true → of_tokens k ≡ false
+pub no_token : (k : Kind) → of_cubbyholes k ≡ true → of_tokens k ≡ false
 no_token kind.Cubby h = refl
 no_token _ h = absurd (false≢true h)
 
@@ -96,7 +96,7 @@ represents-expired b first old mid new m n ended st is swept = at_last (subst (I
         let end = served-at_moment b m st.served in
         record {
           rows = rows_left at us ended s.are (table_of old) (table_of mid) (table_of new) s.later.rows s.tells s.others objects s.kept
-              (no_leases at s.later.served) (no_leases (at_moment b m) end)
+              s.later.served.no_leases end.no_leases
               ∙ ap rows_of (expired_is b m st.served);
           sound = at_moment_sound forms None b st.sound m within;
           served = end;

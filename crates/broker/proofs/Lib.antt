@@ -1,3 +1,4 @@
+pub mod Callers
 pub mod ClockCalls
 pub mod Clocks
 pub mod CubbyholeAnswers
@@ -5,6 +6,7 @@ pub mod CubbyholeRoutes
 pub mod Ended
 pub mod Examples
 pub mod Expired
+pub mod Finishing
 pub mod FirstRows
 pub mod Operations
 pub mod Routes

@@ -14,6 +14,7 @@ pub mod Request
 pub mod Responses
 pub mod Safely
 pub mod Serving
+pub mod Stages
 pub mod Step
 pub mod StoreRows
 pub use Rattle.records.specs.Transaction
