@@ -5,15 +5,19 @@ use Rattle.std.proofs.lemmas.Bool.{false≢true}
 use Rattle.serde_json.specs.Data as json
 use Rattle.serde_json.specs.Written.{compact_text}
 use Rattle.broker_types.specs.Text.{Text, same}
-use Rattle.broker_types.specs.Map.{Map, get, put}
+use Rattle.broker_types.specs.Map.{get, put}
 use Rattle.broker_types.specs.Token.{Token}
 use Rattle.broker_types.specs.Broker.{Broker}
-use Rattle.broker_types.specs.Answer.{response_of, refused}
 use Rattle.broker_types.specs.Names.{Names}
 use Rattle.broker_types.specs.Operation.{nothing, reply, Done, plainly}
 use Rattle.broker_types.specs.Refuse.{◌>>=◌, some_or}
 use Rattle.broker_types.specs.SpendingLaws.{evolves_self}
-use Rattle.broker_types.specs.declared.answer.Answer.{Answer}
+use Rattle.broker_types.specs.Fault.{IsMemoryOrStorage}
+use Rattle.broker_types.specs.declared.reply.Reply.{Reply}
+use Rattle.broker_types.specs.declared.request_error.RequestError.{RequestError}
+use Rattle.broker_types.specs.declared.request_error.RequestError.TheVariants.{Refused, Fault}
+use Rattle.broker_types.specs.RequestError.{Ends}
+use Rattle.api_json.specs.Reads.{IsReadErr}
 use Rattle.broker_types.specs.declared.ask.Ask.{Ask}
 use Rattle.broker_types.specs.declared.refusal.Refusal.{Refusal}
 use Rattle.broker_types.specs.declared.refusal.Refusal.TheVariants as refusal
@@ -27,7 +31,7 @@ use Rattle.records.specs.Rows.{token_len}
 use Rattle.records.specs.ValueLaws.{ok_inj}
 use Rattle.records.specs.Table.{table_of}
 use Rattle.records.specs.Transaction.{Rows}
-use Rattle.cubbyhole.specs.Cubbyhole.{object_at, with_cubbyhole, edited, write}
+use Rattle.cubbyhole.specs.Cubbyhole.{object_at, with_cubbyhole, write}
 use Rattle.cubbyhole.specs.SoundLaws.{write_sound, write_evolves}
 use Rattle.mounts.specs.Route.{Route}
 use Rattle.mounts.specs.declared.operation.Cubbyhole.{Cubbyhole}
@@ -35,30 +39,32 @@ use Rattle.mounts.specs.declared.operation.Cubbyhole.TheVariants as operation
 use Rattle.mounts.specs.declared.operation.Operation.{Operation}
 use Rattle.mounts.specs.declared.operation.Operation.TheVariants.{Cubbyholes}
 use Rattle.api_json.specs.Json.{body_members, has_members}
-use Rattle.api_json.specs.Reply.{reply_text, plain_reply}
+use Rattle.api_json.specs.Reply.{plain_reply}
 use Rattle.broker.specs.Command.{on_cubbyhole, on_cubbyholes, command_by, command_for}
 use Rattle.broker.specs.Cubbyholes.{CubbyholeCommand, read_object, write_object, full, act_on_cubbyhole}
 use Rattle.broker.specs.Forms.{forms}
-use Rattle.broker.specs.Order.{Outcome, IsProper, finish, unwrapped}
-use Rattle.broker.specs.Representing.{IsRoot, AsServed, Represents, Gives}
-use Rattle.broker.specs.Responses.{ok, no_content}
-use Rattle.broker.specs.Serving.{carried_out}
+use Rattle.broker.specs.Order.{IsProper}
+use Rattle.broker.specs.Representing.{AsServed, Represents}
+use Rattle.broker.specs.Serving.{acted}
+use Rattle.broker.specs.Stages.{IsDone}
+use Rattle.broker.specs.declared.answered.Answered as Code
+use Rattle.broker.specs.declared.answered.Answered.TheVariants.{Nothing, Given}
 use Rattle.broker.proofs.Operations.{no_ok, plainly_proper}
-use Rattle.broker.proofs.Serving.{gives_refused, gives_done, everything}
+use Rattle.broker.proofs.Serving.{everything}
 
--- ---- an edit leaves what the requests served so far can leave
+-- ---- a write leaves what the requests served so far can leave
 
-root_still : (v : Bool) (edit : Map Text → Map Text) (x : Token) → IsRoot x → IsRoot (if v then with_cubbyhole edit x else x)
-root_still true edit x l = ap (λ (z : Token). record z { cubbyhole = edit x.cubbyhole }) l
-root_still false edit x l = l
+written_leases : (v : Bool) (path object : Text) (x : Token) → (if v then with_cubbyhole (λ m. put m path object) x else x).leases ≡ x.leases
+written_leases true path object x = refl
+written_leases false path object x = refl
 
-served-edited : (b : Broker) (t : Text) (edit : Map Text → Map Text) → AsServed b → AsServed (edited b t edit)
-served-edited b t edit s =
+served-write : (b : Broker) (t path object : Text) → AsServed b → AsServed (write b t path object)
+served-write b t path object s =
     record {
-      root_alone = λ q y is.
-          let one = λ (x : Token). if same q t then with_cubbyhole edit x else x in
-          let x = mapped one (get b.tokens q) y (sym (get-change b.tokens t (with_cubbyhole edit) q) ∙ is) in
-          subst IsRoot (sym x.2) (root_still (same q t) edit x.0 (s.root_alone q x.0 x.1));
+      no_leases = λ q y is.
+          let written = λ (x : Token). if same q t then with_cubbyhole (λ m. put m path object) x else x in
+          let x = mapped written (get b.tokens q) y (sym (get-change b.tokens t (with_cubbyhole (λ m. put m path object)) q) ∙ is) in
+          ap (λ (z : Token). z.leases) x.2 ∙ written_leases (same q t) path object x.0 ∙ s.no_leases q x.0 x.1;
       none_waits = s.none_waits;
       no_secrets = s.no_secrets;
       no_roles = s.no_roles;
@@ -69,7 +75,7 @@ served-edited b t edit s =
 -- ---- from the rows of a broker, and back
 
 -- the token of a caller that is there has forty bytes
-pub caller_len : (b : Broker) (rows : Rows) (t : Text) → Represents None rows b → get b.tokens t ≢ None → length t ≡ token_len
+pub caller_len : {who : Option Text} (b : Broker) (rows : Rows) (t : Text) → Represents who rows b → get b.tokens t ≢ None → length t ≡ token_len
 caller_len b rows t st here =
     elim (found_or_not (get b.tokens t)) [
       | inl none ↦ absurd (here none)
@@ -77,13 +83,13 @@ caller_len b rows t st here =
     ]
 
 -- the write of an object to the caller's cubbyhole, on the rows
-pub represents-write : (b : Broker) (old new : Rows) (t path object : Text) → Represents None old b → IsPathText path → IsObjectText forms object
-    → Tells everything (table_of new) (write b t path object) → Represents None new (write b t path object)
-represents-write b old new t path object st is_path is_object tells =
+pub represents-write : {who : Option Text} (b : Broker) (old new : Rows) (t path object : Text) → Represents who old b → IsPathText path
+    → IsObjectText forms object → Tells everything (table_of new) (write b t path object) → Represents who new (write b t path object)
+represents-write {who} b old new t path object st is_path is_object tells =
     record {
       rows = λ i k q. tells k q refl i;
-      sound = write_sound forms None b t st.sound path object is_path is_object;
-      served = served-edited b t (λ m. put m path object) st.served;
+      sound = write_sound forms who b t st.sound path object is_path is_object;
+      served = served-write b t path object st.served;
     }
 
 -- ---- the operation of a route
@@ -97,34 +103,37 @@ pub meant_there : (r : Route) (a : Ask) (op : Cubbyhole) (path : Text) (body : L
     → command_for r a ≡ on_cubbyholes op path body
 meant_there r a op path body is there given = ap (λ o. command_by o r a) is ∙ (λ i. on_cubbyholes op (there i) (sym given i))
 
+-- ---- how an operation of the caller c ends
+
+-- the code's answer beside what the command does
+abbrev pub ActsAs : Text → Broker → Rows → Result Code.Answered RequestError → Result Done Refusal → Type 0
+ActsAs c b rows result m = Ends (IsDone c rows) (Represents (Some c) rows b) result m
+
 -- ---- a read
 
-abbrev told : Broker → Text → Names → Option Text → Outcome
-told b c names o =
-    finish b (Some c) ((some_or refusal.NotFound o >>= (λ kept. Ok (plainly (reply (plain_reply names.request kept) None) b))) >>= (λ d. Ok (unwrapped d)))
+abbrev told : Broker → Names → Option Text → Result Done Refusal
+told b names o = some_or refusal.NotFound o >>= (λ kept. Ok (plainly (reply (plain_reply names.request kept) None) b))
 
-pub gives_read : (b : Broker) (rows : Rows) (c path request o : Text) (names : Names) (a : Answer) → Represents None rows b → names.request ≡ request
-    → Some o ≡ object_at b c path
-    → response_of a ≡ ok (reply_text (plain_reply request o)) → Gives a rows (carried_out b c names (Ok (on_cubbyhole (read_object path))))
-gives_read b rows c path request o names a st id e is =
-    subst (λ o. Gives a rows (told b c names o)) e
-    (gives_done b b rows c (reply (plain_reply names.request o) None) a (ok (reply_text (plain_reply request o))) st
-    (ap (λ r. ok (reply_text (plain_reply r o))) (sym id)) is)
+pub acts_read : (b : Broker) (rows : Rows) (c path request o : Text) (names : Names) (r : Reply) → Represents (Some c) rows b → names.request ≡ request
+    → Some o ≡ object_at b c path → r ≡ plain_reply request o
+    → ActsAs c b rows (Ok (Given r)) (acted b c names (Ok (on_cubbyhole (read_object path))))
+acts_read b rows c path request o names r st id e is =
+    subst (λ o. ActsAs c b rows (Ok (Given r)) (told b names o)) e (ap (λ r. reply r None) (is ∙ ap (λ q. plain_reply q o) (sym id)), st)
 
-pub gives_no_object : (b : Broker) (rows : Rows) (c path : Text) (names : Names) (a : Answer) → Represents None rows b → None ≡ object_at b c path
-    → response_of a ≡ refused refusal.NotFound → Gives a rows (carried_out b c names (Ok (on_cubbyhole (read_object path))))
-gives_no_object b rows c path names a st e is = subst (λ o. Gives a rows (told b c names o)) e (gives_refused b rows c refusal.NotFound a st is)
+pub acts_no_object : (b : Broker) (rows : Rows) (c path : Text) (names : Names) → Represents (Some c) rows b → None ≡ object_at b c path
+    → ActsAs c b rows (Err (Refused refusal.NotFound)) (acted b c names (Ok (on_cubbyhole (read_object path))))
+acts_no_object b rows c path names st e = subst (λ o. ActsAs c b rows (Err (Refused refusal.NotFound)) (told b names o)) e (refl, st)
 
 -- ---- a write
 
-abbrev wrote : Broker → Text → Names → Text → Result json.Members Refusal → Outcome
-wrote b c names path read =
-    carried_out b c names ((read >>= (λ ms. Ok (write_object path ms))) >>= (λ command. Ok (on_cubbyhole command)))
+abbrev wrote : Broker → Text → Names → Text → Result json.Members Refusal → Result Done Refusal
+wrote b c names path read = acted b c names ((read >>= (λ ms. Ok (write_object path ms))) >>= (λ command. Ok (on_cubbyhole command)))
 
-pub gives_bad_body : (b : Broker) (rows : Rows) (c path : Text) (body : List ℕ) (names : Names) (a : Answer) (r : Refusal) → Represents None rows b
-    → body_members body ≡ Err r → response_of a ≡ refused r → Gives a rows (carried_out b c names (on_cubbyholes operation.Write path body))
-gives_bad_body b rows c path body names a r st e is =
-    subst (λ read. Gives a rows (wrote b c names path read)) (sym e) (gives_refused b rows c r a st is)
+pub acts_bad_body : (b : Broker) (rows : Rows) (c path : Text) (body : List ℕ) (names : Names) (e : RequestError) → Represents (Some c) rows b
+    → IsReadErr (body_members body) e → ActsAs c b rows (Err e) (acted b c names (on_cubbyholes operation.Write path body))
+acts_bad_body b rows c path body names (Refused r) st read =
+    subst (λ read. ActsAs c b rows (Err (Refused r)) (wrote b c names path read)) (sym read) (refl, st)
+acts_bad_body b rows c path body names (Fault f) st memory = subst IsMemoryOrStorage (sym memory) tt
 
 -- the members of an object that has some, and the refusal of one that has none
 full_of : (ms : json.Members) → has_members ms ≡ true → full ms ≡ Ok ms
@@ -135,26 +144,24 @@ full_none : (ms : json.Members) → has_members ms ≡ false → full ms ≡ Err
 full_none json.no_members h = refl
 full_none (json.member k d ms) h = absurd (false≢true (sym h))
 
-abbrev wrote_full : Broker → Text → Names → Text → Result json.Members Refusal → Outcome
-wrote_full b c names path some =
-    finish b (Some c) ((some >>= (λ ms. Ok (plainly nothing (write b c path (compact_text (json.object ms)))))) >>= (λ d. Ok (unwrapped d)))
+abbrev wrote_full : Broker → Text → Text → Result json.Members Refusal → Result Done Refusal
+wrote_full b c path some = some >>= (λ ms. Ok (plainly nothing (write b c path (compact_text (json.object ms)))))
 
-pub gives_empty : (b : Broker) (rows : Rows) (c path : Text) (body : List ℕ) (names : Names) (a : Answer) (ms : json.Members) → Represents None rows b
-    → body_members body ≡ Ok ms → has_members ms ≡ false → response_of a ≡ refused (refusal.BadRequest reason.MissingData)
-    → Gives a rows (carried_out b c names (on_cubbyholes operation.Write path body))
-gives_empty b rows c path body names a ms st e none is =
-    subst (λ read. Gives a rows (wrote b c names path read)) (sym e)
-    (subst (λ some. Gives a rows (wrote_full b c names path some)) (sym (full_none ms none))
-    (gives_refused b rows c (refusal.BadRequest reason.MissingData) a st is))
+pub acts_empty : (b : Broker) (rows : Rows) (c path : Text) (body : List ℕ) (names : Names) (ms : json.Members) → Represents (Some c) rows b
+    → body_members body ≡ Ok ms → has_members ms ≡ false
+    → ActsAs c b rows (Err (Refused (refusal.BadRequest reason.MissingData))) (acted b c names (on_cubbyholes operation.Write path body))
+acts_empty b rows c path body names ms st e none =
+    subst (λ read. ActsAs c b rows (Err (Refused (refusal.BadRequest reason.MissingData))) (wrote b c names path read)) (sym e)
+    (subst (λ some. ActsAs c b rows (Err (Refused (refusal.BadRequest reason.MissingData))) (wrote_full b c path some)) (sym (full_none ms none))
+    (refl, st))
 
-pub gives_written : (b : Broker) (rows : Rows) (c path text : Text) (body : List ℕ) (names : Names) (a : Answer) (ms : json.Members)
-    → body_members body ≡ Ok ms → has_members ms ≡ true → text ≡ compact_text (json.object ms) → Represents None rows (write b c path text)
-    → response_of a ≡ no_content → Gives a rows (carried_out b c names (on_cubbyholes operation.Write path body))
-gives_written b rows c path text body names a ms e some f st is =
-    subst (λ read. Gives a rows (wrote b c names path read)) (sym e)
-    (subst (λ read. Gives a rows (wrote_full b c names path read)) (sym (full_of ms some))
-    (gives_done b (write b c path (compact_text (json.object ms))) rows c nothing a no_content
-    (subst (λ (z : Text). Represents None rows (write b c path z)) f st) refl is))
+pub acts_written : (b : Broker) (rows : Rows) (c path text : Text) (body : List ℕ) (names : Names) (ms : json.Members)
+    → body_members body ≡ Ok ms → has_members ms ≡ true → text ≡ compact_text (json.object ms) → Represents (Some c) rows (write b c path text)
+    → ActsAs c b rows (Ok Nothing) (acted b c names (on_cubbyholes operation.Write path body))
+acts_written b rows c path text body names ms e some f st =
+    subst (λ read. ActsAs c b rows (Ok Nothing) (wrote b c names path read)) (sym e)
+    (subst (λ read. ActsAs c b rows (Ok Nothing) (wrote_full b c path read)) (sym (full_of ms some))
+    (refl, subst (λ (z : Text). Represents (Some c) rows (write b c path z)) f st))
 
 -- ---- what a command gives out
 

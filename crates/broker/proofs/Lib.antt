@@ -1,8 +1,12 @@
+pub mod Callers
 pub mod ClockCalls
 pub mod Clocks
 pub mod CubbyholeAnswers
 pub mod CubbyholeRoutes
+pub mod Ended
 pub mod Examples
+pub mod Expired
+pub mod Finishing
 pub mod FirstRows
 pub mod Operations
 pub mod Routes

@@ -2,6 +2,7 @@ pub mod Act
 pub mod ClockRow
 pub mod Command
 pub mod Cubbyholes
+pub mod Ending
 pub mod Forms
 pub mod Kept
 pub mod Laws
@@ -13,6 +14,7 @@ pub mod Request
 pub mod Responses
 pub mod Safely
 pub mod Serving
+pub mod Stages
 pub mod Step
 pub mod StoreRows
 pub use Rattle.records.specs.Transaction

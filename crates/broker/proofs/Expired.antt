@@ -1,0 +1,164 @@
+-- Expiry: from the rows to the broker, and what it leaves on any rows.
+use Rattle.std.specs.Prelude.{◌≡◌, ◌≢◌, ◌≤◌, ◌&&◌, ◌||◌, ◌==◌, ℕ, max, List, [], ◌∷◌, length, map as each, filter, nat_eq, Bool, true, false, cond, if◌then◌else◌}
+use Rattle.std.specs.Prelude.{Option, Some, None}
+use Rattle.std.specs.FinMap as map
+use Rattle.std.specs.FinMap.{find, entries, get-entries}
+use Rattle.std.specs.List.{starts_with}
+use Rattle.std.specs.Ordering.{is_eq}
+use Rattle.std.proofs.Common.{refl, sym, ◌∙◌, ap, subst}
+use Rattle.std.proofs.Math.Nat.{le-max_right, le_trans}
+use Rattle.std.proofs.lemmas.Bool.{false≢true, and_parts, false_from_ne_true}
+use Rattle.std.proofs.lemmas.Option.{none-some}
+use Rattle.broker_types.specs.Text.{Text, same}
+use Rattle.broker_types.specs.Map.{get}
+use Rattle.broker_types.specs.Moment.{greatest_moment}
+use Rattle.broker_types.specs.Token.{Token}
+use Rattle.broker_types.specs.Broker.{Broker, at_moment}
+use Rattle.broker_types.specs.RemovalLaws.{at_moment_sound}
+use Rattle.broker_types.specs.TreeLaws.{alive_is}
+use Rattle.broker_types.specs.Lineage.{alive_at}
+use Rattle.records.specs.declared.kind.Kind.{Kind}
+use Rattle.records.specs.declared.kind.Kind.TheVariants as kind
+use Rattle.records.specs.declared.row.Row.{Row}
+use Rattle.records.specs.Children.{has}
+use Rattle.records.specs.ClockLaws.{with_clock}
+use Rattle.records.specs.CubbyKeyLaws.{length-token}
+use Rattle.records.specs.KeyLaws.{same_kind}
+use Rattle.records.specs.Kind.{RowKey, key_cmp, kind_number, is_of_kind}
+use Rattle.records.specs.Parts.{Tells, KeepsOthers, of_clock, of_tokens, of_cubbyholes}
+use Rattle.records.specs.Rows.{rows_of, token_len}
+use Rattle.records.specs.Table.{Table, table_of}
+use Rattle.records.specs.TableLaws.{met-is_at}
+use Rattle.records.specs.Transaction.{Rows, rows_under}
+use Rattle.token_tree.specs.Ended.{Start, has_key}
+use Rattle.token_tree.specs.Endings.{EndsDescent}
+use Rattle.token_tree.specs.Tokens.{AreEnded, RepresentsTokens, without_expired}
+use Rattle.cubbyhole.specs.Laws.{without_owners}
+use Rattle.cubbyhole.specs.Objects.{object_key}
+use Rattle.broker.specs.Ending.{of_ended, of_expired, AreTokenLong, HasTokenKeys, KeepsCubbyholes, LosesObjects}
+use Rattle.broker.specs.Forms.{forms}
+use Rattle.broker.specs.ReadableRow.{IsReadable}
+use Rattle.broker.specs.Representing.{Represents}
+use Rattle.broker.proofs.Clocks.{expired_is, served-at_moment}
+use Rattle.broker.proofs.Ended.{others_kept, neither, left_alone, KeepCubbyholes, ended_long, objects_lost, rows_left}
+use Rattle.broker.proofs.Serving.{tells_part}
+
+-- ---- on the rows of a broker
+
+-- rows that represent a broker represent its tokens
+pub represents_tokens : {who : Option Text} (b : Broker) (rows : Rows) → Represents who rows b → RepresentsTokens forms (table_of rows) b
+represents_tokens b rows st = record {
+  sound = st.sound.tokens;
+  one_place = st.sound.identifiers.one_place;
+  tells = tells_part of_tokens b rows st;
+}
+
+-- the tokens of a broker have the length of tokens
+pub tokens_long : {who : Option Text} (b : Broker) (rows : Rows) → Represents who rows b → (t : Text) (x : Token) → get b.tokens t ≡ Some x → length t ≡ token_len
+tokens_long b rows st t x is = length-token t (st.sound.tokens.each t x is).name
+
+alive_keep : (b : Broker) (n : ℕ) → KeepCubbyholes b.tokens (alive_at n b.tokens)
+alive_keep b n t y is =
+    let x = alive_is n b.tokens t y is in
+    (x.0, x.1, ap (λ (z : Token). z.cubbyhole) x.3)
+
+-- what is dropped of the cubbyholes, as a call says it
+abbrev pub Drops : Rows → Rows → List Text → Broker → Broker → Type 0
+Drops mid new ended b c =
+    AreTokenLong ended → LosesObjects ended b c → Tells of_cubbyholes (table_of mid) b → Tells of_cubbyholes (table_of new) c
+
+-- the clock has moved on to n, what has come to its end by then is swept, and its cubbyholes are dropped
+pub record IsSwept (b : Broker) (old mid new : Rows) (ended : List Text) (n : ℕ) : Type 0 where
+  pub later : Represents None old (with_clock b n)
+  pub are : AreEnded (with_clock b n) (without_expired (with_clock b n) n) ended
+  pub tells : Tells of_tokens (table_of mid) (without_expired (with_clock b n) n)
+  pub others : KeepsOthers of_tokens (table_of old) (table_of mid)
+  pub drops : Drops mid new ended (with_clock b n) (without_expired (with_clock b n) n)
+  pub kept : KeepsOthers of_cubbyholes (table_of mid) (table_of new)
+
+pub no_token : (k : Kind) → of_cubbyholes k ≡ true → of_tokens k ≡ false
+no_token kind.Cubby h = refl
+no_token _ h = absurd (false≢true h)
+
+-- then the rows are those of the broker at the moment
+pub represents-expired : (b : Broker) (first old mid new : Rows) (m n : ℕ) (ended : List Text) → Represents None first b → n ≡ max b.clock m
+    → IsSwept b old mid new ended n → Represents None new (at_moment b m)
+represents-expired b first old mid new m n ended st is swept = at_last (subst (IsSwept b old mid new ended) is swept)
+  where
+    at_last : IsSwept b old mid new ended (max b.clock m) → Represents None new (at_moment b m)
+    at_last s =
+        let at = with_clock b (max b.clock m) in
+        let us = alive_at (max b.clock m) b.tokens in
+        let within : m ≤ greatest_moment = le_trans (le-max_right b.clock m) s.later.sound.clock in
+        let told : Tells of_cubbyholes (table_of old) at = tells_part of_cubbyholes at old s.later in
+        let left : Tells of_cubbyholes (table_of mid) at = λ k q h. s.others k q (no_token k h) ∙ told k q h in
+        let objects = s.drops (ended_long at us ended s.are (tokens_long at old s.later)) (objects_lost at us ended s.are (alive_keep at (max b.clock m))) left in
+        let end = served-at_moment b m st.served in
+        record {
+          rows = rows_left at us ended s.are (table_of old) (table_of mid) (table_of new) s.later.rows s.tells s.others objects s.kept
+              s.later.served.no_leases end.no_leases
+              ∙ ap rows_of (expired_is b m st.served);
+          sound = at_moment_sound forms None b st.sound m within;
+          served = end;
+        }
+
+-- ---- on any rows
+
+abbrev takes : RowKey × Row → Bool
+takes e = is_of_kind kind.Token e.0 && starts_with nat_eq e.0.1 []
+
+-- what is listed of tokens has a row
+walk : (u : Text) (es : List (RowKey × Row)) → has (each (λ e. e.0.1) (filter takes es)) u ≡ true
+    → find key_cmp (kind.Token, u) es ≡ None → ⊥
+walk u [] h none = false≢true h
+walk u (e ∷ es) h none =
+    elim (is_eq (key_cmp (kind.Token, u) e.0)) as
+    (λ v. is_eq (key_cmp (kind.Token, u) e.0) ≡ v → cond v (Some e.1) (find key_cmp (kind.Token, u) es) ≡ None → ⊥) [
+      | true ↦ λ _ n. none-some _ (sym n)
+      | false ↦ λ apart n.
+          elim (takes e) as (λ v. takes e ≡ v → has (each (λ e. e.0.1) (cond v (e ∷ filter takes es) (filter takes es))) u ≡ true → ⊥) [
+            | true ↦ λ taken h.
+                elim (same u e.0.1) as (λ v. same u e.0.1 ≡ v → (v || has (each (λ e. e.0.1) (filter takes es)) u) ≡ true → ⊥) [
+                  | true ↦ λ one _. false≢true (sym apart ∙ met-is_at e.0.0 e.0.1 kind.Token u ∙ (λ i. met taken i && one i))
+                  | false ↦ λ _ rest. walk u es rest n
+                ] refl h
+            | false ↦ λ _ h. walk u es h n
+          ] refl h
+    ] refl none
+  where
+    met : takes e ≡ true → (kind_number kind.Token == kind_number e.0.0) ≡ true
+    met taken = ap (λ k. kind_number kind.Token == kind_number k) (same_kind e.0.0 kind.Token (and_parts _ _ taken).0)
+
+listed : (rows : Rows) (u : Text) → has_key (rows_under rows kind.Token []) u ≡ true → map.get rows (kind.Token, u) ≢ None
+listed rows u h none = walk u (entries rows) h (sym (get-entries rows (kind.Token, u)) ∙ none)
+
+-- the cubbyhole of a token that is left is as it was
+pub left_expired : (old mid swept new : Rows) (s : Start) (ended : List Text) → KeepsOthers of_clock (table_of old) (table_of mid)
+    → EndsDescent s mid ended swept → table_of new ≡ without_owners (table_of swept) ended → HasTokenKeys old → KeepsCubbyholes old new
+left_expired old mid swept new s ended clock ends dropped keys t path here =
+    let at_t : table_of new kind.Token t ≡ (if has ended t then None else table_of mid kind.Token t) =
+    ap (λ (z : Table). z kind.Token t) dropped ∙ others_kept ended (table_of swept) kind.Token t refl ∙ ap (λ (z : Table). z kind.Token t) ends.rows in
+    let apart : has ended t ≡ false = false_from_ne_true _ (λ h. here (at_t ∙ ap (λ v. if v then None else table_of mid kind.Token t) h)) in
+    let long : length t ≡ token_len =
+    keys t (λ none. here (at_t ∙ ap (λ v. if v then None else table_of mid kind.Token t) apart ∙ clock kind.Token t refl ∙ none)) in
+    let all : AreTokenLong ended = λ u h. keys u (λ none. listed mid u (ends.descent.keys u h) (clock kind.Token u refl ∙ none)) in
+    let key = object_key t path in
+    ap (λ (z : Table). z kind.Cubby key) dropped ∙ left_alone ended (table_of swept) t path long all apart
+    ∙ ap (λ (z : Table). z kind.Cubby key) ends.rows ∙ clock kind.Cubby key refl
+
+-- and so is each row of another kind
+pub others_expired : (old mid swept new : Table) → KeepsOthers of_clock old mid → KeepsOthers of_tokens mid swept
+    → KeepsOthers of_cubbyholes swept new → KeepsOthers of_expired old new
+others_expired old mid swept new clock tokens objects k q h =
+    let apart = neither (of_clock k) (of_ended k) h in
+    let parts = neither (of_tokens k) (of_cubbyholes k) apart.1 in
+    objects k q parts.1 ∙ tokens k q parts.0 ∙ clock k q apart.0
+
+-- a row of a cubbyhole that can be read once tokens have expired can be read before
+pub readable_before : (old expired new : Rows) (t u path : Text) → KeepsCubbyholes old expired → map.get expired (kind.Token, t) ≢ None
+    → new ≡ expired → t ≡ u → IsReadable new u path → IsReadable old t path
+readable_before old expired new t u path left here same caller readable =
+    let at_t = subst (λ u. IsReadable new u path) (sym caller) readable in (
+      at_t.0,
+      sym (left t path here) ∙ ap (λ (rows : Rows). table_of rows kind.Cubby (object_key t path)) (sym same) ∙ at_t.1,
+    )

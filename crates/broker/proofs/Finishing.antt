@@ -1,0 +1,63 @@
+-- The end of a request: from what was served or refused to the outcome.
+use Rattle.std.specs.Prelude.{◌≡◌, [], Some, None, Result, Ok, Err, IfOk}
+use Rattle.std.proofs.Common.{refl, sym, ◌∙◌, ap}
+use Rattle.broker_types.specs.Text.{Text}
+use Rattle.broker_types.specs.Answer.{response_of, refused}
+use Rattle.broker_types.specs.Broker.{Broker}
+use Rattle.broker_types.specs.Spending.{end_spent}
+use Rattle.broker_types.specs.declared.answer.Answer.{Answer}
+use Rattle.broker_types.specs.declared.refusal.Refusal.{Refusal}
+use Rattle.broker_types.specs.Names.{Names}
+use Rattle.records.specs.declared.kind.Kind.TheVariants as kind
+use Rattle.records.specs.Parts.{KeepsOthers, of_tokens}
+use Rattle.records.specs.Table.{table_of}
+use Rattle.records.specs.Transaction.{Rows}
+use Rattle.cubbyhole.specs.Objects.{object_key}
+use Rattle.broker.specs.ReadableRow.{IsReadable}
+use Rattle.broker.specs.Order.{Wrapped, finish, response_to}
+use Rattle.broker.specs.Representing.{Represents, Gives}
+use Rattle.broker.specs.Stages.{answered_of, counted, HasServed}
+use Rattle.broker.specs.declared.answered.Answered.{Answered}
+
+-- whether the caller was served or refused, the rows represent a broker
+pub represents_some : (c : Text) (rows : Rows) (b : Broker) (served : Result Answered Refusal) (m : Result Wrapped Refusal) → HasServed c rows b served m
+    → (next : Broker) × Represents (Some c) rows next
+represents_some c rows b (Ok x) (Ok w) h = (counted w.done, h.1)
+represents_some c rows b (Ok x) (Err e) h = absurd h
+represents_some c rows b (Err r) (Ok w) h = absurd h
+represents_some c rows b (Err r) (Err e) h = (b, h.1)
+
+module _ (c : Text) (old new : Rows) (b : Broker)
+    (ends : (next : Broker) → Represents (Some c) old next → Represents None new (end_spent next (Some c))) where
+  -- a caller that was served
+  pub finish_served : (x : Answered) (m : Result Wrapped Refusal) (a : Answer) → HasServed c old b (Ok x) m
+      → response_of a ≡ response_to (answered_of x) → Gives a new (finish b (Some c) m)
+  finish_served x (Ok w) a h is = record { response = is ∙ ap response_to h.0; represents = ends (counted w.done) h.1 }
+  finish_served x (Err e) a h is = absurd h
+
+  -- one that was refused
+  pub finish_refused : (r : Refusal) (m : Result Wrapped Refusal) (a : Answer) → HasServed c old b (Err r) m
+      → response_of a ≡ refused r → Gives a new (finish b (Some c) m)
+  finish_refused r (Ok w) a h is = absurd h
+  finish_refused r (Err e) a h is = record { response = is ∙ ap refused h.0; represents = ends b h.1 }
+
+-- a fact that no answer changes
+pub if_ok : {T E P : Type 0} (r : Result T E) → P → IfOk r (λ _. P)
+if_ok (Ok x) p = p
+if_ok (Err e) p = tt
+
+-- a row of a cubbyhole that can be read once a use was spent can be read before
+pub readable_unspent : (old new : Rows) (t path : Text) → KeepsOthers of_tokens (table_of old) (table_of new) → IsReadable new t path → IsReadable old t path
+readable_unspent old new t path others readable = (readable.0, sym (others kind.Cubby (object_key t path) refl) ∙ readable.1)
+
+-- names of a request, of which no other counts
+abbrev pub names_for : Text → Names
+names_for request = record {
+  request = request;
+  token = [];
+  accessor = [];
+  lease = [];
+  credential = [];
+  wrapping_token = [];
+  wrapping_accessor = [];
+}

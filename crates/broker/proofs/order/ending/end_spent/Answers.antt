@@ -1,0 +1,46 @@
+use Rattle.std.proofs.Common.{sym, subst}
+use Rattle.std.proofs.lemmas.Result.{err_from_is_err_and}
+use Rattle.broker_types.specs.Broker.{revoke}
+use Rattle.records.specs.CallLaws.{honest_before}
+use Rattle.token_tree.specs.Tokens.{AreEnded}
+use Rattle.broker.specs.Forms.{forms}
+use Rattle.broker.proofs.Callers.{revoked_long, revoked_lost, revoked_left, represents-revoked, represents-unspent, on_both}
+use Rattle.broker.proofs.Expired.{represents_tokens}
+use Rattle.broker.proofs.Serving.{still_represented}
+use Rattle.broker.proofs.order.ending.end_spent.Goals as goal
+
+pub returns-then-not-branch-clause-ok : goal.returns-then-not-branch-clause-ok
+returns-then-not-branch-clause-ok g c honest b st =
+    let seen = g.T.RecordsTx.seen in
+    represents-unspent b c.args.caller.now (seen c.args.tx.now).rows st (seen c.is_spent.new.tx).rows c.in_ok-is_spent.field-0
+    (c.in_ok-is_spent.ensures.ok honest b st) c.if-not-branch.true (c.in_ok-is_spent.ensures.same honest)
+
+pub returns-in_err-ended-clause-wants : goal.returns-in_err-ended-clause-wants
+returns-in_err-ended-clause-wants g c honest b st =
+    let seen = g.T.RecordsTx.seen in
+    let asked = honest_before (seen c.is_spent.new.tx) (seen c.revoke.new.tx) _ c.revoke.ensures.goes_on honest in
+    let old = (seen c.args.tx.now).rows in
+    let still = still_represented b old (seen c.is_spent.new.tx).rows (c.in_ok-is_spent.ensures.same asked) st in
+    let p = err_from_is_err_and c.from_residual-in_err-ended.result c.from_residual-in_err-ended.ensures.1 in
+    rw (p.1, p.2) (c.in_err-ended.ensures.undamaged honest forms b (represents_tokens b (seen c.is_spent.new.tx).rows still))
+
+pub returns-clause-ok : goal.returns-clause-ok
+returns-clause-ok g c honest b st =
+    let seen = g.T.RecordsTx.seen in
+    let caller = c.args.caller.now in
+    let ended = c.deref.result.now in
+    let revoked = honest_before (seen c.revoke.new.tx) (seen c.drop_cubbyholes.new.tx) _ c.drop_cubbyholes.ensures.call.goes_on honest in
+    let asked = honest_before (seen c.is_spent.new.tx) (seen c.revoke.new.tx) _ c.revoke.ensures.goes_on revoked in
+    let old = (seen c.is_spent.new.tx).rows in
+    let mid = (seen c.revoke.new.tx).rows in
+    let new = (seen c.drop_cubbyholes.new.tx).rows in
+    let still = still_represented b (seen c.args.tx.now).rows old (c.in_ok-is_spent.ensures.same asked) st in
+    let tokens = represents_tokens b old still in
+    let are = subst (AreEnded b (revoke b caller)) (sym c.deref.ensures.value) (c.in_ok-ended.ensures.ended revoked forms b tokens) in
+    let others = c.in_ok-ended.ensures.others revoked in
+    on_both c.drop_cubbyholes.result (λ dropped objects.
+    represents-revoked b caller old still mid new ended c.in_ok-is_spent.field-0 (c.in_ok-is_spent.ensures.ok asked b st) c.if-not-branch.false are
+    (c.in_ok-ended.ensures.ok revoked forms b tokens) others dropped objects)
+    (c.drop_cubbyholes.ensures.rows honest)
+    (c.drop_cubbyholes.ensures.told honest b (revoke b caller) (revoked_long b caller old still ended are) (revoked_lost b caller old still ended are)
+    (revoked_left b caller old still mid others))

@@ -1,0 +1,7 @@
+//! The order of one request, step by step.
+
+pub(crate) mod caller;
+pub(crate) mod ending;
+pub(crate) mod expiry;
+pub(crate) mod finishing;
+pub(crate) mod serving;

@@ -1,0 +1,76 @@
+//! What goes with tokens that ended, and the end of a caller that has spent its last use.
+
+ghost use Rattle.std.specs.Prelude.{◌≡◌, false, None, Some, IfOk, IfErr, OnOk};
+ghost use Rattle.std.specs.Option.{option_map_or};
+ghost use Rattle.broker_types.specs.Broker.{Broker};
+ghost use Rattle.broker_types.specs.Fault.{IsMemoryOrStorage};
+ghost use Rattle.broker_types.specs.Map.{get};
+ghost use Rattle.broker_types.specs.Spending as spending;
+ghost use Rattle.records.specs.Parts.{Tells, of_cubbyholes};
+ghost use Rattle.records.specs.Table.{table_of};
+ghost use Rattle.records.specs.Transaction.{IsHonest, IsCall, GoesOn, is_storage};
+ghost use Rattle.cubbyhole.specs.Laws.{without_owners};
+ghost use Rattle.broker.specs.ClockRow.{IsNotBadStart};
+ghost use Rattle.broker.specs.Ending.{AreTokenLong, LosesObjects};
+ghost use Rattle.broker.specs.Representing.{Represents};
+
+use broker_types::{Fault, TextBuf};
+use cubbyhole::{drop_owner, ended_tokens_leave_nothing};
+use records::RecordsTx;
+use std::alloc::Global;
+use token_tree::{find, revoke};
+
+/// Drops the cubbyholes of tokens that ended.
+pub(crate) fn drop_cubbyholes<T: RecordsTx>(
+    alloc: Global,
+    tx: &mut T,
+    ended: &[TextBuf],
+) -> Result<(), Fault>
+    ensures rows { IsHonest (T.seen tx.new) → OnOk result (table_of (T.seen tx.new).rows
+        ≡ without_owners (table_of (T.seen tx.old).rows) ended.now) }
+    ensures told { IsHonest (T.seen tx.new) → (b c : Broker) → AreTokenLong ended.now → LosesObjects ended.now b c
+        → Tells of_cubbyholes (table_of (T.seen tx.old).rows) b
+        → OnOk result (Tells of_cubbyholes (table_of (T.seen tx.new).rows) c) }
+    ensures call { IsCall (T.seen tx.old) (T.seen tx.new) result }
+{
+    ended_tokens_leave_nothing();
+    for token in ended {
+        drop_owner(alloc, tx, token.as_str())?;
+    }
+    Ok(())
+}
+
+/// Ends a caller that has spent its last use, with all below it, and their cubbyholes with them.
+pub(crate) fn end_spent<T: RecordsTx>(alloc: Global, tx: &mut T, caller: &str) -> Result<(), Fault>
+    ensures ok { IsHonest (T.seen tx.new) → (b : Broker) → Represents (Some caller.now) (T.seen tx.old).rows b
+        → OnOk result (Represents None (T.seen tx.new).rows (spending.end_spent b (Some caller.now))) }
+    ensures wants { IsHonest (T.seen tx.new) → (b : Broker) → Represents (Some caller.now) (T.seen tx.old).rows b
+        → IfErr result IsMemoryOrStorage }
+    ensures started { IfErr result IsNotBadStart }
+    ensures goes_on { GoesOn (T.seen tx.old) (T.seen tx.new) (is_storage result) }
+{
+    if !is_spent(alloc, tx, caller)? {
+        return Ok(());
+    }
+    let ended = revoke(alloc, tx, caller)?;
+    drop_cubbyholes(alloc, tx, &ended)
+}
+
+/// Whether the caller has spent its last use.
+fn is_spent<T: RecordsTx>(alloc: Global, tx: &mut T, caller: &str) -> Result<bool, Fault>
+    ensures ok { IsHonest (T.seen tx.new) → (b : Broker) → Represents (Some caller.now) (T.seen tx.old).rows b
+        → IfOk result (λ v. v ≡ option_map_or spending.is_spent (get b.tokens caller.now) false) }
+    ensures wants { IsHonest (T.seen tx.new) → (b : Broker) → Represents (Some caller.now) (T.seen tx.old).rows b
+        → IfErr result IsMemoryOrStorage }
+    ensures same { IsHonest (T.seen tx.new) → OnOk result ((T.seen tx.new).rows ≡ (T.seen tx.old).rows) }
+    ensures started { IfErr result IsNotBadStart }
+    ensures goes_on { GoesOn (T.seen tx.old) (T.seen tx.new) (is_storage result) }
+{
+    let Some(token) = find(alloc, tx, caller)? else {
+        return Ok(false);
+    };
+    match token.uses_left {
+        None => Ok(false),
+        Some(uses) => Ok(uses == 0),
+    }
+}

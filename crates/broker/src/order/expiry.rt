@@ -1,0 +1,71 @@
+//! The clock of a request, and what has ended by it.
+
+ghost use Rattle.std.specs.Prelude.{◌≡◌, ◌≢◌, max, None, length, IfOk, IfErr, OnOk};
+ghost use Rattle.std.specs.FinMap as map;
+ghost use Rattle.broker_types.specs.Broker.{Broker, at_moment};
+ghost use Rattle.broker_types.specs.Fault.{IsMemoryOrStorage};
+ghost use Rattle.records.specs.ClockLaws.{with_clock};
+ghost use Rattle.records.specs.Parts.{KeepsOthers, of_clock};
+ghost use Rattle.records.specs.Table.{table_of};
+ghost use Rattle.records.specs.Transaction.{IsHonest, GoesOn, is_storage};
+ghost use Rattle.broker.specs.ClockRow.{NeedsClock};
+ghost use Rattle.broker.specs.Ending.{of_expired, HasTokenKeys, KeepsCubbyholes};
+ghost use Rattle.broker.specs.Representing.{Represents};
+
+use crate::order::ending::drop_cubbyholes;
+use broker_types::{Fault, Moment};
+use records::{Kind, RecordsTx, read_clock, write_clock};
+use std::alloc::Global;
+use token_tree::sweep_tokens;
+
+/// Moves the clock on to the moment, unless it is later already, and answers it. Each token that has come to its end by
+/// then ends with all below it, and their cubbyholes go with them.
+pub(crate) fn expire<T: RecordsTx>(
+    alloc: Global,
+    tx: &mut T,
+    moment: Moment,
+) -> Result<Moment, Fault>
+    ensures ok { IsHonest (T.seen tx.new) → (b : Broker) → Represents None (T.seen tx.old).rows b
+        → IfOk result (λ now. (now ≡ (at_moment b moment).clock)
+        × Represents None (T.seen tx.new).rows (at_moment b moment)) }
+    ensures wants { IsHonest (T.seen tx.new) → (b : Broker) → Represents None (T.seen tx.old).rows b
+        → IfErr result IsMemoryOrStorage }
+    ensures clock { IsHonest (T.seen tx.new) → NeedsClock (T.seen tx.old).rows result }
+
+    // Whatever the rows are: no row changes but those of the clock, of tokens and of cubbyholes.
+    ensures others { IsHonest (T.seen tx.new)
+        → OnOk result (KeepsOthers of_expired (table_of (T.seen tx.old).rows) (table_of (T.seen tx.new).rows)) }
+
+    // Nor does a cubbyhole whose token is left.
+    ensures left { IsHonest (T.seen tx.new) → HasTokenKeys (T.seen tx.old).rows
+        → OnOk result (KeepsCubbyholes (T.seen tx.old).rows (T.seen tx.new).rows) }
+    ensures goes_on { GoesOn (T.seen tx.old) (T.seen tx.new) (is_storage result) }
+{
+    let now = advance_clock(alloc, tx, moment)?;
+    let ended = sweep_tokens(alloc, tx, now)?;
+    drop_cubbyholes(alloc, tx, &ended)?;
+    Ok(now)
+}
+
+/// Moves the clock on to the moment, unless it is later already, and answers it.
+fn advance_clock<T: RecordsTx>(alloc: Global, tx: &mut T, moment: Moment) -> Result<Moment, Fault>
+    ensures ok { IsHonest (T.seen tx.new) → (b : Broker) → Represents None (T.seen tx.old).rows b
+        → IfOk result (λ now. (now ≡ max b.clock moment) × Represents None (T.seen tx.new).rows (with_clock b now)) }
+    ensures wants { IsHonest (T.seen tx.new) → (b : Broker) → Represents None (T.seen tx.old).rows b
+        → IfErr result IsMemoryOrStorage }
+    ensures clock { IsHonest (T.seen tx.new) → NeedsClock (T.seen tx.old).rows result }
+
+    // Whatever the rows are: no row but the clock's changes.
+    ensures others { IsHonest (T.seen tx.new)
+        → OnOk result (KeepsOthers of_clock (table_of (T.seen tx.old).rows) (table_of (T.seen tx.new).rows)) }
+    ensures goes_on { GoesOn (T.seen tx.old) (T.seen tx.new) (is_storage result) }
+{
+    let Some(kept) = tx.get(Kind::Clock, "")? else {
+        return Err(Fault::BadStart);
+    };
+    let clock = read_clock(&kept)?;
+    let now = clock.later(moment);
+    let row = write_clock(alloc, now)?;
+    tx.put(Kind::Clock, "", row)?;
+    Ok(now)
+}

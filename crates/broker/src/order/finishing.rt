@@ -1,0 +1,45 @@
+//! The end of a request.
+
+ghost use Rattle.std.specs.Prelude.{Some, Result, IfOk, IfErr};
+ghost use Rattle.broker_types.specs.Answer.{HasRoom, response_of};
+ghost use Rattle.broker_types.specs.Broker.{Broker};
+ghost use Rattle.broker_types.specs.Fault.{IsMemoryOrStorage};
+ghost use Rattle.broker_types.specs.declared.refusal.Refusal as declared;
+ghost use Rattle.records.specs.Transaction.{IsHonest, GoesOn, is_storage};
+ghost use Rattle.broker.specs.ClockRow.{IsNotBadStart};
+ghost use Rattle.broker.specs.Listed.{IsListed};
+ghost use Rattle.broker.specs.Order as order;
+ghost use Rattle.broker.specs.Representing.{Gives};
+ghost use Rattle.broker.specs.Stages.{HasServed};
+
+use crate::answered::Answered;
+use crate::answers::{answer, refuse};
+use crate::order::ending::end_spent;
+use broker_types::{Answer, Fault, Refusal};
+use records::RecordsTx;
+use std::alloc::Global;
+
+/// Ends a caller that has spent its last use, whether it was served or refused. Then it answers the request, with room
+/// for the reply.
+pub(crate) fn finish<T: RecordsTx>(
+    alloc: Global,
+    tx: &mut T,
+    caller: &str,
+    served: Result<Answered, Refusal>,
+) -> Result<Answer, Fault>
+    ensures ok { IsHonest (T.seen tx.new) → (b : Broker) (m : Result order.Wrapped declared.Refusal)
+        → HasServed caller.now (T.seen tx.old).rows b served m
+        → IfOk result (λ a. Gives a (T.seen tx.new).rows (order.finish b (Some caller.now) m)) }
+    ensures wants { IsHonest (T.seen tx.new) → (b : Broker) (m : Result order.Wrapped declared.Refusal)
+        → HasServed caller.now (T.seen tx.old).rows b served m → IfErr result IsMemoryOrStorage }
+    ensures room { IfOk result HasRoom }
+    ensures listed { IfOk result (λ a. IsListed (response_of a)) }
+    ensures started { IfErr result IsNotBadStart }
+    ensures goes_on { GoesOn (T.seen tx.old) (T.seen tx.new) (is_storage result) }
+{
+    end_spent(alloc, tx, caller)?;
+    match served {
+        Ok(answered) => Ok(answer(alloc, answered)?),
+        Err(refusal) => refuse(alloc, refusal),
+    }
+}
