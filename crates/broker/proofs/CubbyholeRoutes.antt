@@ -76,11 +76,13 @@ pub routed_there : (o : Option Mount) (v : Verb) (b : ℕ) (path : Text)
 unfolding route_at same
 routed_there o v b path = ap (λ z. some_or refusal.NotFound z >>= route_by (rows_of mount.Cubbyhole) v (codes "cubbyhole") (b ∷ path)) (found_there b path)
 
-pub read_there : (o : Option Mount) (b : ℕ) (path : Text) → route_at o verb.Get (codes "cubbyhole/" ++ b ∷ path) ≡ Ok (cubbyhole_route cubbyhole.Read (b ∷ path))
+pub read_there : (o : Option Mount) (b : ℕ) (path : Text)
+    → route_at o verb.Get (codes "cubbyhole/" ++ b ∷ path) ≡ Ok (cubbyhole_route cubbyhole.Read (b ∷ path))
 unfolding same
 read_there o b path = routed_there o verb.Get b path
 
-pub written_there : (o : Option Mount) (b : ℕ) (path : Text) → route_at o verb.Write (codes "cubbyhole/" ++ b ∷ path) ≡ Ok (cubbyhole_route cubbyhole.Write (b ∷ path))
+pub written_there : (o : Option Mount) (b : ℕ) (path : Text)
+    → route_at o verb.Write (codes "cubbyhole/" ++ b ∷ path) ≡ Ok (cubbyhole_route cubbyhole.Write (b ∷ path))
 unfolding same
 written_there o b path = routed_there o verb.Write b path
 

@@ -1,5 +1,6 @@
 -- Expiry: from the rows to the broker, and what it leaves on any rows.
-use Rattle.std.specs.Prelude.{◌≡◌, ◌≢◌, ◌≤◌, ◌&&◌, ◌||◌, ◌==◌, ℕ, max, List, [], ◌∷◌, length, map as each, filter, nat_eq, Bool, true, false, cond, if◌then◌else◌}
+use Rattle.std.specs.Prelude.{◌≡◌, ◌≢◌, ◌≤◌, ◌&&◌, ◌||◌, ◌==◌, ℕ, max, List, [], ◌∷◌, length, map as each, filter, nat_eq}
+use Rattle.std.specs.Prelude.{Bool, true, false, cond, if◌then◌else◌}
 use Rattle.std.specs.Prelude.{Option, Some, None}
 use Rattle.std.specs.FinMap as map
 use Rattle.std.specs.FinMap.{find, entries, get-entries}
@@ -54,7 +55,8 @@ represents_tokens b rows st = record {
 }
 
 -- the tokens of a broker have the length of tokens
-pub tokens_long : {who : Option Text} (b : Broker) (rows : Rows) → Represents who rows b → (t : Text) (x : Token) → get b.tokens t ≡ Some x → length t ≡ token_len
+pub tokens_long : {who : Option Text} (b : Broker) (rows : Rows) → Represents who rows b → (t : Text) (x : Token)
+    → get b.tokens t ≡ Some x → length t ≡ token_len
 tokens_long b rows st t x is = length-token t (st.sound.tokens.each t x is).name
 
 alive_keep : (b : Broker) (n : ℕ) → KeepCubbyholes b.tokens (alive_at n b.tokens)
@@ -92,7 +94,8 @@ represents-expired b first old mid new m n ended st is swept = at_last (subst (I
         let within : m ≤ greatest_moment = le_trans (le-max_right b.clock m) s.later.sound.clock in
         let told : Tells of_cubbyholes (table_of old) at = tells_part of_cubbyholes at old s.later in
         let left : Tells of_cubbyholes (table_of mid) at = λ k q h. s.others k q (no_token k h) ∙ told k q h in
-        let objects = s.drops (ended_long at us ended s.are (tokens_long at old s.later)) (objects_lost at us ended s.are (alive_keep at (max b.clock m))) left in
+        let objects = s.drops (ended_long at us ended s.are (tokens_long at old s.later))
+        (objects_lost at us ended s.are (alive_keep at (max b.clock m))) left in
         let end = served-at_moment b m st.served in
         record {
           rows = rows_left at us ended s.are (table_of old) (table_of mid) (table_of new) s.later.rows s.tells s.others objects s.kept

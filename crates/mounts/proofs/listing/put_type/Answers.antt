@@ -7,7 +7,8 @@ use Rattle.records.specs.PlaceLaws.{rank_bound, met_bound, set_put, insert_put}
 use Rattle.mounts.proofs.listing.put_type.Goals as goal
 
 pub index_mut-found-requires : goal.index_mut-found-requires
-index_mut-found-requires c = omega (arith, met_bound text_cmp c.as_str.result.now c.deref.result.now c.in-Ok.ensures.met, c.in-Ok.ensures.at, c.deref.ensures.len)
+index_mut-found-requires c =
+    omega (arith, met_bound text_cmp c.as_str.result.now c.deref.result.now c.in-Ok.ensures.met, c.in-Ok.ensures.at, c.deref.ensures.len)
 
 pub insert-requires : goal.insert-requires
 insert-requires c = omega (arith, rank_bound text_cmp c.as_str.result.now c.deref.result.now, c.in-Err.ensures.gap, c.deref.ensures.len)

@@ -29,7 +29,8 @@ returns-clause-ok g c honest b names id st here =
     let there : c.in_ok-found.found.parameter ≡ c.found.inside.parameter.now = sym (ap (λ (r : Route). r.parameter) c.found.view_is) in
     let good = λ (takes : takes_parameter (Cubbyholes op.0) ≡ true).
     sym (ap is_path there) ∙ c.in_ok-found.ensures.parameter c.as_str.ensures.good (ap takes_parameter (is ∙ op.1) ∙ takes) in
-    let meant = meant_there c.in_ok-found.found ask op.0 c.found.inside.parameter.now c.as_slice-body.result.now (is ∙ op.1) there c.as_slice-body.ensures.bytes in
+    let meant = meant_there c.in_ok-found.found ask op.0 c.found.inside.parameter.now c.as_slice-body.result.now (is ∙ op.1)
+    there c.as_slice-body.ensures.bytes in
     served_by b caller names ask (seen c.act.new.tx).rows c.act.result c.in_ok-found.found c.as_str.result.now c.as_str.ensures.text ends
     (subst (ActsAs caller b (seen c.act.new.tx).rows c.act.result) (ap (acted b caller names) (sym meant))
     ((rw op.1 at (c.act.ensures.ok honest b names id still here)) good))
