@@ -1,11 +1,14 @@
 pub mod ChangeCalls
 pub mod ChangeLemmas
 pub mod Changed
+pub mod DescribeCalls
 pub mod Digits
 pub mod Edits
+pub mod EntryLists
 pub mod Found
 pub mod KeyHistory
 pub mod KeysListed
+pub mod NumberTexts
 pub mod Others
 pub mod Parts
 pub mod PutCalls
@@ -15,5 +18,6 @@ pub mod SecretNames
 pub mod SecretsTold
 pub mod VersionNames
 pub mod VersionRows
+pub mod VersionsListed
 pub mod WriteCalls
 pub mod Writes

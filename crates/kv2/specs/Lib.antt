@@ -1,5 +1,6 @@
 pub mod Changes
 pub mod Laws
+pub mod Metadata
 pub mod SecretRows
 pub mod Secrets
 pub mod SoundLaws

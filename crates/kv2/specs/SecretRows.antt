@@ -2,9 +2,11 @@
 -- (this project's row format).
 use Rattle.std.specs.Prelude.{◌≡◌, ◌<◌, ◌+◌, ◌-◌, ◌^◌, ◌&&◌, ◌==◌, ◌++◌, ℕ, List, [], ◌∷◌, nat_lt, Bool, true, false}
 use Rattle.std.specs.Prelude.{◌≢◌, if◌then◌else◌, Option, Some, None, option_map, unwrap_or, Result, Ok, Err, ⊤}
+use Rattle.std.specs.Prelude.{◌≤◌, map, All}
 use Rattle.std.specs.List.{list_any}
 use Rattle.std.specs.Ordering.{is_le}
 use Rattle.broker_types.specs.Text.{Text, text_cmp, same}
+use Rattle.broker_types.specs.Limits.{greatest_version}
 use Rattle.broker_types.specs.Refuse.{◌>>=◌, some_or}
 use Rattle.broker_types.specs.Secret.{Version}
 use Rattle.broker_types.specs.Broker.{Mount}
@@ -16,16 +18,18 @@ use Rattle.broker_types.specs.declared.request_error.RequestError.TheVariants.{R
 use Rattle.records.specs.declared.kind.Kind.{Kind}
 use Rattle.records.specs.declared.kind.Kind.TheVariants as kind
 use Rattle.records.specs.declared.row.Row.{Row}
-use Rattle.records.specs.Kind.{kind_number}
+use Rattle.records.specs.Kind.{RowKey, kind_number}
 use Rattle.records.specs.Children.{children, keys_under}
 use Rattle.records.specs.KeyEntry.{KeyEntry}
+use Rattle.records.specs.ListedLaws.{named}
 use Rattle.records.specs.Ranges.{IsKeyInRange, IsVersionInRange, IsMountInRange}
 use Rattle.records.specs.Reading.{IsSomeIn}
 use Rattle.records.specs.RowForms.{key_entry_row, version_row, mount_row}
 use Rattle.records.specs.Rows.{version_key}
 use Rattle.records.specs.Splits.{line_feed}
-use Rattle.records.specs.Transaction.{Rows}
-use Rattle.records.specs.Table.{Table, with_row, without_row, without_under, has_prefix, is_at}
+use Rattle.records.specs.Transaction.{Rows, rows_under}
+use Rattle.records.specs.Table.{Table, table_of, with_row, without_row, without_under, has_prefix, is_at}
+use Rattle.kv2.specs.Metadata.{Metadata, metadata_with}
 use Rattle.kv2.specs.Versions.{asked_number, numbered, or_if_zero, checked, new_version, is_among}
 
 -- ---- what is at a key
@@ -91,6 +95,41 @@ IsReadingOf rows name n (Some k) o =
 -- what is read at a name: the version that is asked for with its number, if its rows are there
 abbrev pub IsReading : Table → Text → ℕ → Option (ℕ × Version) → Type 0
 IsReading rows name n o = (k : Option KeyEntry) × HasKey rows name k × IsReadingOf rows name n k o
+
+-- ---- versions listed
+
+-- a version that a row can hold, with a number that it can have
+pub record IsNumbered (v : ℕ × Version) : Type 0 where
+  pub number : v.0 ≤ greatest_version
+  pub in_range : IsVersionInRange v.1
+
+-- the key and the row are those of a version of the name
+pub record IsEntryOf (name : Text) (e : RowKey × Row) (v : ℕ × Version) : Type 0 where
+  pub key : e.0.1 ≡ version_key name v.0
+  pub row : e.1 ≡ version_row v.1
+
+-- the key and the row of a version of a name
+abbrev pub version_entry : Text → ℕ × Version → Text × Row
+version_entry name v = (version_key name v.0, version_row v.1)
+
+-- the entries are those of these versions of the name, in their order
+pub record AreEntriesOf (name : Text) (es : List (RowKey × Row)) (vs : List (ℕ × Version)) : Type 0 where
+  pub each : All IsNumbered vs
+  pub entries : named es ≡ map (version_entry name) vs
+
+-- these are the versions of the name, in the order of their keys: no row begins as theirs do but these
+abbrev pub AreVersions : Rows → Text → List (ℕ × Version) → Type 0
+AreVersions rows name vs = AreEntriesOf name (rows_under rows kind.KvVersion (versions_prefix name)) vs
+
+-- the metadata of a key that is there or not
+abbrev pub IsMetadataOf : Rows → Text → Option KeyEntry → Option Metadata → Type 0
+IsMetadataOf rows name None o = o ≡ None
+IsMetadataOf rows name (Some k) o =
+    (vs : List (ℕ × Version)) × AreVersions rows name vs × (o ≡ Some (metadata_with false 0 k vs))
+
+-- the metadata at a name, if its rows are there; a key has no settings of its own so far
+abbrev pub IsMetadata : Rows → Text → Option Metadata → Type 0
+IsMetadata rows name o = (k : Option KeyEntry) × HasKey (table_of rows) name k × IsMetadataOf rows name k o
 
 -- the children of what begins with the prefix, among the names of keys
 abbrev pub children_in : Rows → Text → List Text

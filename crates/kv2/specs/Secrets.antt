@@ -13,6 +13,7 @@ use Rattle.broker_types.specs.declared.refusal.Refusal.{Refusal}
 use Rattle.broker_types.specs.declared.refusal.Refusal.TheVariants as refusal
 use Rattle.records.specs.Children.{folder, children}
 use Rattle.records.specs.Splits.{slash}
+use Rattle.kv2.specs.Metadata.{Metadata, metadata_of}
 use Rattle.kv2.specs.Versions.{asked_number, numbered, versions_kept, checked, key_or_new, with_version, with_changed}
 use Rattle.kv2.specs.Versions.{soft_deleted, restored, destroyed}
 
@@ -49,6 +50,10 @@ abbrev pub read : Broker → Text → Text → ℕ → Option (ℕ × Version)
 read b mount path n =
     option_and_then (λ (k : Key). option_map (numbered (asked_number k.current n))
     (fin.get k.versions (asked_number k.current n))) (key_at b mount path)
+
+-- what is told of a secret besides its texts
+abbrev pub metadata : Broker → Text → Text → Option Metadata
+metadata b mount path = option_map metadata_of (key_at b mount path)
 
 -- the children of a folder of a mount; the empty path is for the whole mount
 abbrev pub list : Broker → Text → Text → List Text

@@ -3,18 +3,22 @@
 #![tactic(auto)]
 
 mod changing;
+mod describing;
 mod finding;
 mod keys;
 mod laws;
+mod limits;
 mod listing;
 mod pruning;
 mod reading;
 mod removing;
+mod secret_metadata;
 mod secret_version;
 mod settings;
 mod writing;
 
 pub use changing::{delete, delete_versions, destroy, undelete};
+pub use describing::metadata;
 pub use laws::{
     destroyed_secrets_stay_away, numbers_are_given_once, operations_evolve,
     operations_keep_soundness, other_keys_stay,
@@ -22,6 +26,7 @@ pub use laws::{
 pub use listing::list;
 pub use reading::read;
 pub use removing::{drop_mount, remove_key};
+pub use secret_metadata::{SecretMetadata, VersionMetadata};
 pub use secret_version::SecretVersion;
 pub use settings::{config, set_config};
 pub use writing::write;

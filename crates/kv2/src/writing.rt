@@ -16,6 +16,7 @@ ghost use Rattle.kv2.specs.Versions as versions;
 
 use crate::finding::{find_key, find_mount};
 use crate::keys::{secret_name, version_key};
+use crate::limits::GREATEST_VERSION;
 use crate::pruning::prune;
 use broker_types::{Fault, Field, Moment, Reason, Refusal, RequestError};
 use records::{
@@ -23,9 +24,6 @@ use records::{
     write_version,
 };
 use std::alloc::Global;
-
-/// The greatest version: each can be asked for in 18 digits.
-const GREATEST_VERSION: u64 = 999_999_999_999_999_999;
 
 /// How many versions of a secret are kept if no setting says it.
 const VERSIONS_KEPT: u64 = 10;

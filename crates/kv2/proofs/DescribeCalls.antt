@@ -1,0 +1,45 @@
+-- Metadata, from what its calls say.
+use Rattle.std.specs.Prelude.{◌≡◌, ℕ, List, Option, Some, None, option_map, false}
+use Rattle.std.specs.FinMap as fin
+use Rattle.std.proofs.Common.{sym, ◌∙◌, ap, subst}
+use Rattle.broker_types.specs.Text.{Text}
+use Rattle.broker_types.specs.Map.{get}
+use Rattle.broker_types.specs.OptionLaws.{mapped, mapped_none}
+use Rattle.broker_types.specs.Secret.{Key, Version}
+use Rattle.broker_types.specs.Broker.{Broker}
+use Rattle.broker_types.specs.Sound.{Forms, SoundSecrets}
+use Rattle.records.specs.KeyEntry.{KeyEntry, key_entry}
+use Rattle.records.specs.Parts.{of_secrets, Tells}
+use Rattle.records.specs.Table.{table_of}
+use Rattle.records.specs.Transaction.{Rows}
+use Rattle.kv2.specs.Metadata.{metadata_of, metadata_with}
+use Rattle.kv2.specs.SecretRows.{HasKey, AreVersions}
+use Rattle.kv2.specs.Secrets.{secret_name, metadata}
+use Rattle.kv2.proofs.Digits.{KeyLaws}
+use Rattle.kv2.proofs.SecretsTold.{has_key}
+use Rattle.kv2.proofs.VersionsListed.{versions_listed}
+
+module _ (forms : Forms) (b : Broker) (sound : SoundSecrets forms b.secrets) (rows : Rows) (told : Tells of_secrets (table_of rows) b) (mount path name : Text)
+    (is : name ≡ secret_name mount path) where
+  abbrev here : Option Key
+  here = get b.secrets (secret_name mount path)
+
+  pub key_told : HasKey (table_of rows) name (option_map key_entry here)
+  key_told = subst (λ q. HasKey (table_of rows) q (option_map key_entry here)) (sym is) (has_key forms b sound (table_of rows) told (secret_name mount path))
+
+  -- no key, no metadata
+  pub describe_none : (o : Option KeyEntry) → ((k : Option KeyEntry) → HasKey (table_of rows) name k → o ≡ k) → o ≡ None → None ≡ metadata b mount path
+  describe_none o found none = sym (ap (option_map metadata_of) (mapped_none key_entry here (sym (found (option_map key_entry here) key_told) ∙ none)))
+
+  -- the metadata that the rows have is that of the key
+  pub describe_some : KeyLaws → (o : Option KeyEntry) (e : KeyEntry) → ((k : Option KeyEntry) → HasKey (table_of rows) name k → o ≡ k) → o ≡ Some e
+      → (vs : List (ℕ × Version)) × AreVersions rows name vs × (Some (metadata_with false 0 e vs) ≡ metadata b mount path)
+  describe_some laws o e found some =
+      let k = mapped key_entry here e (sym (found (option_map key_entry here) key_told) ∙ some) in
+      let plain = (sound (secret_name mount path) k.0 k.1).no_settings in (
+        fin.entries k.0.versions,
+        subst (λ q. AreVersions rows q (fin.entries k.0.versions)) (sym is)
+            (versions_listed laws forms b sound rows told (secret_name mount path) k.0 k.1),
+        (λ i. Some (metadata_with (sym plain.cas_required i) (sym plain.max_versions i) (k.2 i) (fin.entries k.0.versions)))
+            ∙ sym (ap (option_map metadata_of) k.1),
+      )

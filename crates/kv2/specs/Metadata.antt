@@ -1,0 +1,44 @@
+-- What is told of a secret besides its versions' texts (Vault's documentation, "KV secrets engine - version 2 (API)",
+-- read secret metadata).
+use Rattle.std.specs.Prelude.{ℕ, List, [], ◌∷◌, nat_lt, map, Bool, is_none, if◌then◌else◌}
+use Rattle.std.specs.FinMap as fin
+use Rattle.broker_types.specs.Secret.{Key, Version}
+use Rattle.records.specs.KeyEntry.{KeyEntry, key_entry}
+use Rattle.kv2.specs.declared.secret_metadata.VersionMetadata.{VersionMetadata}
+
+-- a version with its number, without its text
+abbrev pub version_metadata : ℕ × Version → VersionMetadata
+version_metadata e =
+    record { number = e.0; created = e.1.created; deleted = e.1.deleted; destroyed = is_none e.1.secret }
+
+-- the oldest of versions in the order of their numbers: the number of the first, if it is above 1, else 0 (Vault's
+-- documentation, same page: `oldest_version` in the sample response is 0 as long as version 1 is kept)
+abbrev pub oldest_of : List VersionMetadata → ℕ
+oldest_of [] = 0
+oldest_of (v ∷ vs) = if nat_lt 1 v.number then v.number else 0
+
+-- a key with its settings, its times and its versions
+pub record Metadata : Type 0 where
+  pub cas_required : Bool
+  pub created : ℕ
+  pub current : ℕ
+  pub max_versions : ℕ
+  pub oldest : ℕ
+  pub updated : ℕ
+  pub versions : List VersionMetadata
+
+-- the metadata of a key with these settings and these versions, in the order of their numbers
+abbrev pub metadata_with : Bool → ℕ → KeyEntry → List (ℕ × Version) → Metadata
+metadata_with cas_required max_versions k vs = record {
+  cas_required = cas_required;
+  created = k.created;
+  current = k.current;
+  max_versions = max_versions;
+  oldest = oldest_of (map version_metadata vs);
+  updated = k.updated;
+  versions = map version_metadata vs;
+}
+
+-- the metadata of a key
+abbrev pub metadata_of : Key → Metadata
+metadata_of k = metadata_with k.cas_required k.max_versions (key_entry k) (fin.entries k.versions)

@@ -1,0 +1,2 @@
+/// The greatest version: each can be asked for in 18 digits.
+pub(crate) const GREATEST_VERSION: u64 = 999_999_999_999_999_999;
