@@ -9,6 +9,7 @@ pub mod Found
 pub mod KeyHistory
 pub mod KeysListed
 pub mod NumberTexts
+pub mod OldestVersion
 pub mod Others
 pub mod Parts
 pub mod PutCalls

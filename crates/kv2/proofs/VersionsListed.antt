@@ -46,11 +46,11 @@ less_apart Less h = refl
 less_apart Equal h = absurd h
 less_apart Greater h = absurd h
 
-left : (a b : Bool) → T (a && b) → T a
+pub left : (a b : Bool) → T (a && b) → T a
 left true b h = tt
 left false b h = absurd h
 
-right : (a b : Bool) → T (a && b) → T b
+pub right : (a b : Bool) → T (a && b) → T b
 right true b h = h
 right false b h = absurd h
 

@@ -1,5 +1,6 @@
 -- Laws of versioned secrets, as statements (this project's; Vault's documentation, "KV secrets engine - version 2").
-use Rattle.std.specs.Prelude.{◌≡◌, ◌≢◌, ◌<◌, ◌+◌, ◌^◌, ℕ, List, Bool, false, Option, Some, None, Ok}
+use Rattle.std.specs.Prelude.{◌≡◌, ◌≢◌, ◌<◌, ◌≤◌, ◌+◌, ◌^◌, ℕ, List, Bool, false, Option, Some, None, Ok}
+use Rattle.std.specs.FinMap as fin
 use Rattle.std.specs.Option.{option_map_or}
 use Rattle.broker_types.specs.Text.{Text, same}
 use Rattle.broker_types.specs.Map.{Map, get}
@@ -7,6 +8,7 @@ use Rattle.broker_types.specs.Secret.{Key, Version}
 use Rattle.broker_types.specs.Broker.{Broker, Mount}
 use Rattle.broker_types.specs.Evolves.{Evolves}
 use Rattle.broker_types.specs.Sound.{Forms, Sound, SoundSecrets, IsPathText, IsObjectText}
+use Rattle.kv2.specs.Metadata.{metadata_of}
 use Rattle.kv2.specs.Secrets.{Written, secret_name, key_at, write, delete, delete_versions, undelete, destroy}
 use Rattle.kv2.specs.Secrets.{remove_key, drop_mount, set_config}
 use Rattle.kv2.specs.Versions.{version_of}
@@ -100,3 +102,19 @@ pub record ChangesRestoreNothing (b : Broker) (mount path : Text) (ns : List ℕ
   pub versions_deleted : HasNoSecret (version_at (delete_versions b mount path ns) mount path n)
   pub restored : HasNoSecret (version_at (undelete b mount path ns) mount path n)
   pub destroyed : HasNoSecret (version_at (destroy b mount path ns) mount path n)
+
+-- ---- the oldest version
+
+-- What is told as the oldest version of a key is the smallest number that is kept, if that is above 1; else it is 0
+-- (Vault's documentation, "KV secrets engine - version 2 (API)", read secret metadata).
+pub record IsOldest (k : Key) (oldest : ℕ) : Type 0 where
+  -- no version that is kept has a smaller number
+  pub smallest : (n : ℕ) (v : Version) → fin.get k.versions n ≡ Some v → oldest ≤ n
+  -- it is 0, or else above 1 and kept
+  pub kept : oldest ≢ 0 → (1 < oldest) × (fin.get k.versions oldest ≢ None)
+  -- it is 0 only if none is kept or one that is not above 1
+  pub first : (n : ℕ) (v : Version) → oldest ≡ 0 → fin.get k.versions n ≡ Some v
+      → (m : ℕ) × (m ≤ 1) × (fin.get k.versions m ≢ None)
+
+abbrev pub OldestIsSmallest : Type 0
+OldestIsSmallest = (k : Key) → IsOldest k (metadata_of k).oldest

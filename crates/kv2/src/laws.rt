@@ -7,7 +7,7 @@ ghost use Rattle.broker_types.specs.Sound.{Forms, Sound};
 ghost use Rattle.kv2.specs.Laws.{WriteKeepsSoundness, ChangesKeepSoundness, RemovalsKeepSoundness};
 ghost use Rattle.kv2.specs.Laws.{SettingsKeepSoundness, SecretsEvolve, SettingsEvolve};
 ghost use Rattle.kv2.specs.Laws.{NumbersAreNew, NumbersStay, OthersStay, version_at, HasNoSecret};
-ghost use Rattle.kv2.specs.Laws.{WriteRestoresNothing, ChangesRestoreNothing};
+ghost use Rattle.kv2.specs.Laws.{WriteRestoresNothing, ChangesRestoreNothing, OldestIsSmallest};
 
 /// A law: the operations leave a sound broker sound, whoever may have spent its last use.
 pub fn operations_keep_soundness()
@@ -43,4 +43,10 @@ pub fn destroyed_secrets_stay_away()
     ensures written { WriteRestoresNothing }
     ensures changed { (b : Broker) (mount path : Text) (ns : List ℕ) (n : ℕ)
         → HasNoSecret (version_at b mount path n) → ChangesRestoreNothing b mount path ns n }
+{}
+
+/// A law: the oldest version that is told of a key is the smallest number that is kept, if that is above 1; else
+/// it is 0 (Vault's documentation, "KV secrets engine - version 2 (API)", read secret metadata).
+pub fn oldest_versions_are_smallest()
+    ensures { OldestIsSmallest }
 {}

@@ -20,8 +20,8 @@ mod writing;
 pub use changing::{delete, delete_versions, destroy, undelete};
 pub use describing::metadata;
 pub use laws::{
-    destroyed_secrets_stay_away, numbers_are_given_once, operations_evolve,
-    operations_keep_soundness, other_keys_stay,
+    destroyed_secrets_stay_away, numbers_are_given_once, oldest_versions_are_smallest,
+    operations_evolve, operations_keep_soundness, other_keys_stay,
 };
 pub use listing::list;
 pub use reading::read;
