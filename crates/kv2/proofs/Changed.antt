@@ -26,11 +26,11 @@ use Rattle.records.specs.Splits.{line_feed}
 use Rattle.records.specs.SplitLaws.{eqb_self}
 use Rattle.records.specs.Table.{Table, with_row}
 use Rattle.records.specs.ValueLaws.{mapped_unseen, unseen}
-use Rattle.kv2.specs.SecretRows.{HasVersion, HasVersions, AreChanged, is_key_of}
+use Rattle.kv2.specs.SecretRows.{HasVersion, HasVersions, IsReadableVersion, AreChanged, is_key_of}
 use Rattle.kv2.specs.VersionLaws.{get-change_versions}
 use Rattle.kv2.specs.Versions.{version_of, with_changed, is_among}
 use Rattle.kv2.proofs.Digits.{KeyLaws}
-use Rattle.kv2.proofs.Found.{none_is, some_is}
+use Rattle.kv2.proofs.Found.{none_is, none_read, some_is, some_read}
 use Rattle.kv2.proofs.Parts.{secrets_by}
 use Rattle.kv2.proofs.SecretsTold.{key_rows, version_rows, version_row_at, small_number, has_version}
 use Rattle.kv2.proofs.VersionRows.{at_parts, by_parts}
@@ -46,6 +46,7 @@ module _ (f : Version → Version) (name : Text) where
   pub changed_nothing : (t : Table) → AreChanged f [] name t t
   changed_nothing t = record {
     numbers = λ n h. absurd (false≢true h);
+    undamaged = λ n h. absurd (false≢true h);
     versions = λ n v h _. absurd (false≢true h);
     others = λ k q _. refl;
   }
@@ -64,6 +65,15 @@ module _ (f : Version → Version) (name : Text) where
   changed_has ns a b h has n small =
       let x = has n small in (_, changed_at ns a b h n x.0 (is_key_of ns name (version_key name n)) refl x.1)
 
+  -- a version that can be read after changes could be read before
+  read_before : (ns : List ℕ) (a b : Table) → AreChanged f ns name a b → (n : ℕ) (p : Bool) → is_key_of ns name (version_key name n) ≡ p
+      → IsReadableVersion b name n → IsReadableVersion a name n
+  read_before ns a b h n true is _ = h.undamaged n is
+  read_before ns a b h n false is has = (has.0, record {
+    in_range = has.1.in_range;
+    row_is = sym (h.others kind.KvVersion (version_key name n) is) ∙ has.1.row_is;
+  })
+
   pub changed_more : ((v : Version) → f (f v) ≡ f v) → (ms : List ℕ) (m : ℕ) (a b c : Table) → AreChanged f ms name a b
       → AreChanged f (m ∷ []) name b c → AreChanged f (ms ++ m ∷ []) name a c
   changed_more twice ms m a b c first next = record {
@@ -71,6 +81,12 @@ module _ (f : Version → Version) (name : Text) where
       | inl l ↦ first.numbers n l
       | inr r ↦ next.numbers n r
     ];
+    undamaged = λ n h.
+        let key = version_key name n in
+        elim (or_cases _ _ (sym (list_any-append (λ x. same key (version_key name x)) ms (m ∷ [])) ∙ h)) [
+          | inl l ↦ first.undamaged n l
+          | inr r ↦ read_before ms a b first n (is_key_of ms name key) refl (next.undamaged n r)
+        ];
     versions = λ n v h has.
         let key = version_key name n in
         let at = changed_at (m ∷ []) b c next n _ (is_key_of (m ∷ []) name key) refl
@@ -110,6 +126,7 @@ module _ (f : Version → Version) (name : Text) where
     pub missing_changed : t kind.KvVersion (version_key name m) ≡ None → AreChanged f (m ∷ []) name t t
     missing_changed none = record {
       numbers = one_number;
+      undamaged = λ n h. (None, none_read IsVersionInRange version_row _ (ap (t kind.KvVersion) (its_key (version_key name n) h) ∙ none));
       versions = λ n v h has.
           let gone = none_is IsVersionInRange version_row _ (ap (t kind.KvVersion) (its_key (version_key name n) h) ∙ none) v has in
           subst (HasVersion t name n) (gone ∙ sym (ap (option_map f) gone)) has;
@@ -117,11 +134,12 @@ module _ (f : Version → Version) (name : Text) where
     }
 
     -- one that is there
-    pub row_changed : (r : Row) (w : Version) → t kind.KvVersion (version_key name m) ≡ Some r
+    pub row_changed : (r : Row) (y w : Version) → t kind.KvVersion (version_key name m) ≡ Some r → IsVersionInRange y → r ≡ version_row y
         → ((v : Version) → IsVersionInRange v → r ≡ version_row v → w ≡ f v) → ((v : Version) → IsVersionInRange v → IsVersionInRange (f v))
         → AreChanged f (m ∷ []) name t (with_row t kind.KvVersion (version_key name m) (version_row w))
-    row_changed r w some reads keeps = record {
+    row_changed r y w some range read reads keeps = record {
       numbers = one_number;
+      undamaged = λ n h. (Some y, some_read IsVersionInRange version_row _ r y (ap (t kind.KvVersion) (its_key (version_key name n) h) ∙ some) range read);
       versions = λ n v h has.
           let key = its_key (version_key name n) h in
           let x = some_is IsVersionInRange version_row _ r (ap (t kind.KvVersion) key ∙ some) v has in

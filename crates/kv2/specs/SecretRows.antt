@@ -56,6 +56,31 @@ HasVersions rows name = (n : ℕ) → n < 2 ^ 64 → (o : Option Version) × Has
 abbrev pub HasMount : Table → Text → Option Mount → Type 0
 HasMount rows name o = IsRowOf IsMountInRange mount_row (rows kind.Mount name) o
 
+-- ---- rows that are not damaged
+
+-- the row of a mount is that of a mount, or there is none
+abbrev pub IsReadableMount : Table → Text → Type 0
+IsReadableMount rows name = (m : Option Mount) × HasMount rows name m
+
+-- the row of a name is that of a key, or there is none
+abbrev pub IsReadableKey : Table → Text → Type 0
+IsReadableKey rows name = (k : Option KeyEntry) × HasKey rows name k
+
+-- the row of a version is that of a version, or there is none
+abbrev pub IsReadableVersion : Table → Text → ℕ → Type 0
+IsReadableVersion rows name n = (v : Option Version) × HasVersion rows name n v
+
+-- the rows that a write reads are not damaged: its mount's, and its key's if the mount is there
+abbrev pub AreReadable : Table → Text → Text → Type 0
+AreReadable rows mount name =
+    (m : Option Mount) × HasMount rows mount m × (m ≢ None → IsReadableKey rows name)
+
+-- it is so if the write was answered or refused
+abbrev pub OnAnswer : {A : Type 0} → Result A RequestError → Type 0 → Type 0
+OnAnswer (Ok x) P = P
+OnAnswer (Err (Refused r)) P = P
+OnAnswer (Err (Given f)) P = ⊤
+
 -- how the keys of a name's versions begin
 abbrev pub versions_prefix : Text → Text
 versions_prefix name = name ++ line_feed ∷ []
@@ -191,9 +216,11 @@ write rows mount key name now cas object = do
 abbrev pub is_key_of : List ℕ → Text → Text → Bool
 is_key_of ns name q = list_any (λ n. same q (version_key name n)) ns
 
--- The versions of these numbers of the name are changed, where they are there, and no other row is.
+-- The versions of these numbers of the name are changed, where they are there, and no other row is. None of their rows
+-- is damaged.
 pub record AreChanged (f : Version → Version) (ns : List ℕ) (name : Text) (old new : Table) : Type 0 where
   pub numbers : (n : ℕ) → is_among ns n ≡ true → n < 2 ^ 64
+  pub undamaged : (n : ℕ) → is_key_of ns name (version_key name n) ≡ true → IsReadableVersion old name n
   pub versions : (n : ℕ) (v : Option Version) → is_key_of ns name (version_key name n) ≡ true
       → HasVersion old name n v → HasVersion new name n (option_map f v)
   pub others : (k : Kind) (q : Text)

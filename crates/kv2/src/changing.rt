@@ -11,6 +11,7 @@ ghost use Rattle.records.specs.Table.{table_of};
 ghost use Rattle.records.specs.Transaction.{IsHonest, GoesOn, is_storage};
 ghost use Rattle.kv2.specs.Changes.{change_of, IsTimely};
 ghost use Rattle.kv2.specs.SecretRows.{HasKey, HasVersion, HasVersions, AreChanged, KeepsOtherNames, current_of};
+ghost use Rattle.kv2.specs.SecretRows.{IsReadableKey};
 ghost use Rattle.kv2.specs.Secrets as secrets;
 ghost use Rattle.kv2.specs.Versions as versions;
 
@@ -122,6 +123,8 @@ fn change_current<T: RecordsTx>(
     ensures rows { IsHonest (T.seen tx.new) → IsTimely change → (k : Option KeyEntry)
         → HasKey (table_of (T.seen tx.old).rows) name.now k → OnOk result (AreChanged (change_of change)
         (current_of k) name.now (table_of (T.seen tx.old).rows) (table_of (T.seen tx.new).rows)) }
+    ensures damaged { IsHonest (T.seen tx.new)
+        → OnOk result (IsReadableKey (table_of (T.seen tx.old).rows) name.now) }
     ensures others { IsHonest (T.seen tx.new) → IsTimely change → OnOk result
         (KeepsOtherNames name.now (table_of (T.seen tx.old).rows) (table_of (T.seen tx.new).rows)) }
     ensures undamaged { IsHonest (T.seen tx.new) → (k : Option KeyEntry)
@@ -151,6 +154,9 @@ pub fn delete<T: RecordsTx>(
         → HasKey (table_of (T.seen tx.old).rows) (secrets.secret_name mount.now path.now) k
         → OnOk result (AreChanged (versions.soft_deleted now) (current_of k)
         (secrets.secret_name mount.now path.now) (table_of (T.seen tx.old).rows) (table_of (T.seen tx.new).rows)) }
+    // Whatever the rows are: with a damaged row there is no answer. Of the version's row `rows` says so.
+    ensures damaged { IsHonest (T.seen tx.new) → OnOk result
+        (IsReadableKey (table_of (T.seen tx.old).rows) (secrets.secret_name mount.now path.now)) }
     ensures others { IsHonest (T.seen tx.new) → OnOk result (KeepsOtherNames
         (secrets.secret_name mount.now path.now) (table_of (T.seen tx.old).rows) (table_of (T.seen tx.new).rows)) }
     ensures told { IsHonest (T.seen tx.new) → (forms : Forms) (b : Broker) → SoundSecrets forms b.secrets

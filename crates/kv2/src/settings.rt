@@ -8,7 +8,7 @@ ghost use Rattle.records.specs.Parts.{of_mounts, Tells};
 ghost use Rattle.records.specs.Table.{table_of};
 ghost use Rattle.records.specs.Transaction.{IsHonest, GoesOn, is_storage};
 ghost use Rattle.kv2.specs.SecretRows as rows;
-ghost use Rattle.kv2.specs.SecretRows.{HasMount, KeepsOtherMounts};
+ghost use Rattle.kv2.specs.SecretRows.{HasMount, IsReadableMount, KeepsOtherMounts};
 ghost use Rattle.kv2.specs.Secrets as secrets;
 
 use crate::finding::find_mount;
@@ -62,6 +62,9 @@ pub fn set_config<T: RecordsTx>(
     ensures told { IsHonest (T.seen tx.new) → (b : Broker) → SoundMounts b.mounts
         → Tells of_mounts (table_of (T.seen tx.old).rows) b → OnOk result
         (Tells of_mounts (table_of (T.seen tx.new).rows) (secrets.set_config b mount.now cas_required max_versions)) }
+    // Whatever the rows are: with a damaged row there is no answer.
+    ensures damaged { IsHonest (T.seen tx.new)
+        → OnOk result (IsReadableMount (table_of (T.seen tx.old).rows) mount.now) }
     ensures others { IsHonest (T.seen tx.new)
         → OnOk result (KeepsOtherMounts mount.now (table_of (T.seen tx.old).rows) (table_of (T.seen tx.new).rows)) }
     ensures readable { IsHonest (T.seen tx.new) → (m : Option Mount)

@@ -10,7 +10,7 @@ ghost use Rattle.records.specs.Parts.{of_secrets, of_mounts, Tells, OnRefused};
 ghost use Rattle.records.specs.Table.{table_of};
 ghost use Rattle.records.specs.Transaction.{IsHonest, GoesOn, IsCall};
 ghost use Rattle.kv2.specs.SecretRows as rows;
-ghost use Rattle.kv2.specs.SecretRows.{HasKey, HasMount, KeepsOtherNames, IsStarted};
+ghost use Rattle.kv2.specs.SecretRows.{HasKey, HasMount, KeepsOtherNames, IsStarted, OnAnswer, AreReadable};
 ghost use Rattle.kv2.specs.Secrets as secrets;
 ghost use Rattle.kv2.specs.Versions as versions;
 
@@ -129,6 +129,8 @@ fn write_named<T: RecordsTx>(
         → Ends (λ v w. (v ≡ w.number) × (table_of (T.seen tx.new).rows ≡ w.rows)) ⊤ result
         (rows.write (table_of (T.seen tx.old).rows) m k name.now now cas object.now) }
     ensures refused { IsHonest (T.seen tx.new) → OnRefused result ((T.seen tx.new).rows ≡ (T.seen tx.old).rows) }
+    ensures damaged { IsHonest (T.seen tx.new)
+        → OnAnswer result (AreReadable (table_of (T.seen tx.old).rows) mount.now name.now) }
     ensures others { IsHonest (T.seen tx.new) → OnOk result
         (KeepsOtherNames name.now (table_of (T.seen tx.old).rows) (table_of (T.seen tx.new).rows)) }
     ensures started { IsStarted result }
@@ -172,6 +174,9 @@ pub fn write<T: RecordsTx>(
         → Ends (λ v w. (v ≡ w.number) × Tells of_secrets (table_of (T.seen tx.new).rows) w.next) ⊤ result
         (secrets.write b mount.now path.now cas object.now) }
     ensures refused { IsHonest (T.seen tx.new) → OnRefused result ((T.seen tx.new).rows ≡ (T.seen tx.old).rows) }
+    // Whatever the rows are: with a damaged row there is no answer, and no refusal.
+    ensures damaged { IsHonest (T.seen tx.new) → OnAnswer result (AreReadable
+        (table_of (T.seen tx.old).rows) mount.now (secrets.secret_name mount.now path.now)) }
     ensures others { IsHonest (T.seen tx.new) → OnOk result (KeepsOtherNames
         (secrets.secret_name mount.now path.now) (table_of (T.seen tx.old).rows) (table_of (T.seen tx.new).rows)) }
     ensures started { IsStarted result }

@@ -31,7 +31,8 @@ returns-clause-rows g c honest timely =
     let old = table_of (seen c.args.tx.now).rows in
     let f = change_of c.args.change in
     let at = ap (old kind.KvVersion) (sym (c.as_str.ensures.value ∙ c.in_ok-key.ensures)) ∙ sym (c.in_ok-kept.ensures.found first) ∙ c.in-Some.is in
-    let one = row_changed f c.args.name.now old c.args.number small c.in-Some.kept c.changed-version.result at
+    let one = row_changed f c.args.name.now old c.args.number small c.in-Some.kept c.in_ok-read_version.field-0 c.changed-version.result at
+    c.in_ok-read_version.ensures.exact.0 c.in_ok-read_version.ensures.exact.1
     (λ v range row. c.changed-version.ensures ∙ ap f (ok_inj (c.in_ok-read_version.ensures.again v range row)))
     (λ v range. stays_in_range c.args.change v timely range) in
     on_ok_weaker c.put.result (λ put.
