@@ -69,10 +69,13 @@ module _ (f : Version → Version) (name : Text) where
   read_before : (ns : List ℕ) (a b : Table) → AreChanged f ns name a b → (n : ℕ) (p : Bool) → is_key_of ns name (version_key name n) ≡ p
       → IsReadableVersion b name n → IsReadableVersion a name n
   read_before ns a b h n true is _ = h.undamaged n is
-  read_before ns a b h n false is has = (has.0, record {
-    in_range = has.1.in_range;
-    row_is = sym (h.others kind.KvVersion (version_key name n) is) ∙ has.1.row_is;
-  })
+  read_before ns a b h n false is has = (
+    has.0,
+    record {
+      in_range = has.1.in_range;
+      row_is = sym (h.others kind.KvVersion (version_key name n) is) ∙ has.1.row_is;
+    },
+  )
 
   pub changed_more : ((v : Version) → f (f v) ≡ f v) → (ms : List ℕ) (m : ℕ) (a b c : Table) → AreChanged f ms name a b
       → AreChanged f (m ∷ []) name b c → AreChanged f (ms ++ m ∷ []) name a c

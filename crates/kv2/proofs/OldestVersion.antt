@@ -1,12 +1,11 @@
 -- The oldest of versions in the order of their numbers.
-use Rattle.std.specs.Prelude.{◌≡◌, ◌≢◌, ◌<◌, ◌≤◌, ◌&&◌, ◌∷◌, [], ℕ, List, map, nat_lt, Bool, true, false, cond, if◌then◌else◌, Some, None, T}
-use Rattle.std.specs.declared.cmp.Ordering.{Ordering}
+use Rattle.std.specs.Prelude.{◌≡◌, ◌≢◌, ◌<◌, ◌≤◌, ◌∷◌, [], ℕ, List, map, nat_lt, true, false, cond, if◌then◌else◌, Some, None, T}
 use Rattle.std.specs.Ordering.{nat_cmp, is_lt, eq_by_cmp}
 use Rattle.std.specs.FinMap as fin
 use Rattle.std.specs.FinMap.{is_sorted}
 use Rattle.std.specs.FinMap.Entries.{below_all}
-use Rattle.std.proofs.Common.{refl, sym, ◌∙◌, ap, subst, arith, inl, inr}
-use Rattle.std.proofs.lemmas.Bool.{eqb-true, ltb-true, lt-ltb, cases_lt}
+use Rattle.std.proofs.Common.{refl, sym, ◌∙◌, ap, subst, arith}
+use Rattle.std.proofs.lemmas.Bool.{eqb-true, ltb-true}
 use Rattle.std.proofs.lemmas.Option.{none-some}
 use Rattle.broker_types.specs.Secret.{Key, Version}
 use Rattle.records.specs.SplitLaws.{eqb_self}
@@ -54,15 +53,15 @@ module _ (k : Key) where
   at (e ∷ es) is s =
       elim (nat_lt 1 e.0) as (λ b. nat_lt 1 e.0 ≡ b → IsOldest k (if b then e.0 else 0)) [
         | true ↦ λ big. record {
-            smallest = λ n v here. first_is_least e es s n v (found n ∙ here);
-            kept = λ _. (ltb-true 1 e.0 big, there);
-            first = λ n v zero _. let b = ltb-true 1 e.0 big in absurd (omega (arith, b, zero));
-          }
+          smallest = λ n v here. first_is_least e es s n v (found n ∙ here);
+          kept = λ _. (ltb-true 1 e.0 big, there);
+          first = λ n v zero _. let b = ltb-true 1 e.0 big in absurd (omega (arith, b, zero));
+        }
         | false ↦ λ small. record {
-            smallest = λ n v _. omega arith;
-            kept = λ some. absurd (some refl);
-            first = λ n v _ _. (e.0, not_above small, there);
-          }
+          smallest = λ n v _. omega arith;
+          kept = λ some. absurd (some refl);
+          first = λ n v _ _. (e.0, not_above small, there);
+        }
       ] refl
     where
       found : (n : ℕ) → fin.find nat_cmp n (e ∷ es) ≡ fin.get k.versions n

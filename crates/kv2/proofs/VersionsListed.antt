@@ -22,7 +22,7 @@ use Rattle.broker_types.specs.Broker.{Broker}
 use Rattle.broker_types.specs.Sound.{Forms, SoundSecrets}
 use Rattle.records.specs.declared.kind.Kind.TheVariants as kind
 use Rattle.records.specs.declared.row.Row.{Row}
-use Rattle.records.specs.ListedLaws.{named, listed-sorted, find-listed}
+use Rattle.records.specs.ListedLaws.{listed-sorted, find-listed}
 use Rattle.records.specs.Parts.{of_secrets, Tells}
 use Rattle.records.specs.RangeLaws.{version_in_range}
 use Rattle.records.specs.RowForms.{version_row}
@@ -30,7 +30,7 @@ use Rattle.records.specs.Rows.{padded, version_of_digits, version_row_of, versio
 use Rattle.records.specs.SplitLaws.{eqb_self, split-lacking}
 use Rattle.records.specs.Splits.{line_feed, split_once, lacks}
 use Rattle.records.specs.Table.{table_of}
-use Rattle.records.specs.Transaction.{Rows, rows_under}
+use Rattle.records.specs.Transaction.{Rows}
 use Rattle.kv2.specs.SecretRows.{IsNumbered, AreVersions, version_entry, versions_prefix}
 use Rattle.kv2.specs.VersionLaws.{eq-nat_cmp}
 use Rattle.kv2.specs.Versions.{Versions}

@@ -1,9 +1,19 @@
--- Changes of versions, as the code names them.
-use Rattle.std.specs.Prelude.{⊤}
+-- Changes of versions, as the code names them, and what the calls leave that make them.
+use Rattle.std.specs.Prelude.{◌≢◌, ℕ, List, ⊤, Result, OnOk, IfErr}
+use Rattle.broker_types.specs.Text.{Text}
+use Rattle.broker_types.specs.Broker.{Broker}
+use Rattle.broker_types.specs.Fault.{IsMemoryOrStorage}
+use Rattle.broker_types.specs.declared.fault.Fault.{Fault}
+use Rattle.broker_types.specs.declared.fault.Fault.TheVariants as fault
 use Rattle.broker_types.specs.Secret.{Version}
-use Rattle.broker_types.specs.Sound.{IsMoment}
+use Rattle.broker_types.specs.Sound.{Forms, SoundSecrets, IsMoment, IsSecretName}
+use Rattle.records.specs.Parts.{of_secrets, Tells}
+use Rattle.records.specs.Table.{table_of}
+use Rattle.records.specs.Transaction.{Seen, IsHonest, GoesOn, is_storage}
 use Rattle.kv2.specs.declared.changing.Change.{Change}
 use Rattle.kv2.specs.declared.changing.Change.TheVariants as done
+use Rattle.kv2.specs.SecretRows.{AreChanged, HasVersions}
+use Rattle.kv2.specs.Secrets.{secret_name, with_versions}
 use Rattle.kv2.specs.Versions.{soft_deleted, restored, destroyed}
 
 -- what a change does to a version
@@ -17,3 +27,21 @@ abbrev pub IsTimely : Change → Type 0
 IsTimely (done.Delete now) = IsMoment now
 IsTimely done.Restore = ⊤
 IsTimely done.Destroy = ⊤
+
+-- A call that changes the versions of these numbers of the secret at a path of a mount, whatever the rows are. Those that
+-- are not there are passed over; with a damaged row there is no answer.
+pub record ChangesVersions {A : Type 0} (f : Version → Version) (ns : List ℕ) (mount path : Text) (old new : Seen)
+    (result : Result A Fault) : Type 0 where
+  -- the versions are changed, and no other row is
+  pub rows : IsHonest new
+      → OnOk result (AreChanged f ns (secret_name mount path) (table_of old.rows) (table_of new.rows))
+  -- if the rows are those of a broker's secrets, then they are those of the next broker's afterwards
+  pub told : IsHonest new → (forms : Forms) (b : Broker) → SoundSecrets forms b.secrets
+      → Tells of_secrets (table_of old.rows) b → IsSecretName (secret_name mount path)
+      → OnOk result (Tells of_secrets (table_of new.rows) (with_versions f b mount path ns))
+  -- it fails as damaged only if a row of the versions is
+  pub readable : IsHonest new → HasVersions (table_of old.rows) (secret_name mount path) → IfErr result IsMemoryOrStorage
+  pub undamaged : IsHonest new → (forms : Forms) (b : Broker) → SoundSecrets forms b.secrets
+      → Tells of_secrets (table_of old.rows) b → IsSecretName (secret_name mount path) → IfErr result IsMemoryOrStorage
+  pub started : IfErr result (λ f. f ≢ fault.BadStart)
+  pub goes_on : GoesOn old new (is_storage result)

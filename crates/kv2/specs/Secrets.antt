@@ -95,17 +95,21 @@ with_key b mount path f = record b { secrets = change b.secrets (secret_name mou
 abbrev pub delete : Broker → Text → Text → Broker
 delete b mount path = with_key b mount path (λ k. with_changed (soft_deleted b.clock) (k.current ∷ []) k)
 
+-- the broker with the versions of these numbers changed, where they are there
+abbrev pub with_versions : (Version → Version) → Broker → Text → Text → List ℕ → Broker
+with_versions f b mount path ns = with_key b mount path (with_changed f ns)
+
 -- the versions of these numbers deleted
 abbrev pub delete_versions : Broker → Text → Text → List ℕ → Broker
-delete_versions b mount path ns = with_key b mount path (with_changed (soft_deleted b.clock) ns)
+delete_versions b mount path ns = with_versions (soft_deleted b.clock) b mount path ns
 
 -- the versions of these numbers restored
 abbrev pub undelete : Broker → Text → Text → List ℕ → Broker
-undelete b mount path ns = with_key b mount path (with_changed restored ns)
+undelete b mount path ns = with_versions restored b mount path ns
 
 -- the versions of these numbers destroyed
 abbrev pub destroy : Broker → Text → Text → List ℕ → Broker
-destroy b mount path ns = with_key b mount path (with_changed destroyed ns)
+destroy b mount path ns = with_versions destroyed b mount path ns
 
 -- the broker without a secret and all its versions
 abbrev pub remove_key : Broker → Text → Text → Broker

@@ -9,7 +9,7 @@ ghost use Rattle.records.specs.KeyEntry.{KeyEntry};
 ghost use Rattle.records.specs.Parts.{of_secrets, Tells};
 ghost use Rattle.records.specs.Table.{table_of};
 ghost use Rattle.records.specs.Transaction.{IsHonest, GoesOn, is_storage};
-ghost use Rattle.kv2.specs.Changes.{change_of, IsTimely};
+ghost use Rattle.kv2.specs.Changes.{change_of, IsTimely, ChangesVersions};
 ghost use Rattle.kv2.specs.SecretRows.{HasKey, HasVersion, HasVersions, AreChanged, KeepsOtherNames, current_of};
 ghost use Rattle.kv2.specs.SecretRows.{IsReadableKey};
 ghost use Rattle.kv2.specs.Secrets as secrets;
@@ -179,10 +179,28 @@ pub fn delete<T: RecordsTx>(
     change_current(alloc, tx, name.as_str(), Change::Delete(now))
 }
 
-/// Deletes versions of the secret at a path of a mount. Those that are deleted already or not there are passed
-/// over; one that is destroyed and not deleted gets a time of deletion. It fails as `Damaged` if a
-/// row that it reads is not one of a version, and also if memory runs out or the storage fails (Vault's
-/// documentation, "KV secrets engine - version 2 (API)", delete secret versions).
+/// Changes versions of the secret at a path of a mount; those that are not there are passed over. It fails as
+/// `Damaged` if a row that it reads is not one of a version, and also if memory runs out or the storage fails.
+fn change_secret<T: RecordsTx>(
+    alloc: Global,
+    tx: &mut T,
+    mount: &str,
+    path: &str,
+    numbers: &[u64],
+    change: Change,
+) -> Result<(), Fault>
+    ensures { IsTimely change → ChangesVersions (change_of change) numbers.now mount.now path.now
+        (T.seen tx.old) (T.seen tx.new) result }
+{
+    versions_have_keys();
+    let name = secret_name(alloc, mount, path)?;
+    change_versions(alloc, tx, name.as_str(), numbers, change)
+}
+
+/// Deletes versions of the secret at a path of a mount at this moment, which is the clock's. Those that are deleted
+/// already or not there are passed over; one that is destroyed and not deleted gets a time of deletion. It fails as
+/// `Damaged` if a row that it reads is not one of a version, and also if memory runs out or the storage fails
+/// (Vault's documentation, "KV secrets engine - version 2 (API)", delete secret versions).
 pub fn delete_versions<T: RecordsTx>(
     alloc: Global,
     tx: &mut T,
@@ -191,31 +209,17 @@ pub fn delete_versions<T: RecordsTx>(
     path: &str,
     numbers: &[u64],
 ) -> Result<(), Fault>
-    ensures rows { IsHonest (T.seen tx.new) → OnOk result (AreChanged (versions.soft_deleted now) numbers.now
-        (secrets.secret_name mount.now path.now) (table_of (T.seen tx.old).rows) (table_of (T.seen tx.new).rows)) }
-    ensures told { IsHonest (T.seen tx.new) → (forms : Forms) (b : Broker) → SoundSecrets forms b.secrets
-        → Tells of_secrets (table_of (T.seen tx.old).rows) b → now ≡ b.clock
-        → IsSecretName (secrets.secret_name mount.now path.now) → OnOk result (Tells of_secrets
-        (table_of (T.seen tx.new).rows) (secrets.delete_versions b mount.now path.now numbers.now)) }
-    ensures readable { IsHonest (T.seen tx.new)
-        → HasVersions (table_of (T.seen tx.old).rows) (secrets.secret_name mount.now path.now)
-        → IfErr result IsMemoryOrStorage }
-    ensures undamaged { IsHonest (T.seen tx.new) → (forms : Forms) (b : Broker) → SoundSecrets forms b.secrets
-        → Tells of_secrets (table_of (T.seen tx.old).rows) b
-        → IsSecretName (secrets.secret_name mount.now path.now) → IfErr result IsMemoryOrStorage }
-    ensures started { IfErr result (λ fault. fault ≢ Fault.BadStart) }
-    ensures goes_on { GoesOn (T.seen tx.old) (T.seen tx.new) (is_storage result) }
+    ensures { ChangesVersions (versions.soft_deleted now) numbers.now mount.now path.now
+        (T.seen tx.old) (T.seen tx.new) result }
 {
-    versions_have_keys();
     let now = now.seconds();
-    let name = secret_name(alloc, mount, path)?;
-    change_versions(alloc, tx, name.as_str(), numbers, Change::Delete(now))
+    change_secret(alloc, tx, mount, path, numbers, Change::Delete(now))
 }
 
 /// Takes back the deletion of versions of the secret at a path of a mount. Those that are destroyed, not deleted
-/// or not there are passed over. It fails as `Damaged` if a
-/// row that it reads is not one of a version, and also if memory runs out or the storage fails (Vault's
-/// documentation, "KV secrets engine - version 2 (API)", undelete secret versions).
+/// or not there are passed over. It fails as `Damaged` if a row that it reads is not one of a version, and also if
+/// memory runs out or the storage fails (Vault's documentation, "KV secrets engine - version 2 (API)", undelete
+/// secret versions).
 pub fn undelete<T: RecordsTx>(
     alloc: Global,
     tx: &mut T,
@@ -223,30 +227,16 @@ pub fn undelete<T: RecordsTx>(
     path: &str,
     numbers: &[u64],
 ) -> Result<(), Fault>
-    ensures rows { IsHonest (T.seen tx.new) → OnOk result (AreChanged versions.restored numbers.now
-        (secrets.secret_name mount.now path.now) (table_of (T.seen tx.old).rows) (table_of (T.seen tx.new).rows)) }
-    ensures told { IsHonest (T.seen tx.new) → (forms : Forms) (b : Broker) → SoundSecrets forms b.secrets
-        → Tells of_secrets (table_of (T.seen tx.old).rows) b
-        → IsSecretName (secrets.secret_name mount.now path.now) → OnOk result (Tells of_secrets
-        (table_of (T.seen tx.new).rows) (secrets.undelete b mount.now path.now numbers.now)) }
-    ensures readable { IsHonest (T.seen tx.new)
-        → HasVersions (table_of (T.seen tx.old).rows) (secrets.secret_name mount.now path.now)
-        → IfErr result IsMemoryOrStorage }
-    ensures undamaged { IsHonest (T.seen tx.new) → (forms : Forms) (b : Broker) → SoundSecrets forms b.secrets
-        → Tells of_secrets (table_of (T.seen tx.old).rows) b
-        → IsSecretName (secrets.secret_name mount.now path.now) → IfErr result IsMemoryOrStorage }
-    ensures started { IfErr result (λ fault. fault ≢ Fault.BadStart) }
-    ensures goes_on { GoesOn (T.seen tx.old) (T.seen tx.new) (is_storage result) }
+    ensures { ChangesVersions versions.restored numbers.now mount.now path.now
+        (T.seen tx.old) (T.seen tx.new) result }
 {
-    versions_have_keys();
-    let name = secret_name(alloc, mount, path)?;
-    change_versions(alloc, tx, name.as_str(), numbers, Change::Restore)
+    change_secret(alloc, tx, mount, path, numbers, Change::Restore)
 }
 
 /// Destroys versions of the secret at a path of a mount: their secrets go for good, and the times of their deletion
-/// stay. Those that are not there are passed over. It fails as `Damaged` if a
-/// row that it reads is not one of a version, and also if memory runs out or the storage fails (Vault's
-/// documentation, "KV secrets engine - version 2 (API)", destroy secret versions).
+/// stay. Those that are not there are passed over. It fails as `Damaged` if a row that it reads is not one of a
+/// version, and also if memory runs out or the storage fails (Vault's documentation, "KV secrets engine - version 2
+/// (API)", destroy secret versions).
 pub fn destroy<T: RecordsTx>(
     alloc: Global,
     tx: &mut T,
@@ -254,22 +244,8 @@ pub fn destroy<T: RecordsTx>(
     path: &str,
     numbers: &[u64],
 ) -> Result<(), Fault>
-    ensures rows { IsHonest (T.seen tx.new) → OnOk result (AreChanged versions.destroyed numbers.now
-        (secrets.secret_name mount.now path.now) (table_of (T.seen tx.old).rows) (table_of (T.seen tx.new).rows)) }
-    ensures told { IsHonest (T.seen tx.new) → (forms : Forms) (b : Broker) → SoundSecrets forms b.secrets
-        → Tells of_secrets (table_of (T.seen tx.old).rows) b
-        → IsSecretName (secrets.secret_name mount.now path.now) → OnOk result (Tells of_secrets
-        (table_of (T.seen tx.new).rows) (secrets.destroy b mount.now path.now numbers.now)) }
-    ensures readable { IsHonest (T.seen tx.new)
-        → HasVersions (table_of (T.seen tx.old).rows) (secrets.secret_name mount.now path.now)
-        → IfErr result IsMemoryOrStorage }
-    ensures undamaged { IsHonest (T.seen tx.new) → (forms : Forms) (b : Broker) → SoundSecrets forms b.secrets
-        → Tells of_secrets (table_of (T.seen tx.old).rows) b
-        → IsSecretName (secrets.secret_name mount.now path.now) → IfErr result IsMemoryOrStorage }
-    ensures started { IfErr result (λ fault. fault ≢ Fault.BadStart) }
-    ensures goes_on { GoesOn (T.seen tx.old) (T.seen tx.new) (is_storage result) }
+    ensures { ChangesVersions versions.destroyed numbers.now mount.now path.now
+        (T.seen tx.old) (T.seen tx.new) result }
 {
-    versions_have_keys();
-    let name = secret_name(alloc, mount, path)?;
-    change_versions(alloc, tx, name.as_str(), numbers, Change::Destroy)
+    change_secret(alloc, tx, mount, path, numbers, Change::Destroy)
 }

@@ -1,6 +1,6 @@
 use crate::{
-    SecretVersion, config, delete, delete_versions, destroy, drop_mount, list, read, remove_key,
-    set_config, undelete, write,
+    SecretVersion, config, delete, delete_versions, destroy, drop_mount, list, metadata, read,
+    remove_key, set_config, undelete, write,
 };
 use broker_types::{Bytes, Fault, Moment, Reason, Refusal, RequestError, TextBuf};
 use records::{Engine, Kind, ListRecords, ListTx, MountRecord, RecordsTx, Row, write_mount};
@@ -83,6 +83,33 @@ fn reads(
     Ok(is_version(&found, expected.0, expected.1, expected.2))
 }
 
+/// Whether this is told of the secret `x`, whose times are all second 1,000: its last version, its oldest one, and of
+/// each version its number, when it was deleted, and whether it is destroyed.
+fn tells(
+    rt: &HostRuntime,
+    tx: &mut ListTx,
+    current: u64,
+    oldest: u64,
+    versions: &[(u64, Option<u64>, bool)],
+) -> Result<bool, Fail> {
+    let Some(found) = metadata(rt.alloc(), tx, "secret", "x")? else {
+        return Ok(false);
+    };
+    let settings = (found.cas_required, found.max_versions) == (false, 0);
+    let times = (found.created, found.updated) == (1000, 1000);
+    let numbers = (found.current, found.oldest) == (current, oldest);
+    Ok(
+        settings
+            && times
+            && numbers
+            && found.versions.len() == versions.len()
+            && found.versions.iter().zip(versions).all(|(version, wanted)| {
+                version.created == 1000
+                    && (version.number, version.deleted, version.destroyed) == *wanted
+            }),
+    )
+}
+
 #[test]
 fn check_and_set_goes_by_the_current_version(rt: HostRuntime) -> Result<(), Fail> {
     let alloc = rt.alloc();
@@ -113,12 +140,25 @@ fn the_oldest_of_eleven_versions_is_gone(rt: HostRuntime) -> Result<(), Fail> {
     }
     assert!(rt; read(alloc, &mut tx, "secret", "x", 1)?.is_none());
     assert!(rt; reads(&rt, &mut tx, 2, (2, None, Some(ONE)))?);
+    let Some(told) = metadata(alloc, &mut tx, "secret", "x")? else {
+        return Err(Fail::from("no metadata"));
+    };
+    assert!(rt; (told.current, told.oldest, told.versions.len()) == (11, 2, 10));
     set_config(alloc, &mut tx, "secret", None, Some(2))?;
     assert!(rt; reads(&rt, &mut tx, 2, (2, None, Some(ONE)))?);
     assert!(rt; writes(&rt, &mut tx, "x", None)? == 12);
     assert!(rt; read(alloc, &mut tx, "secret", "x", 10)?.is_none());
     assert!(rt; reads(&rt, &mut tx, 11, (11, None, Some(ONE)))?);
     assert!(rt; reads(&rt, &mut tx, 0, (12, None, Some(ONE)))?);
+    assert!(rt;
+        tells(
+            &rt,
+            &mut tx,
+            12,
+            11,
+            &[(11, None, false), (12, None, false)]
+        )?
+    );
     Ok(())
 }
 
@@ -137,6 +177,48 @@ fn versions_are_deleted_restored_and_destroyed(rt: HostRuntime) -> Result<(), Fa
     undelete(alloc, &mut tx, "secret", "x", &[1, 2])?;
     assert!(rt; reads(&rt, &mut tx, 1, (1, None, Some(ONE)))?);
     assert!(rt; reads(&rt, &mut tx, 2, (2, Some(1002), None))?);
+    Ok(())
+}
+
+#[test]
+fn a_destroyed_version_takes_a_deletion_time(rt: HostRuntime) -> Result<(), Fail> {
+    let alloc = rt.alloc();
+    let mut tx = started(&rt)?;
+    writes(&rt, &mut tx, "x", None)?;
+    writes(&rt, &mut tx, "x", None)?;
+    delete(alloc, &mut tx, moment(1001)?, "secret", "x")?;
+    delete(alloc, &mut tx, moment(1002)?, "secret", "x")?;
+    assert!(rt;
+        tells(
+            &rt,
+            &mut tx,
+            2,
+            0,
+            &[(1, None, false), (2, Some(1001), false)]
+        )?
+    );
+    destroy(alloc, &mut tx, "secret", "x", &[1, 2])?;
+    undelete(alloc, &mut tx, "secret", "x", &[1, 2])?;
+    assert!(rt;
+        tells(
+            &rt,
+            &mut tx,
+            2,
+            0,
+            &[(1, None, true), (2, Some(1001), true)]
+        )?
+    );
+    delete_versions(alloc, &mut tx, moment(2000)?, "secret", "x", &[1])?;
+    assert!(rt;
+        tells(
+            &rt,
+            &mut tx,
+            2,
+            0,
+            &[(1, Some(2000), true), (2, Some(1001), true)]
+        )?
+    );
+    assert!(rt; metadata(alloc, &mut tx, "secret", "none")?.is_none());
     Ok(())
 }
 
@@ -189,5 +271,12 @@ fn a_damaged_row_is_told_where_it_is_read(rt: HostRuntime) -> Result<(), Fail> {
     tx.put(Kind::KvVersion, "secret/x\n00000000000000000001", row)?;
     assert!(rt; matches!(read(alloc, &mut tx, "secret", "x", 1), Err(Fault::Damaged)));
     assert!(rt; read(alloc, &mut tx, "secret", "x", 2)?.is_none());
+    assert!(rt; matches!(metadata(alloc, &mut tx, "secret", "x"), Err(Fault::Damaged)));
+    assert!(rt;
+        matches!(
+            destroy(alloc, &mut tx, "secret", "x", &[1]),
+            Err(Fault::Damaged)
+        )
+    );
     Ok(())
 }

@@ -1,7 +1,6 @@
-use Rattle.std.proofs.Common.{◌≡◌, ap, sym, subst, ◌∙◌, ℕ, List, Some, option_map}
+use Rattle.std.proofs.Common.{ap, sym, subst, ◌∙◌, Some, option_map}
 use Rattle.std.proofs.lemmas.Result.{err_from_is_err_and}
 use Rattle.broker_types.specs.Map.{get}
-use Rattle.broker_types.specs.Secret.{Version}
 use Rattle.records.specs.CallLaws.{honest_before}
 use Rattle.records.specs.KeyEntry.{key_entry}
 use Rattle.records.specs.Table.{table_of}
