@@ -90,7 +90,8 @@ module _ (laws : KeyLaws) (name : Text) where
   key_order : (m n : ℕ) → m ≤ greatest_version → n ≤ greatest_version → text_cmp (version_key name m) (version_key name n) ≡ nat_cmp m n
   key_order m n g h = cmp-same_front name (line_feed ∷ padded m) (line_feed ∷ padded n) ∙ laws.order m n (wide m g) (wide n h)
 
-  below-keyed : (n : ℕ) (es : List (ℕ × Version)) → n ≤ greatest_version → All IsFew es → below_all text_cmp (version_key name n) (keyed es) ≡ below_all nat_cmp n es
+  below-keyed : (n : ℕ) (es : List (ℕ × Version)) → n ≤ greatest_version → All IsFew es
+      → below_all text_cmp (version_key name n) (keyed es) ≡ below_all nat_cmp n es
   below-keyed n [] g h = refl
   below-keyed n (e ∷ es) g h = λ i. is_lt (key_order n e.0 g (All-head IsFew e es h) i) && below-keyed n es g (All-tail IsFew e es h) i
 
@@ -138,7 +139,8 @@ module _ (laws : KeyLaws) (name : Text) where
         parts : (n : ℕ) → same (p.0 ++ line_feed ∷ p.1) (version_key name n) ≡ same p.1 (padded n)
         parts n = same-parts line_feed p.0 p.1 name (padded n) front lack ∙ ap (λ b. b && same p.1 (padded n)) (ap (λ z. same z name) is ∙ same_self name)
 
-    find-keyed : (q : Text) → fin.find text_cmp q (keyed (fin.entries vs)) ≡ (if starts_with nat_eq q (versions_prefix name) then at_parts (row_in vs) q else None)
+    find-keyed : (q : Text) → fin.find text_cmp q (keyed (fin.entries vs))
+        ≡ (if starts_with nat_eq q (versions_prefix name) then at_parts (row_in vs) q else None)
     find-keyed q =
         elim (starts_with nat_eq q (versions_prefix name)) as (λ b. starts_with nat_eq q (versions_prefix name) ≡ b
         → fin.find text_cmp q (keyed (fin.entries vs)) ≡ (if b then at_parts (row_in vs) q else None)) [

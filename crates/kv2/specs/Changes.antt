@@ -28,8 +28,8 @@ IsTimely (done.Delete now) = IsMoment now
 IsTimely done.Restore = ⊤
 IsTimely done.Destroy = ⊤
 
--- A call that changes the versions of these numbers of the secret at a path of a mount, whatever the rows are. Those that
--- are not there are passed over; with a damaged row there is no answer.
+-- A call that changes the versions of these numbers of the secret at a path of a mount, whatever the rows are. Those
+-- that are not there are passed over; with a damaged row there is no answer.
 pub record ChangesVersions {A : Type 0} (f : Version → Version) (ns : List ℕ) (mount path : Text) (old new : Seen)
     (result : Result A Fault) : Type 0 where
   -- the versions are changed, and no other row is
@@ -40,7 +40,8 @@ pub record ChangesVersions {A : Type 0} (f : Version → Version) (ns : List ℕ
       → Tells of_secrets (table_of old.rows) b → IsSecretName (secret_name mount path)
       → OnOk result (Tells of_secrets (table_of new.rows) (with_versions f b mount path ns))
   -- it fails as damaged only if a row of the versions is
-  pub readable : IsHonest new → HasVersions (table_of old.rows) (secret_name mount path) → IfErr result IsMemoryOrStorage
+  pub readable : IsHonest new → HasVersions (table_of old.rows) (secret_name mount path)
+      → IfErr result IsMemoryOrStorage
   pub undamaged : IsHonest new → (forms : Forms) (b : Broker) → SoundSecrets forms b.secrets
       → Tells of_secrets (table_of old.rows) b → IsSecretName (secret_name mount path) → IfErr result IsMemoryOrStorage
   pub started : IfErr result (λ f. f ≢ fault.BadStart)
