@@ -1,6 +1,6 @@
 -- Laws of refusals: what is refused without asking the broker is listed.
-use Rattle.std.proofs.Common.{ℕ, ◌+◌, Option, ◌||◌, ◌&&◌, Bool, true, false, cond, List, [], ◌∷◌, length, take, drop}
-use Rattle.std.proofs.Common.{codes, bytes_eq, slice_range, Result, Ok, Err, IfErr, nat_le, refl, sym, subst}
+use Rattle.std.proofs.Common.{ℕ, ◌+◌, Option, ◌||◌, Bool, true, false, cond, List, [], ◌∷◌, length, take, drop}
+use Rattle.std.proofs.Common.{codes, bytes_eq, slice_range, Result, Ok, Err, IfErr, nat_le, nat_lt, refl, sym, subst}
 use Rattle.std.proofs.Common.{inl, inr, lit<}
 use Rattle.std.specs.List.{list_any}
 use Rattle.std.specs.Str.{is_utf8}
@@ -9,10 +9,10 @@ use Rattle.broker_types.specs.Limits.{longest_body}
 use Rattle.broker_types.specs.Path.{is_path, without_slash}
 use Rattle.broker_types.specs.Text.{Text}
 use Rattle.broker_types.specs.declared.status.Status.{Status}
-use Rattle.broker_types.specs.declared.status.Status.TheVariants.{BadRequest}
+use Rattle.broker_types.specs.declared.status.Status.TheVariants.{BadRequest, PayloadTooLarge, NotImplemented}
 use Rattle.broker_types.specs.declared.ask.Verb.{Verb}
 use Rattle.http_layer.specs.Front.{Front, need, refused_with, whole, HeadFront, unended, too_long, malformed, read}
-use Rattle.http_layer.specs.Front.{front_of_body, front_of_head, content_length, body_length, is_served, is_number}
+use Rattle.http_layer.specs.Front.{front_of_body, front_of_head, content_length, body_length, may_have_hosts, is_number}
 use Rattle.http_layer.specs.HeadParts.{HeadParts, values_named}
 use Rattle.http_layer.specs.Asked.{asked, verb_asked, token_asked, path_asked, ask_or_refusal, is_query_or_escape}
 use Rattle.http_layer.specs.Laws.{FrontRefusalIsListed, AskRefusalIsListed}
@@ -31,16 +31,26 @@ cond_refuses P false x y left right = right
 bad_request_listed : IsFrontRefusal BadRequest
 bad_request_listed = (0, lit< tt, refl)
 
+too_large_listed : IsFrontRefusal PayloadTooLarge
+too_large_listed = (1, lit< tt, refl)
+
+coding_listed : IsFrontRefusal NotImplemented
+coding_listed = (3, lit< tt, refl)
+
 length_refuses : (vs : List (List ℕ)) → IfErr (content_length vs) IsFrontRefusal
 length_refuses [] = tt
 length_refuses (v ∷ []) =
-    cond_refuses IsFrontRefusal (is_number v && nat_le (digits_value 10 v) longest_body) _ _ tt bad_request_listed
+    cond_refuses IsFrontRefusal (is_number v) _ _
+    (cond_refuses IsFrontRefusal (nat_le (digits_value 10 v) longest_body) _ _ tt too_large_listed)
+    bad_request_listed
 length_refuses (v ∷ w ∷ vs) = bad_request_listed
 
 body_refuses : (p : HeadParts) → IfErr (body_length p) IsFrontRefusal
 body_refuses p =
-    cond_refuses IsFrontRefusal (is_served p) _ _
-    (length_refuses (values_named (codes "content-length") p.fields)) bad_request_listed
+    cond_refuses IsFrontRefusal (nat_lt 0 (length (values_named (codes "transfer-encoding") p.fields))) _ _
+    coding_listed
+    (cond_refuses IsFrontRefusal (may_have_hosts p.minor (length (values_named (codes "host") p.fields))) _ _
+    (length_refuses (values_named (codes "content-length") p.fields)) bad_request_listed)
 
 -- if the front is refused, its status is a listed one
 abbrev Refuses : Front → Type 0
