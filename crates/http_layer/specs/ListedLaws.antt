@@ -14,7 +14,8 @@ use Rattle.broker_types.specs.declared.ask.Verb.{Verb}
 use Rattle.http_layer.specs.Front.{Front, need, refused_with, whole, HeadFront, unended, too_long, malformed, read}
 use Rattle.http_layer.specs.Front.{front_of_body, front_of_head, content_length, body_length, may_have_hosts, is_number}
 use Rattle.http_layer.specs.HeadParts.{HeadParts, values_named}
-use Rattle.http_layer.specs.Asked.{asked, verb_asked, token_asked, path_asked, ask_or_refusal, is_query_or_escape}
+use Rattle.http_layer.specs.Asked.{asked, verb_asked, token_asked, path_asked, ask_or_refusal, is_escape}
+use Rattle.http_layer.specs.Query.{target_path, target_query, version_asked}
 use Rattle.http_layer.specs.Laws.{FrontRefusalIsListed, AskRefusalIsListed}
 use Rattle.http_layer.specs.Listed.{IsFrontRefusal, IsAskRefusal}
 use Rattle.http_layer.specs.Refusing.{RefusalParts}
@@ -81,8 +82,8 @@ front_refuses s status a = subst Refuses (sym a.front) (of_head s a.head)
 
 -- ---- asks
 
-verb_refuses : (method : List ℕ) → IfErr (verb_asked method) IsAskRefusal
-verb_refuses method =
+verb_refuses : (method query : List ℕ) → IfErr (verb_asked method query) IsAskRefusal
+verb_refuses method query =
     cond_refuses IsAskRefusal (bytes_eq method (codes "GET")) _ _ tt
     (cond_refuses IsAskRefusal (bytes_eq method (codes "LIST")) _ _ tt
     (cond_refuses IsAskRefusal (bytes_eq method (codes "POST") || bytes_eq method (codes "PUT")) _ _ tt
@@ -96,23 +97,24 @@ token_refuses (v ∷ w ∷ vs) = inr (inl refl)
 path_refuses : (target : List ℕ) → IfErr (path_asked target) IsAskRefusal
 path_refuses target =
     cond_refuses IsAskRefusal (bytes_eq (take 4 target) (codes "/v1/")) _ _
-    (cond_refuses IsAskRefusal (list_any is_query_or_escape target) _ _ (inr (inr refl))
-    (cond_refuses IsAskRefusal (is_path (without_slash (drop 4 target))) _ _ tt (inr (inr refl))))
+    (cond_refuses IsAskRefusal (list_any is_escape target) _ _ (inr (inr refl))
+    (cond_refuses IsAskRefusal (is_path (without_slash (drop 4 (target_path target)))) _ _ tt (inr (inr refl))))
     (inl (inr refl))
 
 first_refuses : (verb : Result Verb RefusalParts) (token : Result (Option Text) RefusalParts)
-    (path : Result Text RefusalParts) (body : List ℕ)
+    (path : Result Text RefusalParts) (version body : List ℕ)
     → IfErr verb IsAskRefusal → IfErr token IsAskRefusal → IfErr path IsAskRefusal
-    → IfErr (ask_or_refusal verb token path body) IsAskRefusal
-first_refuses (Ok v) (Ok t) (Ok p) body x y z = tt
-first_refuses (Err r) token path body x y z = x
-first_refuses (Ok v) (Err r) path body x y z = y
-first_refuses (Ok v) (Ok t) (Err r) body x y z = z
+    → IfErr (ask_or_refusal verb token path version body) IsAskRefusal
+first_refuses (Ok v) (Ok t) (Ok p) version body x y z = tt
+first_refuses (Err r) token path version body x y z = x
+first_refuses (Ok v) (Err r) path version body x y z = y
+first_refuses (Ok v) (Ok t) (Err r) version body x y z = z
 
 -- the refusal of a request that asks nothing is listed
 pub ask_refuses : AskRefusalIsListed
 unfolding asked
 ask_refuses head body =
     let tokens = values_named (codes "x-vault-token") head.fields in
-    first_refuses (verb_asked head.method) (token_asked tokens) (path_asked head.target) body
-    (verb_refuses head.method) (token_refuses tokens) (path_refuses head.target)
+    let query = target_query head.target in
+    first_refuses (verb_asked head.method query) (token_asked tokens) (path_asked head.target) (version_asked query) body
+    (verb_refuses head.method query) (token_refuses tokens) (path_refuses head.target)
