@@ -585,7 +585,7 @@ fn moments_of_replies(rt: HostRuntime) -> Result<(), Fail> {
              Content-Length: 7\r\n\r\n{\"a\""
             => NONE;
         1 "" => NONE;
-        1 concat!(":1}", request!("PUT /v1/cubbyhole/a", "Content-Length: 7\r\n\r\n{\"a\":1}PUT /v1/c"))
+        1 request!(":1}PUT /v1/cubbyhole/a", "Content-Length: 7\r\n\r\n{\"a\":1}PUT /v1/c")
             => "HTTP/1.1 204 No Content\r\nDate: Thu, 01 Jan 1970 00:16:44 GMT\r\nCache-Control: no-store\r\n\r\n";
         1 "" => "HTTP/1.1 204 No Content\r\nDate: Thu, 01 Jan 1970 00:16:45 GMT\r\nCache-Control: no-store\r\n\r\n";
         1 "" => NONE;
@@ -603,6 +603,8 @@ fn moments_of_replies(rt: HostRuntime) -> Result<(), Fail> {
             => reply_at!("403 Forbidden", "Thu, 01 Jan 1970 00:16:49 GMT", "Cache-Control: no-store\r\n", "33",
                 "{\"errors\":[\"permission denied\"]}");
     };
-    let moments = [1001, 1002, 1003, 1004, 1005, 1006, 1007, 1008, 1008, 1008, 1009];
+    let moments = [
+        1001, 1002, 1003, 1004, 1005, 1006, 1007, 1008, 1008, 1008, 1009,
+    ];
     expect_replies_at(&rt, 1000, &moments, &row)
 }
