@@ -698,15 +698,56 @@ def unserved_routes(run):
             run.event(run.read(path))
 
 
-def unserved_targets(run):
-    """Queries, percent signs and fields that are not read so far."""
+def queries(run):
+    """Queries: `list=true`, versions, and parts that are ignored."""
     path = run.path()
     run.event(run.write(path, run.object_text(1)))
     while run.room() > 0:
-        target = "/v1/" + path + run.pick("", "", "?", "?list=true", "?version=1", "%", "%20", "%2F", "?%", "/?a=b",
-                                          "%61?", "?a/../b")
+        parts = [run.pick("list=true", "list=true", "list=1", "list=false", "list=True", "list", "version=1", "version=2",
+                          "version=", "version", "versions=1", "a=b", "", "?", "list=true?", "../b", "/", "é")
+                 for _ in range(run.random.randrange(4))]
+        target = "/v1/" + path + run.pick("?", "?", "?", "/?", "??") + "&".join(parts)
         if run.chance(8):
-            target = run.pick("/v2/x?%", "/?", "/v1?a", "/v1/?a", "/v1/%", "/v1//?", "?", "%")
+            target = run.pick("/v2/x?list=true", "/?", "/v1?a", "/v1/?a", "/v1//?", "?", "?/v1/" + path)
+        method = run.pick("GET", "GET", "GET", "GET", "PUT", "LIST", "DELETE")
+        run.event(request(method, target, run.fields(), run.pick(None, None, '{"a":1}')))
+
+
+def limits(run):
+    """Heads of HTTP/1.0, transfer codings, hosts, too great lengths, and heads about as long as they may be."""
+    for connection in range(1, run.size + 1):
+        fields = run.fields()
+        version = "HTTP/1.1"
+        blank = ""
+        kind = run.random.randrange(6)
+        if kind in (0, 1):
+            version = run.pick("HTTP/1.0", "HTTP/1.0", "HTTP/1.1")
+            fields = run.pick(fields, [*fields, "Host: c"], [f"X-Vault-Token: {run.root()}"],
+                              [*fields, "Connection: keep-alive"])
+        if kind in (1, 2):
+            fields.append(run.pick("Transfer-Encoding: chunked", "transfer-encoding: identity", "Transfer-Encoding:",
+                                   "Transfer-Encoding: gzip, chunked\r\nContent-Length: 3"))
+        if kind in (2, 3):
+            fields.append("Content-Length: " + run.pick("1048576", "1048577", "2000000", "0001048577", "x",
+                                                        "18446744073709551616", "9" * 50))
+        if kind == 4 and not run.chance(4):
+            blank = "\r\n" * run.pick(0, 0, 1, 100)
+            rest = len(blank) + len(request("GET", "/v1/cubbyhole/a", [*fields, "A: "]))
+            fields.append("A: " + "b" * (16384 - rest + run.pick(-1, 0, 0, 1, 1, 700)))
+        method = run.pick("GET", "PUT") if kind != 4 else "GET"
+        run.event(blank + request(method, "/v1/cubbyhole/a", fields, version=version), connection)
+        run.event(run.pick("", run.read("cubbyhole/a"), "0\r\n\r\n"),
+                  run.pick(connection, connection, connection + 1))
+
+
+def unserved_targets(run):
+    """Percent signs and fields that are not read so far."""
+    path = run.path()
+    run.event(run.write(path, run.object_text(1)))
+    while run.room() > 0:
+        target = "/v1/" + path + run.pick("", "", "%", "%20", "%2F", "?%", "?list=tru%65", "%61?")
+        if run.chance(8):
+            target = run.pick("/v2/x?%", "/v1/%", "%")
         fields = run.fields()
         if run.chance(2):
             fields += run.pick(["X-Vault-Wrap-TTL: 60"], ["X-Vault-Wrap-TTL: 1d"], ["X-Vault-Wrap-TTL: é"],
@@ -715,28 +756,6 @@ def unserved_targets(run):
         if run.chance(6):
             fields = ["Host: b", f"Authorization: Bearer {run.root()}"]
         run.event(request(run.pick("GET", "GET", "PUT", "LIST"), target, fields, run.pick(None, '{"a":1}')))
-
-
-def unserved_heads(run):
-    """Heads that are refused as malformed until they are told apart, and heads of any length."""
-    for connection in range(1, run.size + 1):
-        fields = run.fields()
-        version = "HTTP/1.1"
-        kind = run.random.randrange(5)
-        if kind == 0:
-            version = "HTTP/1.0"
-            fields = run.pick(fields, fields, [f"X-Vault-Token: {run.root()}"], [*fields, "Connection: keep-alive"])
-        elif kind == 1:
-            fields.append(run.pick("Transfer-Encoding: chunked", "transfer-encoding: identity", "Transfer-Encoding:",
-                                   "Transfer-Encoding: gzip, chunked\r\nContent-Length: 3"))
-        elif kind == 2:
-            fields.append("Content-Length: " + run.pick("1048577", "2000000", "0001048577", "18446744073709551616",
-                                                        "9" * 50))
-        elif kind == 3 and run.chance(3):
-            fields.append("A: " + "b" * run.pick(16300, 16384, 17000))
-        run.event(request(run.pick("GET", "PUT"), "/v1/cubbyhole/a", fields, version=version), connection)
-        run.event(run.pick("", run.read("cubbyhole/a"), "0\r\n\r\n"),
-                  run.pick(connection, connection, connection + 1))
 
 
 def unserved_lines(run):
@@ -757,8 +776,8 @@ THEMES = {
     bodies: 24, refused_bodies: 32, numbers: 10, replaced_members: 14, depths: 8, paths: 24, tokens: 18, methods: 12,
     heads: 36, changed_heads: 20, line_ends: 16, many_fields: 8, body_lengths: 14, cuts: 20, single_bytes: 10,
     pipelines: 16, connections: 14, closing: 14, moments: 10, spellings: 12, lines: 56, changed_lines: 24, large: 4,
-    mixed: 40,
-    unserved_routes: 14, unserved_targets: 12, unserved_heads: 12, unserved_lines: 6,
+    mixed: 40, queries: 10, limits: 8,
+    unserved_routes: 14, unserved_targets: 6, unserved_lines: 6,
 }
 
 

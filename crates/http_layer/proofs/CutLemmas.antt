@@ -1,11 +1,13 @@
 -- The front, where the code knows its case.
-use Rattle.std.proofs.Common.{◌≡◌, ℕ, ◌+◌, ◌<◌, ◌≤◌, Bool, true, false, cond, List, length, take, slice_range, Result, Ok, Err, nat_le, sym, ap}
+use Rattle.std.proofs.Common.{◌≡◌, ℕ, ◌+◌, ◌<◌, ◌≤◌, Bool, true, false, cond, List, length, take, slice_range, Result, Ok, Err, nat_le, refl, sym, ap}
 use Rattle.std.proofs.Common.{◌∙◌, subst, arith}
 use Rattle.std.proofs.lemmas.List.{length-take-le}
 use Rattle.std.proofs.lemmas.Bool.Decides.{nat_tests}
 use Rattle.broker_types.specs.declared.status.Status.{Status}
+use Rattle.broker_types.specs.declared.status.Status.TheVariants.{HeaderFieldsTooLarge}
 use Rattle.http_layer.specs.HeadParts.{HeadParts, IsHead}
-use Rattle.http_layer.specs.Front.{need, refused_with, whole, read, HeadEnds, window, IsFront, front_of_body, body_length}
+use Rattle.http_layer.specs.Front.{need, refused_with, whole, read, unended, too_long, HeadEnds, HasNoHeadEnd, window, is_too_long, longest_head}
+use Rattle.http_layer.specs.Front.{IsFront, front_of_body, body_length}
 
 -- the head is the first len bytes of s, and p has its parts
 pub record ReadsHead (s : List ℕ) (len : ℕ) (p : HeadParts) : Type 0 where
@@ -16,6 +18,14 @@ pub record ReadsHead (s : List ℕ) (len : ℕ) (p : HeadParts) : Type 0 where
 pub reads_head : (s : List ℕ) (len : ℕ) (p : HeadParts) → HeadEnds (window s) len → len ≤ length s → IsHead (take len s) p
     → p.size ≡ length (take len s) → ReadsHead s len p
 reads_head s len p ends within head size = record { ends = ends; head = head; size = size ∙ length-take-le len s within }
+
+-- where no head ends within the first bytes
+pub IsFront-unended : (s : List ℕ) → HasNoHeadEnd (window s) → IsFront s (cond (nat_le longest_head (length s)) (refused_with HeaderFieldsTooLarge) need)
+IsFront-unended s none = at (is_too_long s) refl
+  where
+    at : (long : Bool) → is_too_long s ≡ long → IsFront s (cond long (refused_with HeaderFieldsTooLarge) need)
+    at true is = record { head = too_long; is_head = (is, none); front = refl }
+    at false is = record { head = unended; is_head = (is, none); front = refl }
 
 IsFront-read : (s : List ℕ) (len : ℕ) (p : HeadParts) (r : Result ℕ Status) → ReadsHead s len p → body_length p ≡ r → IsFront s (front_of_body s p r)
 IsFront-read s len p r h is =

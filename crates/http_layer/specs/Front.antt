@@ -5,7 +5,8 @@ use Rattle.std.specs.List.{prefix_len, list_all}
 use Rattle.std.specs.Char.{is_ascii_digit}
 use Rattle.std.specs.Str.Parse.{digits_value}
 use Rattle.broker_types.specs.declared.status.Status.{Status}
-use Rattle.broker_types.specs.declared.status.Status.TheVariants.{BadRequest, HeaderFieldsTooLarge}
+use Rattle.broker_types.specs.declared.status.Status.TheVariants.{BadRequest, PayloadTooLarge, HeaderFieldsTooLarge}
+use Rattle.broker_types.specs.declared.status.Status.TheVariants.{NotImplemented}
 use Rattle.http_layer.specs.HeadParts.{HeadParts, IsHead, values_named}
 use Rattle.broker_types.specs.Limits.{longest_body}
 
@@ -30,13 +31,17 @@ pub record HeadEnds (s : List ℕ) (len : ℕ) : Type 0 where
 abbrev pub HasNoHeadEnd : List ℕ → Type 0
 HasNoHeadEnd s = (len : ℕ) → ¬ (HeadEnds s len)
 
--- the bytes in which the head has to end: so far all of them, since the length of a head is not limited
-abbrev pub window : List ℕ → List ℕ
-window s = s
+-- how many bytes the longest head has, with the empty lines before and after it: this project's limit
+abbrev pub longest_head : ℕ
+longest_head = 16384
 
--- whether a head that has not ended within these bytes is refused: so far never
+-- the bytes in which the head has to end: the first 16,384, the empty lines before it among them
+abbrev pub window : List ℕ → List ℕ
+window s = take longest_head s
+
+-- whether a head that has not ended within these bytes is refused: no more of them are waited for
 abbrev pub is_too_long : List ℕ → Bool
-is_too_long s = false
+is_too_long s = nat_le longest_head (length s)
 
 -- ---- what the head says of the body
 
@@ -44,23 +49,28 @@ is_too_long s = false
 abbrev pub is_number : List ℕ → Bool
 is_number v = nat_lt 0 (length v) && list_all is_ascii_digit v
 
--- The length of the body from the values of Content-Length, or the status of a refusal (RFC 9112, section 6.3): at most
--- one value, of digits, and at most 1,048,576 (this project's limit).
+-- The length of the body from the values of Content-Length, or the status of a refusal (RFC 9112, section 6.3; RFC
+-- 9110, sections 8.6 and 15.5.14): at most one value, of digits, and at most 1,048,576 (this project's limit).
 abbrev pub content_length : List (List ℕ) → Result ℕ Status
 content_length [] = Ok 0
 content_length (v ∷ []) =
-    if is_number v && nat_le (digits_value 10 v) longest_body then Ok (digits_value 10 v) else Err BadRequest
+    if is_number v
+    then (if nat_le (digits_value 10 v) longest_body then Ok (digits_value 10 v) else Err PayloadTooLarge)
+    else Err BadRequest
 content_length (v ∷ w ∷ vs) = Err BadRequest
 
--- whether the head is HTTP/1.1 with one Host field (RFC 9112, section 3.2) and no Transfer-Encoding field (section 6.1)
-abbrev pub is_served : HeadParts → Bool
-is_served p =
-    (p.minor == 1) && (length (values_named (codes "host") p.fields) == 1)
-    && (length (values_named (codes "transfer-encoding") p.fields) == 0)
+-- whether a head of HTTP/1.x, whose minor version is given, may have so many Host fields (RFC 9112, section 3.2)
+abbrev pub may_have_hosts : ℕ → ℕ → Bool
+may_have_hosts minor hosts = if minor == 0 then nat_le hosts 1 else hosts == 1
 
--- the length of the body, or the status of a refusal (RFC 9112, section 6.3)
+-- The length of the body, or the status of the first refusal: of a transfer coding, none of which is implemented (RFC
+-- 9112, section 6.1), of the Host fields, or of the length (section 6.3). The order is this project's.
 abbrev pub body_length : HeadParts → Result ℕ Status
-body_length p = if is_served p then content_length (values_named (codes "content-length") p.fields) else Err BadRequest
+body_length p =
+    if nat_lt 0 (length (values_named (codes "transfer-encoding") p.fields)) then Err NotImplemented
+    else if may_have_hosts p.minor (length (values_named (codes "host") p.fields))
+    then content_length (values_named (codes "content-length") p.fields)
+    else Err BadRequest
 
 -- ---- the front
 

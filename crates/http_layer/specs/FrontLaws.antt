@@ -1,37 +1,55 @@
 -- Laws of fronts: bytes have one, more bytes keep one that is known, and a whole request lies within the bytes.
-use Rattle.std.proofs.Common.{◌≡◌, ◌≢◌, ℕ, ◌+◌, ◌-◌, ◌<◌, ◌≤◌, Bool, true, false, cond, List, [], ◌∷◌, ◌++◌, ◌&&◌, IfOk}
-use Rattle.std.proofs.Common.{codes, length, take, drop, slice_range, Result, Ok, Err, nat_le, refl, sym, ap, ◌∙◌}
-use Rattle.std.proofs.Common.{subst, length-append, length-take, zero-le, le_trans, le_of_eq, le-add_right}
-use Rattle.std.proofs.Common.{lt_of_lt_of_le}
-use Rattle.std.proofs.Math.Nat.{add-sub_cancel_left, min-le_left}
-use Rattle.std.proofs.lemmas.List.{take-append-le}
-use Rattle.std.proofs.lemmas.Bool.{and_parts, false≢true, le-leb, leb-true}
+use Rattle.std.proofs.Common.{◌≡◌, ◌≢◌, ℕ, ◌+◌, ◌-◌, ◌<◌, ◌≤◌, Bool, true, false, cond, List, [], ◌∷◌, ◌++◌, IfOk}
+use Rattle.std.proofs.Common.{codes, length, take, drop, slice_range, Result, Ok, Err, nat_le, nat_lt, refl, sym, ap}
+use Rattle.std.proofs.Common.{subst, length-append, length-take, zero-le, le_trans, le_of_eq, le_of_lt, le-add_right}
+use Rattle.std.proofs.Common.{lt_of_lt_of_le, add-sub_of_le, ◌⊎◌, inl, inr, ◌∙◌}
+use Rattle.std.proofs.Math.Nat.{add-sub_cancel_left, min-le_left, min-le_right, sub-eq-zero_iff_le}
+use Rattle.std.proofs.Math.Seq.{take-append-add}
+use Rattle.std.proofs.lemmas.List.{take-append-le, append-nil, take_all}
+use Rattle.std.proofs.lemmas.Bool.{cases_lt, false≢true, le-leb, leb-true}
 use Rattle.std.specs.Str.Parse.{digits_value}
 use Rattle.httparse.proofs.GrammarLemmas.{request_unique}
 use Rattle.broker_types.specs.Limits.{longest_body}
 use Rattle.broker_types.specs.declared.status.Status.{Status}
-use Rattle.broker_types.specs.declared.status.Status.TheVariants.{BadRequest}
+use Rattle.broker_types.specs.declared.status.Status.TheVariants.{BadRequest, PayloadTooLarge, NotImplemented}
 use Rattle.http_layer.specs.HeadParts.{HeadParts, IsHead, parts_of, values_named}
 use Rattle.http_layer.specs.Front.{Front, need, refused_with, whole, HeadFront, unended, too_long, malformed, read}
 use Rattle.http_layer.specs.Front.{HeadEnds, HasNoHeadEnd, window, is_too_long, IsHeadFront, IsFront, front_of_body}
-use Rattle.http_layer.specs.Front.{front_of_head, body_length, content_length, is_number, is_served}
+use Rattle.http_layer.specs.Front.{front_of_head, body_length, content_length, is_number, may_have_hosts, longest_head}
 use Rattle.http_layer.specs.HeadEndLaws.{slice-append, HeadEnds-some, HeadEnds-fits, HeadEnds-unique, HeadEnds-append}
 use Rattle.http_layer.specs.Laws.{FrontIsUnique, KnownFrontStays, WholeRequestIsWithin, WholeRequestHasShortBody}
 
 -- ---- the window: these alone look at what it is
 
 window-some : (s : List ℕ) (len : ℕ) → HeadEnds (window s) len → 0 < len
-window-some = HeadEnds-some
+window-some s len h = HeadEnds-some (window s) len h
 
 window-fits : (s : List ℕ) (len : ℕ) → HeadEnds (window s) len → len ≤ length s
-window-fits = HeadEnds-fits
+window-fits s len h =
+    le_trans (HeadEnds-fits (window s) len h)
+    (le_trans (le_of_eq (length-take longest_head s)) (min-le_right longest_head (length s)))
+
+-- the first bytes of a longer list go on where those of the shorter one end
+take-longer : (n : ℕ) (s t : List ℕ) → (n < length s) ⊎ (length s ≤ n) → take n (s ++ t) ≡ take n s ++ take (n - length s) t
+take-longer n s t (inl less) =
+    take-append-le n s t (le_of_lt less) ∙ sym (append-nil (take n s))
+    ∙ ap (λ (k : ℕ). take n s ++ take k t) (sym (sub-eq-zero_iff_le.1 (le_of_lt less)))
+take-longer n s t (inr more) =
+    ap (λ (k : ℕ). take k (s ++ t)) (sym (add-sub_of_le more)) ∙ take-append-add s t (n - length s)
+    ∙ ap (λ (l : List ℕ). l ++ take (n - length s) t) (sym (take_all n s more))
 
 window-append : (s t : List ℕ) (len : ℕ) → HeadEnds (window s) len → HeadEnds (window (s ++ t)) len
-window-append = HeadEnds-append
+window-append s t len h =
+    subst (λ (w : List ℕ). HeadEnds w len) (sym (take-longer longest_head s t (cases_lt longest_head (length s))))
+    (HeadEnds-append (window s) (take (longest_head - length s) t) len h)
 
 is_too_long-append : (s t : List ℕ) → is_too_long s ≡ true → HasNoHeadEnd (window s)
     → (is_too_long (s ++ t) ≡ true) × HasNoHeadEnd (window (s ++ t))
-is_too_long-append s t long none = absurd (false≢true long)
+is_too_long-append s t long none =
+    let full : longest_head ≤ length s = leb-true longest_head (length s) long in
+    let more : longest_head ≤ length (s ++ t) =
+    subst (λ (k : ℕ). longest_head ≤ k) (sym (length-append s t)) (le_trans full (le-add_right (length s) (length t))) in
+    (le-leb longest_head (length (s ++ t)) more, subst HasNoHeadEnd (sym (take-append-le longest_head s t full)) none)
 
 -- ---- one front
 
@@ -128,24 +146,28 @@ IsFront-append s t f a known =
 
 length-short : (vs : List (List ℕ)) → IfOk (content_length vs) (λ n. n ≤ longest_body)
 length-short [] = zero-le
-length-short (v ∷ []) = at (is_number v && nat_le (digits_value 10 v) longest_body) refl
+length-short (v ∷ []) = at (is_number v) (nat_le (digits_value 10 v) longest_body) refl
   where
-    at : (b : Bool) → (is_number v && nat_le (digits_value 10 v) longest_body) ≡ b
-        → IfOk (cond b (Ok (digits_value 10 v)) (Err BadRequest)) (λ n. n ≤ longest_body)
-    at true is =
-        leb-true (digits_value 10 v) longest_body
-        (and_parts (is_number v) (nat_le (digits_value 10 v) longest_body) is).1
-    at false is = tt
+    at : (number short : Bool) → nat_le (digits_value 10 v) longest_body ≡ short
+        → IfOk (cond number (cond short (Ok (digits_value 10 v)) (Err PayloadTooLarge)) (Err BadRequest))
+        (λ n. n ≤ longest_body)
+    at true true is = leb-true (digits_value 10 v) longest_body is
+    at true false is = tt
+    at false short is = tt
 length-short (v ∷ w ∷ vs) = tt
 
 body-short : (p : HeadParts) → IfOk (body_length p) (λ n. n ≤ longest_body)
-body-short p = at (is_served p)
+body-short p =
+    at (nat_lt 0 (length (values_named (codes "transfer-encoding") p.fields)))
+    (may_have_hosts p.minor (length (values_named (codes "host") p.fields)))
   where
-    at : (b : Bool)
-        → IfOk (cond b (content_length (values_named (codes "content-length") p.fields)) (Err BadRequest))
+    at : (coded hosted : Bool)
+        → IfOk (cond coded (Err NotImplemented)
+        (cond hosted (content_length (values_named (codes "content-length") p.fields)) (Err BadRequest)))
         (λ n. n ≤ longest_body)
-    at true = length-short (values_named (codes "content-length") p.fields)
-    at false = tt
+    at true hosted = tt
+    at false true = length-short (values_named (codes "content-length") p.fields)
+    at false false = tt
 
 -- the bounds of a front in the stream s, if it is a whole request
 abbrev IsBounded : List ℕ → Front → Type 0

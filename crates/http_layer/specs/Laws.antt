@@ -1,12 +1,14 @@
 -- Laws of the definitions (this project's). Each is a clause of a function of `src/laws.rt` that does nothing.
-use Rattle.std.specs.Prelude.{◌≡◌, ◌≢◌, ℕ, ◌<◌, ◌≤◌, Bool, List, ◌++◌, length, IfErr}
+use Rattle.std.specs.Prelude.{◌≡◌, ◌≢◌, ℕ, ◌<◌, ◌≤◌, Bool, List, [], ◌∷◌, ◌++◌, length, decimal, Ok, IfErr}
+use Rattle.httparse.specs.Grammar.{Field, print_request}
 use Rattle.broker_types.specs.Limits.{longest_body}
 use Rattle.broker_types.specs.Answer.{Response}
 use Rattle.broker_types.specs.declared.status.Status.{Status}
 use Rattle.http_layer.specs.Asked.{asked}
-use Rattle.http_layer.specs.Front.{Front, need, refused_with, whole, IsFront}
-use Rattle.http_layer.specs.HeadParts.{HeadParts}
+use Rattle.http_layer.specs.Front.{Front, need, refused_with, whole, IsFront, content_length}
+use Rattle.http_layer.specs.HeadParts.{HeadParts, parts_of}
 use Rattle.http_layer.specs.Listed.{IsFrontRefusal, IsAskRefusal}
+use Rattle.http_layer.specs.Printed.{printed_head, CanBeSent}
 use Rattle.http_layer.specs.Reply.{IsReply}
 
 -- ---- fronts
@@ -30,6 +32,19 @@ abbrev pub WholeRequestHasShortBody : Type 0
 WholeRequestHasShortBody =
     (s : List ℕ) (len : ℕ) (head : HeadParts) (body : List ℕ)
     → IsFront s (whole len head body) → length body ≤ longest_body
+
+-- The printed head and the body after it are a whole request of exactly these bytes, with these parts and this body.
+abbrev pub PrintedRequestIsFront : Type 0
+PrintedRequestIsFront =
+    (method target : List ℕ) (fields : List Field) (body : List ℕ)
+    → CanBeSent (printed_head method target fields) body
+    → IsFront (print_request (printed_head method target fields) ++ body)
+    (whole (length (print_request (printed_head method target fields) ++ body))
+    (parts_of (printed_head method target fields)) body)
+
+-- the length of a body, printed in decimal digits, is read again
+abbrev pub PrintedLengthIsRead : Type 0
+PrintedLengthIsRead = (n : ℕ) → n ≤ longest_body → content_length (decimal n ∷ []) ≡ Ok n
 
 -- ---- replies
 

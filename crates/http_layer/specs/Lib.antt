@@ -9,6 +9,8 @@ pub mod Laws
 pub mod Listed
 pub mod ListedLaws
 pub mod Named
+pub mod Printed
+pub mod Query
 pub mod Refusing
 pub mod Reply
 pub mod ReplyLaws

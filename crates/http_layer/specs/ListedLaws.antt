@@ -1,6 +1,6 @@
 -- Laws of refusals: what is refused without asking the broker is listed.
-use Rattle.std.proofs.Common.{ℕ, ◌+◌, Option, ◌||◌, ◌&&◌, Bool, true, false, cond, List, [], ◌∷◌, length, take, drop}
-use Rattle.std.proofs.Common.{codes, bytes_eq, slice_range, Result, Ok, Err, IfErr, nat_le, refl, sym, subst}
+use Rattle.std.proofs.Common.{ℕ, ◌+◌, Option, ◌||◌, Bool, true, false, cond, List, [], ◌∷◌, length, take, drop}
+use Rattle.std.proofs.Common.{codes, bytes_eq, slice_range, Result, Ok, Err, IfErr, nat_le, nat_lt, refl, sym, subst}
 use Rattle.std.proofs.Common.{inl, inr, lit<}
 use Rattle.std.specs.List.{list_any}
 use Rattle.std.specs.Str.{is_utf8}
@@ -9,12 +9,13 @@ use Rattle.broker_types.specs.Limits.{longest_body}
 use Rattle.broker_types.specs.Path.{is_path, without_slash}
 use Rattle.broker_types.specs.Text.{Text}
 use Rattle.broker_types.specs.declared.status.Status.{Status}
-use Rattle.broker_types.specs.declared.status.Status.TheVariants.{BadRequest}
+use Rattle.broker_types.specs.declared.status.Status.TheVariants.{BadRequest, PayloadTooLarge, NotImplemented}
 use Rattle.broker_types.specs.declared.ask.Verb.{Verb}
 use Rattle.http_layer.specs.Front.{Front, need, refused_with, whole, HeadFront, unended, too_long, malformed, read}
-use Rattle.http_layer.specs.Front.{front_of_body, front_of_head, content_length, body_length, is_served, is_number}
+use Rattle.http_layer.specs.Front.{front_of_body, front_of_head, content_length, body_length, may_have_hosts, is_number}
 use Rattle.http_layer.specs.HeadParts.{HeadParts, values_named}
-use Rattle.http_layer.specs.Asked.{asked, verb_asked, token_asked, path_asked, ask_or_refusal, is_query_or_escape}
+use Rattle.http_layer.specs.Asked.{asked, verb_asked, token_asked, path_asked, ask_or_refusal, is_escape}
+use Rattle.http_layer.specs.Query.{target_path, target_query, version_asked}
 use Rattle.http_layer.specs.Laws.{FrontRefusalIsListed, AskRefusalIsListed}
 use Rattle.http_layer.specs.Listed.{IsFrontRefusal, IsAskRefusal}
 use Rattle.http_layer.specs.Refusing.{RefusalParts}
@@ -31,16 +32,26 @@ cond_refuses P false x y left right = right
 bad_request_listed : IsFrontRefusal BadRequest
 bad_request_listed = (0, lit< tt, refl)
 
+too_large_listed : IsFrontRefusal PayloadTooLarge
+too_large_listed = (1, lit< tt, refl)
+
+coding_listed : IsFrontRefusal NotImplemented
+coding_listed = (3, lit< tt, refl)
+
 length_refuses : (vs : List (List ℕ)) → IfErr (content_length vs) IsFrontRefusal
 length_refuses [] = tt
 length_refuses (v ∷ []) =
-    cond_refuses IsFrontRefusal (is_number v && nat_le (digits_value 10 v) longest_body) _ _ tt bad_request_listed
+    cond_refuses IsFrontRefusal (is_number v) _ _
+    (cond_refuses IsFrontRefusal (nat_le (digits_value 10 v) longest_body) _ _ tt too_large_listed)
+    bad_request_listed
 length_refuses (v ∷ w ∷ vs) = bad_request_listed
 
 body_refuses : (p : HeadParts) → IfErr (body_length p) IsFrontRefusal
 body_refuses p =
-    cond_refuses IsFrontRefusal (is_served p) _ _
-    (length_refuses (values_named (codes "content-length") p.fields)) bad_request_listed
+    cond_refuses IsFrontRefusal (nat_lt 0 (length (values_named (codes "transfer-encoding") p.fields))) _ _
+    coding_listed
+    (cond_refuses IsFrontRefusal (may_have_hosts p.minor (length (values_named (codes "host") p.fields))) _ _
+    (length_refuses (values_named (codes "content-length") p.fields)) bad_request_listed)
 
 -- if the front is refused, its status is a listed one
 abbrev Refuses : Front → Type 0
@@ -71,8 +82,8 @@ front_refuses s status a = subst Refuses (sym a.front) (of_head s a.head)
 
 -- ---- asks
 
-verb_refuses : (method : List ℕ) → IfErr (verb_asked method) IsAskRefusal
-verb_refuses method =
+verb_refuses : (method query : List ℕ) → IfErr (verb_asked method query) IsAskRefusal
+verb_refuses method query =
     cond_refuses IsAskRefusal (bytes_eq method (codes "GET")) _ _ tt
     (cond_refuses IsAskRefusal (bytes_eq method (codes "LIST")) _ _ tt
     (cond_refuses IsAskRefusal (bytes_eq method (codes "POST") || bytes_eq method (codes "PUT")) _ _ tt
@@ -86,23 +97,24 @@ token_refuses (v ∷ w ∷ vs) = inr (inl refl)
 path_refuses : (target : List ℕ) → IfErr (path_asked target) IsAskRefusal
 path_refuses target =
     cond_refuses IsAskRefusal (bytes_eq (take 4 target) (codes "/v1/")) _ _
-    (cond_refuses IsAskRefusal (list_any is_query_or_escape target) _ _ (inr (inr refl))
-    (cond_refuses IsAskRefusal (is_path (without_slash (drop 4 target))) _ _ tt (inr (inr refl))))
+    (cond_refuses IsAskRefusal (list_any is_escape target) _ _ (inr (inr refl))
+    (cond_refuses IsAskRefusal (is_path (without_slash (drop 4 (target_path target)))) _ _ tt (inr (inr refl))))
     (inl (inr refl))
 
 first_refuses : (verb : Result Verb RefusalParts) (token : Result (Option Text) RefusalParts)
-    (path : Result Text RefusalParts) (body : List ℕ)
+    (path : Result Text RefusalParts) (version body : List ℕ)
     → IfErr verb IsAskRefusal → IfErr token IsAskRefusal → IfErr path IsAskRefusal
-    → IfErr (ask_or_refusal verb token path body) IsAskRefusal
-first_refuses (Ok v) (Ok t) (Ok p) body x y z = tt
-first_refuses (Err r) token path body x y z = x
-first_refuses (Ok v) (Err r) path body x y z = y
-first_refuses (Ok v) (Ok t) (Err r) body x y z = z
+    → IfErr (ask_or_refusal verb token path version body) IsAskRefusal
+first_refuses (Ok v) (Ok t) (Ok p) version body x y z = tt
+first_refuses (Err r) token path version body x y z = x
+first_refuses (Ok v) (Err r) path version body x y z = y
+first_refuses (Ok v) (Ok t) (Err r) version body x y z = z
 
 -- the refusal of a request that asks nothing is listed
 pub ask_refuses : AskRefusalIsListed
 unfolding asked
 ask_refuses head body =
     let tokens = values_named (codes "x-vault-token") head.fields in
-    first_refuses (verb_asked head.method) (token_asked tokens) (path_asked head.target) body
-    (verb_refuses head.method) (token_refuses tokens) (path_refuses head.target)
+    let query = target_query head.target in
+    first_refuses (verb_asked head.method query) (token_asked tokens) (path_asked head.target) (version_asked query) body
+    (verb_refuses head.method query) (token_refuses tokens) (path_refuses head.target)

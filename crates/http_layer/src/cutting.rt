@@ -1,26 +1,28 @@
-ghost use Rattle.std.specs.Prelude.{◌≡◌, ◌≤◌, length};
+ghost use Rattle.std.specs.Prelude.{◌≡◌, ◌≤◌, length, nat_le, if◌then◌else◌};
 ghost use Rattle.broker_types.specs.Limits.{longest_body};
 ghost use Rattle.http_layer.specs.Cutting.{front_of, FitsIn, IsNeed};
-ghost use Rattle.http_layer.specs.Front.{IsFront, need};
+ghost use Rattle.broker_types.specs.declared.status.Status.TheVariants.{HeaderFieldsTooLarge};
+ghost use Rattle.http_layer.specs.Front.{IsFront, need, refused_with, longest_head};
 
 use crate::front::Cut;
 use crate::head::Head;
-use crate::head_end::head_end;
+use crate::head_end::{HEAD_LIMIT, head_end};
 use broker_types::{BodyBytes, Status};
 use std::borrow::CowSlice;
 
 /// The request or the refusal that a stream begins with, as soon as its first bytes decide it
-/// (RFC 9112, sections 2 to 6). It allocates nothing. These are refused with 400: a head that is not
-/// one of `httparse`'s grammar with at most 64 fields, HTTP/1.0, a Transfer-Encoding field, no Host
-/// field or more than one, more than one Content-Length field, and a length that is not one or more
-/// digits or is above 1,048,576 bytes.
+/// (RFC 9112, sections 2 to 6). It allocates nothing. The first that fits refuses: 431 if the head has
+/// not ended within the first 16,384 bytes; 400 for a head that is not one of `httparse`'s grammar
+/// with at most 64 fields; 501 for a Transfer-Encoding field; 400 for more than one Host field, or
+/// none in HTTP/1.1; 400 for more than one Content-Length field, or one that is not one or more
+/// digits; 413 for a length above 1,048,576 bytes. None of these waits for the body.
 pub fn cut<'b>(bytes: &'b [u8]) -> Cut<'b>
     ensures front { IsFront bytes.now (front_of result) }
     ensures fits { FitsIn (length bytes.now) result }
     ensures waits { IsFront bytes.now need → IsNeed result }
 {
     let Some(len) = head_end(bytes) else {
-        return Cut::Need;
+        return without_end(bytes.len());
     };
     let Some(head) = Head::read(&bytes[..len]) else {
         return Cut::Refused {
@@ -35,6 +37,18 @@ pub fn cut<'b>(bytes: &'b [u8]) -> Cut<'b>
             body: short_body(&bytes[len..len + body_len]),
         },
         Ok(_) => Cut::Need,
+    }
+}
+
+/// The answer to so many bytes of which no head ends within the first ones.
+fn without_end<'b>(len: usize) -> Cut<'b>
+    ensures { front_of result ≡ (if nat_le longest_head len then refused_with HeaderFieldsTooLarge else need) }
+{
+    if len < HEAD_LIMIT {
+        return Cut::Need;
+    }
+    Cut::Refused {
+        status: Status::HeaderFieldsTooLarge,
     }
 }
 

@@ -1,8 +1,8 @@
-ghost use Rattle.std.specs.Prelude.{◌≡◌, ◌<◌, ◌≤◌, length, IfSome, IfNone, IfOk};
+ghost use Rattle.std.specs.Prelude.{◌≡◌, ◌<◌, ◌≤◌, length, codes, IfSome, IfNone, IfOk};
 ghost use Rattle.broker_types.specs.Limits.{longest_body};
 ghost use Rattle.http_layer.specs.HeadParts.{HeadParts, IsHead, values_named};
 ghost use Rattle.http_layer.specs.Closing.{closes};
-ghost use Rattle.http_layer.specs.Front.{body_length, is_served};
+ghost use Rattle.http_layer.specs.Front.{body_length, may_have_hosts};
 ghost use Rattle.http_layer.specs.Named.{AreNamed};
 
 use crate::closing::asks_to_close;
@@ -92,7 +92,10 @@ impl<'b> Head<'b> {
         ensures length { result ≡ body_length self.now }
         ensures short { IfOk result (λ len. len ≤ longest_body) }
     {
-        if !self.is_served() {
+        if !matches!(self.named(b"transfer-encoding"), Named::Absent) {
+            return Err(Status::NotImplemented);
+        }
+        if !self.may_have_its_hosts() {
             return Err(Status::BadRequest);
         }
         match self.named(b"content-length") {
@@ -102,11 +105,14 @@ impl<'b> Head<'b> {
         }
     }
 
-    fn is_served(&self) -> bool
-        ensures { result ≡ is_served self.now }
+    /// Whether there is one Host field, or none in HTTP/1.0.
+    fn may_have_its_hosts(&self) -> bool
+        ensures { result ≡ may_have_hosts self.now.minor (length (values_named (codes "host") self.now.fields)) }
     {
-        self.spans.version == 1
-            && matches!(self.named(b"host"), Named::Once(_))
-            && matches!(self.named(b"transfer-encoding"), Named::Absent)
+        match self.named(b"host") {
+            Named::Absent => self.spans.version == 0,
+            Named::Once(_) => true,
+            Named::Several => false,
+        }
     }
 }

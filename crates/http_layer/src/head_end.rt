@@ -1,9 +1,29 @@
 ghost use Rattle.std.specs.Prelude.{◌≡◌, ◌≤◌, length, IfSome, IfNone};
 ghost use Rattle.std.specs.List.{prefix_len};
-ghost use Rattle.http_layer.specs.Front.{is_line_byte, HeadEnds, HasNoHeadEnd};
+ghost use Rattle.http_layer.specs.Front.{is_line_byte, HeadEnds, HasNoHeadEnd, window};
+
+/// How many bytes the longest head has, with the empty lines before and after it.
+pub(crate) const HEAD_LIMIT: usize = 16_384;
+
+/// The length of the head in bytes, with its empty line; none if it does not end within the first
+/// 16,384 bytes.
+pub(crate) fn head_end(bytes: &[u8]) -> Option<usize>
+    ensures found { IfSome result (HeadEnds (window bytes.now)) }
+    ensures none { IfNone result (HasNoHeadEnd (window bytes.now)) }
+    ensures within { IfSome result (λ len. (4 ≤ len) × (len ≤ length bytes.now)) }
+{
+    end_in(window(bytes))
+}
+
+/// The bytes in which the head has to end.
+fn window(bytes: &[u8]) -> &[u8]
+    ensures { result.now ≡ window bytes.now }
+{
+    &bytes[..HEAD_LIMIT.min(bytes.len())]
+}
 
 /// The length of the head in bytes, with its empty line; none if it does not end within the bytes.
-pub(crate) fn head_end(bytes: &[u8]) -> Option<usize>
+fn end_in(bytes: &[u8]) -> Option<usize>
     ensures found { IfSome result (HeadEnds bytes.now) }
     ensures none { IfNone result (HasNoHeadEnd bytes.now) }
     ensures within { IfSome result (λ len. (4 ≤ len) × (len ≤ length bytes.now)) }

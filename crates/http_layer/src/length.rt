@@ -13,8 +13,9 @@ pub(crate) fn body_len_of(value: &[u8]) -> Result<usize, Status>
     ensures { result ≡ content_length (value.now ∷ []) }
 {
     match capped_number(value) {
-        Some(len) if len <= BODY_LIMIT => Ok(len as usize),
-        _ => Err(Status::BadRequest),
+        None => Err(Status::BadRequest),
+        Some(len) if len > BODY_LIMIT => Err(Status::PayloadTooLarge),
+        Some(len) => Ok(len as usize),
     }
 }
 

@@ -12,6 +12,7 @@ mod head_end;
 mod laws;
 mod length;
 mod lines;
+mod query;
 mod refusal;
 mod reply;
 

@@ -6,7 +6,7 @@ use broker_types::{Answer, Methods, Moment, Status, TextBuf, Verb};
 use std::test::Fail;
 
 /// Bytes, with the length and the body of the whole request that they begin with, if they do (`IsFront`).
-const FRONTS: [(&str, Option<(usize, &str)>); 6] = [
+const FRONTS: [(&str, Option<(usize, &str)>); 7] = [
     (
         "PUT /v1/a HTTP/1.1\r\nHost: b\r\nContent-Length: 1\r\n\r\n{GET /v1/a HTTP/1.1\r\n",
         Some((51, "{")),
@@ -17,6 +17,7 @@ const FRONTS: [(&str, Option<(usize, &str)>); 6] = [
     ),
     ("GET /v1/a HTTP/1.1\nHost: b\r\n\r\n", Some((30, ""))),
     ("GET /v1/a HTTP/1.1\nHost: b\n\n", None),
+    ("GET /v1/a HTTP/1.0\r\n\r\n", Some((22, ""))),
     (
         "POST /v1/a HTTP/1.1\r\nHost: b\r\nContent-Length: 1048576\r\n\r\n",
         None,
@@ -40,31 +41,36 @@ fn cuts_requests(rt: HostRuntime) -> Result<(), Fail> {
     Ok(())
 }
 
-/// Requests with what they ask (`asked`): verb, path, token and body.
-const ASKS: [(&str, (Verb, &str, Option<&str>, &str)); 4] = [
+/// Requests with what they ask (`asked`): verb, path, version, token and body.
+const ASKS: [(&str, (Verb, &str, &str, Option<&str>, &str)); 5] = [
     (
         "GET /v1/a HTTP/1.1\r\nHost: b\r\nX-Vault-Token: \t c d \r\nContent-Length:  0002 \r\n\r\n{}",
-        (Verb::Get, "a", Some("c d"), "{}"),
+        (Verb::Get, "a", "", Some("c d"), "{}"),
     ),
     (
         "POST /v1/a/ HTTP/1.1\r\nHost: b\r\nx-vault-token:\r\nContent-Length: 2\r\n\r\n{}",
-        (Verb::Write, "a", None, "{}"),
+        (Verb::Write, "a", "", None, "{}"),
     ),
     (
         "LIST /v1/a HTTP/1.1\r\nHost: b\r\nX-Vault-Wrap-TTL: 1d\r\nX-Vault-Wrap-TTL: 5\r\n\r\n",
-        (Verb::List, "a", None, ""),
+        (Verb::List, "a", "", None, ""),
     ),
     (
         "DELETE /v1/a HTTP/1.1\r\nHost: b\r\n\r\n",
-        (Verb::Delete, "a", None, ""),
+        (Verb::Delete, "a", "", None, ""),
+    ),
+    (
+        "GET /v1/a?list=true&version=?2&version=3 HTTP/1.1\r\nHost: b\r\n\r\n",
+        (Verb::List, "a", "?2", None, ""),
     ),
 ];
 
 /// Computes `HeadParts`, `parts_of`, `same_in_any_case`, `is_named`, `values_named`, `verb_asked`,
-/// `token_asked`, `path_asked`, `path_read`, `asked`, `AreNamed`.
+/// `target_path`, `target_query`, `query_parts`, `lists`, `version_asked`, `token_asked`, `path_asked`, `path_read`,
+/// `asked`, `AreNamed`.
 #[test]
 fn reads_asks(rt: HostRuntime) -> Result<(), Fail> {
-    for (piece, (verb, path, token, want)) in ASKS {
+    for (piece, (verb, path, version, token, want)) in ASKS {
         let Cut::Whole { head, body, .. } = cut(piece.as_bytes()) else {
             assert!(rt; false, "{piece:?} is not whole");
             return Ok(());
@@ -74,7 +80,7 @@ fn reads_asks(rt: HostRuntime) -> Result<(), Fail> {
         assert_eq!(rt; ask.path.as_str(), path);
         assert_eq!(rt; ask.token.as_ref().map(|t| t.as_str()), token);
         assert_eq!(rt; ask.body.as_slice(), want.as_bytes());
-        assert_eq!(rt; ask.version.as_slice().len(), 0);
+        assert_eq!(rt; ask.version.as_slice(), version.as_bytes());
         assert_eq!(rt; ask.wrap_ttl.count(), 0);
     }
     Ok(())

@@ -1,6 +1,6 @@
 //! The rows of `tests/rows` that are answered, each a run of events: what comes, and the reply to it. The
 //! replies were made by a reference broker that is no part of this repository. Left out is what takes no part
-//! in a run, a line that is bad, and the row of long heads; `tests/rows.sh` runs all of them.
+//! in a run, a line that is bad, and the rows of many bytes; `tests/rows.sh` runs all of them.
 
 use crate::tests::started;
 use crate::{Event, run};
@@ -40,13 +40,15 @@ macro_rules! sixty_four_fields {
     };
 }
 
-/// A reply with a body of so many bytes, and with so many more fields before it.
-macro_rules! reply {
-    ($status:literal, $fields:literal, $len:literal, $body:literal) => {
+/// A reply at a date with a body of so many bytes, and with so many more fields before it.
+macro_rules! reply_at {
+    ($status:literal, $date:literal, $fields:literal, $len:literal, $body:literal) => {
         concat!(
             "HTTP/1.1 ",
             $status,
-            "\r\nDate: Thu, 01 Jan 1970 00:16:40 GMT\r\n",
+            "\r\nDate: ",
+            $date,
+            "\r\n",
             $fields,
             "Content-Type: application/json\r\nContent-Length: ",
             $len,
@@ -54,6 +56,13 @@ macro_rules! reply {
             $body,
             "\n"
         )
+    };
+}
+
+/// The same at the moment 1000.
+macro_rules! reply {
+    ($status:literal, $fields:literal, $len:literal, $body:literal) => {
+        reply_at!($status, "Thu, 01 Jan 1970 00:16:40 GMT", $fields, $len, $body)
     };
 }
 
@@ -156,6 +165,30 @@ const NOT_IMPLEMENTED: &str =
     "HTTP/1.1 501 Not Implemented\r\nDate: Thu, 01 Jan 1970 00:16:40 GMT\r\n\
     Cache-Control: no-store\r\nConnection: close\r\nContent-Length: 0\r\n\r\n";
 
+const TOO_LARGE_IN_2023: &str = reply_at!(
+    "413 Payload Too Large",
+    "Tue, 14 Nov 2023 22:13:20 GMT",
+    "Cache-Control: no-store\r\nConnection: close\r\n",
+    "38",
+    "{\"errors\":[\"request body too large\"]}"
+);
+
+const MALFORMED_IN_2023: &str = reply_at!(
+    "400 Bad Request",
+    "Tue, 14 Nov 2023 22:13:20 GMT",
+    "Cache-Control: no-store\r\nConnection: close\r\n",
+    "33",
+    "{\"errors\":[\"malformed request\"]}"
+);
+
+const NOT_FOUND_IN_2023: &str = reply_at!(
+    "404 Not Found",
+    "Tue, 14 Nov 2023 22:13:20 GMT",
+    "Cache-Control: no-store\r\n",
+    "14",
+    "{\"errors\":[]}"
+);
+
 const WRITTEN_IN_2023: &str = "HTTP/1.1 204 No Content\r\nDate: Tue, 14 Nov 2023 22:13:20 GMT\r\n\
     Cache-Control: no-store\r\n\r\n";
 
@@ -171,22 +204,34 @@ fn expect_replies(
     moment: u64,
     row: &[(u64, &str, &str)],
 ) -> Result<(), Fail> {
+    let moments = vec![in rt.alloc(); moment; row.len()]?;
+    expect_replies_at(rt, moment, moments.as_slice(), row)
+}
+
+/// The same, with a moment for the start and one for each event.
+fn expect_replies_at(
+    rt: &(impl Abort + AllocGlobal),
+    start: u64,
+    moments: &[u64],
+    row: &[(u64, &str, &str)],
+) -> Result<(), Fail> {
     let alloc = rt.alloc();
-    let moment = Moment::new(moment).ok_or("the moment is in range")?;
+    let start = Moment::new(start).ok_or("the moment is in range")?;
     let mut events = Vec::new(alloc);
     let mut word = 0u128;
-    for (conn, piece, _) in row {
+    for ((conn, piece, _), moment) in row.iter().zip(moments) {
         word = word.saturating_add(16);
         events.push(Event {
             conn: *conn,
             piece: Bytes::new(Vec::from_slice(alloc, piece.as_bytes())?),
-            moment,
+            moment: Moment::new(*moment).ok_or("the moment is in range")?,
             words: Words([word; 8]),
         })?;
     }
-    let Ok(replies) = run(alloc, &mut started(alloc, moment)?, events.as_slice()) else {
+    let Ok(replies) = run(alloc, &mut started(alloc, start)?, events.as_slice()) else {
         return Err(Fail::from("a fault"));
     };
+    assert_eq!(rt; replies.len(), row.len());
     let same = |(reply, line): (&Vec<u8>, &(u64, &str, &str))| reply.as_slice()
         == line.2.as_bytes();
     assert_eq!(rt;
@@ -291,7 +336,7 @@ fn first_run(rt: HostRuntime) -> Result<(), Fail> {
     expect_replies(&rt, 1_700_000_000, &row)
 }
 
-/// Paths, queries, escapes and fields that are not served so far. In the row the last event has the word 0.
+/// Paths, escapes and fields that are not served so far, and queries. In the row the last event has the word 0.
 #[test]
 fn unserved_routes(rt: HostRuntime) -> Result<(), Fail> {
     let row = row! {
@@ -307,8 +352,8 @@ fn unserved_routes(rt: HostRuntime) -> Result<(), Fail> {
         1 request!("GET /v1/sys/mounts", "\r\n") => NOT_FOUND;
         1 "POST /v1/sys/wrapping/lookup HTTP/1.1\r\nHost: b\r\nContent-Length: 13\r\n\r\n{\"token\":\"x\"}"
             => FORBIDDEN;
-        1 request!("GET /v1/cubbyhole/a?list=true", "\r\n") => INVALID_PATH;
-        1 request!("GET /v1/cubbyhole/a?", "\r\n") => INVALID_PATH;
+        1 request!("GET /v1/cubbyhole/a?list=true", "\r\n") => NOT_ALLOWED;
+        1 request!("GET /v1/cubbyhole/a?", "\r\n") => found!("165", "{\"a\":1}", "0d0");
         1 request!("GET /v1/cubbyhole/%61", "\r\n") => INVALID_PATH;
         1 request!("GET /v1/cubbyhole/a?%", "\r\n") => INVALID_PATH;
         1 request!("GET /v2/x?%", "\r\n") => NOT_FOUND;
@@ -461,4 +506,105 @@ fn two_client_tokens(rt: HostRuntime) -> Result<(), Fail> {
         1 request!("GET /v1/cubbyhole/a", "\r\n") => NOT_FOUND;
     };
     expect_replies(&rt, 1000, &row)
+}
+
+/// The greatest body, one byte more, no Host, and a target outside the API.
+#[test]
+fn limits_of_requests(rt: HostRuntime) -> Result<(), Fail> {
+    let row = row! {
+        1 "POST /v1/cubbyhole/a HTTP/1.1\r\nHost: b\r\nContent-Length: 1048576\r\n\r\n" => NONE;
+        2 "POST /v1/cubbyhole/a HTTP/1.1\r\nHost: b\r\nContent-Length: 1048577\r\n\r\n" => TOO_LARGE_IN_2023;
+        3 "GET /v1/cubbyhole/a HTTP/1.1\r\n\r\n" => MALFORMED_IN_2023;
+        4 request!("GET /v2/x", "\r\n") => NOT_FOUND_IN_2023;
+        4 request!("GET /v2/x", "\r\n") => NOT_FOUND_IN_2023;
+    };
+    expect_replies(&rt, 1_700_000_000, &row)
+}
+
+/// HTTP/1.0: no Host is asked for, and the connection always closes.
+#[test]
+fn old_http(rt: HostRuntime) -> Result<(), Fail> {
+    let row = row! {
+        1 "GET /v1/cubbyhole/a HTTP/1.0\r\nX-Vault-Token: hvs.00000000-0000-0000-0000-000000000001\r\n\
+             Connection: keep-alive\r\n\r\n"
+            => NOT_FOUND_CLOSING;
+        2 "GET /v1/cubbyhole/a HTTP/1.0\r\nHost: b\r\nHost: b\r\n\r\n" => MALFORMED;
+        3 "GET /v1/cubbyhole/a HTTP/1.1\r\nHost: b\r\nHost: b\r\n\r\n" => MALFORMED;
+    };
+    expect_replies(&rt, 1000, &row)
+}
+
+/// Transfer-Encoding comes before a missing Host.
+#[test]
+fn transfer_encoding(rt: HostRuntime) -> Result<(), Fail> {
+    let row = row! {
+        1 "POST /v1/cubbyhole/a HTTP/1.1\r\nTransfer-Encoding: chunked\r\n\r\n" => NOT_IMPLEMENTED;
+    };
+    expect_replies(&rt, 1000, &row)
+}
+
+/// The parts of a query: `list=true`, versions, and what is ignored.
+#[test]
+fn queries(rt: HostRuntime) -> Result<(), Fail> {
+    let row = row! {
+        1 request!("PUT /v1/cubbyhole/a?list=true&version=2", "Content-Length: 7\r\n\r\n{\"a\":1}") => WRITTEN;
+        1 request!("GET /v1/cubbyhole/a?list=true", "\r\n") => NOT_ALLOWED;
+        1 request!("GET /v1/cubbyhole/a?a=b&list=true", "\r\n") => NOT_ALLOWED;
+        1 request!("GET /v1/cubbyhole/a?list=true&list=false", "\r\n") => NOT_ALLOWED;
+        1 request!("GET /v1/cubbyhole/a?list=1", "\r\n") => found!("165", "{\"a\":1}", "050");
+        1 request!("GET /v1/cubbyhole/a?list=TRUE", "\r\n") => found!("165", "{\"a\":1}", "060");
+        1 request!("GET /v1/cubbyhole/a?list=true=", "\r\n") => found!("165", "{\"a\":1}", "070");
+        1 request!("GET /v1/cubbyhole/a?list=tru", "\r\n") => found!("165", "{\"a\":1}", "080");
+        1 request!("GET /v1/cubbyhole/a?list", "\r\n") => found!("165", "{\"a\":1}", "090");
+        1 request!("GET /v1/cubbyhole/a?&&", "\r\n") => found!("165", "{\"a\":1}", "0a0");
+        1 request!("GET /v1/cubbyhole/a?", "\r\n") => found!("165", "{\"a\":1}", "0b0");
+        1 request!("GET /v1/cubbyhole/a?version=2", "\r\n") => found!("165", "{\"a\":1}", "0c0");
+        1 request!("GET /v1/cubbyhole/a?version=1&version=x", "\r\n") => found!("165", "{\"a\":1}", "0d0");
+        1 request!("GET /v1/cubbyhole/a?list=true?", "\r\n") => found!("165", "{\"a\":1}", "0e0");
+        1 request!("GET /v1/cubbyhole/a?a?list=true", "\r\n") => found!("165", "{\"a\":1}", "0f0");
+        1 request!("GET /v1/cubbyhole/a??list=true", "\r\n") => found!("165", "{\"a\":1}", "100");
+        1 request!("GET /v1/cubbyhole/a?a&b/../c&d=e?f", "\r\n") => found!("165", "{\"a\":1}", "110");
+        1 request!("DELETE /v1/cubbyhole/a?list=true", "\r\n") => NOT_ALLOWED;
+        1 request!("LIST /v1/cubbyhole/a?list=false", "\r\n") => NOT_ALLOWED;
+        1 request!("GET /v1/cubbyhole/a/?list=false", "\r\n") => found!("165", "{\"a\":1}", "140");
+        1 request!("GET /v1/cubbyhole/?/a", "\r\n") => NOT_FOUND;
+        1 request!("GET /v1/?cubbyhole/a", "\r\n") => INVALID_PATH;
+        1 request!("GET /v1?/cubbyhole/a", "\r\n") => NOT_FOUND;
+        1 request!("GET ?/v1/cubbyhole/a", "\r\n") => NOT_FOUND;
+        1 request!("GET /v1/cubbyhole/a?list=tru%65", "\r\n") => INVALID_PATH;
+    };
+    expect_replies(&rt, 1000, &row)
+}
+
+/// When a reply comes: each event at its own moment. In the row the piece of the eighth event is longer.
+#[test]
+fn moments_of_replies(rt: HostRuntime) -> Result<(), Fail> {
+    let row = row! {
+        1 "PUT /v1/cubbyhole/a " => NONE;
+        1 "HTTP/1.1\r\nHost: b\r\nX-Vault-Token: hvs.00000000-0000-0000-0000-000000000001\r\n\
+             Content-Length: 7\r\n\r\n{\"a\""
+            => NONE;
+        1 "" => NONE;
+        1 request!(":1}PUT /v1/cubbyhole/a", "Content-Length: 7\r\n\r\n{\"a\":1}PUT /v1/c")
+            => "HTTP/1.1 204 No Content\r\nDate: Thu, 01 Jan 1970 00:16:44 GMT\r\nCache-Control: no-store\r\n\r\n";
+        1 "" => "HTTP/1.1 204 No Content\r\nDate: Thu, 01 Jan 1970 00:16:45 GMT\r\nCache-Control: no-store\r\n\r\n";
+        1 "" => NONE;
+        2 "PUT /v1/a HTTP/1.1\r\nHost: b\r\nContent-Length: 1048577\r\n\r\n"
+            => reply_at!("413 Payload Too Large", "Thu, 01 Jan 1970 00:16:47 GMT",
+                "Cache-Control: no-store\r\nConnection: close\r\n", "38",
+                "{\"errors\":[\"request body too large\"]}");
+        2 "xxxxxxxxxxxxxxxxxxxx" => NONE;
+        3 "GET /v1/cubby" => NONE;
+        4 "hole/a HTTP/1.1\r\nHost: b\r\n\r\n"
+            => reply_at!("400 Bad Request", "Thu, 01 Jan 1970 00:16:48 GMT",
+                "Cache-Control: no-store\r\nConnection: close\r\n", "33",
+                "{\"errors\":[\"malformed request\"]}");
+        3 "hole/a HTTP/1.1\r\nHost: b\r\n\r\n"
+            => reply_at!("403 Forbidden", "Thu, 01 Jan 1970 00:16:49 GMT", "Cache-Control: no-store\r\n", "33",
+                "{\"errors\":[\"permission denied\"]}");
+    };
+    let moments = [
+        1001, 1002, 1003, 1004, 1005, 1006, 1007, 1008, 1008, 1008, 1009,
+    ];
+    expect_replies_at(&rt, 1000, &moments, &row)
 }

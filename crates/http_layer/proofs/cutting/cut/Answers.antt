@@ -1,12 +1,22 @@
-use Rattle.std.proofs.Common.{◌∙◌, sym, refl, arith}
-use Rattle.http_layer.specs.Front.{malformed}
-use Rattle.http_layer.proofs.FrontLemmas.{refused_known, whole_known}
-use Rattle.http_layer.proofs.CutLemmas.{IsFront-refused, IsFront-whole, IsFront-short, reads_head}
+use Rattle.std.proofs.Common.{◌∙◌, sym, subst, refl, arith}
+use Rattle.http_layer.specs.Front.{malformed, IsFront}
+use Rattle.http_layer.proofs.FrontLemmas.{refused_known, whole_known, is_need}
+use Rattle.http_layer.proofs.CutLemmas.{IsFront-unended, IsFront-refused, IsFront-whole, IsFront-short, reads_head}
 use Rattle.http_layer.proofs.cutting.cut.Goals as goal
 
+pub returns-in_default-clause-front : goal.returns-in_default-clause-front
+returns-in_default-clause-front c =
+    subst (IsFront c.args.bytes.now) (sym c.without_end.ensures) (IsFront-unended _ c.in_default.ensures.none)
+
+pub returns-in_default-clause-waits : goal.returns-in_default-clause-waits
+returns-in_default-clause-waits c = is_need _ c.without_end.result (returns-in_default-clause-front c)
+
+pub returns-in_default-read-clause-front : goal.returns-in_default-read-clause-front
+returns-in_default-read-clause-front c =
+    record { head = malformed; is_head = (c.in-Some.len, c.in-Some.ensures.found, c.in_default-read.ensures.none); front = refl }
+
 pub returns-in_default-read-clause-waits : goal.returns-in_default-read-clause-waits
-returns-in_default-read-clause-waits c =
-    refused_known _ _ (record { head = malformed; is_head = (c.in-Some.len, c.in-Some.ensures.found, c.in_default-read.ensures.none); front = refl })
+returns-in_default-read-clause-waits c = refused_known _ _ (returns-in_default-read-clause-front c)
 
 pub returns-in-Err-clause-front : goal.returns-in-Err-clause-front
 returns-in-Err-clause-front c =

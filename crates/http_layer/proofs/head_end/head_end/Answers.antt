@@ -1,6 +1,5 @@
-use Rattle.std.proofs.Common.{arith}
-use Rattle.http_layer.proofs.EndLemmas.{HasNoHeadEnd-from_places}
+use Rattle.http_layer.proofs.EndLemmas.{within_window}
 use Rattle.http_layer.proofs.head_end.head_end.Goals as goal
 
-pub returns-clause-none : goal.returns-clause-none
-returns-clause-none c = HasNoHeadEnd-from_places c.args.bytes.now (λ k low fits. c.loop-i.invariant k low (omega arith))
+pub returns-clause-within : goal.returns-clause-within
+returns-clause-within c = within_window _ _ _ c.window.ensures c.end_in.ensures.within
