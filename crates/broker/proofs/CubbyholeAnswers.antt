@@ -41,7 +41,7 @@ use Rattle.mounts.specs.declared.operation.Operation.TheVariants.{Cubbyholes}
 use Rattle.api_json.specs.Json.{body_members, has_members}
 use Rattle.api_json.specs.Reply.{plain_reply}
 use Rattle.broker.specs.Command.{on_cubbyhole, on_cubbyholes, command_by, command_for}
-use Rattle.broker.specs.Cubbyholes.{CubbyholeCommand, read_object, write_object, full, act_on_cubbyhole}
+use Rattle.broker.specs.parts.Cubbyholes.{CubbyholeCommand, read_object, write_object, full, act_on_cubbyhole}
 use Rattle.broker.specs.Forms.{forms}
 use Rattle.broker.specs.Order.{IsProper}
 use Rattle.broker.specs.Representing.{AsServed, Represents}

@@ -9,5 +9,6 @@ pub mod Expired
 pub mod Finishing
 pub mod FirstRows
 pub mod Operations
+pub mod Permitted
 pub mod Routes
 pub mod Serving

@@ -1,0 +1,2 @@
+-- What requests mean and do, part by part.
+pub mod Cubbyholes

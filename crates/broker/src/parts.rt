@@ -1,0 +1,3 @@
+//! What is asked of the broker, part by part.
+
+pub(crate) mod cubbyholes;
