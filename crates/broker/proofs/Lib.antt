@@ -11,3 +11,4 @@ pub mod FirstRows
 pub mod Operations
 pub mod Routes
 pub mod Serving
+pub mod parts

@@ -17,4 +17,5 @@ pub mod Serving
 pub mod Stages
 pub mod Step
 pub mod StoreRows
+pub mod parts
 pub use Rattle.records.specs.Transaction
