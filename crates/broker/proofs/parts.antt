@@ -1,1 +1,2 @@
+pub mod TokenAnswers
 pub mod TokenExamples
