@@ -12,3 +12,4 @@ pub mod Operations
 pub mod Permitted
 pub mod Routes
 pub mod Serving
+pub mod parts
