@@ -1,2 +1,4 @@
 pub mod TokenAnswers
 pub mod TokenExamples
+pub mod TokenPolicies
+pub mod TokenSound

@@ -1,5 +1,6 @@
 -- The parts of the broker: what the commands of each mean, and what they do to the maps.
 pub mod TokenCommands
 pub mod TokenCreation
+pub mod TokenRanges
 pub mod TokenReplies
 pub mod Tokens

@@ -42,11 +42,11 @@ ok_step (Err r) f d e = absurd (cc)
 
 -- ---- one identifier is new
 
-is_nothing : {X : Type 0} (o : Option X) → is_none o ≡ true → o ≡ None
+pub is_nothing : {X : Type 0} (o : Option X) → is_none o ≡ true → o ≡ None
 is_nothing None h = refl
 is_nothing (Some x) h = absurd (false≢true h)
 
-first_new : (used : Map ⊤) (i j : Text) → are_new used (i ∷ j ∷ []) ≡ true → get used i ≡ None
+pub first_new : (used : Map ⊤) (i j : Text) → are_new used (i ∷ j ∷ []) ≡ true → get used i ≡ None
 first_new used i j new = is_nothing (get used i) (and_parts (is_none (get used i)) _ new).0
 
 -- ---- creation
