@@ -94,10 +94,6 @@ represents-write {who} b old new t path object st is_path is_object tells =
 
 -- ---- the operation of a route
 
--- so far each operation is one on a cubbyhole
-pub is_cubbyhole : (o : Operation) → (operation : Cubbyhole) × (o ≡ Cubbyholes operation)
-is_cubbyhole (Cubbyholes operation) = (operation, refl)
-
 -- what a route to an operation on a cubbyhole means
 pub meant_there : (r : Route) (a : Ask) (op : Cubbyhole) (path : Text) (body : List ℕ) → r.operation ≡ Cubbyholes op → r.parameter ≡ path → body ≡ a.body
     → command_for r a ≡ on_cubbyholes op path body

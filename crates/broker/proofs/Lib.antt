@@ -12,4 +12,8 @@ pub mod Operations
 pub mod Permitted
 pub mod Routes
 pub mod Serving
-pub mod parts
+pub mod TokenAnswers
+pub mod TokenExamples
+pub mod TokenPolicies
+pub mod TokenSound
+pub mod TokenTables

@@ -33,7 +33,7 @@ pub(crate) fn answer(alloc: Global, answered: Answered) -> Result<Answer, AllocE
             let text = TextBuf::new(String::new(alloc));
             Answer::new(alloc, Status::NoContent, Methods::none(), text)
         }
-        Answered::Given(reply) => {
+        Answered::Given(reply) | Answered::Made(reply, _) => {
             let text = reply_text(alloc, &reply)?;
             Answer::new(alloc, Status::Success, Methods::none(), text)
         }

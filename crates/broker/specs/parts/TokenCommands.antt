@@ -6,6 +6,8 @@ use Rattle.broker_types.specs.Text.{Text}
 use Rattle.broker_types.specs.Names.{Names}
 use Rattle.broker_types.specs.Refuse.{◌>>=◌}
 use Rattle.broker_types.specs.declared.refusal.Refusal.{Refusal}
+use Rattle.mounts.specs.declared.operation.TokenOperation.{TokenOperation}
+use Rattle.mounts.specs.declared.operation.TokenOperation.TheVariants as operation
 use Rattle.api_json.specs.Json.{body_members}
 use Rattle.api_json.specs.Readers as reader
 use Rattle.api_json.specs.declared.token_bodies.TokenCreation.{TokenCreation}
@@ -87,18 +89,33 @@ revoke_self_meant = read_none revoke_self
 abbrev pub list_accessors_meant : List ℕ → Result TokenCommand Refusal
 list_accessors_meant body = Ok list_accessors
 
+-- what an operation means, by the body
+abbrev pub token_command : TokenOperation → List ℕ → Result TokenCommand Refusal
+token_command operation.Create body = create_meant body
+token_command operation.CreateOrphan body = create_orphan_meant body
+token_command operation.LookUp body = lookup_meant body
+token_command operation.LookUpSelf body = lookup_self_meant body
+token_command operation.LookUpAccessor body = lookup_accessor_meant body
+token_command operation.Renew body = renew_meant body
+token_command operation.RenewSelf body = renew_self_meant body
+token_command operation.Revoke body = revoke_meant body
+token_command operation.RevokeOrphan body = revoke_orphan_meant body
+token_command operation.RevokeSelf body = revoke_self_meant body
+token_command operation.RevokeAccessor body = revoke_accessor_meant body
+token_command operation.ListAccessors body = list_accessors_meant body
+
 -- ---- what commands are
 
 -- the identifiers of a new token and of its accessor
 abbrev pub token_names : Names → List Text
 token_names names = names.token ∷ names.accessor ∷ []
 
--- a command that needs these identifiers; none has to do with wrapping
-abbrev pub needing : (Names → List Text) → Traits
-needing own = record { own = own; may_wrap = true; must_wrap = false }
+-- which identifiers a command needs: both creations need them
+abbrev pub own_names : TokenCommand → Names → List Text
+own_names (create_token asked) names = token_names names
+own_names (create_orphan asked) names = token_names names
+own_names command names = []
 
--- both creations need identifiers
+-- no command has to do with wrapping
 abbrev pub token_traits : TokenCommand → Traits
-token_traits (create_token asked) = needing token_names
-token_traits (create_orphan asked) = needing token_names
-token_traits command = needing (λ names. [])
+token_traits command = record { own = own_names command; may_wrap = true; must_wrap = false }

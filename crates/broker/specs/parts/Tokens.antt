@@ -15,6 +15,7 @@ use Rattle.broker_types.specs.declared.refusal.Refusal.{Refusal}
 use Rattle.broker_types.specs.declared.refusal.Refusal.TheVariants as refusal
 use Rattle.broker_types.specs.declared.refusal.Reason.TheVariants as reason
 use Rattle.broker_types.specs.declared.refusal.Denial.TheVariants as denial
+use Rattle.records.specs.TokenEntry.{TokenEntry, token_entry}
 use Rattle.token_tree.specs.Tokens as tree
 use Rattle.api_json.specs.Objects.{keys_object}
 use Rattle.api_json.specs.Reply.{plain_reply}
@@ -43,7 +44,7 @@ abbrev pub made : Broker → Names → Token → Done
 made b names x =
     let t = token_text names.token in
     record {
-      answered = reply (auth_reply names.request b.clock t x) (Some names.accessor);
+      answered = reply (auth_reply names.request b.clock t (token_entry x)) (Some names.accessor);
       next = tree.with_token b t x;
       taken = token_names names;
       handed = None;
@@ -69,7 +70,7 @@ create b c names making asked = do
 abbrev pub look_up : Broker → Names → Text → Text → Result Done Refusal
 look_up b names t id = do
   x ← known b t
-  Ok (plainly (reply (token_reply names.request b.clock id x) None) b)
+  Ok (plainly (reply (token_reply names.request b.clock id (token_entry x)) None) b)
 
 -- the token of the accessor, without its id
 abbrev pub look_up_accessor : Broker → Names → Text → Result Done Refusal
@@ -86,7 +87,7 @@ all_accessors b names =
 
 -- The new end of the token x: after the increment, or after the time that it was made for if that is 0; and no later
 -- than 32 days, or its own longest time, after its issue.
-abbrev pub new_end : ℕ → Token → ℕ → ℕ
+abbrev pub new_end : ℕ → TokenEntry → ℕ → ℕ
 new_end now x increment =
     min (now + (if increment == 0 then x.ttl else increment))
     (x.issued + min longest_ttl (or_longest x.explicit_max_ttl))
@@ -96,8 +97,8 @@ abbrev pub renew : Broker → Names → Text → ℕ → Result Done Refusal
 renew b names t increment = do
   x ← known b t
   ending ← unless (is_some x.ends) (refusal.BadRequest reason.TokenNotRenewable)
-  let next = new_end b.clock x increment in
-      Ok (plainly (reply (auth_reply names.request b.clock t (tree.with_end next x)) None) (tree.renew b t next))
+  let next = new_end b.clock (token_entry x) increment in
+      Ok (plainly (reply (auth_reply names.request b.clock t (token_entry (tree.with_end next x))) None) (tree.renew b t next))
 
 -- ---- revocation
 

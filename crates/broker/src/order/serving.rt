@@ -26,7 +26,7 @@ use crate::context::Context;
 use crate::order::caller::spend;
 use crate::order::finishing::finish;
 use crate::order::permission::{PERMISSION_DENIED, is_permitted};
-use crate::parts::cubbyholes;
+use crate::parts::{cubbyholes, tokens};
 use broker_types::{Answer, Ask, Fault, RequestError};
 use mounts::{Operation, route};
 use records::RecordsTx;
@@ -129,5 +129,6 @@ fn operate<T: RecordsTx>(
         Operation::Cubbyholes(operation) => {
             cubbyholes::act(alloc, tx, context, operation, found.parameter, body)
         }
+        Operation::Tokens(operation) => tokens::act(alloc, tx, context, operation, body),
     }
 }

@@ -47,8 +47,8 @@ use Rattle.broker.specs.parts.TokenCreation.{Making, of_caller, without_parent a
 use Rattle.broker.specs.parts.TokenCreation.{new_policies, new_token, new_parent, or_longest, asked_ttl, has_no_end, use_limit}
 use Rattle.broker.specs.parts.TokenRanges.{IsInRange, IsCommandInRange, AreTokenNames}
 use Rattle.broker.specs.parts.Tokens.{act_on_tokens, known, named, made, create, look_up, renew, new_end, revoke, revoke_alone}
-use Rattle.broker.proofs.parts.TokenAnswers.{ok_step, is_nothing, first_new}
-use Rattle.broker.proofs.parts.TokenPolicies.{ArePolicies, each_listed, few_listed, new_policies_are}
+use Rattle.broker.proofs.TokenAnswers.{ok_step, is_nothing, first_new}
+use Rattle.broker.proofs.TokenPolicies.{ArePolicies, each_listed, few_listed, new_policies_are}
 
 -- ---- the token of a caller
 

@@ -1,4 +1,0 @@
-pub mod TokenAnswers
-pub mod TokenExamples
-pub mod TokenPolicies
-pub mod TokenSound
