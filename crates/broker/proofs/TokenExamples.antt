@@ -25,6 +25,7 @@ use Rattle.broker_types.specs.declared.refusal.Reason.{Reason}
 use Rattle.broker_types.specs.declared.refusal.Reason.TheVariants as reason
 use Rattle.broker_types.specs.declared.refusal.Denial.TheVariants as denial
 use Rattle.records.specs.Children.{set_of}
+use Rattle.records.specs.TokenEntry.{token_entry}
 use Rattle.broker_types.specs.declared.refusal.Field.TheVariants as field
 use Rattle.api_json.specs.Members.{optional}
 use Rattle.api_json.specs.Readers as reader
@@ -69,11 +70,11 @@ unfolding child asked same
 ends = refl
 
 -- at 1040 it is renewed for its creation ttl, at 1060 for 500 seconds
-renewed : new_end 1040 child 0 ≡ 1140
+renewed : new_end 1040 (token_entry child) 0 ≡ 1140
 unfolding child asked same
 renewed = refl
 
-renewed_at_most : new_end 1060 child 500 ≡ 1150
+renewed_at_most : new_end 1060 (token_entry child) 500 ≡ 1150
 unfolding child asked same
 renewed_at_most = refl
 
@@ -181,7 +182,7 @@ root_alone = refl
 -- ---- texts
 
 -- the reply to the creation of `child`
-auth_text : reply_text (auth_reply (codes "00000000-0000-0000-0000-000000000010") 1000 child_text (record child { meta = empty }))
+auth_text : reply_text (auth_reply (codes "00000000-0000-0000-0000-000000000010") 1000 child_text (token_entry (record child { meta = empty })))
     ≡ codes "{\"auth\":{\"accessor\":\"00000000-0000-0000-0000-000000000012\","
     ++ codes "\"client_token\":\"hvs.00000000-0000-0000-0000-000000000011\",\"entity_id\":\"\",\"lease_duration\":100,"
     ++ codes "\"metadata\":null,\"num_uses\":0,\"orphan\":false,\"policies\":[\"root\"],\"renewable\":true,"
@@ -193,7 +194,7 @@ unfolding child asked same reply_text object.auth_object name_text digits escape
 auth_text = rw entries-empty refl
 
 -- its look-up, when it has been renewed at 1040
-token_text_at_1040 : object.token_object (looked_up 1040 child_text (record child { ends = Some 1140; meta = empty }))
+token_text_at_1040 : object.token_object (looked_up 1040 child_text (token_entry (record child { ends = Some 1140; meta = empty })))
     ≡ codes "{\"accessor\":\"00000000-0000-0000-0000-000000000012\",\"creation_time\":1000,\"creation_ttl\":100,"
     ++ codes "\"expire_time\":\"1970-01-01T00:19:00Z\",\"explicit_max_ttl\":150,"
     ++ codes "\"id\":\"hvs.00000000-0000-0000-0000-000000000011\",\"issue_time\":\"1970-01-01T00:16:40Z\",\"meta\":null,"

@@ -1,5 +1,3 @@
-use Rattle.broker.specs.parts.TokenRanges as extra2
-use Rattle.broker.proofs.TokenSound as extra
 use Rattle.std.proofs.Common.{sym, ◌∙◌}
 use Rattle.broker.specs.Forms.{forms}
 use Rattle.broker.proofs.laws.rows_represent_one_broker.Goals as goal

@@ -1,5 +1,5 @@
 use Rattle.std.specs.Prelude.{List, codes}
-use Rattle.std.proofs.Common.{Err, sym, ap, ◌∙◌}
+use Rattle.std.proofs.Common.{sym, ap, ◌∙◌}
 use Rattle.std.proofs.lemmas.Result.{err_from_is_err_and}
 use Rattle.records.specs.ValueLaws.{none_of}
 use Rattle.records.specs.TokenEntry.{TokenEntry}

@@ -12,8 +12,8 @@ use Rattle.broker.specs.Representing.{Represents, Gives}
 use Rattle.broker.specs.Serving.{served}
 use Rattle.broker.specs.Stages.{HasServed}
 use Rattle.broker.proofs.Callers.{spent_here}
-use Rattle.broker.proofs.Finishing.{if_ok, readable_unspent, forbidden_kept}
-use Rattle.broker.proofs.Routes.{known_still, readable_still, fault_goes_on}
+use Rattle.broker.proofs.Finishing.{readable_unspent, forbidden_kept}
+use Rattle.broker.proofs.Routes.{known_still, fault_goes_on}
 use Rattle.broker.proofs.order.serving.answer_caller.Goals as goal
 
 pub returns-in-Ok-clause-ok : goal.returns-in-Ok-clause-ok

@@ -11,13 +11,13 @@ use Rattle.mounts.specs.Route.{Route, cut}
 use Rattle.mounts.specs.declared.operation.Operation.TheVariants.{Cubbyholes}
 use Rattle.broker.specs.Serving.{acted}
 use Rattle.broker.specs.declared.answered.Answered.{Answered}
-use Rattle.broker.proofs.CubbyholeAnswers.{ActsAs, is_cubbyhole, meant_there}
-use Rattle.broker.proofs.Routes.{mounts_there, operated_by, operated_nowhere, on_answer, on_error}
+use Rattle.broker.proofs.CubbyholeAnswers.{ActsAs, meant_there}
+use Rattle.broker.proofs.Routes.{meant_on_tokens, mounts_there, operated_by, operated_nowhere, on_answer, on_error}
 use Rattle.broker.proofs.Serving.{still_represented}
 use Rattle.broker.proofs.order.serving.operate.Goals as goal
 
-pub returns-clause-ok : goal.returns-clause-ok
-returns-clause-ok g c honest b starts =
+pub returns-in-Cubbyholes-clause-ok : goal.returns-in-Cubbyholes-clause-ok
+returns-in-Cubbyholes-clause-ok g c honest b starts =
     let seen = g.T.RecordsTx.seen in
     let rows = (seen c.args.tx.now).rows in
     let mid = honest_before (seen c.route.new.tx) (seen c.act.new.tx) _ c.act.ensures.goes_on honest in
@@ -26,16 +26,31 @@ returns-clause-ok g c honest b starts =
     let caller = c.args.context.now.caller in
     let names = names_of c.args.context.now.words in
     let ask = c.args.ask.now in
-    let op = is_cubbyhole c.found.inside.operation in
     let is : c.in_ok-found.found.operation ≡ c.found.inside.operation = sym (ap (λ (r : Route). r.operation) c.found.view_is) in
     let there : c.in_ok-found.found.parameter ≡ c.found.inside.parameter.now = sym (ap (λ (r : Route). r.parameter) c.found.view_is) in
-    let good = λ (takes : takes_parameter (Cubbyholes op.0) ≡ true).
-    sym (ap is_path there) ∙ c.in_ok-found.ensures.parameter c.as_str.ensures.good (ap takes_parameter (is ∙ op.1) ∙ takes) in
-    let meant = meant_there c.in_ok-found.found ask op.0 c.found.inside.parameter.now c.as_slice-body.result.now (is ∙ op.1)
+    let good = λ (takes : takes_parameter (Cubbyholes c.in-Cubbyholes.operation) ≡ true).
+    sym (ap is_path there) ∙ c.in_ok-found.ensures.parameter c.as_str.ensures.good (ap takes_parameter (is ∙ c.in-Cubbyholes.is) ∙ takes) in
+    let meant = meant_there c.in_ok-found.found ask c.in-Cubbyholes.operation c.found.inside.parameter.now c.as_slice-body.result.now (is ∙ c.in-Cubbyholes.is)
     there c.as_slice-body.ensures.bytes in
     operated_by b caller names ask (seen c.act.new.tx).rows c.act.result c.in_ok-found.found c.as_str.result.now c.as_str.ensures.text ends
     (subst (ActsAs caller b (seen c.act.new.tx).rows c.act.result) (ap (acted b caller names) (sym meant))
-    ((rw op.1 at c.act.ensures.ok) good honest b (record { represents = still; here = starts.here; clock = starts.clock })))
+    (c.act.ensures.ok good honest b (record { represents = still; here = starts.here; clock = starts.clock })))
+
+pub returns-in-Tokens-clause-ok : goal.returns-in-Tokens-clause-ok
+returns-in-Tokens-clause-ok g c honest b starts =
+    let seen = g.T.RecordsTx.seen in
+    let rows = (seen c.args.tx.now).rows in
+    let mid = honest_before (seen c.route.new.tx) (seen c.act-in-Tokens.new.tx) _ c.act-in-Tokens.ensures.goes_on honest in
+    let ends = c.in_ok-found.ensures.told mid b.mounts (mounts_there b rows starts.represents) in
+    let still = still_represented b rows (seen c.route.new.tx).rows (c.in_ok-found.ensures.same mid) starts.represents in
+    let caller = c.args.context.now.caller in
+    let names = names_of c.args.context.now.words in
+    let ask = c.args.ask.now in
+    let is : c.in_ok-found.found.operation ≡ c.found.inside.operation = sym (ap (λ (r : Route). r.operation) c.found.view_is) in
+    let meant = meant_on_tokens c.in_ok-found.found ask c.in-Tokens.operation c.as_slice-body.result.now (is ∙ c.in-Tokens.is) c.as_slice-body.ensures.bytes in
+    operated_by b caller names ask (seen c.act-in-Tokens.new.tx).rows c.act-in-Tokens.result c.in_ok-found.found c.as_str.result.now c.as_str.ensures.text ends
+    (subst (ActsAs caller b (seen c.act-in-Tokens.new.tx).rows c.act-in-Tokens.result) (ap (acted b caller names) (sym meant))
+    (c.act-in-Tokens.ensures.ok honest b (record { represents = still; here = starts.here; clock = starts.clock })))
 
 pub returns-in_err-found-clause-ok : goal.returns-in_err-found-clause-ok
 returns-in_err-found-clause-ok g c honest b starts =
@@ -48,12 +63,20 @@ returns-in_err-found-clause-ok g c honest b starts =
     starts.represents (c.in_err-found.ensures.same honest)
     (c.in_err-found.ensures.told honest b.mounts (mounts_there b rows starts.represents)))
 
-pub returns-clause-mount : goal.returns-clause-mount
-returns-clause-mount g c honest =
+pub returns-in-Cubbyholes-clause-mount : goal.returns-in-Cubbyholes-clause-mount
+returns-in-Cubbyholes-clause-mount g c honest =
     let seen = g.T.RecordsTx.seen in
     let rows = (seen c.args.tx.now).rows in
     let mid = honest_before (seen c.route.new.tx) (seen c.act.new.tx) _ c.act.ensures.goes_on honest in
     on_answer c.act.result
+    (subst (λ path. IsReadableAt (table_of rows) (cut path).0) c.as_str.ensures.text (c.in_ok-found.ensures.undamaged mid))
+
+pub returns-in-Tokens-clause-mount : goal.returns-in-Tokens-clause-mount
+returns-in-Tokens-clause-mount g c honest =
+    let seen = g.T.RecordsTx.seen in
+    let rows = (seen c.args.tx.now).rows in
+    let mid = honest_before (seen c.route.new.tx) (seen c.act-in-Tokens.new.tx) _ c.act-in-Tokens.ensures.goes_on honest in
+    on_answer c.act-in-Tokens.result
     (subst (λ path. IsReadableAt (table_of rows) (cut path).0) c.as_str.ensures.text (c.in_ok-found.ensures.undamaged mid))
 
 pub returns-in_err-found-clause-mount : goal.returns-in_err-found-clause-mount
