@@ -41,7 +41,7 @@ use Rattle.mounts.specs.declared.operation.Operation.TheVariants.{Cubbyholes}
 use Rattle.api_json.specs.Json.{body_members, has_members}
 use Rattle.api_json.specs.Reply.{plain_reply}
 use Rattle.broker.specs.Command.{on_cubbyhole, on_cubbyholes, command_by, command_for}
-use Rattle.broker.specs.Cubbyholes.{CubbyholeCommand, read_object, write_object, full, act_on_cubbyhole}
+use Rattle.broker.specs.parts.Cubbyholes.{CubbyholeCommand, read_object, write_object, full, act_on_cubbyhole}
 use Rattle.broker.specs.Forms.{forms}
 use Rattle.broker.specs.Order.{IsProper}
 use Rattle.broker.specs.Representing.{AsServed, Represents}
@@ -93,10 +93,6 @@ represents-write {who} b old new t path object st is_path is_object tells =
     }
 
 -- ---- the operation of a route
-
--- so far each operation is one on a cubbyhole
-pub is_cubbyhole : (o : Operation) → (operation : Cubbyhole) × (o ≡ Cubbyholes operation)
-is_cubbyhole (Cubbyholes operation) = (operation, refl)
 
 -- what a route to an operation on a cubbyhole means
 pub meant_there : (r : Route) (a : Ask) (op : Cubbyhole) (path : Text) (body : List ℕ) → r.operation ≡ Cubbyholes op → r.parameter ≡ path → body ≡ a.body

@@ -9,5 +9,11 @@ pub mod Expired
 pub mod Finishing
 pub mod FirstRows
 pub mod Operations
+pub mod Permitted
 pub mod Routes
 pub mod Serving
+pub mod TokenAnswers
+pub mod TokenExamples
+pub mod TokenPolicies
+pub mod TokenSound
+pub mod TokenTables

@@ -1,13 +1,15 @@
 pub mod Act
 pub mod ClockRow
 pub mod Command
-pub mod Cubbyholes
+pub mod Context
 pub mod Ending
 pub mod Forms
 pub mod Kept
 pub mod Laws
 pub mod Listed
+pub mod Operating
 pub mod Order
+pub mod Permission
 pub mod ReadableRow
 pub mod Representing
 pub mod Request
@@ -17,4 +19,5 @@ pub mod Serving
 pub mod Stages
 pub mod Step
 pub mod StoreRows
+pub mod parts
 pub use Rattle.records.specs.Transaction

@@ -1,4 +1,4 @@
-use broker_types::Reply;
+use broker_types::{Reply, TextBuf};
 
 /// What an operation answers.
 #[derive(Drop)]
@@ -7,4 +7,6 @@ pub(crate) enum Answered {
     Nothing,
     /// 200 with a reply.
     Given(Reply),
+    /// 200 with the reply that made a token, and its accessor.
+    Made(Reply, TextBuf),
 }

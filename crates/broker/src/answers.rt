@@ -2,14 +2,16 @@
 
 ghost use Rattle.std.specs.Prelude.{◌≡◌, IfOk, IfErr};
 ghost use Rattle.broker.specs.Listed.{IsListed};
+ghost use Rattle.api_json.specs.Reply.{reply_text};
 ghost use Rattle.broker.specs.Order.{response_to};
+ghost use Rattle.broker.specs.Responses.{ok};
 ghost use Rattle.broker.specs.Stages.{answered_of};
 ghost use Rattle.broker_types.specs.Answer.{HasRoom, response_of, refused};
 ghost use Rattle.broker_types.specs.declared.fault.Fault.TheVariants.{Memory};
 
 use crate::answered::Answered;
 use api_json::reply_text;
-use broker_types::{Answer, Fault, Methods, Refusal, Status, TextBuf};
+use broker_types::{Answer, Fault, Methods, Refusal, Reply, Status, TextBuf};
 use std::alloc::{AllocError, Global};
 
 /// The answer to a refused request.
@@ -33,9 +35,17 @@ pub(crate) fn answer(alloc: Global, answered: Answered) -> Result<Answer, AllocE
             let text = TextBuf::new(String::new(alloc));
             Answer::new(alloc, Status::NoContent, Methods::none(), text)
         }
-        Answered::Given(reply) => {
-            let text = reply_text(alloc, &reply)?;
-            Answer::new(alloc, Status::Success, Methods::none(), text)
-        }
+        Answered::Given(reply) => success(alloc, &reply),
+        Answered::Made(reply, _) => success(alloc, &reply),
     }
+}
+
+/// 200 with a reply.
+fn success(alloc: Global, reply: &Reply) -> Result<Answer, AllocError>
+    ensures response { IfOk result (λ a. response_of a ≡ ok (reply_text reply.now)) }
+    ensures room { IfOk result HasRoom }
+    ensures listed { IfOk result (λ a. IsListed (response_of a)) }
+{
+    let text = reply_text(alloc, reply)?;
+    Answer::new(alloc, Status::Success, Methods::none(), text)
 }

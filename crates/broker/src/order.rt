@@ -4,4 +4,6 @@ pub(crate) mod caller;
 pub(crate) mod ending;
 pub(crate) mod expiry;
 pub(crate) mod finishing;
+pub(crate) mod identifiers;
+pub(crate) mod permission;
 pub(crate) mod serving;

@@ -1,18 +1,32 @@
 -- The table of routes: for each type of mounts the verb, the pattern of the path within the mount, and the operation
 -- (Vault's documentation, "HTTP API"). Rows of one pattern stand together. A route that is not served has no row. And
 -- which operations take a name or a path from the path of their request (this project's definition).
-use Rattle.std.specs.Prelude.{List, [], ◌∷◌, Bool, true, codes}
+use Rattle.std.specs.Prelude.{List, [], ◌∷◌, Bool, true, false, codes}
 use Rattle.broker_types.specs.declared.ask.Verb.TheVariants as verb
 use Rattle.mounts.specs.declared.mount_type.MountType.{MountType}
 use Rattle.mounts.specs.declared.mount_type.MountType.TheVariants as mount
 use Rattle.mounts.specs.declared.operation.Operation.{Operation}
-use Rattle.mounts.specs.declared.operation.Operation.TheVariants.{Cubbyholes}
+use Rattle.mounts.specs.declared.operation.Operation.TheVariants.{Cubbyholes, Tokens}
 use Rattle.mounts.specs.declared.operation.Cubbyhole.TheVariants as cubbyhole
+use Rattle.mounts.specs.declared.operation.TokenOperation.TheVariants as token
 use Rattle.mounts.specs.Row.{Row, on}
 
 -- the rows of a type of mounts
 abbrev pub rows_of : MountType → List Row
-rows_of mount.Token = []
+rows_of mount.Token =
+    on verb.Write (codes "token/create") (Tokens token.Create)
+    ∷ on verb.Write (codes "token/create-orphan") (Tokens token.CreateOrphan)
+    ∷ on verb.Write (codes "token/lookup") (Tokens token.LookUp)
+    ∷ on verb.Get (codes "token/lookup-self") (Tokens token.LookUpSelf)
+    ∷ on verb.Write (codes "token/lookup-accessor") (Tokens token.LookUpAccessor)
+    ∷ on verb.Write (codes "token/renew") (Tokens token.Renew)
+    ∷ on verb.Write (codes "token/renew-self") (Tokens token.RenewSelf)
+    ∷ on verb.Write (codes "token/revoke") (Tokens token.Revoke)
+    ∷ on verb.Write (codes "token/revoke-orphan") (Tokens token.RevokeOrphan)
+    ∷ on verb.Write (codes "token/revoke-self") (Tokens token.RevokeSelf)
+    ∷ on verb.Write (codes "token/revoke-accessor") (Tokens token.RevokeAccessor)
+    ∷ on verb.List (codes "token/accessors") (Tokens token.ListAccessors)
+    ∷ []
 rows_of mount.System = []
 rows_of mount.Cubbyhole =
     on verb.Get (codes "{*path}") (Cubbyholes cubbyhole.Read)
@@ -25,3 +39,4 @@ rows_of mount.Issued = []
 abbrev pub takes_parameter : Operation → Bool
 takes_parameter (Cubbyholes cubbyhole.Read) = true
 takes_parameter (Cubbyholes cubbyhole.Write) = true
+takes_parameter (Tokens operation) = false

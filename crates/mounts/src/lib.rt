@@ -17,7 +17,7 @@ pub use laws::{
 pub use listing::{NamedMount, list};
 pub use mount_type::MountType;
 pub use mounting::{disable, enable};
-pub use operation::{Cubbyhole, Operation, Route};
+pub use operation::{Cubbyhole, Operation, Route, TokenOperation};
 pub use routing::route;
 
 #[cfg(test)]

@@ -7,6 +7,8 @@ use std::marker::Model;
 pub enum Operation {
     /// On the caller's cubbyhole.
     Cubbyholes(Cubbyhole),
+    /// On tokens.
+    Tokens(TokenOperation),
 }
 
 /// What is done with a path of the caller's cubbyhole (Vault's documentation, "Cubbyhole secrets engine
@@ -17,6 +19,35 @@ pub enum Cubbyhole {
     Read,
     /// An object is put there.
     Write,
+}
+
+/// What is done with tokens (Vault's documentation, "Token auth method (API)").
+#[derive(Clone, Copy, Debug, PartialEq, Eq)]
+pub enum TokenOperation {
+    /// A child of the caller is made, or a token without parent if that is asked for.
+    Create,
+    /// A token without parent is made.
+    CreateOrphan,
+    /// A token is shown.
+    LookUp,
+    /// The caller is shown.
+    LookUpSelf,
+    /// The token of an accessor is shown, without its text.
+    LookUpAccessor,
+    /// A token gets a later end.
+    Renew,
+    /// The caller gets a later end.
+    RenewSelf,
+    /// A token ends, with all below it.
+    Revoke,
+    /// A token ends alone.
+    RevokeOrphan,
+    /// The caller ends, with all below it.
+    RevokeSelf,
+    /// The token of an accessor ends, with all below it.
+    RevokeAccessor,
+    /// The accessors of all tokens are listed.
+    ListAccessors,
 }
 
 /// Where a request goes.

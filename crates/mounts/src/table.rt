@@ -6,9 +6,9 @@ ghost use Rattle.mounts.specs.Row.{rows_in};
 ghost use Rattle.mounts.specs.Table as table;
 
 use crate::mount_type::MountType;
-use crate::operation::Operation::Cubbyholes;
-use crate::operation::{Cubbyhole, Operation};
-use broker_types::Verb::{self, Get, Write};
+use crate::operation::Operation::{Cubbyholes, Tokens};
+use crate::operation::{Cubbyhole, Operation, TokenOperation};
+use broker_types::Verb::{self, Get, List, Write};
 
 /// A row of the table: the verb, the pattern and the operation.
 #[derive(Clone, Copy)]
@@ -18,7 +18,44 @@ pub(crate) struct Row(
     pub(crate) Operation,
 );
 
-const TOKEN: &[Row] = &[];
+const TOKEN: &[Row] = &[
+    Row(Write, "token/create", Tokens(TokenOperation::Create)),
+    Row(
+        Write,
+        "token/create-orphan",
+        Tokens(TokenOperation::CreateOrphan),
+    ),
+    Row(Write, "token/lookup", Tokens(TokenOperation::LookUp)),
+    Row(Get, "token/lookup-self", Tokens(TokenOperation::LookUpSelf)),
+    Row(
+        Write,
+        "token/lookup-accessor",
+        Tokens(TokenOperation::LookUpAccessor),
+    ),
+    Row(Write, "token/renew", Tokens(TokenOperation::Renew)),
+    Row(Write, "token/renew-self", Tokens(TokenOperation::RenewSelf)),
+    Row(Write, "token/revoke", Tokens(TokenOperation::Revoke)),
+    Row(
+        Write,
+        "token/revoke-orphan",
+        Tokens(TokenOperation::RevokeOrphan),
+    ),
+    Row(
+        Write,
+        "token/revoke-self",
+        Tokens(TokenOperation::RevokeSelf),
+    ),
+    Row(
+        Write,
+        "token/revoke-accessor",
+        Tokens(TokenOperation::RevokeAccessor),
+    ),
+    Row(
+        List,
+        "token/accessors",
+        Tokens(TokenOperation::ListAccessors),
+    ),
+];
 
 const SYSTEM: &[Row] = &[];
 

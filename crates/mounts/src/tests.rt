@@ -1,4 +1,4 @@
-use crate::operation::{Cubbyhole, Operation};
+use crate::operation::{Cubbyhole, Operation, TokenOperation};
 use crate::{MountType, disable, enable, list, route};
 use broker_types::Verb::{self, Delete, Get, List, Write};
 use broker_types::{Methods, Reason, Refusal, RequestError};
@@ -20,31 +20,79 @@ const IN_CUBBYHOLES: &[(Verb, Operation)] = &[
 /// The routes of the profile, each with a path that fits, one with a segment more and one with a segment less.
 /// `secret` is a mount of versioned secrets, `db` one that issues credentials.
 const LINES: &[Line] = &[
-    Line("auth/token/create", NONE, &[Write]),
+    Line(
+        "auth/token/create",
+        &[(Write, Operation::Tokens(TokenOperation::Create))],
+        &[],
+    ),
     Line("auth/token/create/a", NONE, &[]),
     Line("auth/token", NONE, &[]),
     Line("auth", NONE, &[]),
-    Line("auth/token/create-orphan", NONE, &[Write]),
+    Line(
+        "auth/token/create-orphan",
+        &[(Write, Operation::Tokens(TokenOperation::CreateOrphan))],
+        &[],
+    ),
     Line("auth/token/create-orphan/a", NONE, &[]),
-    Line("auth/token/lookup-self", NONE, &[Get]),
+    Line(
+        "auth/token/lookup-self",
+        &[(Get, Operation::Tokens(TokenOperation::LookUpSelf))],
+        &[],
+    ),
     Line("auth/token/lookup-self/a", NONE, &[]),
-    Line("auth/token/lookup", NONE, &[Write]),
+    Line(
+        "auth/token/lookup",
+        &[(Write, Operation::Tokens(TokenOperation::LookUp))],
+        &[],
+    ),
     Line("auth/token/lookup/a", NONE, &[]),
-    Line("auth/token/lookup-accessor", NONE, &[Write]),
+    Line(
+        "auth/token/lookup-accessor",
+        &[(Write, Operation::Tokens(TokenOperation::LookUpAccessor))],
+        &[],
+    ),
     Line("auth/token/lookup-accessor/a", NONE, &[]),
-    Line("auth/token/renew", NONE, &[Write]),
+    Line(
+        "auth/token/renew",
+        &[(Write, Operation::Tokens(TokenOperation::Renew))],
+        &[],
+    ),
     Line("auth/token/renew/a", NONE, &[]),
-    Line("auth/token/renew-self", NONE, &[Write]),
+    Line(
+        "auth/token/renew-self",
+        &[(Write, Operation::Tokens(TokenOperation::RenewSelf))],
+        &[],
+    ),
     Line("auth/token/renew-self/a", NONE, &[]),
-    Line("auth/token/revoke", NONE, &[Write]),
+    Line(
+        "auth/token/revoke",
+        &[(Write, Operation::Tokens(TokenOperation::Revoke))],
+        &[],
+    ),
     Line("auth/token/revoke/a", NONE, &[]),
-    Line("auth/token/revoke-orphan", NONE, &[Write]),
+    Line(
+        "auth/token/revoke-orphan",
+        &[(Write, Operation::Tokens(TokenOperation::RevokeOrphan))],
+        &[],
+    ),
     Line("auth/token/revoke-orphan/a", NONE, &[]),
-    Line("auth/token/revoke-self", NONE, &[Write]),
+    Line(
+        "auth/token/revoke-self",
+        &[(Write, Operation::Tokens(TokenOperation::RevokeSelf))],
+        &[],
+    ),
     Line("auth/token/revoke-self/a", NONE, &[]),
-    Line("auth/token/revoke-accessor", NONE, &[Write]),
+    Line(
+        "auth/token/revoke-accessor",
+        &[(Write, Operation::Tokens(TokenOperation::RevokeAccessor))],
+        &[],
+    ),
     Line("auth/token/revoke-accessor/a", NONE, &[]),
-    Line("auth/token/accessors", NONE, &[List]),
+    Line(
+        "auth/token/accessors",
+        &[(List, Operation::Tokens(TokenOperation::ListAccessors))],
+        &[],
+    ),
     Line("auth/token/accessors/a", NONE, &[]),
     Line("sys/wrapping/wrap", NONE, &[Write]),
     Line("sys/wrapping/wrap/a", NONE, &[]),

@@ -19,7 +19,7 @@ pub(crate) fn is_same(a: &str, b: &str) -> bool
 }
 
 /// Whether the text is one of the list.
-pub(crate) fn is_among(list: &[TextBuf], text: &str) -> bool
+pub fn is_among(list: &[TextBuf], text: &str) -> bool
     ensures { result ≡ has list.now text.now }
 {
     for item in list {

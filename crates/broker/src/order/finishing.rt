@@ -1,7 +1,7 @@
 //! The end of a request.
 
-ghost use Rattle.std.specs.Prelude.{Some, Result, IfOk, IfErr};
-ghost use Rattle.broker_types.specs.Answer.{HasRoom, response_of};
+ghost use Rattle.std.specs.Prelude.{◌≡◌, Some, Result, IfOk, IfErr};
+ghost use Rattle.broker_types.specs.Answer.{HasRoom, response_of, refused};
 ghost use Rattle.broker_types.specs.Broker.{Broker};
 ghost use Rattle.broker_types.specs.Fault.{IsMemoryOrStorage};
 ghost use Rattle.broker_types.specs.declared.refusal.Refusal as declared;
@@ -34,6 +34,7 @@ pub(crate) fn finish<T: RecordsTx>(
         → HasServed caller.now (T.seen tx.old).rows b served m → IfErr result IsMemoryOrStorage }
     ensures room { IfOk result HasRoom }
     ensures listed { IfOk result (λ a. IsListed (response_of a)) }
+    ensures refused { IfErr served (λ r. IfOk result (λ a. response_of a ≡ refused r)) }
     ensures started { IfErr result IsNotBadStart }
     ensures goes_on { GoesOn (T.seen tx.old) (T.seen tx.new) (is_storage result) }
 {

@@ -1,63 +1,39 @@
-use Rattle.std.proofs.Common.{◌≡◌, Err, sym, ap, ◌∙◌, subst, true}
-use Rattle.std.proofs.lemmas.Result.{err_from_is_err_and}
+use Rattle.std.proofs.Common.{◌≡◌, Some, true, sym, ap, ◌∙◌, subst, inl}
 use Rattle.records.specs.CallLaws.{honest_before}
 use Rattle.records.specs.Table.{table_of}
-use Rattle.broker_types.specs.Path.{is_path}
-use Rattle.mounts.specs.Table.{takes_parameter}
+use Rattle.records.specs.Transaction.{Rows}
+use Rattle.broker_types.specs.Names.{names_of}
 use Rattle.mounts.specs.Calls.{OnAnswer}
-use Rattle.mounts.specs.MountRows.{IsReadableAt}
-use Rattle.mounts.specs.Route.{Route, cut}
-use Rattle.mounts.specs.declared.operation.Operation.TheVariants.{Cubbyholes}
-use Rattle.broker.specs.Serving.{acted}
-use Rattle.broker.specs.declared.answered.Answered.{Answered}
-use Rattle.broker.proofs.CubbyholeAnswers.{ActsAs, is_cubbyhole, meant_there}
-use Rattle.broker.proofs.Routes.{mounts_there, served_by, served_nowhere, on_answer, on_error}
+use Rattle.mounts.specs.MountRows.{IsKnownAt}
+use Rattle.mounts.specs.Route.{cut}
+use Rattle.broker.specs.Context.{Context}
+use Rattle.broker.specs.Permission.{permits}
+use Rattle.broker.specs.ReadableRow.{IsReadable}
+use Rattle.broker.specs.Representing.{Represents}
+use Rattle.broker.proofs.Routes.{served_permitted}
 use Rattle.broker.proofs.Serving.{still_represented}
 use Rattle.broker.proofs.order.serving.serve.Goals as goal
 
 pub returns-clause-ok : goal.returns-clause-ok
-returns-clause-ok g c honest b names id st here =
+returns-clause-ok g c honest b starts =
     let seen = g.T.RecordsTx.seen in
     let rows = (seen c.args.tx.now).rows in
-    let mid = honest_before (seen c.route.new.tx) (seen c.act.new.tx) _ c.act.ensures.goes_on honest in
-    let ends = c.in_ok-found.ensures.told mid b.mounts (mounts_there b rows st) in
-    let still = still_represented b rows (seen c.route.new.tx).rows (c.in_ok-found.ensures.same mid) st in
-    let caller = c.args.caller.now in
+    let caller = c.args.context.now.caller in
     let ask = c.args.ask.now in
-    let op = is_cubbyhole c.found.inside.operation in
-    let is : c.in_ok-found.found.operation ≡ c.found.inside.operation = sym (ap (λ (r : Route). r.operation) c.found.view_is) in
-    let there : c.in_ok-found.found.parameter ≡ c.found.inside.parameter.now = sym (ap (λ (r : Route). r.parameter) c.found.view_is) in
-    let good = λ (takes : takes_parameter (Cubbyholes op.0) ≡ true).
-    sym (ap is_path there) ∙ c.in_ok-found.ensures.parameter c.as_str.ensures.good (ap takes_parameter (is ∙ op.1) ∙ takes) in
-    let meant = meant_there c.in_ok-found.found ask op.0 c.found.inside.parameter.now c.as_slice-body.result.now (is ∙ op.1)
-    there c.as_slice-body.ensures.bytes in
-    served_by b caller names ask (seen c.act.new.tx).rows c.act.result c.in_ok-found.found c.as_str.result.now c.as_str.ensures.text ends
-    (subst (ActsAs caller b (seen c.act.new.tx).rows c.act.result) (ap (acted b caller names) (sym meant))
-    ((rw op.1 at (c.act.ensures.ok honest b names id still here)) good))
+    let at : c.context.inside.caller.now ≡ caller = ap (λ (x : Context). x.caller) c.context.view_is in
+    let mid = honest_before (seen c.is_permitted.new.tx) (seen c.operate.new.tx) _ c.operate.ensures.goes_on honest in
+    let told = c.in_ok-is_permitted.ensures.ok mid b ask.verb (subst (λ t. Represents (Some t) rows b) (sym at) starts.represents) in
+    let permitted : permits b (Some caller) ask.verb ask.path ≡ true =
+    (λ i. permits b (Some (sym at i)) ask.verb (sym c.as_str.ensures.text i)) ∙ sym told ∙ c.if-not-branch.false in
+    let still = still_represented b rows (seen c.is_permitted.new.tx).rows (c.in_ok-is_permitted.ensures.same mid) starts.represents in
+    served_permitted b caller (names_of c.args.context.now.words) ask (seen c.operate.new.tx).rows c.operate.result permitted
+    (c.operate.ensures.ok honest b (record { represents = still; here = starts.here; clock = starts.clock }))
 
-pub returns-in_err-found-clause-ok : goal.returns-in_err-found-clause-ok
-returns-in_err-found-clause-ok g c honest b names id st here =
+pub returns-clause-undamaged : goal.returns-clause-undamaged
+returns-clause-undamaged g c honest mount r known found reads =
     let seen = g.T.RecordsTx.seen in
-    let rows = (seen c.args.tx.now).rows in
-    let new = (seen c.route.new.tx).rows in
-    let p = err_from_is_err_and c.from_residual.result c.from_residual.ensures.1 in
-    rw (p.1 ∙ ap Err p.2)
-    (served_nowhere b c.args.caller.now names c.args.ask.now rows new c.in_err-found.field-0.0 c.as_str.result.now c.as_str.ensures.text
-    st (c.in_err-found.ensures.same honest)
-    (c.in_err-found.ensures.told honest b.mounts (mounts_there b rows st)))
-
-pub returns-clause-mount : goal.returns-clause-mount
-returns-clause-mount g c honest =
-    let seen = g.T.RecordsTx.seen in
-    let rows = (seen c.args.tx.now).rows in
-    let mid = honest_before (seen c.route.new.tx) (seen c.act.new.tx) _ c.act.ensures.goes_on honest in
-    on_answer c.act.result
-    (subst (λ path. IsReadableAt (table_of rows) (cut path).0) c.as_str.ensures.text (c.in_ok-found.ensures.undamaged mid))
-
-pub returns-in_err-found-clause-mount : goal.returns-in_err-found-clause-mount
-returns-in_err-found-clause-mount g c honest =
-    let rows = (g.T.RecordsTx.seen c.args.tx.now).rows in
-    let p = err_from_is_err_and c.from_residual.result c.from_residual.ensures.1 in
-    rw (p.1 ∙ ap Err p.2)
-    (subst (λ path. OnAnswer {A = Answered} (Err c.in_err-found.field-0.0) (IsReadableAt (table_of rows) (cut path).0)) c.as_str.ensures.text
-    (on_error Route Answered _ c.in_err-found.field-0.0 (c.in_err-found.ensures.undamaged honest)))
+    let mid = honest_before (seen c.is_permitted.new.tx) (seen c.operate.new.tx) _ c.operate.ensures.goes_on honest in
+    let same = c.in_ok-is_permitted.ensures.same mid in
+    inl (subst (λ (rows : Rows). OnAnswer c.operate.result (IsReadable rows c.args.context.now.caller r.parameter)) same
+    (c.operate.ensures.undamaged honest mount r
+    (subst (λ (rows : Rows). IsKnownAt (table_of rows) (cut c.args.ask.now.path).0 mount) (sym same) known) found reads))

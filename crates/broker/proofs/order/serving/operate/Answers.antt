@@ -1,0 +1,88 @@
+use Rattle.std.proofs.Common.{◌≡◌, Err, sym, ap, ◌∙◌, subst, true}
+use Rattle.std.proofs.lemmas.Result.{err_from_is_err_and}
+use Rattle.records.specs.CallLaws.{honest_before}
+use Rattle.records.specs.Table.{table_of}
+use Rattle.broker_types.specs.Names.{names_of}
+use Rattle.broker_types.specs.Path.{is_path}
+use Rattle.mounts.specs.Table.{takes_parameter}
+use Rattle.mounts.specs.Calls.{OnAnswer}
+use Rattle.mounts.specs.MountRows.{IsReadableAt}
+use Rattle.mounts.specs.Route.{Route, cut}
+use Rattle.mounts.specs.declared.operation.Operation.TheVariants.{Cubbyholes}
+use Rattle.broker.specs.Serving.{acted}
+use Rattle.broker.specs.declared.answered.Answered.{Answered}
+use Rattle.broker.proofs.CubbyholeAnswers.{ActsAs, meant_there}
+use Rattle.broker.proofs.Routes.{meant_on_tokens, mounts_there, operated_by, operated_nowhere, on_answer, on_error}
+use Rattle.broker.proofs.Serving.{still_represented}
+use Rattle.broker.proofs.order.serving.operate.Goals as goal
+
+pub returns-in-Cubbyholes-clause-ok : goal.returns-in-Cubbyholes-clause-ok
+returns-in-Cubbyholes-clause-ok g c honest b starts =
+    let seen = g.T.RecordsTx.seen in
+    let rows = (seen c.args.tx.now).rows in
+    let mid = honest_before (seen c.route.new.tx) (seen c.act.new.tx) _ c.act.ensures.goes_on honest in
+    let ends = c.in_ok-found.ensures.told mid b.mounts (mounts_there b rows starts.represents) in
+    let still = still_represented b rows (seen c.route.new.tx).rows (c.in_ok-found.ensures.same mid) starts.represents in
+    let caller = c.args.context.now.caller in
+    let names = names_of c.args.context.now.words in
+    let ask = c.args.ask.now in
+    let is : c.in_ok-found.found.operation ≡ c.found.inside.operation = sym (ap (λ (r : Route). r.operation) c.found.view_is) in
+    let there : c.in_ok-found.found.parameter ≡ c.found.inside.parameter.now = sym (ap (λ (r : Route). r.parameter) c.found.view_is) in
+    let good = λ (takes : takes_parameter (Cubbyholes c.in-Cubbyholes.operation) ≡ true).
+    sym (ap is_path there) ∙ c.in_ok-found.ensures.parameter c.as_str.ensures.good (ap takes_parameter (is ∙ c.in-Cubbyholes.is) ∙ takes) in
+    let meant = meant_there c.in_ok-found.found ask c.in-Cubbyholes.operation c.found.inside.parameter.now c.as_slice-body.result.now (is ∙ c.in-Cubbyholes.is)
+    there c.as_slice-body.ensures.bytes in
+    operated_by b caller names ask (seen c.act.new.tx).rows c.act.result c.in_ok-found.found c.as_str.result.now c.as_str.ensures.text ends
+    (subst (ActsAs caller b (seen c.act.new.tx).rows c.act.result) (ap (acted b caller names) (sym meant))
+    (c.act.ensures.ok good honest b (record { represents = still; here = starts.here; clock = starts.clock })))
+
+pub returns-in-Tokens-clause-ok : goal.returns-in-Tokens-clause-ok
+returns-in-Tokens-clause-ok g c honest b starts =
+    let seen = g.T.RecordsTx.seen in
+    let rows = (seen c.args.tx.now).rows in
+    let mid = honest_before (seen c.route.new.tx) (seen c.act-in-Tokens.new.tx) _ c.act-in-Tokens.ensures.goes_on honest in
+    let ends = c.in_ok-found.ensures.told mid b.mounts (mounts_there b rows starts.represents) in
+    let still = still_represented b rows (seen c.route.new.tx).rows (c.in_ok-found.ensures.same mid) starts.represents in
+    let caller = c.args.context.now.caller in
+    let names = names_of c.args.context.now.words in
+    let ask = c.args.ask.now in
+    let is : c.in_ok-found.found.operation ≡ c.found.inside.operation = sym (ap (λ (r : Route). r.operation) c.found.view_is) in
+    let meant = meant_on_tokens c.in_ok-found.found ask c.in-Tokens.operation c.as_slice-body.result.now (is ∙ c.in-Tokens.is) c.as_slice-body.ensures.bytes in
+    operated_by b caller names ask (seen c.act-in-Tokens.new.tx).rows c.act-in-Tokens.result c.in_ok-found.found c.as_str.result.now c.as_str.ensures.text ends
+    (subst (ActsAs caller b (seen c.act-in-Tokens.new.tx).rows c.act-in-Tokens.result) (ap (acted b caller names) (sym meant))
+    (c.act-in-Tokens.ensures.ok honest b (record { represents = still; here = starts.here; clock = starts.clock })))
+
+pub returns-in_err-found-clause-ok : goal.returns-in_err-found-clause-ok
+returns-in_err-found-clause-ok g c honest b starts =
+    let seen = g.T.RecordsTx.seen in
+    let rows = (seen c.args.tx.now).rows in
+    let new = (seen c.route.new.tx).rows in
+    let p = err_from_is_err_and c.from_residual.result c.from_residual.ensures.1 in
+    rw (p.1 ∙ ap Err p.2)
+    (operated_nowhere b c.args.context.now.caller (names_of c.args.context.now.words) c.args.ask.now rows new c.in_err-found.field-0.0 c.as_str.result.now c.as_str.ensures.text
+    starts.represents (c.in_err-found.ensures.same honest)
+    (c.in_err-found.ensures.told honest b.mounts (mounts_there b rows starts.represents)))
+
+pub returns-in-Cubbyholes-clause-mount : goal.returns-in-Cubbyholes-clause-mount
+returns-in-Cubbyholes-clause-mount g c honest =
+    let seen = g.T.RecordsTx.seen in
+    let rows = (seen c.args.tx.now).rows in
+    let mid = honest_before (seen c.route.new.tx) (seen c.act.new.tx) _ c.act.ensures.goes_on honest in
+    on_answer c.act.result
+    (subst (λ path. IsReadableAt (table_of rows) (cut path).0) c.as_str.ensures.text (c.in_ok-found.ensures.undamaged mid))
+
+pub returns-in-Tokens-clause-mount : goal.returns-in-Tokens-clause-mount
+returns-in-Tokens-clause-mount g c honest =
+    let seen = g.T.RecordsTx.seen in
+    let rows = (seen c.args.tx.now).rows in
+    let mid = honest_before (seen c.route.new.tx) (seen c.act-in-Tokens.new.tx) _ c.act-in-Tokens.ensures.goes_on honest in
+    on_answer c.act-in-Tokens.result
+    (subst (λ path. IsReadableAt (table_of rows) (cut path).0) c.as_str.ensures.text (c.in_ok-found.ensures.undamaged mid))
+
+pub returns-in_err-found-clause-mount : goal.returns-in_err-found-clause-mount
+returns-in_err-found-clause-mount g c honest =
+    let rows = (g.T.RecordsTx.seen c.args.tx.now).rows in
+    let p = err_from_is_err_and c.from_residual.result c.from_residual.ensures.1 in
+    rw (p.1 ∙ ap Err p.2)
+    (subst (λ path. OnAnswer {A = Answered} (Err c.in_err-found.field-0.0) (IsReadableAt (table_of rows) (cut path).0)) c.as_str.ensures.text
+    (on_error Route Answered _ c.in_err-found.field-0.0 (c.in_err-found.ensures.undamaged honest)))

@@ -1,0 +1,52 @@
+use Rattle.std.proofs.Common.{Ok, Err, sym, ap, ◌∙◌, subst}
+use Rattle.std.proofs.lemmas.Result.{err_from_is_err_and}
+use Rattle.broker.specs.Command.{on_cubbyhole}
+use Rattle.broker.specs.Forms.{forms}
+use Rattle.broker.specs.Operating.{Operates}
+use Rattle.broker.specs.parts.Cubbyholes.{read_object}
+use Rattle.records.specs.Parts.{of_cubbyholes}
+use Rattle.broker_types.specs.Names.{names_of}
+use Rattle.broker_types.specs.declared.refusal.Refusal.TheVariants as refusal
+use Rattle.broker_types.specs.declared.request_error.RequestError.TheVariants.{Refused}
+use Rattle.broker.specs.declared.answered.Answered.TheVariants.{Given}
+use Rattle.broker.proofs.CubbyholeAnswers.{caller_len, acts_read, acts_no_object}
+use Rattle.broker.proofs.Serving.{still_represented, tells_part}
+use Rattle.broker.proofs.parts.cubbyholes.read.Goals as goal
+
+pub returns-in_err-object-clause-ok : goal.returns-in_err-object-clause-ok
+returns-in_err-object-clause-ok g c =
+    let seen = g.T.RecordsTx.seen in
+    let rows = (seen c.args.tx.now).rows in
+    let p = err_from_is_err_and c.from_residual.result c.from_residual.ensures.1 in
+    subst (λ x. Operates x (seen c.args.tx.now) (seen c.read.new.tx) (λ b. Ok (on_cubbyhole (read_object c.args.path.now))) c.from_residual.result)
+    c.context.view_is
+    (λ honest b starts. rw (p.1 ∙ ap Err p.2)
+    (c.in_err-object.ensures.undamaged honest forms b starts.represents.sound.tokens (tells_part of_cubbyholes b rows starts.represents)
+    (caller_len b rows c.context.inside.caller.now starts.represents starts.here)))
+
+pub returns-in_default-clause-ok : goal.returns-in_default-clause-ok
+returns-in_default-clause-ok g c =
+    let seen = g.T.RecordsTx.seen in
+    let rows = (seen c.args.tx.now).rows in
+    let caller = c.context.inside.caller.now in
+    subst (λ x. Operates x (seen c.args.tx.now) (seen c.read.new.tx) (λ b. Ok (on_cubbyhole (read_object c.args.path.now))) (Err (Refused refusal.NotFound)))
+    c.context.view_is
+    (λ honest b starts.
+    let still = still_represented b rows (seen c.read.new.tx).rows (c.in_ok-object.ensures.same honest) starts.represents in
+    let told = c.in_ok-object.ensures.told honest b (tells_part of_cubbyholes b rows starts.represents) (caller_len b rows caller starts.represents starts.here) in
+    acts_no_object b (seen c.read.new.tx).rows caller c.args.path.now (names_of c.context.inside.words.now) still (sym c.in_default.is ∙ told))
+
+pub returns-clause-ok : goal.returns-clause-ok
+unfolding names_of
+returns-clause-ok g c =
+    let seen = g.T.RecordsTx.seen in
+    let rows = (seen c.args.tx.now).rows in
+    let caller = c.context.inside.caller.now in
+    subst (λ x. Operates x (seen c.args.tx.now) (seen c.read.new.tx) (λ b. Ok (on_cubbyhole (read_object c.args.path.now))) (Ok (Given c.in_ok-plain_reply.field-0)))
+    c.context.view_is
+    (λ honest b starts.
+    let still = still_represented b rows (seen c.read.new.tx).rows (c.in_ok-object.ensures.same honest) starts.represents in
+    let told = c.in_ok-object.ensures.told honest b (tells_part of_cubbyholes b rows starts.represents) (caller_len b rows caller starts.represents starts.here) in
+    acts_read b (seen c.read.new.tx).rows caller c.args.path.now c.as_str.result.now c.in-Some.object
+    (names_of c.context.inside.words.now) _ still (sym (c.as_str.ensures.value ∙ c.in_ok-request.ensures))
+    (sym c.in-Some.is ∙ told) c.in_ok-plain_reply.ensures)

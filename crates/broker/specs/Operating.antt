@@ -1,0 +1,33 @@
+-- What an operation starts from, and how it ends (this project's definition).
+use Rattle.std.specs.Prelude.{◌≡◌, ◌≢◌, Some, None, Result}
+use Rattle.broker_types.specs.Broker.{Broker}
+use Rattle.broker_types.specs.Map.{get}
+use Rattle.broker_types.specs.Names.{names_of}
+use Rattle.broker_types.specs.Operation.{Done}
+use Rattle.broker_types.specs.RequestError.{Ends}
+use Rattle.broker_types.specs.declared.refusal.Refusal.{Refusal}
+use Rattle.broker_types.specs.declared.request_error.RequestError.{RequestError}
+use Rattle.records.specs.Transaction.{Seen, Rows, IsHonest}
+use Rattle.broker.specs.Command.{Command}
+use Rattle.broker.specs.Context.{Context}
+use Rattle.broker.specs.Representing.{Represents}
+use Rattle.broker.specs.Serving.{acted}
+use Rattle.broker.specs.Stages.{IsDone}
+use Rattle.broker.specs.declared.answered.Answered.{Answered}
+
+-- the rows represent b, which has this clock and of which the caller is a token
+pub record Starts (x : Context) (rows : Rows) (b : Broker) : Type 0 where
+  pub represents : Represents (Some x.caller) rows b
+  pub here : get b.tokens x.caller ≢ None
+  pub clock : b.clock ≡ x.clock
+
+-- The call does this. If it is refused, the rows represent the broker that it started from; else the next one, in which
+-- the identifiers that it gave out are used.
+abbrev pub Performs : Context → Seen → Seen → (Broker → Result Done Refusal) → Result Answered RequestError → Type 0
+Performs x old new does result =
+    IsHonest new → (b : Broker) → Starts x old.rows b
+    → Ends (IsDone x.caller new.rows) (Represents (Some x.caller) new.rows b) result (does b)
+
+-- the call does what the command does that is meant, or there is none
+abbrev pub Operates : Context → Seen → Seen → (Broker → Result Command Refusal) → Result Answered RequestError → Type 0
+Operates x old new meant result = Performs x old new (λ b. acted b x.caller (names_of x.words) (meant b)) result

@@ -1,0 +1,7 @@
+-- The parts of the broker: what the commands of each mean, and what they do to the maps.
+pub mod Cubbyholes
+pub mod TokenCommands
+pub mod TokenCreation
+pub mod TokenRanges
+pub mod TokenReplies
+pub mod Tokens

@@ -1,0 +1,52 @@
+//! Requests on tokens (Vault's documentation, "Token auth method (API)").
+
+ghost use Rattle.std.specs.Prelude.{◌≤◌, length};
+ghost use Rattle.broker_types.specs.Limits.{longest_body};
+ghost use Rattle.broker_types.specs.RequestError.{step_fails};
+ghost use Rattle.records.specs.Transaction.{GoesOn};
+ghost use Rattle.mounts.specs.Calls.{OnFault};
+ghost use Rattle.broker.specs.ClockRow.{IsNotBadStart};
+ghost use Rattle.broker.specs.Command.{on_tokens};
+ghost use Rattle.broker.specs.Operating.{Operates};
+
+mod creation;
+mod lookup;
+mod renewal;
+mod revocation;
+mod shown;
+
+use crate::answered::Answered;
+use crate::context::Context;
+use broker_types::RequestError;
+use mounts::TokenOperation;
+use records::RecordsTx;
+use std::alloc::Global;
+
+/// Carries out an operation on tokens.
+pub(crate) fn act<T: RecordsTx>(
+    alloc: Global,
+    tx: &mut T,
+    context: &Context<'_>,
+    operation: TokenOperation,
+    body: &[u8],
+) -> Result<Answered, RequestError>
+    requires { length body.now ≤ longest_body }
+    ensures ok { Operates context.now (T.seen tx.old) (T.seen tx.new) (λ b. on_tokens operation body.now) result }
+    ensures started { OnFault result IsNotBadStart }
+    ensures goes_on { GoesOn (T.seen tx.old) (T.seen tx.new) (step_fails result) }
+{
+    match operation {
+        TokenOperation::Create => creation::create(alloc, tx, context, body),
+        TokenOperation::CreateOrphan => creation::create_orphan(alloc, tx, context, body),
+        TokenOperation::LookUp => lookup::look_up(alloc, tx, context, body),
+        TokenOperation::LookUpSelf => lookup::look_up_self(alloc, tx, context),
+        TokenOperation::LookUpAccessor => lookup::look_up_accessor(alloc, tx, context, body),
+        TokenOperation::Renew => renewal::renew(alloc, tx, context, body),
+        TokenOperation::RenewSelf => renewal::renew_self(alloc, tx, context, body),
+        TokenOperation::Revoke => revocation::revoke(alloc, tx, context, body),
+        TokenOperation::RevokeOrphan => revocation::revoke_orphan(alloc, tx, context, body),
+        TokenOperation::RevokeSelf => revocation::revoke_self(alloc, tx, context, body),
+        TokenOperation::RevokeAccessor => revocation::revoke_accessor(alloc, tx, context, body),
+        TokenOperation::ListAccessors => lookup::list_accessors(alloc, tx, context),
+    }
+}

@@ -1,0 +1,112 @@
+//! Look-up of tokens.
+
+ghost use Rattle.std.specs.Prelude.{◌≤◌, Ok, length};
+ghost use Rattle.broker_types.specs.Limits.{longest_body};
+ghost use Rattle.broker_types.specs.Names.{names_of};
+ghost use Rattle.broker_types.specs.RequestError.{step_fails};
+ghost use Rattle.records.specs.Transaction.{GoesOn};
+ghost use Rattle.mounts.specs.Calls.{OnFault};
+ghost use Rattle.mounts.specs.declared.operation.TokenOperation.TheVariants as operations;
+ghost use Rattle.broker.specs.ClockRow.{IsNotBadStart};
+ghost use Rattle.broker.specs.Command.{on_token, on_tokens};
+ghost use Rattle.broker.specs.Operating.{Operates, Performs};
+ghost use Rattle.broker.specs.parts.TokenCommands.{lookup_self, list_accessors};
+ghost use Rattle.broker.specs.parts.Tokens as part;
+
+use crate::answered::Answered;
+use crate::context::Context;
+use crate::parts::tokens::shown::looked_up;
+use api_json::{accessor, keys_object, plain_reply, read_body, token, token_object};
+use broker_types::{Denial, Reason, Refusal, RequestError, id_text};
+use records::RecordsTx;
+use std::alloc::Global;
+use token_tree::{accessors, find, find_accessor};
+
+/// Shows the token that a body names.
+pub(super) fn look_up<T: RecordsTx>(
+    alloc: Global,
+    tx: &mut T,
+    context: &Context<'_>,
+    body: &[u8],
+) -> Result<Answered, RequestError>
+    requires { length body.now ≤ longest_body }
+    ensures ok { Operates context.now (T.seen tx.old) (T.seen tx.new) (λ b. on_tokens operations.LookUp body.now) result }
+    ensures started { OnFault result IsNotBadStart }
+    ensures goes_on { GoesOn (T.seen tx.old) (T.seen tx.new) (step_fails result) }
+{
+    let members = read_body(alloc, body)?;
+    let token = token(alloc, &members)?;
+    show(alloc, tx, context, token.as_str(), token.as_str())
+}
+
+/// Shows the caller.
+pub(super) fn look_up_self<T: RecordsTx>(
+    alloc: Global,
+    tx: &mut T,
+    context: &Context<'_>,
+) -> Result<Answered, RequestError>
+    ensures ok { Operates context.now (T.seen tx.old) (T.seen tx.new) (λ b. Ok (on_token lookup_self)) result }
+    ensures started { OnFault result IsNotBadStart }
+    ensures goes_on { GoesOn (T.seen tx.old) (T.seen tx.new) (step_fails result) }
+{
+    let caller = context.caller;
+    show(alloc, tx, context, caller, caller)
+}
+
+/// Shows the token of the accessor that a body names, without its text.
+pub(super) fn look_up_accessor<T: RecordsTx>(
+    alloc: Global,
+    tx: &mut T,
+    context: &Context<'_>,
+    body: &[u8],
+) -> Result<Answered, RequestError>
+    requires { length body.now ≤ longest_body }
+    ensures ok { Operates context.now (T.seen tx.old) (T.seen tx.new) (λ b. on_tokens operations.LookUpAccessor body.now) result }
+    ensures started { OnFault result IsNotBadStart }
+    ensures goes_on { GoesOn (T.seen tx.old) (T.seen tx.new) (step_fails result) }
+{
+    let members = read_body(alloc, body)?;
+    let accessor = accessor(alloc, &members)?;
+    let Some(token) = find_accessor(tx, accessor.as_str())? else {
+        return Err(RequestError::Refused(Refusal::BadRequest(Reason::InvalidAccessor)));
+    };
+    show(alloc, tx, context, token.as_str(), "")
+}
+
+/// Lists the accessors of all tokens.
+pub(super) fn list_accessors<T: RecordsTx>(
+    alloc: Global,
+    tx: &mut T,
+    context: &Context<'_>,
+) -> Result<Answered, RequestError>
+    ensures ok { Operates context.now (T.seen tx.old) (T.seen tx.new) (λ b. Ok (on_token list_accessors)) result }
+    ensures started { OnFault result IsNotBadStart }
+    ensures goes_on { GoesOn (T.seen tx.old) (T.seen tx.new) (step_fails result) }
+{
+    let names = accessors(alloc, tx)?;
+    let object = keys_object(alloc, &names)?;
+    let request = id_text(alloc, context.words.0[0])?;
+    Ok(Answered::Given(plain_reply(alloc, request.as_str(), object)?))
+}
+
+/// Shows a token under an id.
+fn show<T: RecordsTx>(
+    alloc: Global,
+    tx: &mut T,
+    context: &Context<'_>,
+    token: &str,
+    id: &str,
+) -> Result<Answered, RequestError>
+    ensures ok { Performs context.now (T.seen tx.old) (T.seen tx.new)
+        (λ b. part.look_up b (names_of context.now.words) token.now id.now) result }
+    ensures started { OnFault result IsNotBadStart }
+    ensures goes_on { GoesOn (T.seen tx.old) (T.seen tx.new) (step_fails result) }
+{
+    let Some(found) = find(alloc, tx, token)? else {
+        return Err(RequestError::Refused(Refusal::Forbidden(Denial::BadToken)));
+    };
+    let shown = looked_up(alloc, found, context.clock, id)?;
+    let object = token_object(alloc, &shown)?;
+    let request = id_text(alloc, context.words.0[0])?;
+    Ok(Answered::Given(plain_reply(alloc, request.as_str(), object)?))
+}

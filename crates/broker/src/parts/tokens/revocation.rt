@@ -1,0 +1,124 @@
+//! Revocation of tokens.
+
+ghost use Rattle.std.specs.Prelude.{◌≤◌, Ok, length};
+ghost use Rattle.broker_types.specs.Limits.{longest_body};
+ghost use Rattle.broker_types.specs.RequestError.{step_fails};
+ghost use Rattle.records.specs.Transaction.{GoesOn};
+ghost use Rattle.mounts.specs.Calls.{OnFault};
+ghost use Rattle.mounts.specs.declared.operation.TokenOperation.TheVariants as operations;
+ghost use Rattle.broker.specs.ClockRow.{IsNotBadStart};
+ghost use Rattle.broker.specs.Command.{on_tokens};
+ghost use Rattle.broker.specs.Operating.{Operates, Performs};
+ghost use Rattle.broker.specs.parts.Tokens as part;
+
+use crate::answered::Answered;
+use crate::context::Context;
+use crate::order::ending::drop_cubbyholes;
+use api_json::{accessor, read_body, token};
+use broker_types::{Reason, Refusal, RequestError};
+use records::RecordsTx;
+use std::alloc::Global;
+use token_tree::{find_accessor, revoke as end_descent, revoke_one};
+
+/// Ends the token that a body names, with all below it; an unknown one is passed over.
+pub(super) fn revoke<T: RecordsTx>(
+    alloc: Global,
+    tx: &mut T,
+    context: &Context<'_>,
+    body: &[u8],
+) -> Result<Answered, RequestError>
+    requires { length body.now ≤ longest_body }
+    ensures ok { Operates context.now (T.seen tx.old) (T.seen tx.new) (λ b. on_tokens operations.Revoke body.now) result }
+    ensures started { OnFault result IsNotBadStart }
+    ensures goes_on { GoesOn (T.seen tx.old) (T.seen tx.new) (step_fails result) }
+{
+    let members = read_body(alloc, body)?;
+    let token = token(alloc, &members)?;
+    end(alloc, tx, context, token.as_str())
+}
+
+/// Ends the token that a body names alone; an unknown one is passed over.
+pub(super) fn revoke_orphan<T: RecordsTx>(
+    alloc: Global,
+    tx: &mut T,
+    context: &Context<'_>,
+    body: &[u8],
+) -> Result<Answered, RequestError>
+    requires { length body.now ≤ longest_body }
+    ensures ok { Operates context.now (T.seen tx.old) (T.seen tx.new) (λ b. on_tokens operations.RevokeOrphan body.now) result }
+    ensures started { OnFault result IsNotBadStart }
+    ensures goes_on { GoesOn (T.seen tx.old) (T.seen tx.new) (step_fails result) }
+{
+    let members = read_body(alloc, body)?;
+    let token = token(alloc, &members)?;
+    end_alone(alloc, tx, context, token.as_str())
+}
+
+/// Ends the caller, with all below it.
+pub(super) fn revoke_self<T: RecordsTx>(
+    alloc: Global,
+    tx: &mut T,
+    context: &Context<'_>,
+    body: &[u8],
+) -> Result<Answered, RequestError>
+    requires { length body.now ≤ longest_body }
+    ensures ok { Operates context.now (T.seen tx.old) (T.seen tx.new) (λ b. on_tokens operations.RevokeSelf body.now) result }
+    ensures started { OnFault result IsNotBadStart }
+    ensures goes_on { GoesOn (T.seen tx.old) (T.seen tx.new) (step_fails result) }
+{
+    read_body(alloc, body)?;
+    let caller = context.caller;
+    end(alloc, tx, context, caller)
+}
+
+/// Ends the token of the accessor that a body names, with all below it.
+pub(super) fn revoke_accessor<T: RecordsTx>(
+    alloc: Global,
+    tx: &mut T,
+    context: &Context<'_>,
+    body: &[u8],
+) -> Result<Answered, RequestError>
+    requires { length body.now ≤ longest_body }
+    ensures ok { Operates context.now (T.seen tx.old) (T.seen tx.new) (λ b. on_tokens operations.RevokeAccessor body.now) result }
+    ensures started { OnFault result IsNotBadStart }
+    ensures goes_on { GoesOn (T.seen tx.old) (T.seen tx.new) (step_fails result) }
+{
+    let members = read_body(alloc, body)?;
+    let accessor = accessor(alloc, &members)?;
+    let Some(token) = find_accessor(tx, accessor.as_str())? else {
+        return Err(RequestError::Refused(Refusal::BadRequest(Reason::InvalidAccessor)));
+    };
+    end(alloc, tx, context, token.as_str())
+}
+
+/// Ends a token with all below it, and their cubbyholes.
+fn end<T: RecordsTx>(
+    alloc: Global,
+    tx: &mut T,
+    context: &Context<'_>,
+    token: &str,
+) -> Result<Answered, RequestError>
+    ensures ok { Performs context.now (T.seen tx.old) (T.seen tx.new) (λ b. Ok (part.revoke b token.now)) result }
+    ensures started { OnFault result IsNotBadStart }
+    ensures goes_on { GoesOn (T.seen tx.old) (T.seen tx.new) (step_fails result) }
+{
+    let ended = end_descent(alloc, tx, token)?;
+    drop_cubbyholes(alloc, tx, &ended)?;
+    Ok(Answered::Nothing)
+}
+
+/// Ends a token alone, and its cubbyhole.
+fn end_alone<T: RecordsTx>(
+    alloc: Global,
+    tx: &mut T,
+    context: &Context<'_>,
+    token: &str,
+) -> Result<Answered, RequestError>
+    ensures ok { Performs context.now (T.seen tx.old) (T.seen tx.new) (λ b. Ok (part.revoke_alone b token.now)) result }
+    ensures started { OnFault result IsNotBadStart }
+    ensures goes_on { GoesOn (T.seen tx.old) (T.seen tx.new) (step_fails result) }
+{
+    let ended = revoke_one(alloc, tx, token)?;
+    drop_cubbyholes(alloc, tx, &ended)?;
+    Ok(Answered::Nothing)
+}
