@@ -30,13 +30,17 @@ digits_are : (s : List ℕ) → AllDigits 10 s → list_all is_ascii_digit s ≡
 digits_are [] h = refl
 digits_are (c ∷ cs) h = ap (λ (b : Bool). b && list_all is_ascii_digit cs) (digit_is c h.0) ∙ digits_are cs h.1
 
+-- the length that a number tells
+abbrev of_value : ℕ → Result ℕ Status
+of_value m = cond (nat_le m longest_body) (Ok m) (Err PayloadTooLarge)
+
 -- a number in decimal digits is read again
 pub printed_length : PrintedLengthIsRead
 printed_length n short =
     let is = decimal_is_IsNumeral n (omega (arith, short)) in
     let number : is_number (decimal n) ≡ true = and_from _ _ (some (length (decimal n)) is.0.0) (digits_are (decimal n) is.0.1) in
-    ap (λ (b : Bool). cond b (cond (nat_le (digits_value 10 (decimal n)) longest_body) (Ok (digits_value 10 (decimal n))) (Err PayloadTooLarge)) (Err BadRequest)) number
-    ∙ ap (λ (m : ℕ). cond (nat_le m longest_body) (Ok m) (Err PayloadTooLarge)) is.1
+    ap (λ (b : Bool). cond b (of_value (digits_value 10 (decimal n))) (Err BadRequest)) number
+    ∙ ap of_value is.1
     ∙ ap (λ (b : Bool). cond b (Ok n) (Err PayloadTooLarge)) (le-leb n longest_body short)
   where
     some : (m : ℕ) → 0 < m → nat_lt 0 m ≡ true

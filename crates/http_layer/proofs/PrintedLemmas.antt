@@ -6,7 +6,8 @@ use Rattle.std.proofs.lemmas.List.Elements.{All-head, All-tail, All-append, All-
 use Rattle.std.proofs.Math.Seq.{drop-append_seam}
 use Rattle.std.proofs.lemmas.Bool.{false≢true, or_from, ne_eqb}
 use Rattle.std.specs.List.{prefix_len, flat_map}
-use Rattle.httparse.specs.Grammar.{is_token_byte, is_uri_byte, is_value_byte, LineEnd, crlf, Field, IsField, print_field, print_section, print_end, print_version, print_request, IsRequestHead}
+use Rattle.httparse.specs.Grammar.{is_token_byte, is_uri_byte, is_value_byte, LineEnd, crlf, Field, IsField, IsRequestHead}
+use Rattle.httparse.specs.Grammar.{print_field, print_section, print_end, print_version, print_request}
 use Rattle.httparse.proofs.GrammarLemmas.{print_request-append}
 use Rattle.httparse.proofs.PieceLemmas.{print_field-append}
 use Rattle.http_layer.specs.Front.{HasEmptyLineAt, is_line_byte, HeadEnds}

@@ -32,8 +32,8 @@ bad_request r = record { status = status.BadRequest; text = Some (reason_opening
 
 -- ---- the parts of the ask, each with its refusal
 
--- What a method asks for; POST and PUT ask for the same (RFC 9110, section 9). A GET whose query has `list=true` asks for
--- a list, as LIST does (Vault's documentation, "HTTP API").
+-- What a method asks for; POST and PUT ask for the same (RFC 9110, section 9). A GET whose query has `list=true` asks
+-- for a list, as LIST does (Vault's documentation, "HTTP API").
 abbrev pub verb_asked : List ℕ → List ℕ → Result Verb RefusalParts
 verb_asked method query =
     if bytes_eq method (codes "GET") then Ok (if lists query then verb.List else verb.Get)

@@ -30,7 +30,8 @@ window-fits s len h =
     (le_trans (le_of_eq (length-take longest_head s)) (min-le_right longest_head (length s)))
 
 -- the first bytes of a longer list go on where those of the shorter one end
-take-longer : (n : ℕ) (s t : List ℕ) → (n < length s) ⊎ (length s ≤ n) → take n (s ++ t) ≡ take n s ++ take (n - length s) t
+take-longer : (n : ℕ) (s t : List ℕ) → (n < length s) ⊎ (length s ≤ n)
+    → take n (s ++ t) ≡ take n s ++ take (n - length s) t
 take-longer n s t (inl less) =
     take-append-le n s t (le_of_lt less) ∙ sym (append-nil (take n s))
     ∙ ap (λ (k : ℕ). take n s ++ take k t) (sym (sub-eq-zero_iff_le.1 (le_of_lt less)))
@@ -48,7 +49,8 @@ is_too_long-append : (s t : List ℕ) → is_too_long s ≡ true → HasNoHeadEn
 is_too_long-append s t long none =
     let full : longest_head ≤ length s = leb-true longest_head (length s) long in
     let more : longest_head ≤ length (s ++ t) =
-    subst (λ (k : ℕ). longest_head ≤ k) (sym (length-append s t)) (le_trans full (le-add_right (length s) (length t))) in
+    subst (λ (k : ℕ). longest_head ≤ k) (sym (length-append s t))
+    (le_trans full (le-add_right (length s) (length t))) in
     (le-leb longest_head (length (s ++ t)) more, subst HasNoHeadEnd (sym (take-append-le longest_head s t full)) none)
 
 -- ---- one front

@@ -116,5 +116,5 @@ unfolding asked
 ask_refuses head body =
     let tokens = values_named (codes "x-vault-token") head.fields in
     let query = target_query head.target in
-    first_refuses (verb_asked head.method query) (token_asked tokens) (path_asked head.target) (version_asked query) body
-    (verb_refuses head.method query) (token_refuses tokens) (path_refuses head.target)
+    first_refuses (verb_asked head.method query) (token_asked tokens) (path_asked head.target) (version_asked query)
+    body (verb_refuses head.method query) (token_refuses tokens) (path_refuses head.target)

@@ -32,7 +32,7 @@ lists query = list_any is_list_part (query_parts query)
 abbrev pub is_version_part : List ℕ → Bool
 is_version_part part = bytes_eq (take 8 part) (codes "version=")
 
--- The version asked for, as it is written: what follows `version=` in the first part that begins so. Nothing if there is
--- none.
+-- The version asked for, as it is written: what follows `version=` in the first part that begins so. Nothing if there
+-- is none.
 abbrev pub version_asked : List ℕ → List ℕ
 version_asked query = option_map_or (drop 8) (find is_version_part (query_parts query)) []
