@@ -162,7 +162,7 @@ def odd_token(run):
 
 
 def tokens(run):
-    """Client tokens: the root token alone is served, and what the others send changes nothing."""
+    """Fields of the client token: the root token alone is there, and what the others send changes nothing."""
     path = run.path()
     run.event(run.write(path, '{"kept":1}'))
     while run.room() > 0:
