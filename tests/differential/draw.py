@@ -7,183 +7,20 @@ Writes one JSON object a line, with the `name` of a run and its `stdin`. Every r
 generator of its own, seeded by the seed and the run's name, so that a theme that is changed or added
 leaves the inputs of the others as they were. What the replies must be is not known here.
 
-An input is a start line and 3 to 12 events, but for some runs of the theme `lines`, in which a line is
-bad at once. A theme draws inputs about one matter; `THEMES` names them all, with how many runs each has.
+An input is a start line and 3 to 12 events, up to 16 in the themes about tokens, but for some runs of the
+theme `lines`, in which a line is bad at once. A theme draws inputs about one matter; `THEMES` names them all,
+with how many runs each has.
 """
 
 import argparse
 import base64
 import json
-import random
 import sys
 
-GREATEST_MOMENT = 250_000_000_000
-GREATEST_CONNECTION = 2**64 - 1
-GREATEST_WORD = 2**128 - 1
-
-PATHS = ("a", "b", "a/b", "team/x", "team", "x.y", "-_~", "x:y@z", "été", "Ω/😀", "a;b=c", "...", "cubbyhole")
-NAMES = ("a", "b", "k", "K", "", "a.b", "10", "2", "é", "z", "\u007f", "\uffff", "😀", "\u0000", "\n", '"', "\\",
-         "a b")
-SPACES = ("", "", "", "", "", "", " ", "\n", "\t", "\r\n", "  ")
-
-
-# ------------------------------------------------------------------------------------------- requests
-
-def request(method, target, fields=(), body=None, version="HTTP/1.1"):
-    """The text of a request. With a body comes the field that tells its length in bytes."""
-    lines = [f"{method} {target} {version}", *fields]
-    if body is not None:
-        lines.append(f"Content-Length: {len(body.encode())}")
-    return "".join(line + "\r\n" for line in lines) + "\r\n" + (body or "")
-
-
-def identifier(word):
-    """The 36 characters that the identifier of a word is."""
-    digits = f"{word % 2**128:032x}"
-    return "-".join((digits[:8], digits[8:12], digits[12:16], digits[16:20], digits[20:]))
-
-
-class Run:
-    """The lines of one input, and what draws them."""
-
-    def __init__(self, seed):
-        self.random = random.Random(seed)
-        self.size = self.random.randrange(3, 13)
-        self.moment = self.pick(0, 1000, 951782400, 1700000000, 4102444799, self.random.randrange(GREATEST_MOMENT))
-        self.first_word = self.pick(0, 0, 0x10, GREATEST_WORD, GREATEST_WORD - 1, self.random.getrandbits(128))
-        self.lines = []
-        self.written = []
-        self.add({"moment": self.moment, "words": f"{self.first_word:032x}"})
-
-    def pick(self, *choices):
-        """One of the arguments."""
-        return self.random.choice(choices)
-
-    def chance(self, one_in):
-        """True once in so many times."""
-        return self.random.randrange(one_in) == 0
-
-    def room(self):
-        """How many events there is room for."""
-        return self.size + 1 - len(self.lines)
-
-    def add(self, members):
-        """Adds a line that is a JSON object."""
-        text = json.dumps(members, separators=(",", ":"), ensure_ascii=self.chance(3))
-        self.lines.append(text.encode())
-
-    def event(self, piece, connection=1, moment=None, word=None):
-        """Adds an event, if there is room for one."""
-        if self.room() <= 0:
-            return
-        if moment is None:
-            self.moment = min(self.moment + self.pick(0, 0, 1, 5, 3600), GREATEST_MOMENT)
-            moment = self.moment
-        if word is None:
-            word = 0x10 * len(self.lines)
-        self.add({"conn": connection, "moment": moment, "words": f"{word:032x}", "piece": piece})
-
-    def stdin(self):
-        """The bytes of the input."""
-        return b"".join(line + b"\n" for line in self.lines)
-
-    # What requests are made of.
-
-    def root(self):
-        """The root token."""
-        return "hvs." + identifier(self.first_word + 1)
-
-    def fields(self):
-        """The fields of a request by the root token, in any order and spelling."""
-        name = self.pick("X-Vault-Token", "X-Vault-Token", "x-vault-token", "X-VAULT-TOKEN")
-        fields = [self.pick("Host: b", "Host: b", "host:localhost:8200", "HOST: "), f"{name}: {self.root()}"]
-        if self.chance(5):
-            fields.append(self.pick("Accept: */*", "User-Agent: é", "Content-Type: text/plain",
-                                    "Expect: 100-continue", "X-Vault-Request: true", "Connection: keep-alive", "A:",
-                                    "A: \t b \t"))
-        self.random.shuffle(fields)
-        return fields
-
-    def path(self):
-        """A path of the cubbyhole, out of few."""
-        return "cubbyhole/" + self.pick(*PATHS[:self.pick(2, 5, len(PATHS))])
-
-    def read(self, path):
-        """A request by root that reads a path."""
-        return request("GET", "/v1/" + path, self.fields())
-
-    def write(self, path, body):
-        """A request by root that writes a body to a path."""
-        self.written.append(path)
-        return request(self.pick("POST", "PUT"), "/v1/" + path, self.fields(), body)
-
-    def served(self):
-        """A request that is well made, and mostly answered 200 or 204."""
-        if self.chance(2):
-            return self.write(self.path(), self.object_text(self.random.randrange(3)))
-        if self.written and not self.chance(4):
-            return self.read(self.pick(*self.written))
-        return self.read(self.pick(self.path(), self.path(), "none", "none/x", "b/c/d"))
-
-    def pieces(self, text, count):
-        """The text in so many pieces, cut anywhere. A piece may be empty."""
-        places = sorted(self.random.randrange(len(text) + 1) for _ in range(count - 1))
-        return [text[start:end] for start, end in zip([0, *places], [*places, len(text)])]
-
-    # JSON.
-
-    def space(self):
-        """White space of JSON, mostly none."""
-        return self.pick(*SPACES)
-
-    def character(self, c):
-        """One way to write a character within a text."""
-        units = c.encode("utf-16-be")
-        escaped = "".join(f"\\u{units[n] * 256 + units[n + 1]:04x}" for n in range(0, len(units), 2))
-        short = {'"': '\\"', "\\": "\\\\", "\b": "\\b", "\f": "\\f", "\n": "\\n", "\r": "\\r", "\t": "\\t"}.get(c)
-        if short is not None or c < " ":
-            return self.pick(short or escaped, escaped)
-        if self.chance(12):
-            return self.pick(escaped, escaped.upper().replace("\\U", "\\u"))
-        return "\\/" if c == "/" and self.chance(2) else c
-
-    def spelled(self, text):
-        """One way to write a text."""
-        return '"' + "".join(self.character(c) for c in text) + '"'
-
-    def text(self):
-        """A text, written in one of its ways."""
-        letters = 'ab/"\\\b\f\n\r\t\x00\x1f\x7fé€\u2028\ud7ff\ue000\uffff😀\U0010ffff'
-        return self.spelled("".join(self.random.choices(letters, k=self.random.randrange(7))))
-
-    def whole_number(self):
-        """A whole number that is read as one."""
-        return str(self.pick(0, 1, -1, 7, 10, 2**53 + 1, 2**63 - 1, 2**63, -2**63, 2**64 - 1, 1 - 2**63,
-                             self.random.getrandbits(64), -self.random.getrandbits(63) - 1))
-
-    def value_text(self, depth):
-        """A JSON value, with so many levels below it at most."""
-        kind = self.random.randrange(8 if depth else 5)
-        if kind == 0:
-            return self.pick("null", "true", "false")
-        if kind in (1, 2):
-            return self.whole_number()
-        if kind in (3, 4):
-            return self.text()
-        if kind in (5, 6):
-            return self.object_text(depth - 1, least=0)
-        items = [self.space() + self.value_text(depth - 1) + self.space() for _ in range(self.random.randrange(4))]
-        return "[" + (",".join(items) or self.space()) + "]"
-
-    def member(self, name, value):
-        """A member of an object, of the texts of its name and its value."""
-        return self.space() + name + self.space() + ":" + self.space() + value + self.space()
-
-    def object_text(self, depth, least=1):
-        """A JSON object, with members of one name among them now and then."""
-        names = [self.pick(*NAMES) for _ in range(self.random.randrange(least, 6))]
-        members = [self.member(self.spelled(name), self.value_text(depth)) for name in names]
-        return self.space() + "{" + (",".join(members) or self.space()) + "}" + self.space()
+from drawing import GREATEST_CONNECTION, GREATEST_MOMENT, GREATEST_WORD, Run, identifier, request
+from token_themes import (accessors, children, creations, ends, families, given_twice, lenient_creations, look_ups,
+                          mixed_tokens, other_cubbyholes, refused_creations, renewals, revocations, sudo_paths,
+                          token_routes, uses)
 
 
 # --------------------------------------------------------------------------------------------- themes
@@ -325,7 +162,7 @@ def odd_token(run):
 
 
 def tokens(run):
-    """Client tokens: the root token alone is served, and what the others send changes nothing."""
+    """Fields of the client token: the root token alone is there, and what the others send changes nothing."""
     path = run.path()
     run.event(run.write(path, '{"kept":1}'))
     while run.room() > 0:
@@ -671,9 +508,9 @@ def mixed(run):
 
 
 UNSERVED_ROUTES = (
-    ("GET", "auth/token/lookup-self", None), ("POST", "auth/token/create", '{"ttl":60}'),
-    ("POST", "auth/token/create", "["), ("LIST", "auth/token/accessors", None),
-    ("POST", "auth/token/revoke-self", None), ("GET", "secret/data/x", None), ("PUT", "secret/data/x", '{"data":{}}'),
+    ("GET", "auth/token/roles/x", None), ("POST", "auth/token/create/x", '{"ttl":60}'),
+    ("POST", "auth/token/tidy", "["), ("LIST", "auth/token/roles", None), ("GET", "auth/token", None),
+    ("GET", "secret/data/x", None), ("PUT", "secret/data/x", '{"data":{}}'),
     ("LIST", "secret/metadata", None), ("DELETE", "secret/data/x", None), ("POST", "secret/config", "{}"),
     ("GET", "sys/mounts", None), ("POST", "sys/mounts/db", '{"type":"issued"}'),
     ("GET", "sys/policies/acl/default", None), ("LIST", "sys/policies/acl", None),
@@ -773,11 +610,14 @@ def unserved_lines(run):
 
 
 THEMES = {
-    bodies: 24, refused_bodies: 32, numbers: 10, replaced_members: 14, depths: 8, paths: 24, tokens: 18, methods: 12,
-    heads: 36, changed_heads: 20, line_ends: 16, many_fields: 8, body_lengths: 14, cuts: 20, single_bytes: 10,
-    pipelines: 16, connections: 14, closing: 14, moments: 10, spellings: 12, lines: 56, changed_lines: 24, large: 4,
-    mixed: 40, queries: 10, limits: 8,
-    unserved_routes: 14, unserved_targets: 6, unserved_lines: 6,
+    bodies: 14, refused_bodies: 20, numbers: 8, replaced_members: 8, depths: 6, paths: 16, tokens: 12, methods: 8,
+    heads: 24, changed_heads: 12, line_ends: 10, many_fields: 6, body_lengths: 10, cuts: 12, single_bytes: 6,
+    pipelines: 10, connections: 10, closing: 10, moments: 8, spellings: 8, lines: 32, changed_lines: 12, large: 4,
+    mixed: 24, queries: 10, limits: 8,
+    creations: 12, lenient_creations: 16, refused_creations: 14, children: 14, families: 12, look_ups: 10,
+    accessors: 8, renewals: 14, ends: 12, uses: 10, revocations: 12, sudo_paths: 6, given_twice: 8,
+    other_cubbyholes: 8, token_routes: 8, mixed_tokens: 8,
+    unserved_routes: 10, unserved_targets: 6, unserved_lines: 4,
 }
 
 
