@@ -16,5 +16,6 @@ pub mod TokenAnswers
 pub mod TokenExamples
 pub mod TokenLookups
 pub mod TokenPolicies
+pub mod TokenRenewals
 pub mod TokenSound
 pub mod TokenTables

@@ -14,14 +14,25 @@ use Rattle.broker_types.specs.declared.refusal.Refusal.TheVariants as refusal
 use Rattle.broker_types.specs.declared.refusal.Denial.TheVariants as denial
 use Rattle.broker_types.specs.declared.refusal.Reason.TheVariants as reason
 use Rattle.broker_types.specs.declared.reply.Reply.{Reply}
+use Rattle.broker_types.specs.declared.request_error.RequestError.{RequestError}
 use Rattle.broker_types.specs.declared.request_error.RequestError.TheVariants.{Refused}
+use Rattle.serde_json.specs.Data as json
+use Rattle.api_json.specs.Json.{body_members}
+use Rattle.api_json.specs.Objects.{keys_object}
+use Rattle.api_json.specs.Readers as reader
+use Rattle.api_json.specs.Reply.{plain_reply}
 use Rattle.records.specs.TokenEntry.{TokenEntry, token_entry}
 use Rattle.records.specs.Transaction.{Rows}
 use Rattle.token_tree.specs.Tokens as tree
+use Rattle.mounts.specs.declared.operation.TokenOperation.TheVariants as operation
+use Rattle.broker.specs.Command.{on_token, on_tokens}
 use Rattle.broker.specs.Representing.{Represents}
+use Rattle.broker.specs.Serving.{acted}
+use Rattle.broker.specs.declared.answered.Answered as Code
 use Rattle.broker.specs.declared.answered.Answered.TheVariants.{Given}
 use Rattle.broker.specs.parts.TokenReplies.{token_reply}
-use Rattle.broker.specs.parts.Tokens.{look_up}
+use Rattle.broker.specs.parts.TokenCommands.{lookup_accessor, list_accessors}
+use Rattle.broker.specs.parts.Tokens.{look_up, look_up_accessor}
 use Rattle.broker.proofs.CubbyholeAnswers.{ActsAs}
 
 -- what a look-up answers of a token that may be there
@@ -50,3 +61,43 @@ module _ (b : Broker) (rows : Rows) (c t id : Text) (names : Names) (found : Opt
           → ActsAs c b rows (Err (Refused (refusal.Forbidden denial.BadToken))) (shown_as b names id o)
       by None e = (refl, st)
       by (Some x) e = absurd (none-some _ (sym none ∙ e))
+
+-- ---- by its accessor
+
+-- what a body that names an accessor means
+meant_by_accessor : (body : List ℕ) (ms : json.Members) (accessor : Text) → body_members body ≡ Ok ms → reader.accessor ms ≡ Ok accessor
+    → on_tokens operation.LookUpAccessor body ≡ Ok (on_token (lookup_accessor accessor))
+meant_by_accessor body ms accessor members named =
+    ap (λ (r : Result json.Members Refusal). (r >>= (λ ms. reader.accessor ms >>= (λ x. Ok (lookup_accessor x)))) >>= (λ command. Ok (on_token command))) members
+    ∙ ap (λ (r : Result Text Refusal). (r >>= (λ x. Ok (lookup_accessor x))) >>= (λ command. Ok (on_token command))) named
+
+module _ (b : Broker) (rows : Rows) (c : Text) (names : Names) (body : List ℕ) (ms : json.Members) (accessor : Text)
+    (members : body_members body ≡ Ok ms) (read : reader.accessor ms ≡ Ok accessor) where
+  -- a command that is meant acts as the look-up by the accessor
+  by_accessor : (result : Result Code.Answered RequestError) → ActsAs c b rows result (look_up_accessor b names accessor)
+      → ActsAs c b rows result (acted b c names (on_tokens operation.LookUpAccessor body))
+  by_accessor result acts =
+      subst (λ meant. ActsAs c b rows result (acted b c names meant)) (sym (meant_by_accessor body ms accessor members read)) acts
+
+  -- the token that the accessor names is looked up
+  pub acts_by_accessor : (t : Text) (result : Result Code.Answered RequestError) → tree.find_accessor b accessor ≡ Some t
+      → ActsAs c b rows result (look_up b names t []) → ActsAs c b rows result (acted b c names (on_tokens operation.LookUpAccessor body))
+  acts_by_accessor t result is acts =
+      by_accessor result
+      (subst (λ o. ActsAs c b rows result (some_or (refusal.BadRequest reason.InvalidAccessor) o >>= (λ t. look_up b names t []))) (sym is) acts)
+
+  -- and an accessor of none is refused
+  pub acts_no_accessor : Represents (Some c) rows b → tree.find_accessor b accessor ≡ None
+      → ActsAs c b rows (Err (Refused (refusal.BadRequest reason.InvalidAccessor))) (acted b c names (on_tokens operation.LookUpAccessor body))
+  acts_no_accessor st is =
+      by_accessor (Err (Refused (refusal.BadRequest reason.InvalidAccessor)))
+      (subst (λ o. ActsAs c b rows (Err (Refused (refusal.BadRequest reason.InvalidAccessor)))
+      (some_or (refusal.BadRequest reason.InvalidAccessor) o >>= (λ t. look_up b names t []))) (sym is) (refl, st))
+
+-- ---- the accessors of all tokens
+
+pub acts_list : (b : Broker) (rows : Rows) (c request : Text) (names : Names) (keys : List Text) (r : Reply) → Represents (Some c) rows b
+    → names.request ≡ request → keys ≡ tree.accessors_of b → r ≡ plain_reply request (keys_object keys)
+    → ActsAs c b rows (Ok (Given r)) (acted b c names (Ok (on_token list_accessors)))
+acts_list b rows c request names keys r st named all is =
+    (ap (λ r. reply r None) (is ∙ (λ i. plain_reply (sym named i) (keys_object (all i)))), st)
