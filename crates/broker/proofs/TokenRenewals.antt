@@ -2,7 +2,6 @@
 use Rattle.std.specs.Prelude.{◌≡◌, ◌≤◌, ◌+◌, ◌==◌, min, if◌then◌else◌, ℕ, Bool, true, false, Option, Some, None, is_some, option_map, Result, Ok, Err}
 use Rattle.std.proofs.Common.{refl, sym, ◌∙◌, ap, subst, arith}
 use Rattle.std.proofs.Math.Nat.{le_trans, min-le_left, min-le_right}
-use Rattle.std.proofs.lemmas.Option.{none-some}
 use Rattle.broker_types.specs.Text.{Text}
 use Rattle.broker_types.specs.Limits.{longest_ttl}
 use Rattle.broker_types.specs.Map.{get}
