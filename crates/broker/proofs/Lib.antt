@@ -14,6 +14,8 @@ pub mod Routes
 pub mod Serving
 pub mod TokenAnswers
 pub mod TokenExamples
+pub mod TokenLookups
 pub mod TokenPolicies
+pub mod TokenRenewals
 pub mod TokenSound
 pub mod TokenTables

@@ -33,6 +33,7 @@ use Rattle.broker_types.specs.declared.refusal.Denial.TheVariants as denial
 use Rattle.broker_types.specs.declared.refusal.Refusal.TheVariants as refusal
 use Rattle.broker_types.specs.declared.refusal.Reason.TheVariants as reason
 use Rattle.api_json.specs.declared.token_bodies.TokenCreation.{TokenCreation}
+use Rattle.records.specs.TokenEntry.{token_entry}
 use Rattle.records.specs.ValueLaws.{ok_inj}
 use Rattle.token_tree.specs.SoundLaws.{create_sound, renew_sound}
 use Rattle.token_tree.specs.Tokens.{MayBeMade, created, with_end}
@@ -239,7 +240,7 @@ module _ (forms : Forms) (who : Option Text) (b : Broker) (left : IsLeft forms w
   }
 
   -- the new end of a sound token is no further ahead than ends are set
-  pub new_end_near : (t : Text) (x : Token) (increment : ℕ) → get b.tokens t ≡ Some x → IsEnd (new_end b.clock x increment)
+  pub new_end_near : (t : Text) (x : Token) (increment : ℕ) → get b.tokens t ≡ Some x → IsEnd (new_end b.clock (token_entry x) increment)
   new_end_near t x increment is =
       let issued = (left.sound.tokens.each t x is).issued in
       let longest = min-le_left longest_ttl (or_longest x.explicit_max_ttl) in
@@ -257,7 +258,7 @@ module _ (forms : Forms) (who : Option Text) (b : Broker) (left : IsLeft forms w
       let x = ok_step (known b t) _ d e in
       let ending = ok_step (unless (is_some x.0.ends) (refusal.BadRequest reason.TokenNotRenewable)) _ d x.2 in
       subst (λ d. IsLeft forms who (counted d)) (ok_inj ending.2)
-      (left_by_renewal t (new_end b.clock x.0 increment) (new_end_near t x.0 increment (known_is b t x.0 x.1)))
+      (left_by_renewal t (new_end b.clock (token_entry x.0) increment) (new_end_near t x.0 increment (known_is b t x.0 x.1)))
 
   looked_up : (names : Names) (t id : Text) (d : Done) → look_up b names t id ≡ Ok d → IsLeft forms who (counted d)
   looked_up names t id d e = subst (λ d. IsLeft forms who (counted d)) (ok_inj (ok_step (known b t) _ d e).2) left

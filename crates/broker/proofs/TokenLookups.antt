@@ -1,0 +1,103 @@
+-- Look-ups of tokens: from what the rows tell to what the commands answer.
+use Rattle.std.specs.Prelude.{◌≡◌, ℕ, List, [], Option, Some, None, option_map, Result, Ok, Err}
+use Rattle.std.proofs.Common.{refl, sym, ◌∙◌, ap, subst}
+use Rattle.std.proofs.lemmas.Option.{none-some, same_Some}
+use Rattle.broker_types.specs.Text.{Text}
+use Rattle.broker_types.specs.Map.{get}
+use Rattle.broker_types.specs.Token.{Token}
+use Rattle.broker_types.specs.Broker.{Broker}
+use Rattle.broker_types.specs.Names.{Names}
+use Rattle.broker_types.specs.Operation.{reply, Done, plainly}
+use Rattle.broker_types.specs.Refuse.{◌>>=◌, some_or}
+use Rattle.broker_types.specs.declared.refusal.Refusal.{Refusal}
+use Rattle.broker_types.specs.declared.refusal.Refusal.TheVariants as refusal
+use Rattle.broker_types.specs.declared.refusal.Denial.TheVariants as denial
+use Rattle.broker_types.specs.declared.refusal.Reason.TheVariants as reason
+use Rattle.broker_types.specs.declared.reply.Reply.{Reply}
+use Rattle.broker_types.specs.declared.request_error.RequestError.{RequestError}
+use Rattle.broker_types.specs.declared.request_error.RequestError.TheVariants.{Refused}
+use Rattle.serde_json.specs.Data as json
+use Rattle.api_json.specs.Json.{body_members}
+use Rattle.api_json.specs.Objects.{keys_object}
+use Rattle.api_json.specs.Readers as reader
+use Rattle.api_json.specs.Reply.{plain_reply}
+use Rattle.records.specs.TokenEntry.{TokenEntry, token_entry}
+use Rattle.records.specs.Transaction.{Rows}
+use Rattle.token_tree.specs.Tokens as tree
+use Rattle.mounts.specs.declared.operation.TokenOperation.TheVariants as operation
+use Rattle.broker.specs.Command.{on_token, on_tokens}
+use Rattle.broker.specs.Representing.{Represents}
+use Rattle.broker.specs.Serving.{acted}
+use Rattle.broker.specs.declared.answered.Answered as Code
+use Rattle.broker.specs.declared.answered.Answered.TheVariants.{Given}
+use Rattle.broker.specs.parts.TokenReplies.{token_reply}
+use Rattle.broker.specs.parts.TokenCommands.{lookup_accessor, list_accessors}
+use Rattle.broker.specs.parts.Tokens.{look_up, look_up_accessor}
+use Rattle.broker.proofs.CubbyholeAnswers.{ActsAs}
+
+-- what a look-up answers of a token that may be there
+abbrev shown_as : Broker → Names → Text → Option Token → Result Done Refusal
+shown_as b names id o =
+    some_or (refusal.Forbidden denial.BadToken) o
+    >>= (λ x. Ok (plainly (reply (token_reply names.request b.clock id (token_entry x)) None) b))
+
+module _ (b : Broker) (rows : Rows) (c t id : Text) (names : Names) (found : Option TokenEntry) (st : Represents (Some c) rows b)
+    (told : found ≡ option_map token_entry (get b.tokens t)) where
+  -- a token that was found is shown
+  pub acts_look_up : (request : Text) (now : ℕ) (entry : TokenEntry) (r : Reply) → names.request ≡ request → b.clock ≡ now → found ≡ Some entry
+      → r ≡ token_reply request now id entry → ActsAs c b rows (Ok (Given r)) (look_up b names t id)
+  acts_look_up request now entry r named clock some is = by (get b.tokens t) told
+    where
+      by : (o : Option Token) → found ≡ option_map token_entry o → ActsAs c b rows (Ok (Given r)) (shown_as b names id o)
+      by None e = absurd (none-some _ (sym e ∙ some))
+      by (Some x) e =
+          (ap (λ r. reply r None) (is ∙ (λ i. token_reply (sym named i) (sym clock i) id (same_Some _ _ (sym some ∙ e) i))), st)
+
+  -- and one that was not is refused
+  pub acts_unknown : found ≡ None → ActsAs c b rows (Err (Refused (refusal.Forbidden denial.BadToken))) (look_up b names t id)
+  acts_unknown none = by (get b.tokens t) told
+    where
+      by : (o : Option Token) → found ≡ option_map token_entry o
+          → ActsAs c b rows (Err (Refused (refusal.Forbidden denial.BadToken))) (shown_as b names id o)
+      by None e = (refl, st)
+      by (Some x) e = absurd (none-some _ (sym none ∙ e))
+
+-- ---- by its accessor
+
+-- what a body that names an accessor means
+meant_by_accessor : (body : List ℕ) (ms : json.Members) (accessor : Text) → body_members body ≡ Ok ms → reader.accessor ms ≡ Ok accessor
+    → on_tokens operation.LookUpAccessor body ≡ Ok (on_token (lookup_accessor accessor))
+meant_by_accessor body ms accessor members named =
+    ap (λ (r : Result json.Members Refusal). (r >>= (λ ms. reader.accessor ms >>= (λ x. Ok (lookup_accessor x)))) >>= (λ command. Ok (on_token command))) members
+    ∙ ap (λ (r : Result Text Refusal). (r >>= (λ x. Ok (lookup_accessor x))) >>= (λ command. Ok (on_token command))) named
+
+module _ (b : Broker) (rows : Rows) (c : Text) (names : Names) (body : List ℕ) (ms : json.Members) (accessor : Text)
+    (members : body_members body ≡ Ok ms) (read : reader.accessor ms ≡ Ok accessor) where
+  -- a command that is meant acts as the look-up by the accessor
+  by_accessor : (result : Result Code.Answered RequestError) → ActsAs c b rows result (look_up_accessor b names accessor)
+      → ActsAs c b rows result (acted b c names (on_tokens operation.LookUpAccessor body))
+  by_accessor result acts =
+      subst (λ meant. ActsAs c b rows result (acted b c names meant)) (sym (meant_by_accessor body ms accessor members read)) acts
+
+  -- the token that the accessor names is looked up
+  pub acts_by_accessor : (t : Text) (result : Result Code.Answered RequestError) → tree.find_accessor b accessor ≡ Some t
+      → ActsAs c b rows result (look_up b names t []) → ActsAs c b rows result (acted b c names (on_tokens operation.LookUpAccessor body))
+  acts_by_accessor t result is acts =
+      by_accessor result
+      (subst (λ o. ActsAs c b rows result (some_or (refusal.BadRequest reason.InvalidAccessor) o >>= (λ t. look_up b names t []))) (sym is) acts)
+
+  -- and an accessor of none is refused
+  pub acts_no_accessor : Represents (Some c) rows b → tree.find_accessor b accessor ≡ None
+      → ActsAs c b rows (Err (Refused (refusal.BadRequest reason.InvalidAccessor))) (acted b c names (on_tokens operation.LookUpAccessor body))
+  acts_no_accessor st is =
+      by_accessor (Err (Refused (refusal.BadRequest reason.InvalidAccessor)))
+      (subst (λ o. ActsAs c b rows (Err (Refused (refusal.BadRequest reason.InvalidAccessor)))
+      (some_or (refusal.BadRequest reason.InvalidAccessor) o >>= (λ t. look_up b names t []))) (sym is) (refl, st))
+
+-- ---- the accessors of all tokens
+
+pub acts_list : (b : Broker) (rows : Rows) (c request : Text) (names : Names) (keys : List Text) (r : Reply) → Represents (Some c) rows b
+    → names.request ≡ request → keys ≡ tree.accessors_of b → r ≡ plain_reply request (keys_object keys)
+    → ActsAs c b rows (Ok (Given r)) (acted b c names (Ok (on_token list_accessors)))
+acts_list b rows c request names keys r st named all is =
+    (ap (λ r. reply r None) (is ∙ (λ i. plain_reply (sym named i) (keys_object (all i)))), st)
