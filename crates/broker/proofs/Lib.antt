@@ -10,6 +10,7 @@ pub mod Finishing
 pub mod FirstRows
 pub mod Operations
 pub mod Permitted
+pub mod Revocations
 pub mod Routes
 pub mod Serving
 pub mod TokenAnswers

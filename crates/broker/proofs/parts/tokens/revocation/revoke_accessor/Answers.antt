@@ -1,0 +1,56 @@
+use Rattle.std.proofs.Common.{Some, Err, refl, sym, ap, ◌∙◌, subst}
+use Rattle.std.proofs.lemmas.Result.{err_from_is_err_and}
+use Rattle.api_json.specs.Parsed.{members_of}
+use Rattle.broker_types.specs.Names.{names_of}
+use Rattle.broker_types.specs.RequestError.{Ends, EndsRefused}
+use Rattle.broker_types.specs.declared.refusal.Refusal.TheVariants as refusal
+use Rattle.broker_types.specs.declared.refusal.Reason.TheVariants as reason
+use Rattle.records.specs.CallLaws.{honest_before}
+use Rattle.broker.specs.Forms.{forms}
+use Rattle.broker.specs.Representing.{Represents}
+use Rattle.broker.specs.Stages.{IsDone}
+use Rattle.broker.proofs.Expired.{represents_tokens}
+use Rattle.broker.proofs.Revocations.{acts_on_named, ended_if_found}
+use Rattle.broker.proofs.Serving.{still_represented}
+use Rattle.broker.proofs.parts.tokens.revocation.revoke_accessor.Goals as goal
+
+pub returns-in_err-token-clause-ok : goal.returns-in_err-token-clause-ok
+returns-in_err-token-clause-ok g c honest b starts =
+    let seen = g.T.RecordsTx.seen in
+    let p = err_from_is_err_and c.from_residual-in_err-token.result c.from_residual-in_err-token.ensures.1 in
+    rw (p.1 ∙ ap Err p.2)
+    (c.in_err-token.ensures.undamaged honest forms b (represents_tokens b (seen c.args.tx.now).rows starts.represents))
+
+pub returns-in_default-clause-ok : goal.returns-in_default-clause-ok
+returns-in_default-clause-ok g c honest b starts =
+    let seen = g.T.RecordsTx.seen in
+    let caller = c.args.context.now.caller in
+    let old = (seen c.args.tx.now).rows in
+    let new = (seen c.find_accessor.new.tx).rows in
+    let told = c.in_ok-token.ensures.told honest forms b (represents_tokens b old starts.represents) in
+    let meant =
+        acts_on_named b caller (names_of c.args.context.now.words) c.args.body.now (members_of c.in_ok-members.members) c.as_str.result.now
+        c.in_ok-accessor.accessor c.in_ok-token.field-0 c.in_ok-members.ensures c.in_ok-accessor.ensures c.as_str.ensures told in
+    subst (EndsRefused (Represents (Some caller) new b) (refusal.BadRequest reason.InvalidAccessor))
+    (sym (meant ∙ ap (ended_if_found b) c.in_default.is))
+    (refl, still_represented b old new (c.in_ok-token.ensures.same honest) starts.represents)
+
+pub returns-clause-ok : goal.returns-clause-ok
+returns-clause-ok g c honest b starts =
+    let seen = g.T.RecordsTx.seen in
+    let caller = c.args.context.now.caller in
+    let old = (seen c.args.tx.now).rows in
+    let mid = (seen c.find_accessor.new.tx).rows in
+    let new = (seen c.end.new.tx).rows in
+    let found = honest_before (seen c.find_accessor.new.tx) (seen c.end.new.tx) _ c.end.ensures.goes_on honest in
+    let told = c.in_ok-token.ensures.told found forms b (represents_tokens b old starts.represents) in
+    let meant =
+        acts_on_named b caller (names_of c.args.context.now.words) c.args.body.now (members_of c.in_ok-members.members) c.as_str.result.now
+        c.in_ok-accessor.accessor c.in_ok-token.field-0 c.in_ok-members.ensures c.in_ok-accessor.ensures c.as_str.ensures told in
+    subst (Ends (IsDone caller new) (Represents (Some caller) new b) c.end.result)
+    (sym (meant ∙ ap (ended_if_found b) c.in-Some.is ∙ ap (λ t. ended_if_found b (Some t)) (sym c.as_str-2.ensures)))
+    (c.end.ensures.ok honest b (record {
+      represents = still_represented b old mid (c.in_ok-token.ensures.same found) starts.represents;
+      here = starts.here;
+      clock = starts.clock;
+    }))
