@@ -2,8 +2,8 @@
 use Rattle.std.specs.Prelude.{◌≡◌, List, [], ◌∷◌, ◌++◌, Bool, true, false, not, ◌&&◌, ◌||◌, Some, None, flat_map, unwrap_or, option_and_then}
 use Rattle.std.specs.List.{list_any, find}
 use Rattle.std.specs.Option.{option_map_or}
-use Rattle.std.proofs.Common.{refl, sym, ◌∙◌, ap, subst, IsPermutation}
-use Rattle.std.proofs.lemmas.Bool.{and_parts, and_from, or_parts, or_right, false≢true}
+use Rattle.std.proofs.Common.{refl, sym, ◌∙◌, ap, IsPermutation}
+use Rattle.std.proofs.lemmas.Bool.{and_parts, and_from, or_right, false≢true}
 use Rattle.std.proofs.lemmas.List.Folds.{list_any-append}
 use Rattle.std.proofs.lemmas.List.Sorted.{list_any-IsPermutation}
 use Rattle.broker_types.specs.Map.{Map, get}

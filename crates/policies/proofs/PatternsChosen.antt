@@ -1,10 +1,10 @@
 -- The chosen prefix is the longest.
 use Rattle.std.specs.Prelude.{nat_eq}
 use Rattle.std.specs.List.{find, starts_with}
-use Rattle.std.proofs.Common.{◌≡◌, ◌≢◌, ℕ, ◌+◌, ◌≤◌, ◌<◌, refl, sym, ◌∙◌, ap, arith, List, [], ◌∷◌, length, Bool, true, false, cond, if◌then◌else◌, Some, None}
+use Rattle.std.proofs.Common.{◌≡◌, ◌≢◌, ℕ, ◌+◌, ◌≤◌, ◌<◌, refl, sym, ◌∙◌, ap, arith, List, [], ◌∷◌, length, Bool, true, false, cond, if◌then◌else◌, Some}
 use Rattle.std.proofs.lemmas.Bool.{false≢true}
 use Rattle.std.proofs.lemmas.Option.{none-some, same_Some}
-use Rattle.broker_types.specs.Text.{Text, same}
+use Rattle.broker_types.specs.Text.{Text}
 use Rattle.broker_types.specs.TextLaws.{same_self, same_true}
 use Rattle.broker_types.specs.declared.ask.Verb.TheVariants as verb
 use Rattle.policies.specs.declared.pattern.Pattern.{Pattern}
@@ -12,7 +12,7 @@ use Rattle.policies.specs.declared.pattern.Pattern.TheVariants.{Exact, Prefix}
 use Rattle.policies.specs.Allows.{is_named, chosen}
 use Rattle.policies.specs.Laws.{IsLongest}
 use Rattle.policies.specs.Patterns.{same_pattern, folder, tried}
-use Rattle.policies.specs.Places.{place, prefix_place, tried_text}
+use Rattle.policies.specs.Places.{place, tried_text}
 use Rattle.policies.specs.Rules.{Rules}
 use Rattle.policies.proofs.Choices.{most_places}
 use Rattle.policies.proofs.Places.{prefix_placed}

@@ -1,5 +1,5 @@
 -- Rows of policies, edited.
-use Rattle.std.specs.Prelude.{◌≡◌, ◌==◌, ◌&&◌, Bool, true, false, if◌then◌else◌, cond, Option, Some, None, option_map, Result, Ok, Err}
+use Rattle.std.specs.Prelude.{◌≡◌, ◌==◌, ◌&&◌, Bool, true, false, if◌then◌else◌, cond, Some, None, option_map, Result, Ok}
 use Rattle.std.proofs.Common.{refl, sym, ◌∙◌, ap, subst}
 use Rattle.broker_types.specs.Map.{Map, get, put, without}
 use Rattle.broker_types.specs.MapLaws.{get-put, get-without}

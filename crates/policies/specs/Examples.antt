@@ -1,6 +1,6 @@
 -- Examples of policies: what they allow, and what texts are read as (this project's, after Vault's documentation,
 -- "Policies").
-use Rattle.std.specs.Prelude.{◌≡◌, List, [], ◌∷◌, codes, Bool, true, false, Option, Some, None}
+use Rattle.std.specs.Prelude.{◌≡◌, List, [], ◌∷◌, ◌++◌, codes, Bool, true, false, Some, None}
 use Rattle.broker_types.specs.Text.{Text}
 use Rattle.broker_types.specs.declared.ask.Verb.{Verb}
 use Rattle.broker_types.specs.declared.ask.Verb.TheVariants as verb
@@ -32,8 +32,9 @@ all_but_one = on (codes "*") all_but_sudo ∷ on (codes "secret/data/x") (Deny �
 
 -- and its text
 abbrev all_but_one_text : Text
-all_but_one_text = codes
-    "{\"path\":{\"*\":{\"capabilities\":[\"create\",\"read\",\"update\",\"delete\",\"list\"]},\"secret/data/x\":{\"capabilities\":[\"deny\"]}}}"
+all_but_one_text =
+    codes "{\"path\":{\"*\":{\"capabilities\":[\"create\",\"read\",\"update\",\"delete\",\"list\"]},"
+    ++ codes "\"secret/data/x\":{\"capabilities\":[\"deny\"]}}}"
 
 -- the text is read as these rules, which allow the other secrets alone, and no `sudo`
 pub record DeniesOne : Type 0 where
@@ -52,8 +53,8 @@ teams = on (codes "secret/metadata/*") (Grant may.List ∷ []) ∷ on (codes "se
 abbrev named_team : List Rule
 named_team = on (codes "secret/metadata/team") (Grant may.List ∷ []) ∷ teams
 
--- LIST tests the path and a slash, so the prefix of what is in a folder decides on the folder too, unless the folder has
--- an exact pattern
+-- LIST tests the path and a slash, so the prefix of what is in a folder decides on the folder too, unless the folder
+-- has an exact pattern
 pub record ListsFolders : Type 0 where
   pub denied : may_do teams verb.List (codes "secret/metadata/team") may.List ≡ false
   pub beside : may_do teams verb.List (codes "secret/metadata") may.List ≡ true

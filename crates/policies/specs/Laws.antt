@@ -1,7 +1,7 @@
 -- Laws of what policies grant, and of policies that are set and deleted, as statements (this project's; Vault's
 -- documentation, "Policies").
-use Rattle.std.specs.Prelude.{◌≡◌, ◌≢◌, ◌≤◌, ◌<◌, ◌^◌, ℕ, nat_eq, List, [], ◌∷◌, length, Bool, true, false, Option, Some, None}
-use Rattle.std.specs.Prelude.{Ok, IsPermutation}
+use Rattle.std.specs.Prelude.{◌≡◌, ◌≢◌, ◌≤◌, ◌<◌, ◌^◌, nat_eq, List, [], ◌∷◌, length, Bool, true, false, Option, Some}
+use Rattle.std.specs.Prelude.{None, Ok, IsPermutation}
 use Rattle.std.specs.List.{list_any, starts_with}
 use Rattle.broker_types.specs.Broker.{Broker}
 use Rattle.broker_types.specs.Evolves.{Evolves}
@@ -147,4 +147,5 @@ FirstPolicyIsRead = is_policy default_policy ≡ true
 abbrev pub PoliciesAreTold : Type 0
 PoliciesAreTold =
     (rows : Table) (b : Broker)
-    → (Tells of_policies rows b → ArePolicies rows b.policies) × (ArePolicies rows b.policies → Tells of_policies rows b)
+    → (Tells of_policies rows b → ArePolicies rows b.policies)
+    × (ArePolicies rows b.policies → Tells of_policies rows b)

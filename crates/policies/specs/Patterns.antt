@@ -23,8 +23,8 @@ beginnings (c ∷ cs) = map (λ t. c ∷ t) (beginnings cs) ++ ([] ∷ [])
 abbrev pub folder : Text → Text
 folder path = path ++ slash ∷ []
 
--- The patterns that match a path: the exact one first, and then the prefixes, the longest first. LIST tests the path and
--- a slash; after the exact pattern of this text comes the exact pattern of the path.
+-- The patterns that match a path: the exact one first, and then the prefixes, the longest first. LIST tests the path
+-- and a slash; after the exact pattern of this text comes the exact pattern of the path.
 abbrev pub tried : Verb → Text → List Pattern
 tried verb.List path = Exact (folder path) ∷ Exact path ∷ map Prefix (beginnings (folder path))
 tried _ path = Exact path ∷ map Prefix (beginnings path)

@@ -1,5 +1,5 @@
--- Policies, set, deleted, read and listed (Vault's documentation, "/sys/policies"; the texts of refusals and their order
--- are this project's).
+-- Policies, set, deleted, read and listed (Vault's documentation, "/sys/policies"; the texts of refusals and their
+-- order are this project's).
 use Rattle.std.specs.Prelude.{List, [], Bool, ◌||◌, not, if◌then◌else◌, Option, Some, Result, Ok, codes, ⊤}
 use Rattle.broker_types.specs.Map.{Map, get, put, without, keys}
 use Rattle.broker_types.specs.Name.{is_name}
@@ -8,7 +8,7 @@ use Rattle.broker_types.specs.Text.{Text, same}
 use Rattle.broker_types.specs.declared.refusal.Refusal.{Refusal}
 use Rattle.broker_types.specs.declared.refusal.Refusal.TheVariants as refusal
 use Rattle.broker_types.specs.declared.refusal.Reason.TheVariants as reason
-use Rattle.policies.specs.Reading.{policy_of, policy_read}
+use Rattle.policies.specs.Reading.{policy_read}
 
 -- the name of the policy that allows everything
 abbrev pub root : Text

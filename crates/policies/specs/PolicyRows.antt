@@ -1,6 +1,6 @@
 -- Policies as rows: each has one, at its name (this project's row format).
-use Rattle.std.specs.Prelude.{◌≡◌, List, [], ◌∷◌, ◌++◌, Bool, true, false, if◌then◌else◌, Option, Some, None, option_map}
-use Rattle.std.specs.Prelude.{Result, Ok, All, ⊤}
+use Rattle.std.specs.Prelude.{◌≡◌, List, [], ◌∷◌, false, if◌then◌else◌, Option, Some, None}
+use Rattle.std.specs.Prelude.{option_map, Result, Ok, All, ⊤}
 use Rattle.std.specs.Ordering.{is_lt}
 use Rattle.broker_types.specs.Map.{Map, get}
 use Rattle.broker_types.specs.Refuse.{◌>>=◌}

@@ -1,6 +1,6 @@
 -- Policies that are set or deleted leave a sound broker sound, and let it evolve.
-use Rattle.std.specs.Prelude.{◌≡◌, ◌≢◌, ◌<◌, ◌^◌, length, Bool, true, false, not, cond, Option, Some, None, is_some, Result}
-use Rattle.std.specs.Prelude.{Ok, Err, is_ok, ⊤, option_and_then, if◌then◌else◌, IsUtf8}
+use Rattle.std.specs.Prelude.{◌≡◌, ◌<◌, ◌^◌, length, Bool, true, false, not, cond, Option, Some, None, is_some}
+use Rattle.std.specs.Prelude.{Result, Ok, Err, is_ok, ⊤, option_and_then, if◌then◌else◌, IsUtf8}
 use Rattle.std.specs.Str.{is_utf8}
 use Rattle.std.proofs.Common.{refl, sym, ◌∙◌, ap, subst, inl, List}
 use Rattle.std.proofs.lemmas.Bool.{false≢true}
@@ -14,7 +14,7 @@ use Rattle.broker_types.specs.Map.{Map, get, put, without}
 use Rattle.broker_types.specs.MapLaws.{get-put, get-without}
 use Rattle.broker_types.specs.Name.{is_name}
 use Rattle.broker_types.specs.Refuse.{◌>>=◌, some_or, unless}
-use Rattle.broker_types.specs.Sound.{Forms, Sound, SoundPolicies, IsSoundPolicy, IsShortText}
+use Rattle.broker_types.specs.Sound.{Forms, Sound, SoundPolicies, IsSoundPolicy}
 use Rattle.broker_types.specs.Text.{Text, same}
 use Rattle.broker_types.specs.TextLaws.{same_true, same_self}
 use Rattle.broker_types.specs.declared.refusal.Refusal.{Refusal}

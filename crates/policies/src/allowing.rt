@@ -11,8 +11,8 @@ use crate::capability::{Capability, Word, is_deny, is_grant};
 use crate::pattern::place;
 use crate::rule::{Rule, Rules};
 
-/// Whether a caller's rules allow a capability at a path: of the patterns that match the path, the first one that a rule
-/// is about decides. It takes no memory (Vault's documentation, "Policies", policy syntax and capabilities).
+/// Whether a caller's rules allow a capability at a path: of the patterns that match the path, the first one that a
+/// rule is about decides. It takes no memory (Vault's documentation, "Policies", policy syntax and capabilities).
 pub fn allows(rules: &Rules, path: &str, capability: Capability) -> bool
     ensures { result ≡ allows rules.now path.now capability }
 {
@@ -30,8 +30,8 @@ pub fn allows(rules: &Rules, path: &str, capability: Capability) -> bool
     best.allows()
 }
 
-/// The pattern that is tried first among those of the rules so far: its place, or 0 if none matches the path, and what is
-/// said of it.
+/// The pattern that is tried first among those of the rules so far: its place, or 0 if none matches the path, and what
+/// is said of it.
 #[derive(Clone, Copy)]
 pub(crate) struct Best {
     place: usize,

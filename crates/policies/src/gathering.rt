@@ -34,7 +34,8 @@ pub fn rules_of<T: RecordsTx>(
         → IfOk result (λ rules. rules ≡ spec.rules_of policies names.now verb) }
 
     // Whatever the rows are: no damaged row is passed over.
-    ensures readable { IsHonest (T.seen tx.new) → IfOk result (λ rules. All (IsReadable (table (T.seen tx.old))) names.now) }
+    ensures readable { IsHonest (T.seen tx.new)
+        → IfOk result (λ rules. All (IsReadable (table (T.seen tx.old))) names.now) }
     ensures same { IsHonest (T.seen tx.new) → OnOk result ((T.seen tx.new).rows ≡ (T.seen tx.old).rows) }
     ensures undamaged { IsHonest (T.seen tx.new) → (is_object : Text → Bool) (policies : Map Text)
         → SoundPolicies (policy_forms is_object) policies
@@ -67,13 +68,14 @@ fn with_named<T: RecordsTx>(
     mut rules: Vec<Rule>,
     name: &str,
 ) -> Result<Vec<Rule>, Fault>
-    ensures told { IsHonest (T.seen tx.new) → (policies : Map Text) → IsPolicyAt (table (T.seen tx.old)) name.now (get policies name.now)
+    ensures told { IsHonest (T.seen tx.new) → (policies : Map Text)
+        → IsPolicyAt (table (T.seen tx.old)) name.now (get policies name.now)
         → IfOk result (λ rs. rs.items ≡ rules.items ++ spec.rules_named policies name.now) }
     ensures readable { IsHonest (T.seen tx.new) → OnOk result (IsReadable (table (T.seen tx.old)) name.now) }
     ensures same { IsHonest (T.seen tx.new) → OnOk result ((T.seen tx.new).rows ≡ (T.seen tx.old).rows) }
     ensures undamaged { IsHonest (T.seen tx.new) → (is_object : Text → Bool) (policies : Map Text)
-        → SoundPolicies (policy_forms is_object) policies → IsPolicyAt (table (T.seen tx.old)) name.now (get policies name.now)
-        → IfErr result IsMemoryOrStorage }
+        → SoundPolicies (policy_forms is_object) policies
+        → IsPolicyAt (table (T.seen tx.old)) name.now (get policies name.now) → IfErr result IsMemoryOrStorage }
     ensures started { IfErr result (λ fault. fault ≢ Fault.BadStart) }
     ensures goes_on { GoesOn (T.seen tx.old) (T.seen tx.new) (is_storage result) }
 {
@@ -87,8 +89,8 @@ fn rules_named<T: RecordsTx>(alloc: Global, tx: &mut T, name: &str) -> Result<Po
     ensures found { IsHonest (T.seen tx.new) → IfOk result (λ p. GivesRules (table (T.seen tx.old)) name.now p) }
     ensures same { IsHonest (T.seen tx.new) → OnOk result ((T.seen tx.new).rows ≡ (T.seen tx.old).rows) }
     ensures undamaged { IsHonest (T.seen tx.new) → (is_object : Text → Bool) (policies : Map Text)
-        → SoundPolicies (policy_forms is_object) policies → IsPolicyAt (table (T.seen tx.old)) name.now (get policies name.now)
-        → IfErr result IsMemoryOrStorage }
+        → SoundPolicies (policy_forms is_object) policies
+        → IsPolicyAt (table (T.seen tx.old)) name.now (get policies name.now) → IfErr result IsMemoryOrStorage }
     ensures started { IfErr result (λ fault. fault ≢ Fault.BadStart) }
     ensures goes_on { GoesOn (T.seen tx.old) (T.seen tx.new) (is_storage result) }
 {

@@ -2,10 +2,10 @@
 
 ghost use Rattle.policies.specs.Examples.{DeniesOne, ListsFolders, Allow, Refuses};
 ghost use Rattle.policies.specs.Laws.{OnlyWhatIsGranted, AllThatIsGranted, RootMayDoAll};
-ghost use Rattle.policies.specs.Laws.{NothingWithoutPolicies, OrderDoesNotMatter, OthersDoNotMatter, AbsentGrantNothing};
+ghost use Rattle.policies.specs.Laws.{NothingWithoutPolicies, OrderDoesNotMatter, OthersDoNotMatter};
 ghost use Rattle.policies.specs.Laws.{ExactComesFirst, FolderComesFirst, ThenThePath, PrefixIsLongest};
-ghost use Rattle.policies.specs.Laws.{SetKeepsSoundness, DeleteKeepsSoundness, PoliciesEvolve, FirstPolicyIsRead};
-ghost use Rattle.policies.specs.Laws.{PoliciesAreTold};
+ghost use Rattle.policies.specs.Laws.{AbsentGrantNothing, SetKeepsSoundness, DeleteKeepsSoundness, PoliciesEvolve};
+ghost use Rattle.policies.specs.Laws.{FirstPolicyIsRead, PoliciesAreTold};
 
 /// A law: a caller may do exactly what a policy of its own names for the chosen pattern, and never where one of its
 /// policies says `deny` for that pattern; with the policy `root` it may do everything.

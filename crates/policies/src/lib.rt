@@ -23,3 +23,6 @@ pub use laws::{
 pub use listing::list;
 pub use pattern::Pattern;
 pub use rule::{Policy, Rule, Rules};
+
+#[cfg(test)]
+mod tests;

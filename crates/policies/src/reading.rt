@@ -19,10 +19,10 @@ use std::alloc::{AllocError, Global};
 
 impl Policy {
     /// Reads the text of a policy: a JSON object `{"path":{PATTERN:{"capabilities":[..]}}}`; a member `name` beside
-    /// `path` is ignored. A text of another form is refused with 400 `unsupported policy`: one with another capability
-    /// than `create`, `read`, `update`, `delete`, `list`, `sudo`, `deny` and `patch`, with another member, with a segment
-    /// `+` in a pattern, with a float, or with more than 127 levels. The only fault is running out of memory (Vault's
-    /// documentation, "Policies"; the form is this project's).
+    /// `path` is ignored. A text of another form is refused with 400 `unsupported policy`: one with another
+    /// capability than `create`, `read`, `update`, `delete`, `list`, `sudo`, `deny` and `patch`, with another member,
+    /// with a segment `+` in a pattern, with a float, or with more than 127 levels. The only fault is running out of
+    /// memory (Vault's documentation, "Policies"; the form is this project's).
     #[tactic(auto, unfolding(crate::specs::Reading::policy_of))]
     pub fn from_json(alloc: Global, text: &str) -> Result<Policy, RequestError>
         ensures { IsRead (spec.policy_read text.now) result }

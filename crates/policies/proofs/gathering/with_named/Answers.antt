@@ -1,4 +1,4 @@
-use Rattle.std.proofs.Common.{ap, ◌∙◌, sym, Err, List, ◌++◌}
+use Rattle.std.proofs.Common.{ap, ◌∙◌, Err, List, ◌++◌}
 use Rattle.std.proofs.lemmas.Result.{err_from_is_err_and}
 use Rattle.policies.specs.PolicyRows.{table}
 use Rattle.policies.specs.Rules.{Rule}

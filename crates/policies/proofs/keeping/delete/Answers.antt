@@ -1,4 +1,4 @@
-use Rattle.std.proofs.Common.{◌≡◌, sym, ap, ◌∙◌, not, true, Ok}
+use Rattle.std.proofs.Common.{◌≡◌, sym, ap, ◌∙◌, not, Ok}
 use Rattle.broker_types.specs.Map.{without}
 use Rattle.broker_types.specs.Refuse.{unless}
 use Rattle.records.specs.declared.kind.Kind.TheVariants as kind

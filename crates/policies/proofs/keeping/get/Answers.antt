@@ -2,7 +2,7 @@ use Rattle.std.proofs.Common.{sym, ◌∙◌, Option}
 use Rattle.broker_types.specs.Map.{get}
 use Rattle.broker_types.specs.Text.{Text}
 use Rattle.policies.specs.PolicyRows.{table}
-use Rattle.policies.proofs.PolicyTold.{text_told, root_text, short_texts, not_damaged, each_fault, each_ok}
+use Rattle.policies.proofs.PolicyTold.{text_told, short_texts, not_damaged, each_fault, each_ok}
 use Rattle.policies.proofs.keeping.get.Goals as goal
 
 pub returns-clause-told : goal.returns-clause-told
