@@ -34,7 +34,8 @@ either n0 n = elim (nat_lt n0 n) as (λ b. ((if b then n else (if n == n0 then n
   | false ↦ elim (n == n0) as (λ b. ((if b then n else n0) ≡ n0) ⊎ ((if b then n else n0) ≡ n)) [ true ↦ inr refl | false ↦ inl refl ]
 ]
 
-flagged : (n0 n m : ℕ) (old said : Bool) → next_place n0 n ≤ m → ((next_place n0 n == m) && next_flag n0 n old said) ≡ (((n0 == m) && old) || ((n == m) && said))
+flagged : (n0 n m : ℕ) (old said : Bool) → next_place n0 n ≤ m
+    → ((next_place n0 n == m) && next_flag n0 n old said) ≡ (((n0 == m) && old) || ((n == m) && said))
 flagged n0 n m true true h = grind (arith, nat_tests)
 flagged n0 n m true false h = grind (arith, nat_tests)
 flagged n0 n m false true h = grind (arith, nat_tests)
@@ -61,25 +62,34 @@ module _ (c : Capability) (f : Rule → ℕ) where
   onto-place : (b : Best) (r : Rule) → (onto b r).place ≡ next_place b.place (f r)
   unfolding better
   onto-place b r =
-      elim (nat_lt b.place (f r)) as (λ t. (if t then record { place = f r; granted = gives r; denied = refuses r } else (if f r == b.place then record { place = f r; granted = b.granted || gives r; denied = b.denied || refuses r } else b)).place ≡ (if t then f r else (if f r == b.place then f r else b.place))) [
+      elim (nat_lt b.place (f r)) as (λ t. (if t then record { place = f r; granted = gives r; denied = refuses r }
+      else (if f r == b.place then record { place = f r; granted = b.granted || gives r; denied = b.denied || refuses r }
+      else b)).place ≡ (if t then f r else (if f r == b.place then f r else b.place))) [
         | true ↦ refl
-        | false ↦ elim (f r == b.place) as (λ t. (if t then record { place = f r; granted = b.granted || gives r; denied = b.denied || refuses r } else b).place ≡ (if t then f r else b.place)) [ true ↦ refl | false ↦ refl ]
+        | false ↦ elim (f r == b.place) as (λ t. (if t then record { place = f r; granted = b.granted || gives r; denied = b.denied || refuses r }
+            else b).place ≡ (if t then f r else b.place)) [ true ↦ refl | false ↦ refl ]
       ]
 
   onto-granted : (b : Best) (r : Rule) → (onto b r).granted ≡ next_flag b.place (f r) b.granted (gives r)
   unfolding better
   onto-granted b r =
-      elim (nat_lt b.place (f r)) as (λ t. (if t then record { place = f r; granted = gives r; denied = refuses r } else (if f r == b.place then record { place = f r; granted = b.granted || gives r; denied = b.denied || refuses r } else b)).granted ≡ (if t then gives r else (if f r == b.place then b.granted || gives r else b.granted))) [
+      elim (nat_lt b.place (f r)) as (λ t. (if t then record { place = f r; granted = gives r; denied = refuses r }
+      else (if f r == b.place then record { place = f r; granted = b.granted || gives r; denied = b.denied || refuses r }
+      else b)).granted ≡ (if t then gives r else (if f r == b.place then b.granted || gives r else b.granted))) [
         | true ↦ refl
-        | false ↦ elim (f r == b.place) as (λ t. (if t then record { place = f r; granted = b.granted || gives r; denied = b.denied || refuses r } else b).granted ≡ (if t then b.granted || gives r else b.granted)) [ true ↦ refl | false ↦ refl ]
+        | false ↦ elim (f r == b.place) as (λ t. (if t then record { place = f r; granted = b.granted || gives r; denied = b.denied || refuses r }
+            else b).granted ≡ (if t then b.granted || gives r else b.granted)) [ true ↦ refl | false ↦ refl ]
       ]
 
   onto-denied : (b : Best) (r : Rule) → (onto b r).denied ≡ next_flag b.place (f r) b.denied (refuses r)
   unfolding better
   onto-denied b r =
-      elim (nat_lt b.place (f r)) as (λ t. (if t then record { place = f r; granted = gives r; denied = refuses r } else (if f r == b.place then record { place = f r; granted = b.granted || gives r; denied = b.denied || refuses r } else b)).denied ≡ (if t then refuses r else (if f r == b.place then b.denied || refuses r else b.denied))) [
+      elim (nat_lt b.place (f r)) as (λ t. (if t then record { place = f r; granted = gives r; denied = refuses r }
+      else (if f r == b.place then record { place = f r; granted = b.granted || gives r; denied = b.denied || refuses r }
+      else b)).denied ≡ (if t then refuses r else (if f r == b.place then b.denied || refuses r else b.denied))) [
         | true ↦ refl
-        | false ↦ elim (f r == b.place) as (λ t. (if t then record { place = f r; granted = b.granted || gives r; denied = b.denied || refuses r } else b).denied ≡ (if t then b.denied || refuses r else b.denied)) [ true ↦ refl | false ↦ refl ]
+        | false ↦ elim (f r == b.place) as (λ t. (if t then record { place = f r; granted = b.granted || gives r; denied = b.denied || refuses r }
+            else b).denied ≡ (if t then b.denied || refuses r else b.denied)) [ true ↦ refl | false ↦ refl ]
       ]
 
   pub record Folded (b0 : Best) (rs : List Rule) (b : Best) : Type 0 where
@@ -125,10 +135,12 @@ module _ (c : Capability) (f : Rule → ℕ) where
         ];
         granted =
             ih.granted
-            ∙ ap (λ t. t || list_any (said_at b.place gives) rs) ((λ i. (place1 i == b.place) && onto-granted b0 r i) ∙ flagged b0.place (f r) b.place b0.granted (gives r) over)
+            ∙ ap (λ t. t || list_any (said_at b.place gives) rs) ((λ i. (place1 i == b.place) && onto-granted b0 r i)
+            ∙ flagged b0.place (f r) b.place b0.granted (gives r) over)
             ∙ or_assoc ((b0.place == b.place) && b0.granted) ((f r == b.place) && gives r) (list_any (said_at b.place gives) rs);
         denied =
             ih.denied
-            ∙ ap (λ t. t || list_any (said_at b.place refuses) rs) ((λ i. (place1 i == b.place) && onto-denied b0 r i) ∙ flagged b0.place (f r) b.place b0.denied (refuses r) over)
+            ∙ ap (λ t. t || list_any (said_at b.place refuses) rs) ((λ i. (place1 i == b.place) && onto-denied b0 r i)
+            ∙ flagged b0.place (f r) b.place b0.denied (refuses r) over)
             ∙ or_assoc ((b0.place == b.place) && b0.denied) ((f r == b.place) && refuses r) (list_any (said_at b.place refuses) rs);
       }

@@ -2,7 +2,8 @@
 use Rattle.std.specs.Prelude.{nat_lt}
 use Rattle.std.specs.List.{list_any, find, fold}
 use Rattle.std.specs.Option.{option_map_or}
-use Rattle.std.proofs.Common.{◌≡◌, ℕ, ◌+◌, ◌==◌, ◌≤◌, ◌&&◌, ◌||◌, ◌⊎◌, inl, inr, refl, sym, ◌∙◌, ap, subst, arith, List, [], ◌∷◌, length, Bool, true, false, not, if◌then◌else◌, Some}
+use Rattle.std.proofs.Common.{◌≡◌, ℕ, ◌+◌, ◌==◌, ◌≤◌, ◌&&◌, ◌||◌, ◌⊎◌, inl, inr, refl, sym, ◌∙◌}
+use Rattle.std.proofs.Common.{ap, subst, arith, List, [], ◌∷◌, length, Bool, true, false, not, if◌then◌else◌, Some}
 use Rattle.std.proofs.lemmas.Bool.{or_parts}
 use Rattle.std.proofs.lemmas.Bool.Decides.{nat_tests}
 use Rattle.broker_types.specs.Text.{Text}
@@ -29,7 +30,8 @@ any_same : (p q : Rule → Bool) → ((r : Rule) → p r ≡ q r) → (rs : List
 any_same p q same rs = λ i. list_any (λ r. same r i) rs
 
 -- some rule has f at k, and none is above m
-at_most : (f : Rule → ℕ) (h : Rule → Bool) (k m : ℕ) → ((r : Rule) → h r ≡ true → f r ≡ k) → (rs : List Rule) → list_any h rs ≡ true → list_any (λ r. nat_lt m (f r)) rs ≡ false → k ≤ m
+at_most : (f : Rule → ℕ) (h : Rule → Bool) (k m : ℕ) → ((r : Rule) → h r ≡ true → f r ≡ k) → (rs : List Rule) → list_any h rs ≡ true
+    → list_any (λ r. nat_lt m (f r)) rs ≡ false → k ≤ m
 at_most f h k m is [] some bound = absurd (cc)
 at_most f h k m is (r ∷ rs) some bound =
     let parts = or_parts (nat_lt m (f r)) (list_any (λ r. nat_lt m (f r)) rs) bound in
@@ -60,7 +62,8 @@ placed ts r = place ts r.pattern
 
 pub most_places : (ts : List Pattern) (p : Pattern) → place ts p ≤ length ts
 most_places [] p = omega arith
-most_places (t ∷ ts) p = elim (same_pattern p t) as (λ b. (if b then length ts + 1 else place ts p) ≤ length (t ∷ ts)) [ true ↦ omega arith | false ↦ omega (arith, most_places ts p) ]
+most_places (t ∷ ts) p = elim (same_pattern p t) as (λ b. (if b then length ts + 1
+    else place ts p) ≤ length (t ∷ ts)) [ true ↦ omega arith | false ↦ omega (arith, most_places ts p) ]
 
 first_place : (t : Pattern) (ts : List Pattern) (p : Pattern) → same_pattern p t ≡ true → place (t ∷ ts) p ≡ length ts + 1
 first_place t ts p e = rw e refl
@@ -87,26 +90,38 @@ module _ (c : Capability) (rs : List Rule) where
   abbrev reached_by : (Rule → ℕ) → ℕ → Type 0
   reached_by f m = (m ≡ 0) ⊎ (list_any (λ r. f r == m) rs ≡ true)
 
-  pub first_named : (ts : List Pattern) (m : ℕ) → list_any (λ r. nat_lt m (placed ts r)) rs ≡ false → reached_by (placed ts) m → judged (placed ts) m ≡ option_map_or (is_granted c rs) (find (is_named rs) ts) false
+  pub first_named : (ts : List Pattern) (m : ℕ) → list_any (λ r. nat_lt m (placed ts r)) rs ≡ false → reached_by (placed ts) m
+      → judged (placed ts) m ≡ option_map_or (is_granted c rs) (find (is_named rs) ts) false
   first_named [] m bound reached =
       let zero_is : m ≡ 0 = elim reached [ inl e ↦ e | inr e ↦ omega (arith, no_more (placed []) 0 m (λ r. omega arith) rs e) ] in
       rw zero_is refl
   first_named (t ∷ ts) m bound reached =
-      elim (is_named rs t) as (λ b. is_named rs t ≡ b → judged (placed (t ∷ ts)) m ≡ option_map_or (is_granted c rs) (if b then Some t else find (is_named rs) ts) false) [
+      elim (is_named rs t) as (λ b. is_named rs t ≡ b → judged (placed (t ∷ ts)) m ≡ option_map_or (is_granted c rs) (if b then Some t
+      else find (is_named rs) ts) false) [
         | true ↦ λ e.
-            let low : length ts + 1 ≤ m = at_most (placed (t ∷ ts)) (λ r. same_pattern r.pattern t) (length ts + 1) m (λ r h. first_place t ts r.pattern h) rs e bound in
-            let high : m ≤ length ts + 1 = elim reached [ inl z ↦ omega arith | inr s ↦ no_more (placed (t ∷ ts)) (length ts + 1) m (λ r. omega (arith, most_places (t ∷ ts) r.pattern)) rs s ] in
+            let low : length ts + 1 ≤ m = at_most (placed (t ∷ ts)) (λ r. same_pattern r.pattern t) (length ts + 1) m
+            (λ r h. first_place t ts r.pattern h) rs e bound in
+            let high : m ≤ length ts + 1 = elim reached [
+              | inl z ↦ omega arith
+              | inr s ↦ no_more (placed (t ∷ ts)) (length ts + 1) m (λ r. omega
+                  (arith, most_places (t ∷ ts) r.pattern)) rs s
+            ] in
             let is : m ≡ length ts + 1 = omega arith in
-            rw is (λ i. positive (length ts) i && (list_any (λ r. is_first t ts r.pattern i && list_any (is_grant c) r.words) rs && not (list_any (λ r. is_first t ts r.pattern i && list_any is_deny r.words) rs)))
+            rw is (λ i. positive (length ts) i && (list_any (λ r. is_first t ts r.pattern i && list_any (is_grant c) r.words) rs && not (list_any
+            (λ r. is_first t ts r.pattern i && list_any is_deny r.words) rs)))
         | false ↦ λ e.
-            let along = λ (p q : Rule → Bool) (same : (r : Rule) → same_pattern r.pattern t ≡ false → p r ≡ q r). any_along p q (λ r. same_pattern r.pattern t) same rs e in
-            let bound1 : list_any (λ r. nat_lt m (placed ts r)) rs ≡ false = sym (along (λ r. nat_lt m (placed (t ∷ ts) r)) (λ r. nat_lt m (placed ts r)) (λ r h. ap (λ n. nat_lt m n) (later_place t ts r.pattern h))) ∙ bound in
+            let along = λ (p q : Rule → Bool) (same : (r : Rule) → same_pattern r.pattern t ≡ false
+            → p r ≡ q r). any_along p q (λ r. same_pattern r.pattern t) same rs e in
+            let bound1 : list_any (λ r. nat_lt m (placed ts r)) rs ≡ false = sym (along (λ r. nat_lt m (placed (t ∷ ts) r)) (λ r. nat_lt m
+            (placed ts r)) (λ r h. ap (λ n. nat_lt m n) (later_place t ts r.pattern h))) ∙ bound in
             let reached1 : reached_by (placed ts) m = elim reached [
               | inl z ↦ inl z
               | inr s ↦ inr (sym (along (λ r. placed (t ∷ ts) r == m) (λ r. placed ts r == m) (λ r h. ap (λ n. n == m) (later_place t ts r.pattern h))) ∙ s)
             ] in
-            (λ i. nat_lt 0 m && (along (λ r. (placed (t ∷ ts) r == m) && list_any (is_grant c) r.words) (λ r. (placed ts r == m) && list_any (is_grant c) r.words) (λ r h. ap (λ n. (n == m) && list_any (is_grant c) r.words) (later_place t ts r.pattern h)) i
-            && not (along (λ r. (placed (t ∷ ts) r == m) && list_any is_deny r.words) (λ r. (placed ts r == m) && list_any is_deny r.words) (λ r h. ap (λ n. (n == m) && list_any is_deny r.words) (later_place t ts r.pattern h)) i)))
+            (λ i. nat_lt 0 m && (along (λ r. (placed (t ∷ ts) r == m) && list_any (is_grant c) r.words) (λ r. (placed ts r == m) && list_any
+            (is_grant c) r.words) (λ r h. ap (λ n. (n == m) && list_any (is_grant c) r.words) (later_place t ts r.pattern h)) i
+            && not (along (λ r. (placed (t ∷ ts) r == m) && list_any is_deny r.words) (λ r. (placed ts r == m) && list_any is_deny r.words) (λ r h. ap
+            (λ n. (n == m) && list_any is_deny r.words) (later_place t ts r.pattern h)) i)))
             ∙ first_named ts m bound1 reached1
       ] refl
     where
@@ -115,12 +130,14 @@ module _ (c : Capability) (rs : List Rule) where
 
 -- ---- what the code finds out
 
-pub best_is : (v : Verb) (path : Text) (c : Capability) (rs : List Rule) → best_allows (fold (step v path c) none rs) ≡ option_map_or (is_granted c rs) (find (is_named rs) (tried v path)) false
+pub best_is : (v : Verb) (path : Text) (c : Capability) (rs : List Rule)
+    → best_allows (fold (step v path c) none rs) ≡ option_map_or (is_granted c rs) (find (is_named rs) (tried v path)) false
 best_is v path c rs =
     let f : Rule → ℕ = placed (tried v path) in
     let b = fold (step v path c) none rs in
     let is : Folded c f none rs b = folded c f none rs in
-    (λ i. nat_lt 0 b.place && (clean b.place (list_any (said_at c f b.place (gives c f)) rs) is.granted i && not (clean b.place (list_any (said_at c f b.place (refuses c f)) rs) is.denied i)))
+    (λ i. nat_lt 0 b.place && (clean b.place (list_any (said_at c f b.place (gives c f)) rs) is.granted i && not (clean b.place (list_any
+    (said_at c f b.place (refuses c f)) rs) is.denied i)))
     ∙ first_named c rs (tried v path) b.place is.bound is.reached
   where
     clean : (m : ℕ) (x : Bool) {y : Bool} → y ≡ (((0 == m) && false) || x) → y ≡ x

@@ -1,7 +1,8 @@
 -- How early a pattern is tried.
 use Rattle.std.specs.Prelude.{nat_eq}
 use Rattle.std.specs.List.{starts_with}
-use Rattle.std.proofs.Common.{◌≡◌, ℕ, ◌+◌, ◌==◌, ◌&&◌, ◌||◌, ◌⊎◌, inl, inr, refl, sym, ◌∙◌, ap, arith, List, [], ◌∷◌, ◌++◌, map, length, Bool, true, false, if◌then◌else◌}
+use Rattle.std.proofs.Common.{◌≡◌, ℕ, ◌+◌, ◌==◌, ◌&&◌, ◌||◌, ◌⊎◌, inl, inr, refl, sym, ◌∙◌}
+use Rattle.std.proofs.Common.{ap, arith, List, [], ◌∷◌, ◌++◌, map, length, Bool, true, false, if◌then◌else◌}
 use Rattle.std.proofs.lemmas.Bool.Decides.{nat_tests}
 use Rattle.std.proofs.lemmas.List.{length-map}
 use Rattle.std.proofs.lemmas.Bool.{and_right}
@@ -47,8 +48,10 @@ unfolding text_place same
 longer_place d c cs [] = elim (c == d) as (λ b. ◌≡◌ {A = ℕ} 0 (if b then 0 else 0)) [ true ↦ refl | false ↦ refl ]
 longer_place d c cs (l ∷ ls) =
     rw (many d ls) (rw (longer_place d c cs ls)
-    (elim (c == d) as (λ b. (if (b && same cs l) then length ls + 1 + 1 else (if b then lift (text_place ls cs) else 0)) ≡ (if b then lift (if same cs l then length ls + 1 else text_place ls cs) else 0)) [
-      | true ↦ elim (same cs l) as (λ b. (if b then length ls + 1 + 1 else lift (text_place ls cs)) ≡ lift (if b then length ls + 1 else text_place ls cs)) [ true ↦ grind (arith, nat_tests) | false ↦ refl ]
+    (elim (c == d) as (λ b. (if (b && same cs l) then length ls + 1 + 1 else (if b then lift (text_place ls cs)
+    else 0)) ≡ (if b then lift (if same cs l then length ls + 1 else text_place ls cs) else 0)) [
+      | true ↦ elim (same cs l) as (λ b. (if b then length ls + 1 + 1 else lift (text_place ls cs)) ≡ lift (if b then length ls + 1
+          else text_place ls cs)) [ true ↦ grind (arith, nat_tests) | false ↦ refl ]
       | false ↦ refl
     ]))
 
@@ -61,7 +64,8 @@ beginnings_place (d ∷ ds) (c ∷ cs) =
     longer_place d c cs (beginnings ds)
     ∙ rw (beginnings_place ds cs)
     (elim (c == d) as (λ b. (if b then lift (if begins ds cs then length cs + 1 else 0) else 0) ≡ (if (b && begins ds cs) then length (c ∷ cs) + 1 else 0)) [
-      | true ↦ elim (begins ds cs) as (λ b. lift (if b then length cs + 1 else 0) ≡ (if b then length (c ∷ cs) + 1 else 0)) [ true ↦ grind (arith, nat_tests) | false ↦ refl ]
+      | true ↦ elim (begins ds cs) as (λ b. lift (if b then length cs + 1 else 0) ≡ (if b then length (c ∷ cs) + 1
+          else 0)) [ true ↦ grind (arith, nat_tests) | false ↦ refl ]
       | false ↦ refl
     ])
 
@@ -118,7 +122,9 @@ snoc_begins [] [] = refl
 snoc_begins [] (c ∷ []) = refl
 snoc_begins [] (c ∷ d ∷ ds) = refl
 snoc_begins (x ∷ xs) [] = refl
-snoc_begins (x ∷ xs) (c ∷ cs) = ap (λ b. (c == x) && b) (snoc_begins xs cs) ∙ elim (c == x) as (λ b. (b && (begins xs cs || same cs (xs ++ (47 ∷ [])))) ≡ ((b && begins xs cs) || (b && same cs (xs ++ (47 ∷ []))))) [ true ↦ refl | false ↦ refl ]
+snoc_begins (x ∷ xs) (c ∷ cs) = ap (λ b. (c == x) && b) (snoc_begins xs cs)
+    ∙ elim (c == x) as (λ b. (b && (begins xs cs || same cs (xs ++ (47 ∷ [])))) ≡ ((b && begins xs cs) || (b && same cs (xs ++
+    (47 ∷ []))))) [ true ↦ refl | false ↦ refl ]
 
 pub folder_begins : (path text : Text) → starts_with nat_eq (folder path) text ≡ (starts_with nat_eq path text || same text (folder path))
 folder_begins path text = begins_is (folder path) text ∙ snoc_begins path text ∙ sym (ap (λ b. b || same text (folder path)) (begins_is path text))

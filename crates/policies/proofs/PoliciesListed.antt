@@ -19,14 +19,16 @@ use Rattle.records.specs.Transaction.{Rows}
 use Rattle.policies.specs.Policies.{root, default, listed}
 use Rattle.policies.specs.PolicyRows.{ArePolicies, with_name, all_names}
 
-names_of : (es : List (Text × Text)) → map (λ (e : RowKey × Row). e.0.1) (map (λ (e : Text × Text). ((kind.Policy, e.0), policy_row e.1)) es) ≡ map (λ e. e.0) es
+names_of : (es : List (Text × Text)) → map (λ (e : RowKey × Row). e.0.1) (map (λ (e : Text × Text). ((kind.Policy, e.0), policy_row e.1)) es) ≡ map
+    (λ e. e.0) es
 names_of [] = refl
 names_of (e ∷ es) = ap (λ ns. e.0 ∷ ns) (names_of es)
 
 -- the names of the rows are those of the policies
 pub rows_named : (rows : Rows) (policies : Map Text) → ArePolicies (table_of rows) policies → keys_under rows kind.Policy [] ≡ keys policies
 rows_named rows policies are =
-    ap (map (λ (e : RowKey × Row). e.0.1)) (rows_under-listing kind.Policy (λ (n : Text) (t : Text). policy_row t) rows policies are) ∙ names_of (entries policies)
+    ap (map (λ (e : RowKey × Row). e.0.1)) (rows_under-listing kind.Policy (λ (n : Text) (t : Text). policy_row t) rows policies are)
+    ∙ names_of (entries policies)
 
 -- a name put in its place, among the keys of entries
 put_named : (n x : Text) (es : List (Text × Text)) → map (λ e. e.0) (fin.put text_cmp n x es) ≡ with_name n (map (λ e. e.0) es)

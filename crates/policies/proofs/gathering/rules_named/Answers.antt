@@ -17,5 +17,6 @@ pub returns-in-Some-clause-undamaged : goal.returns-in-Some-clause-undamaged
 returns-in-Some-clause-undamaged g c honest is_object policies sound at =
     let name = c.args.name.now in
     let stands : get policies name ≡ Some c.in-Some.text =
-    sym (one_policy (table (g.T.RecordsTx.seen c.args.tx.now)) name c.in_ok-text.field-0 (get policies name) (c.in_ok-text.ensures.found honest) at) ∙ c.in-Some.is in
+    sym (one_policy (table (g.T.RecordsTx.seen c.args.tx.now)) name c.in_ok-text.field-0 (get policies name) (c.in_ok-text.ensures.found honest) at)
+    ∙ c.in-Some.is in
     c.policy_kept.ensures.undamaged (ap is_policy c.as_str.ensures ∙ (sound name c.in-Some.text stands).policy)

@@ -24,27 +24,31 @@ returns-in_err-rules-clause-undamaged g c honest is_object policies sound are =
 pub loop-name-preserved : goal.loop-name-preserved
 loop-name-preserved g c =
     let seen = g.T.RecordsTx.seen in
+    let now = (seen c.loop-name.tx).rows in
+    let old = (seen c.args.tx.now).rows in
+    let names = c.args.names.now in
+    let i = c.loop-name.name-index in
+    let item = c.name-item.result in
     let name : Text = c.as_str.result.now in
-    let is : name ≡ get_or c.args.names.now c.loop-name.name-index c.name-item.result = c.as_str.ensures ∙ c.name-item.is in
+    let is : name ≡ get_or names i item = c.as_str.ensures ∙ c.name-item.is in
     let before : IsHonest (seen c.with_named.new.tx) → IsHonest (seen c.loop-name.tx) = λ honest.
     honest_before (seen c.loop-name.tx) (seen c.with_named.new.tx) false c.in_ok-rules.ensures.goes_on honest in
     record {
       told = λ honest policies are.
           let same = c.loop-name.invariant.same (before honest) in
-          one_more (seen c.loop-name.tx).rows (seen c.args.tx.now).rows c.args.names.now c.loop-name.name-index c.name-item.result name same is c.loop-name-test.true
-          (rules_named policies) c.loop-name.rules.items c.in_ok-rules.rules.items _ (c.loop-name.invariant.told (before honest) policies are)
-          (c.in_ok-rules.ensures.told honest policies (told_at (seen c.loop-name.tx).rows (seen c.args.tx.now).rows c.args.names.now c.loop-name.name-index
-          c.name-item.result name same is c.loop-name-test.true policies are));
+          one_more now old names i item name same is c.loop-name-test.true (rules_named policies) c.loop-name.rules.items
+          c.in_ok-rules.rules.items _ (c.loop-name.invariant.told (before honest) policies are)
+          (c.in_ok-rules.ensures.told honest policies (told_at now old names i item name same is c.loop-name-test.true policies are));
       readable = λ honest.
-          one_more_read (seen c.loop-name.tx).rows (seen c.args.tx.now).rows c.args.names.now c.loop-name.name-index c.name-item.result name
-          (c.loop-name.invariant.same (before honest)) is c.loop-name-test.true (c.loop-name.invariant.readable (before honest))
-          (c.in_ok-rules.ensures.readable honest);
+          one_more_read now old names i item name (c.loop-name.invariant.same (before honest)) is c.loop-name-test.true
+          (c.loop-name.invariant.readable (before honest)) (c.in_ok-rules.ensures.readable honest);
       same = λ honest. c.in_ok-rules.ensures.same honest ∙ c.loop-name.invariant.same (before honest);
-      goes_on = goes_further (seen c.args.tx.now) (seen c.loop-name.tx) (seen c.with_named.new.tx) false c.loop-name.invariant.goes_on c.in_ok-rules.ensures.goes_on;
+      goes_on = goes_further (seen c.args.tx.now) (seen c.loop-name.tx) (seen c.with_named.new.tx) false c.loop-name.invariant.goes_on
+          c.in_ok-rules.ensures.goes_on;
     }
 
 pub returns-clause-readable : goal.returns-clause-readable
 returns-clause-readable g c honest =
     let names = c.args.names.now in
-    All-same (IsReadable (table (g.T.RecordsTx.seen c.args.tx.now))) _ _ (sym (take_all c.loop-name.name-index names (omega (arith, c.loop-name-test.false))))
-    (c.loop-name.invariant.readable honest)
+    All-same (IsReadable (table (g.T.RecordsTx.seen c.args.tx.now))) _ _
+    (sym (take_all c.loop-name.name-index names (omega (arith, c.loop-name-test.false)))) (c.loop-name.invariant.readable honest)
