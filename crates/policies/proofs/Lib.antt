@@ -1,0 +1,11 @@
+pub mod Bests
+pub mod Choices
+pub mod Granted
+pub mod PatternsChosen
+pub mod Places
+pub mod PoliciesGathered
+pub mod PoliciesListed
+pub mod PolicyEdits
+pub mod PolicyTold
+pub mod ReadItems
+pub mod Stars

@@ -1,0 +1,117 @@
+-- The chosen prefix is the longest.
+use Rattle.std.specs.Prelude.{nat_eq}
+use Rattle.std.specs.List.{find, starts_with}
+use Rattle.std.proofs.Common.{◌≡◌, ◌≢◌, ℕ, ◌+◌, ◌≤◌, ◌<◌, refl, sym, ◌∙◌, ap, arith, List, [], ◌∷◌, length, Bool, true, false, cond, if◌then◌else◌, Some}
+use Rattle.std.proofs.lemmas.Bool.{false≢true}
+use Rattle.std.proofs.lemmas.Option.{none-some, same_Some}
+use Rattle.broker_types.specs.Text.{Text}
+use Rattle.broker_types.specs.TextLaws.{same_self, same_true}
+use Rattle.broker_types.specs.declared.ask.Verb.TheVariants as verb
+use Rattle.policies.specs.declared.pattern.Pattern.{Pattern}
+use Rattle.policies.specs.declared.pattern.Pattern.TheVariants.{Exact, Prefix}
+use Rattle.policies.specs.Allows.{is_named, chosen}
+use Rattle.policies.specs.Laws.{IsLongest}
+use Rattle.policies.specs.Patterns.{same_pattern, folder, tried}
+use Rattle.policies.specs.Places.{place, tried_text}
+use Rattle.policies.specs.Rules.{Rules}
+use Rattle.policies.proofs.Choices.{most_places}
+use Rattle.policies.proofs.Places.{prefix_placed}
+
+itself : (p : Pattern) → same_pattern p p ≡ true
+itself (Exact s) = same_self s
+itself (Prefix s) = same_self s
+
+one_pattern : (p q : Pattern) → same_pattern p q ≡ true → p ≡ q
+one_pattern (Exact s) (Exact t) h = ap Exact (same_true s t h)
+one_pattern (Prefix s) (Prefix t) h = ap Prefix (same_true s t h)
+one_pattern (Exact s) (Prefix t) h = absurd (false≢true h)
+one_pattern (Prefix s) (Exact t) h = absurd (false≢true h)
+
+first_place : (x : Pattern) (xs : List Pattern) → place (x ∷ xs) x ≡ length xs + 1
+first_place x xs = ap (λ b. if b then length xs + 1 else place xs x) (itself x)
+
+no_earlier : (x : Pattern) (xs : List Pattern) (t : Pattern) → place xs t ≤ place (x ∷ xs) t
+no_earlier x xs t = elim (same_pattern t x) as (λ b. place xs t ≤ (if b then length xs + 1 else place xs t)) [
+  | true ↦ omega (arith, most_places xs t)
+  | false ↦ omega arith
+]
+
+later : (x : Pattern) (xs : List Pattern) (u : Pattern) (test : Pattern → Bool) → test u ≡ true → test x ≡ false → place (x ∷ xs) u ≡ place xs u
+later x xs u test passes fails = elim (same_pattern u x) as (λ b. same_pattern u x ≡ b → (if b then length xs + 1 else place xs u) ≡ place xs u) [
+  | true ↦ λ is. absurd (false≢true (sym fails ∙ ap test (sym (one_pattern u x is)) ∙ passes))
+  | false ↦ λ _. refl
+] refl
+
+-- what is found first has the greatest place
+greatest : (test : Pattern → Bool) (ts : List Pattern) (t u : Pattern) → find test ts ≡ Some t → test u ≡ true → place ts u ≤ place ts t
+greatest test [] t u found passes = absurd (none-some _ found)
+greatest test (x ∷ xs) t u found passes =
+    elim (test x) as (λ b. test x ≡ b → cond b (Some x) (find test xs) ≡ Some t → place (x ∷ xs) u ≤ place (x ∷ xs) t) [
+      | true ↦ λ _ here.
+          let is : place (x ∷ xs) t ≡ length xs + 1 = ap (place (x ∷ xs)) (sym (same_Some _ _ here)) ∙ first_place x xs in
+          let most : place (x ∷ xs) u ≤ length (x ∷ xs) = most_places (x ∷ xs) u in
+          omega (arith, is, most)
+      | false ↦ λ fails there.
+          let below : place xs u ≤ place xs t = greatest test xs t u there passes in
+          let step : place xs t ≤ place (x ∷ xs) t = no_earlier x xs t in
+          let same : place (x ∷ xs) u ≡ place xs u = later x xs u test passes fails in
+          omega (arith, below, step, same)
+    ] refl found
+
+-- and a place
+has_place : (test : Pattern → Bool) (ts : List Pattern) (t : Pattern) → find test ts ≡ Some t → 0 < place ts t
+has_place test [] t found = absurd (none-some _ found)
+has_place test (x ∷ xs) t found =
+    elim (test x) as (λ b. cond b (Some x) (find test xs) ≡ Some t → 0 < place (x ∷ xs) t) [
+      | true ↦ λ here.
+          let is : place (x ∷ xs) t ≡ length xs + 1 = ap (place (x ∷ xs)) (sym (same_Some _ _ here)) ∙ first_place x xs in
+          omega (arith, is)
+      | false ↦ λ there.
+          let first : 0 < place xs t = has_place test xs t there in
+          let step : place xs t ≤ place (x ∷ xs) t = no_earlier x xs t in
+          omega (arith, first, step)
+    ] found
+
+module _ (rs : Rules) (path prefix : Text) (is : chosen rs path ≡ Some (Prefix prefix)) where
+  begins_with : starts_with nat_eq (tried_text rs.verb path) prefix ≡ true
+  begins_with =
+      elim (starts_with nat_eq (tried_text rs.verb path) prefix) as (λ b. (0 < (if b then length prefix + 1 else 0)) → b ≡ true) [
+        | true ↦ λ _. refl
+        | false ↦ λ h. absurd (omega (arith, h))
+      ] (subst_less (has_place (is_named rs.rules) (tried rs.verb path) (Prefix prefix) is) (prefix_placed rs.verb path prefix))
+    where
+      subst_less : {n m : ℕ} → 0 < n → n ≡ m → 0 < m
+      subst_less h e = omega (arith, h, e)
+
+  longest : (other : Text) → is_named rs.rules (Prefix other) ≡ true → starts_with nat_eq (tried_text rs.verb path) other ≡ true
+      → length other ≤ length prefix
+  longest other named begins =
+      let low : place (tried rs.verb path) (Prefix other) ≤ place (tried rs.verb path) (Prefix prefix) =
+      greatest (is_named rs.rules) (tried rs.verb path) (Prefix prefix) (Prefix other) is named in
+      let one : place (tried rs.verb path) (Prefix other) ≡ length other + 1 =
+      prefix_placed rs.verb path other ∙ ap (λ b. if b then length other + 1 else 0) begins in
+      let two : place (tried rs.verb path) (Prefix prefix) ≡ length prefix + 1 =
+      prefix_placed rs.verb path prefix ∙ ap (λ b. if b then length prefix + 1 else 0) begins_with in
+      omega (arith, low, one, two)
+
+  pub is_longest : IsLongest rs path prefix
+  is_longest = record { matches = begins_with; longest = longest }
+
+-- ---- exact patterns
+
+pub exact_first : (rs : Rules) (path : Text) → rs.verb ≢ verb.List → is_named rs.rules (Exact path) ≡ true → chosen rs path ≡ Some (Exact path)
+exact_first rs path other named =
+    elim rs.verb as (λ v. (v ≢ verb.List) → find (is_named rs.rules) (tried v path) ≡ Some (Exact path)) [
+      | verb.Get ↦ λ _. rw named refl
+      | verb.List ↦ λ n. absurd (n refl)
+      | verb.Write ↦ λ _. rw named refl
+      | verb.Delete ↦ λ _. rw named refl
+    ] other
+
+pub folder_first : (rs : Rules) (path : Text) → rs.verb ≡ verb.List → is_named rs.rules (Exact (folder path)) ≡ true
+    → chosen rs path ≡ Some (Exact (folder path))
+folder_first rs path is named = ap (λ v. find (is_named rs.rules) (tried v path)) is ∙ rw named refl
+
+pub then_path : (rs : Rules) (path : Text) → rs.verb ≡ verb.List → is_named rs.rules (Exact (folder path)) ≡ false
+    → is_named rs.rules (Exact path) ≡ true → chosen rs path ≡ Some (Exact path)
+then_path rs path is none named = ap (λ v. find (is_named rs.rules) (tried v path)) is ∙ rw none (rw named refl)

@@ -1,0 +1,22 @@
+use Rattle.std.proofs.Common.{◌≡◌, ap, sym, ◌∙◌, Err, Some}
+use Rattle.std.proofs.lemmas.Result.{err_from_is_err_and}
+use Rattle.broker_types.specs.Map.{get}
+use Rattle.policies.specs.PolicyRows.{table}
+use Rattle.policies.specs.Reading.{is_policy}
+use Rattle.policies.proofs.PolicyTold.{one_policy, short_texts, not_damaged}
+use Rattle.policies.proofs.gathering.rules_named.Goals as goal
+
+pub returns-in_err-text-clause-undamaged : goal.returns-in_err-text-clause-undamaged
+returns-in_err-text-clause-undamaged g c honest is_object policies sound at =
+    let name = c.args.name.now in
+    let p = err_from_is_err_and c.from_residual.result c.from_residual.ensures.1 in
+    rw (p.1 ∙ ap Err p.2) (not_damaged (λ damaged. damaged honest (get policies name) (short_texts is_object policies sound name) at)
+    c.in_err-text.field-0.0 c.in_err-text.ensures.faults)
+
+pub returns-in-Some-clause-undamaged : goal.returns-in-Some-clause-undamaged
+returns-in-Some-clause-undamaged g c honest is_object policies sound at =
+    let name = c.args.name.now in
+    let stands : get policies name ≡ Some c.in-Some.text =
+    sym (one_policy (table (g.T.RecordsTx.seen c.args.tx.now)) name c.in_ok-text.field-0 (get policies name) (c.in_ok-text.ensures.found honest) at)
+    ∙ c.in-Some.is in
+    c.policy_kept.ensures.undamaged (ap is_policy c.as_str.ensures ∙ (sound name c.in-Some.text stands).policy)

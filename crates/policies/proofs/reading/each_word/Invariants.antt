@@ -1,0 +1,9 @@
+use Rattle.std.proofs.Common.{◌≡◌, drop}
+use Rattle.serde_json.specs.View.{items_view}
+use Rattle.api_json.specs.Kinds.{each_item}
+use Rattle.policies.proofs.ReadItems.{onto}
+use Rattle.policies.specs.Reading.{word}
+use Rattle.policies.proofs.reading.each_word.Given as goal
+
+abbrev pub invariant-loop-item : goal.invariant-loop-item
+invariant-loop-item l = onto l.words.items (each_item word (items_view (drop l.item-index l.item-items))) ≡ each_item word (items_view l.item-items)

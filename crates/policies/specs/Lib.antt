@@ -1,0 +1,14 @@
+pub mod Allows
+pub mod Calls
+pub mod Examples
+pub mod Grants
+pub mod Laws
+pub mod Patterns
+pub mod Places
+pub mod Policies
+pub mod PolicyRows
+pub mod Reading
+pub mod Rules
+pub mod SoundLaws
+pub mod TellLaws
+pub mod Words

@@ -1,0 +1,164 @@
+-- Policies that are set or deleted leave a sound broker sound, and let it evolve.
+use Rattle.std.specs.Prelude.{◌≡◌, ◌<◌, ◌^◌, length, Bool, true, false, not, cond, Option, Some, None, is_some}
+use Rattle.std.specs.Prelude.{Result, Ok, Err, is_ok, ⊤, option_and_then, if◌then◌else◌, IsUtf8}
+use Rattle.std.specs.Str.{is_utf8}
+use Rattle.std.proofs.Common.{refl, sym, ◌∙◌, ap, subst, inl, List}
+use Rattle.std.proofs.lemmas.Bool.{false≢true}
+use Rattle.std.proofs.lemmas.Option.{none-some, same_Some}
+use Rattle.std.proofs.lemmas.Str.{IsUtf8-from_is_utf8}
+use Rattle.serde_json.specs.Read.{read}
+use Rattle.serde_json.specs.Find.{as_object}
+use Rattle.broker_types.specs.Broker.{Broker}
+use Rattle.broker_types.specs.Evolves.{Evolves}
+use Rattle.broker_types.specs.Map.{Map, get, put, without}
+use Rattle.broker_types.specs.MapLaws.{get-put, get-without}
+use Rattle.broker_types.specs.Name.{is_name}
+use Rattle.broker_types.specs.Refuse.{◌>>=◌, some_or, unless}
+use Rattle.broker_types.specs.Sound.{Forms, Sound, SoundPolicies, IsSoundPolicy}
+use Rattle.broker_types.specs.Text.{Text, same}
+use Rattle.broker_types.specs.TextLaws.{same_true, same_self}
+use Rattle.broker_types.specs.declared.refusal.Refusal.{Refusal}
+use Rattle.broker_types.specs.declared.refusal.Refusal.TheVariants as refusal
+use Rattle.broker_types.specs.declared.refusal.Reason.TheVariants as reason
+use Rattle.records.specs.ValueLaws.{ok_inj}
+use Rattle.api_json.specs.Json.{without_floats}
+use Rattle.policies.specs.Policies.{is_root, root, fixed, may_set, set, may_delete, deleted}
+use Rattle.policies.specs.Reading.{policy_of, policy_in, is_policy, policy_forms, unsupported}
+use Rattle.policies.specs.Rules.{Rule}
+
+no_ok : {X Y : Type 0} {e : Refusal} {x : X} → ◌≡◌ {A = Result X Refusal} (Err e) (Ok x) → Y
+no_ok h = absurd (false≢true (ap is_ok h))
+
+-- ---- what may be set
+
+-- a text that is a policy is UTF-8
+policy_utf8 : (text : Text) → is_policy text ≡ true → IsUtf8 text
+unfolding policy_of
+policy_utf8 text h =
+    elim (is_utf8 text) as (λ v. is_utf8 text ≡ v
+    → is_some (option_and_then policy_in (option_and_then as_object
+    (option_and_then without_floats (if v then read text else None)))) ≡ true → IsUtf8 text) [
+      | true ↦ λ is _. IsUtf8-from_is_utf8 text is
+      | false ↦ λ _ none. absurd (false≢true none)
+    ] refl h
+
+-- what follows from a policy that may be set
+pub record IsSettable (name text : Text) : Type 0 where
+  pub named : is_name name ≡ true
+  pub free : is_root name ≡ false
+  pub read : is_policy text ≡ true
+
+pub settable : (name text : Text) (t : ⊤) → may_set name text ≡ Ok t → IsSettable name text
+settable name text t h =
+    let p = parts (is_name name) (is_root name) (policy_of text) h in
+    record { named = p.0; free = p.1; read = p.2 }
+  where
+    parts : (n r : Bool) (p : Option (List Rule))
+        → (unless n (refusal.BadRequest reason.InvalidName)
+        >>= (λ _. unless (not r) fixed >>= (λ _. some_or unsupported p >>= (λ _. Ok tt)))) ≡ Ok t
+        → (n ≡ true) × (r ≡ false) × (is_some p ≡ true)
+    parts true false (Some x) e = (refl, refl, refl)
+    parts true false None e = no_ok e
+    parts true true p e = no_ok e
+    parts false r p e = no_ok e
+
+-- ---- policies
+
+module _ (is_object : Text → Bool) (policies : Map Text) (sound : SoundPolicies (policy_forms is_object) policies) where
+  put_sound : (name text : Text) → IsSoundPolicy (policy_forms is_object) name text
+      → SoundPolicies (policy_forms is_object) (put policies name text)
+  put_sound name text one n t e =
+      elim (same n name) as (λ v. same n name ≡ v → cond v (Some text) (get policies n) ≡ Some t
+      → IsSoundPolicy (policy_forms is_object) n t) [
+        | true ↦ λ at is.
+            subst (λ (m : Text). IsSoundPolicy (policy_forms is_object) m t) (sym (same_true n name at))
+            (subst (IsSoundPolicy (policy_forms is_object) name) (same_Some _ _ is) one)
+        | false ↦ λ _ is. sound n t is
+      ] refl (sym (get-put policies name text n) ∙ e)
+
+  without_sound : (name : Text) → SoundPolicies (policy_forms is_object) (without policies name)
+  without_sound name n t e =
+      elim (same n name) as (λ v. cond v None (get policies n) ≡ Some t
+      → IsSoundPolicy (policy_forms is_object) n t) [
+        | true ↦ λ is. absurd (none-some _ is)
+        | false ↦ λ is. sound n t is
+      ] (sym (get-without policies name n) ∙ e)
+
+  -- policies stay sound if one is set
+  set_policies : (name text : Text) (next : Map Text) → length text < 2 ^ 32 → set policies name text ≡ Ok next
+      → SoundPolicies (policy_forms is_object) next
+  set_policies name text next short h =
+      elim (may_set name text) as (λ r. may_set name text ≡ r → (r >>= (λ _. Ok (put policies name text))) ≡ Ok next
+      → SoundPolicies (policy_forms is_object) next) [
+        | Err e ↦ λ _ k. no_ok k
+        | Ok t ↦ λ may k.
+            let s = settable name text t may in
+            let one : IsSoundPolicy (policy_forms is_object) name text = record {
+              policy_name = s.named;
+              not_root = λ is. false≢true (sym s.free ∙ ap is_root is ∙ same_self root);
+              policy = s.read;
+              short = record { utf8 = policy_utf8 text s.read; short = short };
+            } in
+            subst (SoundPolicies (policy_forms is_object)) (ok_inj k) (put_sound name text one)
+      ] refl h
+
+  -- and if one is deleted
+  deleted_policies : (name : Text) (next : Map Text) → deleted policies name ≡ Ok next
+      → SoundPolicies (policy_forms is_object) next
+  deleted_policies name next h =
+      elim (may_delete name) as (λ r. (r >>= (λ _. Ok (without policies name))) ≡ Ok next
+      → SoundPolicies (policy_forms is_object) next) [
+        | Err e ↦ λ k. no_ok k
+        | Ok t ↦ λ k. subst (SoundPolicies (policy_forms is_object)) (ok_inj k) (without_sound name)
+      ] h
+
+-- ---- the broker
+
+module _ (b : Broker) (next : Map Text) where
+  -- sound policies leave a sound broker sound
+  pub sound_with_policies : (forms : Forms) (who : Option Text) → SoundPolicies forms next → Sound forms who b
+      → Sound forms who (record b { policies = next })
+  sound_with_policies forms who policies s =
+      record {
+        clock = s.clock;
+        tokens = s.tokens;
+        secrets = s.secrets;
+        waiting = s.waiting;
+        mounts = s.mounts;
+        roles = s.roles;
+        policies = policies;
+        identifiers = record {
+          used = s.identifiers.used;
+          one_place = s.identifiers.one_place;
+          all_used = s.identifiers.all_used;
+          origins_used = s.identifiers.origins_used;
+        };
+        unspent = s.unspent;
+      }
+
+  -- any policies let a broker evolve
+  pub policies_evolve : Evolves b (record b { policies = next })
+  policies_evolve =
+      record {
+        used = λ i u. u;
+        tokens = λ t x is. inl (λ none. absurd (none-some _ (sym none ∙ is)));
+        leases = λ t id l is. inl (l, is, refl);
+        wrapping_tokens = λ t w is. inl (λ none. absurd (none-some _ (sym none ∙ is)));
+        waiting = λ t w is. inl (t, w, is, refl, refl);
+      }
+
+  -- a policy that is set leaves a sound broker sound
+  pub set_sound : (is_object : Text → Bool) (who : Option Text) (name text : Text)
+      → Sound (policy_forms is_object) who b → length text < 2 ^ 32 → set b.policies name text ≡ Ok next
+      → Sound (policy_forms is_object) who (record b { policies = next })
+  set_sound is_object who name text s short h =
+      sound_with_policies (policy_forms is_object) who
+      (set_policies is_object b.policies s.policies name text next short h) s
+
+  -- and so does a policy that is deleted
+  pub deleted_sound : (is_object : Text → Bool) (who : Option Text) (name : Text)
+      → Sound (policy_forms is_object) who b → deleted b.policies name ≡ Ok next
+      → Sound (policy_forms is_object) who (record b { policies = next })
+  deleted_sound is_object who name s h =
+      sound_with_policies (policy_forms is_object) who
+      (deleted_policies is_object b.policies s.policies name next h) s
