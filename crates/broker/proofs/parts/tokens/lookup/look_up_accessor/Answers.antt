@@ -4,7 +4,6 @@ use Rattle.std.proofs.lemmas.Result.{err_from_is_err_and}
 use Rattle.broker_types.specs.Names.{names_of}
 use Rattle.api_json.specs.Parsed.{members_of}
 use Rattle.records.specs.CallLaws.{honest_before}
-use Rattle.records.specs.ValueLaws.{none_of}
 use Rattle.broker.specs.Forms.{forms}
 use Rattle.broker.proofs.Expired.{represents_tokens}
 use Rattle.broker.proofs.Serving.{still_represented}
