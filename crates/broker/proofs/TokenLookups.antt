@@ -68,7 +68,8 @@ module _ (b : Broker) (rows : Rows) (c t id : Text) (names : Names) (found : Opt
 meant_by_accessor : (body : List ℕ) (ms : json.Members) (accessor : Text) → body_members body ≡ Ok ms → reader.accessor ms ≡ Ok accessor
     → on_tokens operation.LookUpAccessor body ≡ Ok (on_token (lookup_accessor accessor))
 meant_by_accessor body ms accessor members named =
-    ap (λ (r : Result json.Members Refusal). (r >>= (λ ms. reader.accessor ms >>= (λ x. Ok (lookup_accessor x)))) >>= (λ command. Ok (on_token command))) members
+    ap (λ (r : Result json.Members Refusal). (r >>= (λ ms. reader.accessor ms >>= (λ x. Ok (lookup_accessor x)))) >>= (λ command. Ok (on_token command)))
+    members
     ∙ ap (λ (r : Result Text Refusal). (r >>= (λ x. Ok (lookup_accessor x))) >>= (λ command. Ok (on_token command))) named
 
 module _ (b : Broker) (rows : Rows) (c : Text) (names : Names) (body : List ℕ) (ms : json.Members) (accessor : Text)

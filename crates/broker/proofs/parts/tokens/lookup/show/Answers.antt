@@ -38,7 +38,8 @@ returns-clause-ok g c =
     (Ok (Given c.in_ok-plain_reply.field-0)))
     c.context.view_is
     (λ honest b starts.
-    acts_look_up b (seen c.find.new.tx).rows c.context.inside.caller.now c.args.token.now c.args.id.now (names_of c.context.inside.words.now) c.in_ok-found.field-0
+    acts_look_up b (seen c.find.new.tx).rows c.context.inside.caller.now c.args.token.now c.args.id.now (names_of c.context.inside.words.now)
+    c.in_ok-found.field-0
     (still_represented b rows (seen c.find.new.tx).rows (c.in_ok-found.ensures.same honest) starts.represents)
     (c.in_ok-found.ensures.told honest forms b (represents_tokens b rows starts.represents))
     c.as_str.result.now c.context.inside.clock c.in-Some.found c.in_ok-plain_reply.field-0
