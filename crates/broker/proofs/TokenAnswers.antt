@@ -19,6 +19,7 @@ use Rattle.broker_types.specs.declared.refusal.Refusal.TheVariants as refusal
 use Rattle.broker_types.specs.declared.refusal.Reason.TheVariants as reason
 use Rattle.broker_types.specs.declared.reply.Reply.{Reply}
 use Rattle.api_json.specs.declared.token_bodies.TokenCreation.{TokenCreation}
+use Rattle.records.specs.TokenEntry.{token_entry}
 use Rattle.records.specs.ValueLaws.{ok_inj}
 use Rattle.token_tree.specs.SoundLaws.{create_evolves, renew_evolves}
 use Rattle.token_tree.specs.Tokens.{with_token, with_end}
@@ -94,9 +95,9 @@ renew_proper : (b : Broker) (names : Names) (t : Text) (increment : ℕ) (d : Do
 renew_proper b names t increment d e =
     let x = ok_step (known b t) _ d e in
     let ending = ok_step (unless (is_some x.0.ends) (refusal.BadRequest reason.TokenNotRenewable)) _ d x.2 in
-    let next = new_end b.clock x.0 increment in
+    let next = new_end b.clock (token_entry x.0) increment in
     subst (IsProper b []) (ok_inj ending.2)
-    (plainly_proper b (tree.renew b t next) (reply (auth_reply names.request b.clock t (with_end next x.0)) None) refl
+    (plainly_proper b (tree.renew b t next) (reply (auth_reply names.request b.clock t (token_entry (with_end next x.0))) None) refl
     (λ r n. absurd (cc)) (λ t n. absurd (cc)) (renew_evolves b t next))
 
 revoke_proper : (b : Broker) (t : Text) → IsProper b [] (revoke b t)
