@@ -1,8 +1,9 @@
 //! The policies of a new token.
 
 ghost use Rattle.std.specs.Prelude.{◌≡◌, ◌++◌, ◌∷◌, [], IfOk, OnOk, map, string_bytes};
+ghost use Rattle.std.specs.BTreeSet.{insert_key};
 ghost use Rattle.broker_types.specs.Map.{keys};
-ghost use Rattle.broker_types.specs.Text.{same};
+ghost use Rattle.broker_types.specs.Text.{same, text_cmp};
 ghost use Rattle.records.specs.Children.{set_of};
 ghost use Rattle.broker.specs.parts.TokenCreation as part;
 ghost use Rattle.broker.specs.parts.TokenEntries.{token_told};
@@ -108,7 +109,6 @@ fn as_set(alloc: Global, texts: &[TextBuf]) -> Result<Vec<TextBuf>, AllocError>
 }
 
 /// Puts texts in a set.
-#[tactic(auto, using(crate::proofs::TokenSets::keys_inserted))]
 fn put_each(
     alloc: Global,
     set: &mut BTreeSet<String>,
@@ -117,8 +117,17 @@ fn put_each(
     ensures { OnOk result (map string_bytes set.new.keys ≡ sets.put_each (map string_bytes set.old.keys) texts.now) }
 {
     for text in texts {
-        set.insert(String::from_str(alloc, text.as_str())?)?;
+        put_one(alloc, set, text.as_str())?;
     }
+    Ok(())
+}
+
+/// Puts a text in a set.
+fn put_one(alloc: Global, set: &mut BTreeSet<String>, text: &str) -> Result<(), AllocError>
+    ensures { OnOk result (map string_bytes set.new.keys
+        ≡ insert_key text_cmp (map string_bytes set.old.keys) text.now) }
+{
+    set.insert(String::from_str(alloc, text)?)?;
     Ok(())
 }
 
