@@ -178,14 +178,14 @@ few_texts (object ms) ts e = cc
 -- ---- what a body brings
 
 pub few_policies : (body : List ℕ) (ms : Members) (f : Field) (o : Option (List Text)) → length body ≤ longest_body → read_body body ≡ Some ms
-    → optional kind.as_texts f ms ≡ Ok o → length (unwrap_or o []) < 2 ^ 32
+    → optional kind.as_texts f ms ≡ Ok o → length (unwrap_or o []) + 1 < 2 ^ 32
 unfolding optional Taken
 few_policies body ms f o fit e h = by (of_member kind.as_texts f (get_member (field_name f) ms) o h)
   where
-    by : Taken kind.as_texts (get_member (field_name f) ms) o → length (unwrap_or o []) < 2 ^ 32
-    by (inl none) = subst (λ (x : Option (List Text)). length (unwrap_or x []) < 2 ^ 32) (sym none) (lit< tt)
+    by : Taken kind.as_texts (get_member (field_name f) ms) o → length (unwrap_or o []) + 1 < 2 ^ 32
+    by (inl none) = subst (λ (x : Option (List Text)). length (unwrap_or x []) + 1 < 2 ^ 32) (sym none) (lit< tt)
     by (inr t) =
-        subst (λ (x : Option (List Text)). length (unwrap_or x []) < 2 ^ 32) (sym t.4)
+        subst (λ (x : Option (List Text)). length (unwrap_or x []) + 1 < 2 ^ 32) (sym t.4)
         (omega (arith, few_texts t.0 t.1 t.3, member_length (field_name f) ms t.0 t.2, length-body body ms e))
 
 none_kept : IsKeptMeta []

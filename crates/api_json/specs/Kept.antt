@@ -1,5 +1,5 @@
 -- What is kept of bodies: objects, as compact texts (RFC 8259, section 4), and the metadata of tokens.
-use Rattle.std.specs.Prelude.{◌≡◌, ◌<◌, ◌^◌, List, Bool, true, false, length, map, option_and_then, All}
+use Rattle.std.specs.Prelude.{◌≡◌, ◌<◌, ◌^◌, ◌+◌, List, Bool, true, false, length, map, option_and_then, All}
 use Rattle.std.specs.Option.{option_map_or}
 use Rattle.serde_json.specs.Data.{object}
 use Rattle.serde_json.specs.Read.{read}
@@ -26,7 +26,7 @@ pub record IsKeptMeta (es : List (Text × Text)) : Type 0 where
   pub short : All (λ e. (length e.0 < 2 ^ 32) × (length e.1 < 2 ^ 32)) es
   pub ascend : is_ascending (map (λ e. e.0) es) ≡ true
 
--- what a body asks of a new token can be kept
+-- what a body asks of a new token can be kept, with one policy more
 pub record IsKeptCreation (c : TokenCreation) : Type 0 where
-  pub few_policies : length c.policies < 2 ^ 32
+  pub few_policies : length c.policies + 1 < 2 ^ 32
   pub meta : IsKeptMeta c.meta

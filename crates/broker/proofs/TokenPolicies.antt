@@ -1,11 +1,10 @@
 -- The policies of a new token are names, in order, and few.
-use Rattle.std.specs.Prelude.{◌≡◌, ◌≤◌, ◌<◌, ◌^◌, ◌+◌, ◌&&◌, ℕ, suc, List, [], ◌∷◌, length, filter, map, Bool, true, false, cond, not, ◌||◌, T, Some, codes}
+use Rattle.std.specs.Prelude.{◌≡◌, ◌≤◌, ◌<◌, ◌^◌, ◌+◌, ◌&&◌, ℕ, suc, List, [], ◌∷◌, length, map, Bool, true, false, cond, not, ◌||◌, T, Some, codes}
 use Rattle.std.specs.Prelude.{All, if◌then◌else◌}
 use Rattle.std.specs.Cmp.Lexicographic.{nat_list_cmp_total}
 use Rattle.std.specs.FinMap.{from_entries, len-insert, len-empty, len-entries, entries_sorted, contains_key, is_sorted}
 use Rattle.std.specs.List.{list_all}
-use Rattle.std.proofs.Common.{refl, sym, ◌∙◌, subst, ap, lit<, lt_of_le_of_lt, arith}
-use Rattle.std.proofs.Math.Nat.{le_trans}
+use Rattle.std.proofs.Common.{refl, sym, ◌∙◌, subst, lit<, lt_of_le_of_lt, arith}
 use Rattle.std.proofs.lemmas.Bool.{and_parts}
 use Rattle.std.proofs.lemmas.Option.{same_Some}
 use Rattle.std.proofs.lemmas.List.{length-map}
@@ -82,39 +81,22 @@ few_in_set ts =
 
 -- ---- the policies of a new token
 
--- policies as a sound token has them
-pub record ArePolicies (ps : List Text) : Type 0 where
-  pub names : All (λ p. is_name p ≡ true) ps
+-- policies as tokens have them: each as P says, in order, and few
+pub record ArePolicies (P : Text → Type 0) (ps : List Text) : Type 0 where
+  pub names : All P ps
   pub ascend : is_ascending ps ≡ true
   pub few : length ps < 2 ^ 32
 
-abbrev IsPolicyName : Text → Type 0
+-- names of policies
+abbrev pub IsPolicyName : Text → Type 0
 IsPolicyName p = is_name p ≡ true
 
-each_passes : (ts : List Text) → list_all is_name ts ≡ true → All IsPolicyName ts
+-- what passes one by one
+pub each_passes : (ts : List Text) → list_all is_name ts ≡ true → All IsPolicyName ts
 each_passes [] h = All-nil IsPolicyName
 each_passes (t ∷ ts) h =
     let two = and_parts _ _ h in
     All-cons IsPolicyName t ts two.0 (each_passes ts two.1)
-
-set_policies : (ts : List Text) → All IsPolicyName ts → length ts < 2 ^ 32 → ArePolicies (keys (set_of ts))
-set_policies ts names few = record {
-  names = each_in_set IsPolicyName ts names;
-  ascend = keys_ascend (set_of ts);
-  few = lt_of_le_of_lt (few_in_set ts) few;
-}
-
-root_policies : ArePolicies (codes "root" ∷ [])
-root_policies = record {
-  names = All-cons IsPolicyName (codes "root") [] refl (All-nil IsPolicyName);
-  ascend = refl;
-  few = lit< tt;
-}
-
-given_names : (adds : Bool) (own asked : List Text) → All IsPolicyName own → All IsPolicyName asked → All IsPolicyName (policies_given adds own asked)
-given_names adds own [] h g = h
-given_names true own (p ∷ ps) h g = All-cons IsPolicyName default_name (p ∷ ps) refl g
-given_names false own (p ∷ ps) h g = g
 
 one_more : (n m : ℕ) → n + 1 < m → suc n < m
 one_more n m h = omega arith
@@ -131,22 +113,38 @@ without_few : (ts : List Text) → length (without_default ts) ≤ length ts
 without_few ts =
     omega (arith, length-filter (λ p. not (same p default_name)) ts, count_by-le-length (λ p. not (same p default_name)) ts)
 
-module _ (privileged : Bool) (x : Token) (asked : TokenCreation) where
-  abbrev given : List Text
-  given = policies_given (privileged || has x.policies default_name) x.policies asked.policies
+module _ (P : Text → Type 0) (root : P (codes "root")) (default : P default_name) where
+  set_policies : (ts : List Text) → All P ts → length ts < 2 ^ 32 → ArePolicies P (keys (set_of ts))
+  set_policies ts names few = record {
+    names = each_in_set P ts names;
+    ascend = keys_ascend (set_of ts);
+    few = lt_of_le_of_lt (few_in_set ts) few;
+  }
 
-  -- those of a sound caller and of names in range are policies as a sound token has them
-  pub new_policies_are : ArePolicies x.policies → list_all is_name asked.policies ≡ true → length asked.policies + 1 < 2 ^ 32
-      → ArePolicies (new_policies privileged x asked)
-  new_policies_are own named few =
-      let all = given_names (privileged || has x.policies default_name) x.policies asked.policies own.names (each_passes asked.policies named) in
-      let short = given_few (privileged || has x.policies default_name) x.policies asked.policies own.few few in
-      elim (have_root given)
-      as (λ v. ArePolicies (if v then codes "root" ∷ [] else keys (set_of (if asked.no_default_policy then without_default given else given)))) [
-        | true ↦ root_policies
-        | false ↦ elim (asked.no_default_policy) as (λ v. ArePolicies (keys (set_of (if v then without_default given else given)))) [
-          | true ↦ set_policies (without_default given) (All-filter (λ p. not (same p default_name)) IsPolicyName given all)
-              (lt_of_le_of_lt (without_few given) short)
-          | false ↦ set_policies given all short
+  root_policies : ArePolicies P (codes "root" ∷ [])
+  root_policies = record { names = All-cons P (codes "root") [] root (All-nil P); ascend = refl; few = lit< tt }
+
+  given_names : (adds : Bool) (own asked : List Text) → All P own → All P asked → All P (policies_given adds own asked)
+  given_names adds own [] h g = h
+  given_names true own (p ∷ ps) h g = All-cons P default_name (p ∷ ps) default g
+  given_names false own (p ∷ ps) h g = g
+
+  module _ (privileged : Bool) (x : Token) (asked : TokenCreation) where
+    abbrev given : List Text
+    given = policies_given (privileged || has x.policies default_name) x.policies asked.policies
+
+    -- those of a caller that has such, and of a body that asks for such, are such policies
+    pub new_policies_are : ArePolicies P x.policies → All P asked.policies → length asked.policies + 1 < 2 ^ 32
+        → ArePolicies P (new_policies privileged x asked)
+    new_policies_are own named few =
+        let all = given_names (privileged || has x.policies default_name) x.policies asked.policies own.names named in
+        let short = given_few (privileged || has x.policies default_name) x.policies asked.policies own.few few in
+        elim (have_root given)
+        as (λ v. ArePolicies P (if v then codes "root" ∷ [] else keys (set_of (if asked.no_default_policy then without_default given else given)))) [
+          | true ↦ root_policies
+          | false ↦ elim (asked.no_default_policy) as (λ v. ArePolicies P (keys (set_of (if v then without_default given else given)))) [
+            | true ↦ set_policies (without_default given) (All-filter (λ p. not (same p default_name)) P given all)
+                (lt_of_le_of_lt (without_few given) short)
+            | false ↦ set_policies given all short
+          ]
         ]
-      ]

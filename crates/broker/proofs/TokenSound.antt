@@ -1,20 +1,16 @@
 -- What commands on tokens leave: a sound broker, and one that the requests served so far can leave.
-use Rattle.std.specs.Prelude.{◌≡◌, ◌≢◌, ◌≤◌, ◌<◌, ◌^◌, ◌+◌, ◌==◌, ◌||◌, ◌&&◌, ℕ, min, List, [], ◌∷◌, Bool, All, ⊤, true, false, not, cond, if◌then◌else◌}
+use Rattle.std.specs.Prelude.{◌≡◌, ◌≢◌, ◌≤◌, ◌<◌, ◌^◌, ◌+◌, ◌==◌, ◌||◌, ◌&&◌, ℕ, min, List, [], Bool, All, ⊤, true, false, not, cond, if◌then◌else◌}
 use Rattle.std.specs.Prelude.{Option, Some, None, is_some, is_none, Ok}
-use Rattle.std.specs.FinMap.{from_entries, len-entries}
-use Rattle.std.specs.List.{list_any, list_all}
-use Rattle.std.proofs.Common.{refl, sym, ◌∙◌, ap, subst, arith, lit<, lt_of_le_of_lt, inl, inr}
+use Rattle.std.proofs.Common.{refl, sym, ◌∙◌, ap, subst, arith, lt_of_le_of_lt}
 use Rattle.std.proofs.Math.Nat.{le_trans, min-le_left, min-le_right}
-use Rattle.std.proofs.lemmas.Bool.{false≢true, and_parts, eqb-true}
-use Rattle.std.proofs.lemmas.List.Elements.{All-get_or}
+use Rattle.std.proofs.lemmas.Bool.{false≢true, and_parts}
 use Rattle.std.proofs.lemmas.Option.{none-some, same_Some}
-use Rattle.broker_types.specs.Text.{Text, text_cmp, same}
-use Rattle.broker_types.specs.Map.{Map, get, put, empty, len, keep, change}
+use Rattle.broker_types.specs.Text.{Text, same}
+use Rattle.broker_types.specs.Map.{Map, get, put, empty, change}
 use Rattle.broker_types.specs.MapLaws.{no_entry, get-put, get-change}
 use Rattle.broker_types.specs.Moment.{greatest_moment}
 use Rattle.broker_types.specs.Limits.{longest_ttl}
-use Rattle.broker_types.specs.Lineage.{is_under, without_descendants, without_parent, orphaned_by}
-use Rattle.broker_types.specs.Name.{is_name}
+use Rattle.broker_types.specs.Lineage.{is_under, without_descendants, without_parent}
 use Rattle.broker_types.specs.Names.{Names}
 use Rattle.broker_types.specs.OptionLaws.{mapped}
 use Rattle.broker_types.specs.Token.{Token, Tokens}
@@ -28,7 +24,6 @@ use Rattle.broker_types.specs.Sound.{Forms, Sound, IsSoundToken, IsEnd, IsShortT
 use Rattle.broker_types.specs.TreeLaws.{orphaned_is}
 use Rattle.broker_types.specs.Used.{are_new, use_up}
 use Rattle.broker_types.specs.TextLaws.{same_self}
-use Rattle.broker_types.specs.declared.refusal.Refusal.{Refusal}
 use Rattle.broker_types.specs.declared.refusal.Denial.TheVariants as denial
 use Rattle.broker_types.specs.declared.refusal.Refusal.TheVariants as refusal
 use Rattle.broker_types.specs.declared.refusal.Reason.TheVariants as reason
@@ -47,9 +42,10 @@ use Rattle.broker.specs.parts.TokenCommands.{token_names, token_traits}
 use Rattle.broker.specs.parts.TokenCreation.{Making, of_caller, without_parent as as_orphan, makes_orphans, making_path, is_privileged, may_make}
 use Rattle.broker.specs.parts.TokenCreation.{new_policies, new_token, new_parent, or_longest, asked_ttl, has_no_end, use_limit}
 use Rattle.broker.specs.parts.TokenRanges.{IsInRange, IsCommandInRange, AreTokenNames}
-use Rattle.broker.specs.parts.Tokens.{act_on_tokens, known, named, made, create, look_up, renew, new_end, revoke, revoke_alone}
+use Rattle.broker.specs.parts.Tokens.{act_on_tokens, known, named, create, look_up, renew, new_end, revoke, revoke_alone}
 use Rattle.broker.proofs.TokenAnswers.{ok_step, is_nothing, first_new}
-use Rattle.broker.proofs.TokenPolicies.{ArePolicies, each_listed, few_listed, new_policies_are}
+use Rattle.broker.proofs.TokenRules.{allowed}
+use Rattle.broker.proofs.TokenPolicies.{ArePolicies, IsPolicyName, each_passes, each_listed, few_listed, new_policies_are}
 
 -- ---- the token of a caller
 
@@ -62,17 +58,18 @@ known_is b t x e = by (get b.tokens t) refl e
 
 -- ---- a new token is sound
 
-ttl_short : (asked : TokenCreation) → asked_ttl asked ≤ longest_ttl
+pub ttl_short : (asked : TokenCreation) → asked_ttl asked ≤ longest_ttl
 ttl_short asked =
     le_trans (min-le_right (or_longest asked.ttl) (min longest_ttl (or_longest asked.explicit_max_ttl)))
     (min-le_left longest_ttl (or_longest asked.explicit_max_ttl))
 
-end_near : (now ttl : ℕ) → now ≤ greatest_moment → ttl ≤ longest_ttl → IsEnd (now + ttl)
+pub end_near : (now ttl : ℕ) → now ≤ greatest_moment → ttl ≤ longest_ttl → IsEnd (now + ttl)
 end_near now ttl h g = omega arith
 
 module _ (forms : Forms) (names : Names) (good : AreTokenNames names) (now : ℕ) (within : now ≤ greatest_moment) (asked : TokenCreation)
     (range : IsInRange asked) where
-  pub new_sound : (parent : Option Text) (ps : List Text) → ArePolicies ps → IsSoundToken forms (token_text names.token) (new_token now parent names.accessor ps asked)
+  pub new_sound : (parent : Option Text) (ps : List Text) → ArePolicies IsPolicyName ps
+      → IsSoundToken forms (token_text names.token) (new_token now parent names.accessor ps asked)
   new_sound parent ps are =
       record {
         name = (names.token, good.token, refl);
@@ -86,7 +83,7 @@ module _ (forms : Forms) (names : Names) (good : AreTokenNames names) (now : ℕ
         explicit_max_ttl = range.explicit_max_ttl;
         period = omega arith;
         uses_left = uses (asked.num_uses == 0);
-        few_meta = lt_of_le_of_lt (few_listed asked.meta) range.meta.few;
+        few_meta = lt_of_le_of_lt (few_listed asked.meta) range.kept.meta.few;
         meta = each_listed (λ name value. IsShortText name × IsShortText value) asked.meta texts;
         cubbyhole = λ path object is. absurd (no_entry path object is);
         leases = λ lease_id l is. absurd (no_entry lease_id l is);
@@ -107,7 +104,7 @@ module _ (forms : Forms) (names : Names) (good : AreTokenNames names) (now : ℕ
       texts : All (λ e. IsShortText e.0 × IsShortText e.1) asked.meta
       texts k d lt =
           let u = range.texts k d lt in
-          let s = range.meta.short k d lt in
+          let s = range.kept.meta.short k d lt in
           (record { utf8 = u.0; short = s.0 }, record { utf8 = u.1; short = s.1 })
 
 -- its uses are not spent
@@ -136,7 +133,8 @@ served_tokens b us used s none = record {
   one_policy = s.one_policy;
 }
 
-no_leases_put : (ts : Tokens) (t : Text) (x : Token) → HaveNoLeases ts → x.leases ≡ empty → HaveNoLeases (put ts t x)
+-- and one more without leases
+pub no_leases_put : (ts : Tokens) (t : Text) (x : Token) → HaveNoLeases ts → x.leases ≡ empty → HaveNoLeases (put ts t x)
 no_leases_put ts t x none empty_leases q y is =
     elim (same q t) as (λ v. cond v (Some x) (get ts q) ≡ Some y → y.leases ≡ empty) [
       | true ↦ λ e. ap (λ (z : Token). z.leases) (sym (same_Some _ _ e)) ∙ empty_leases
@@ -162,20 +160,8 @@ no_leases_orphaned ts t none q y is =
 
 -- ---- by creation
 
-passed : (v : Bool) (u : ⊤) (r : Refusal) → unless v r ≡ Ok u → v ≡ true
-passed true u r e = refl
-passed false u r e = absurd (cc)
-
--- a body that may be served names policies
-pub may_name : (privileged orphans : Bool) (x : Token) (ps : List Text) (asked : TokenCreation) (u : ⊤) → may_make privileged orphans x ps asked ≡ Ok u
-    → list_all is_name asked.policies ≡ true
-may_name privileged orphans x ps asked u e =
-    let first = ok_step (unless (is_none x.uses_left) (refusal.BadRequest reason.RestrictedToken)) _ u e in
-    let second = ok_step (unless (list_all is_name asked.policies) (refusal.BadRequest reason.InvalidName)) _ u first.2 in
-    passed (list_all is_name asked.policies) second.0 _ second.1
-
 -- the policies of a sound token
-sound_policies : (forms : Forms) (t : Text) (x : Token) → IsSoundToken forms t x → ArePolicies x.policies
+sound_policies : (forms : Forms) (t : Text) (x : Token) → IsSoundToken forms t x → ArePolicies IsPolicyName x.policies
 sound_policies forms t x s = record { names = s.policy_names; ascend = s.policies_ascend; few = s.few_policies }
 
 module _ (forms : Forms) (who : Option Text) (b : Broker) (sound : Sound forms who b) (names : Names) (good : AreTokenNames names)
@@ -192,7 +178,8 @@ module _ (forms : Forms) (who : Option Text) (b : Broker) (sound : Sound forms w
   parent_stands c false p here e = subst (λ q. get b.tokens q ≢ None) (same_Some _ _ e) here
 
   -- a token with good policies may be made
-  pub may_be_made : (c : Text) (orphans : Bool) (ps : List Text) (asked : TokenCreation) → IsInRange asked → get b.tokens c ≢ None → ArePolicies ps
+  pub may_be_made : (c : Text) (orphans : Bool) (ps : List Text) (asked : TokenCreation) → IsInRange asked → get b.tokens c ≢ None
+      → ArePolicies IsPolicyName ps
       → MayBeMade forms b (token_text names.token) (new_token b.clock (new_parent c orphans asked) names.accessor ps asked)
   may_be_made c orphans ps asked range here are = record {
     sound = new_sound forms names good b.clock sound.clock asked range (new_parent c orphans asked) ps are;
@@ -213,8 +200,8 @@ module _ (forms : Forms) (who : Option Text) (b : Broker) (sound : Sound forms w
       let privileged = is_privileged b (making_path making) x.0 in
       let ps = new_policies privileged x.0 asked in
       let may = ok_step (may_make privileged (makes_orphans making) x.0 ps asked) _ d x.2 in
-      let are = new_policies_are privileged x.0 asked (sound_policies forms c x.0 (sound.tokens.each c x.0 is))
-      (may_name privileged (makes_orphans making) x.0 ps asked may.0 may.1) range.few_policies in
+      let are = new_policies_are IsPolicyName refl refl privileged x.0 asked (sound_policies forms c x.0 (sound.tokens.each c x.0 is))
+      (each_passes asked.policies (allowed privileged (makes_orphans making) x.0 ps asked may.0 may.1).named) range.kept.few_policies in
       let t = token_text names.token in
       let y = new_token b.clock (new_parent c (makes_orphans making) asked) names.accessor ps asked in
       let can = may_be_made c (makes_orphans making) ps asked range (λ none. none-some _ (sym none ∙ is)) are in

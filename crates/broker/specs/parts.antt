@@ -2,6 +2,8 @@
 pub mod Cubbyholes
 pub mod TokenCommands
 pub mod TokenCreation
+pub mod TokenEntries
 pub mod TokenRanges
 pub mod TokenReplies
+pub mod TokenSets
 pub mod Tokens

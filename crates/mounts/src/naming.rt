@@ -1,4 +1,4 @@
-//! Names of mounts.
+//! Names of mounts, policies and roles.
 
 ghost use Rattle.std.specs.Prelude.{◌≡◌};
 ghost use Rattle.std.specs.List.{list_all, list_any};
@@ -7,7 +7,7 @@ ghost use Rattle.broker_types.specs.Name as names;
 ghost use Rattle.mounts.specs.Mounts.{fixed_names};
 
 /// Whether a text is a name: 1 to 128 ASCII letters, digits, `-`, `_` and `.`.
-pub(crate) fn is_name(text: &str) -> bool
+pub fn is_name(text: &str) -> bool
     ensures { result ≡ names.is_name text.now }
 {
     let len = text.len();

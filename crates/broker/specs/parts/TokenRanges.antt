@@ -1,18 +1,17 @@
 -- What commands on tokens may bring so that a broker can keep it (this project's definition).
-use Rattle.std.specs.Prelude.{ℕ, ◌+◌, ◌<◌, ◌≤◌, ◌^◌, length, All, IsUtf8, ⊤}
+use Rattle.std.specs.Prelude.{◌<◌, ◌≤◌, ◌^◌, All, IsUtf8, ⊤}
 use Rattle.broker_types.specs.Duration.{longest_duration}
 use Rattle.broker_types.specs.Names.{Names}
 use Rattle.broker_types.specs.Sound.{IsIdentifier}
-use Rattle.api_json.specs.Kept.{IsKeptMeta}
+use Rattle.api_json.specs.Kept.{IsKeptCreation}
 use Rattle.api_json.specs.declared.token_bodies.TokenCreation.{TokenCreation}
 use Rattle.broker.specs.parts.TokenCommands.{TokenCommand, create_token, create_orphan}
 
--- The members of a new token are in range: one policy more can be kept, and so can the metadata, which are texts.
+-- the members of a new token are in range: they can be kept, and the metadata are texts
 pub record IsInRange (asked : TokenCreation) : Type 0 where
-  pub few_policies : length asked.policies + 1 < 2 ^ 32
+  pub kept : IsKeptCreation asked
   pub explicit_max_ttl : asked.explicit_max_ttl ≤ longest_duration
   pub num_uses : asked.num_uses < 2 ^ 64
-  pub meta : IsKeptMeta asked.meta
   pub texts : All (λ e. IsUtf8 e.0 × IsUtf8 e.1) asked.meta
 
 -- what the command brings is in range

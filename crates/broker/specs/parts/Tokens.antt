@@ -11,6 +11,7 @@ use Rattle.broker_types.specs.Broker as broker
 use Rattle.broker_types.specs.Broker.{Broker}
 use Rattle.broker_types.specs.Operation.{nothing, reply, plainly, Done}
 use Rattle.broker_types.specs.Refuse.{◌>>=◌, some_or, unless}
+use Rattle.broker_types.specs.Used.{are_new}
 use Rattle.broker_types.specs.declared.refusal.Refusal.{Refusal}
 use Rattle.broker_types.specs.declared.refusal.Refusal.TheVariants as refusal
 use Rattle.broker_types.specs.declared.refusal.Reason.TheVariants as reason
@@ -63,6 +64,12 @@ create b c names making asked = do
   x ← known b c
   let privileged = is_privileged b (making_path making) x in
       create_with b c x names making privileged (new_policies privileged x asked) asked
+
+-- what is done with the identifiers of a new token, which have to be new
+abbrev pub if_new : Broker → Names → Result Done Refusal → Result Done Refusal
+if_new b names done = do
+  fresh ← unless (are_new b.used (token_names names)) refusal.IdentifierUsed
+  done
 
 -- ---- look-up
 

@@ -3,7 +3,7 @@
 ghost use Rattle.std.specs.Prelude.{◌≡◌, [], ◌∷◌, Option, IfOk, IfErr, OnOk};
 ghost use Rattle.broker_types.specs.Broker.{Broker};
 ghost use Rattle.broker_types.specs.Fault.{IsMemoryOrStorage};
-ghost use Rattle.broker_types.specs.Text.{Text};
+ghost use Rattle.broker_types.specs.Text.{Text, same};
 ghost use Rattle.broker_types.specs.Used.{are_new};
 ghost use Rattle.records.specs.RowForms.{used_row};
 ghost use Rattle.records.specs.Table.{table_of, with_row};
@@ -26,13 +26,21 @@ pub(crate) fn are_both_new<T: RecordsTx>(
     ensures same { IsHonest (T.seen tx.new) → OnOk result ((T.seen tx.new).rows ≡ (T.seen tx.old).rows) }
     ensures call { IsCall (T.seen tx.old) (T.seen tx.new) result }
 {
-    if first == second {
+    if is_same(first, second) {
         return Ok(false);
     }
     if tx.get(Kind::Used, first)?.is_some() {
         return Ok(false);
     }
     Ok(tx.get(Kind::Used, second)?.is_none())
+}
+
+/// Whether two texts are one.
+#[tactic(auto, unfolding(broker_types::specs::Text::same))]
+fn is_same(a: &str, b: &str) -> bool
+    ensures { result ≡ same a.now b.now }
+{
+    a == b
 }
 
 /// Marks an identifier as given out.

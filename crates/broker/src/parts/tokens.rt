@@ -11,6 +11,8 @@ ghost use Rattle.broker.specs.Operating.{Operates};
 
 mod creation;
 mod lookup;
+mod new_policies;
+mod new_token;
 mod renewal;
 mod revocation;
 mod shown;

@@ -1,4 +1,4 @@
-use Rattle.std.proofs.Common.{◌<◌, ◌^◌, ◌∙◌, ℕ, List, length, ap, sym, subst, unwrap_or}
+use Rattle.std.proofs.Common.{◌<◌, ◌^◌, ◌+◌, ◌∙◌, ℕ, List, length, ap, sym, subst, unwrap_or}
 use Rattle.broker_types.specs.declared.refusal.Field.TheVariants as field
 use Rattle.api_json.specs.Kept.{IsKeptMeta}
 use Rattle.api_json.specs.Parsed.{members_of}
@@ -14,6 +14,6 @@ returns-clause-kept c bytes fits is =
     let meta = c.unwrap_or-3.ensures ∙ ap (unwrap_or c.in_ok-meta.meta) (c.new-4.ensures ∙ c.new-3.ensures.items) in
     record {
       few_policies =
-          subst (λ (ts : List (List ℕ)). length ts < 2 ^ 32) (sym policies) (few_policies bytes ms field.Policies _ fits read c.in_ok-policies.ensures);
+          subst (λ (ts : List (List ℕ)). length ts + 1 < 2 ^ 32) (sym policies) (few_policies bytes ms field.Policies _ fits read c.in_ok-policies.ensures);
       meta = subst IsKeptMeta (sym meta) (meta_kept bytes ms field.Meta _ fits read c.in_ok-meta.ensures);
     }

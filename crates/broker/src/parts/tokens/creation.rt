@@ -1,20 +1,44 @@
 //! Creation of tokens.
 
-ghost use Rattle.std.specs.Prelude.{◌≤◌, length};
+ghost use Rattle.std.specs.Prelude.{◌≡◌, ◌≤◌, [], true, None, Some, Ok, option_map, IfOk, IfErr, OnOk, length};
+ghost use Rattle.broker_types.specs.Broker.{Broker};
+ghost use Rattle.broker_types.specs.Fault.{IsMemoryOrStorage};
 ghost use Rattle.broker_types.specs.Limits.{longest_body};
-ghost use Rattle.broker_types.specs.RequestError.{step_fails};
-ghost use Rattle.records.specs.Transaction.{GoesOn};
+ghost use Rattle.broker_types.specs.Map.{empty, get};
+ghost use Rattle.broker_types.specs.Names.{names_of};
+ghost use Rattle.broker_types.specs.RequestError.{Ends, step_fails};
+ghost use Rattle.broker_types.specs.Token.{Token};
+ghost use Rattle.broker_types.specs.TokenText.{token_text};
+ghost use Rattle.broker_types.specs.Used.{are_new};
+ghost use Rattle.records.specs.Ranges.{IsTokenInRange};
+ghost use Rattle.records.specs.Reading.{IsSomeIn};
+ghost use Rattle.records.specs.TokenEntry.{token_entry};
+ghost use Rattle.records.specs.Transaction.{IsHonest, GoesOn, is_storage};
 ghost use Rattle.mounts.specs.Calls.{OnFault};
 ghost use Rattle.mounts.specs.declared.operation.TokenOperation.TheVariants as operations;
+ghost use Rattle.token_tree.specs.Tokens.{MayBeMade};
 ghost use Rattle.broker.specs.ClockRow.{IsNotBadStart};
 ghost use Rattle.broker.specs.Command.{on_tokens};
-ghost use Rattle.broker.specs.Operating.{Operates};
+ghost use Rattle.broker.specs.Forms.{forms};
+ghost use Rattle.broker.specs.Operating.{Operates, Performs, Starts};
+ghost use Rattle.broker.specs.Representing.{Represents};
+ghost use Rattle.broker.specs.Stages.{IsDone};
+ghost use Rattle.broker.specs.parts.TokenCommands.{token_names};
+ghost use Rattle.broker.specs.parts.TokenCreation.{Making, makes_orphans};
+ghost use Rattle.broker.specs.parts.TokenRanges.{IsInRange};
+ghost use Rattle.broker.specs.parts.Tokens as part;
 
 use crate::answered::Answered;
 use crate::context::Context;
-use broker_types::{Fault, RequestError};
-use records::RecordsTx;
+use crate::order::identifiers::{are_both_new, use_up};
+use crate::parts::tokens::new_policies::new_policies;
+use crate::parts::tokens::new_token::{check, new_parent, new_record};
+use crate::parts::tokens::shown::auth_reply;
+use api_json::{TokenCreation, read_body, token_creation};
+use broker_types::{Denial, Fault, Refusal, RequestError, TextBuf, TokenText, id_text};
+use records::{RecordsTx, TokenRecord};
 use std::alloc::Global;
+use token_tree::{create as create_token, find, is_among};
 
 /// Makes a child of the caller, or a token without parent if the body asks for it.
 pub(super) fn create<T: RecordsTx>(
@@ -28,7 +52,9 @@ pub(super) fn create<T: RecordsTx>(
     ensures started { OnFault result IsNotBadStart }
     ensures goes_on { GoesOn (T.seen tx.old) (T.seen tx.new) (step_fails result) }
 {
-    Err(RequestError::Fault(Fault::Memory))
+    let members = read_body(alloc, body)?;
+    let asked = token_creation(alloc, &members)?;
+    make(alloc, tx, context, false, asked)
 }
 
 /// Makes a token without parent.
@@ -43,5 +69,107 @@ pub(super) fn create_orphan<T: RecordsTx>(
     ensures started { OnFault result IsNotBadStart }
     ensures goes_on { GoesOn (T.seen tx.old) (T.seen tx.new) (step_fails result) }
 {
-    Err(RequestError::Fault(Fault::Memory))
+    let members = read_body(alloc, body)?;
+    let asked = token_creation(alloc, &members)?;
+    make(alloc, tx, context, true, asked)
+}
+
+/// Makes a token, if the identifiers of the request are new: else it is 500.
+fn make<T: RecordsTx>(
+    alloc: Global,
+    tx: &mut T,
+    context: &Context<'_>,
+    orphans: bool,
+    asked: TokenCreation,
+) -> Result<Answered, RequestError>
+    requires { IsInRange asked }
+    ensures ok { (m : Making) → makes_orphans m ≡ orphans → Performs context.now (T.seen tx.old) (T.seen tx.new)
+        (λ b. part.if_new b (names_of context.now.words) (part.create b context.now.caller (names_of context.now.words) m asked))
+        result }
+    ensures started { OnFault result IsNotBadStart }
+    ensures goes_on { GoesOn (T.seen tx.old) (T.seen tx.new) (step_fails result) }
+{
+    let token = id_text(alloc, context.words.0[1])?;
+    let accessor = id_text(alloc, context.words.0[2])?;
+    if !are_both_new(tx, token.as_str(), accessor.as_str())? {
+        return Err(RequestError::Refused(Refusal::IdentifierUsed));
+    }
+    make_asked(alloc, tx, context, orphans, asked)
+}
+
+/// Makes the token that is asked for, if the caller may.
+fn make_asked<T: RecordsTx>(
+    alloc: Global,
+    tx: &mut T,
+    context: &Context<'_>,
+    orphans: bool,
+    asked: TokenCreation,
+) -> Result<Answered, RequestError>
+    requires { IsInRange asked }
+    ensures ok { IsHonest (T.seen tx.new) → (b : Broker) → Starts context.now (T.seen tx.old).rows b
+        → are_new b.used (token_names (names_of context.now.words)) ≡ true → (m : Making) → makes_orphans m ≡ orphans
+        → Ends (IsDone context.now.caller (T.seen tx.new).rows) (Represents (Some context.now.caller) (T.seen tx.new).rows b)
+            result (part.create b context.now.caller (names_of context.now.words) m asked) }
+    ensures started { OnFault result IsNotBadStart }
+    ensures goes_on { GoesOn (T.seen tx.old) (T.seen tx.new) (step_fails result) }
+{
+    let Some(caller) = find_caller(alloc, tx, context.caller)? else {
+        return Err(RequestError::Refused(Refusal::Forbidden(Denial::BadToken)));
+    };
+    let privileged = is_among(&caller.policies, "root");
+    let policies = new_policies(alloc, privileged, &caller, &asked)?;
+    check(privileged, orphans, &caller, &policies, &asked)?;
+    let parent = new_parent(alloc, context.caller, orphans, &asked)?;
+    let accessor = TextBuf::new(id_text(alloc, context.words.0[2])?);
+    let token = new_record(context.clock, parent, accessor, policies, asked);
+    put(alloc, tx, context, token)
+}
+
+/// The caller's token; no token has an empty text.
+fn find_caller<T: RecordsTx>(
+    alloc: Global,
+    tx: &mut T,
+    caller: &str,
+) -> Result<Option<TokenRecord>, Fault>
+    ensures told { IsHonest (T.seen tx.new) → (b : Broker) → Represents (Some caller.now) (T.seen tx.old).rows b
+        → IfOk result (λ found. found ≡ option_map token_entry (get b.tokens caller.now)) }
+    ensures in_range { IfOk result (IsSomeIn IsTokenInRange) }
+    ensures named { caller.now ≡ [] → IfOk result (λ found. found ≡ None) }
+    ensures wants { IsHonest (T.seen tx.new) → (b : Broker) → Represents (Some caller.now) (T.seen tx.old).rows b
+        → IfErr result IsMemoryOrStorage }
+    ensures same { IsHonest (T.seen tx.new) → OnOk result ((T.seen tx.new).rows ≡ (T.seen tx.old).rows) }
+    ensures started { IfErr result IsNotBadStart }
+    ensures goes_on { GoesOn (T.seen tx.old) (T.seen tx.new) (is_storage result) }
+{
+    if caller.is_empty() {
+        return Ok(None);
+    }
+    find(alloc, tx, caller)
+}
+
+/// Writes a new token, and marks its identifiers as given out.
+fn put<T: RecordsTx>(
+    alloc: Global,
+    tx: &mut T,
+    context: &Context<'_>,
+    token: TokenRecord,
+) -> Result<Answered, RequestError>
+    requires { IsTokenInRange token }
+    ensures ok { IsHonest (T.seen tx.new) → (b : Broker) → Starts context.now (T.seen tx.old).rows b → (x : Token)
+        → token_entry x ≡ token → MayBeMade forms b (token_text (names_of context.now.words).token) x
+        → x.cubbyhole ≡ empty → x.accessor ≡ (names_of context.now.words).accessor
+        → Ends (IsDone context.now.caller (T.seen tx.new).rows) (Represents (Some context.now.caller) (T.seen tx.new).rows b)
+            result (Ok (part.made b (names_of context.now.words) x)) }
+    ensures started { OnFault result IsNotBadStart }
+    ensures goes_on { GoesOn (T.seen tx.old) (T.seen tx.new) (step_fails result) }
+{
+    let text = TokenText::of_word(alloc, context.words.0[1])?;
+    let identifier = id_text(alloc, context.words.0[1])?;
+    let request = id_text(alloc, context.words.0[0])?;
+    let accessor = TextBuf::copied(alloc, token.accessor.as_str())?;
+    create_token(alloc, tx, text.as_str(), &token)?;
+    use_up(alloc, tx, accessor.as_str())?;
+    use_up(alloc, tx, identifier.as_str())?;
+    let reply = auth_reply(alloc, request.as_str(), context.clock, text.as_str(), token)?;
+    Ok(Answered::Made(reply, accessor))
 }

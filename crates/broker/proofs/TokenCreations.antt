@@ -1,0 +1,74 @@
+-- A creation beside its definition: what is refused, and what is made.
+use Rattle.std.specs.Prelude.{◌≡◌, ◌≢◌, ◌≤◌, ◌||◌, ℕ, List, [], ◌∷◌, Bool, true, false, if◌then◌else◌, codes, Option, Some, None, option_map, Result, Ok, Err, ⊤}
+use Rattle.std.proofs.Common.{refl, sym, ◌∙◌, ap, subst}
+use Rattle.std.proofs.lemmas.Option.{none-some, same_Some}
+use Rattle.broker_types.specs.Broker.{Broker}
+use Rattle.broker_types.specs.Map.{get}
+use Rattle.broker_types.specs.Names.{Names}
+use Rattle.broker_types.specs.Operation.{Done}
+use Rattle.broker_types.specs.OptionLaws.{mapped, mapped_none}
+use Rattle.broker_types.specs.Refuse.{◌>>=◌, some_or}
+use Rattle.broker_types.specs.Text.{Text}
+use Rattle.broker_types.specs.Token.{Token}
+use Rattle.broker_types.specs.declared.refusal.Refusal.{Refusal}
+use Rattle.broker_types.specs.declared.refusal.Denial.TheVariants as denial
+use Rattle.broker_types.specs.declared.refusal.Refusal.TheVariants as refusal
+use Rattle.records.specs.Children.{has}
+use Rattle.records.specs.TokenEntry.{TokenEntry, token_entry}
+use Rattle.api_json.specs.declared.token_bodies.TokenCreation.{TokenCreation}
+use Rattle.broker.specs.parts.TokenCreation.{Making, makes_orphans, making_path, is_privileged, have_root, new_policies, may_make, new_parent, new_token}
+use Rattle.broker.specs.parts.TokenEntries.{token_told}
+use Rattle.broker.specs.parts.Tokens.{create, create_with, made}
+
+-- no token has an empty parent
+pub parent_named : (c : Text) (orphans : Bool) (asked : TokenCreation) (parent : Option Text) → parent ≡ new_parent c orphans asked → c ≢ []
+    → parent ≢ Some []
+parent_named c orphans asked parent is named empty = by (orphans || asked.no_parent) (sym is ∙ empty)
+  where
+    by : (v : Bool) → (if v then None else Some c) ≡ Some [] → ⊥
+    by true e = none-some _ e
+    by false e = named (same_Some _ _ e)
+
+module _ (b : Broker) (c : Text) (names : Names) (m : Making) (asked : TokenCreation) where
+  abbrev made_by : Option Token → Result Done Refusal
+  made_by o = some_or (refusal.Forbidden denial.BadToken) o >>= (λ x. create_with b c x names m (is_privileged b (making_path m) x)
+      (new_policies (is_privileged b (making_path m) x) x asked) asked)
+
+  -- a caller that has no row is refused
+  pub create_unknown : None ≡ option_map token_entry (get b.tokens c) → create b c names m asked ≡ Err (refusal.Forbidden denial.BadToken)
+  create_unknown none = ap made_by (mapped_none token_entry (get b.tokens c) (sym none))
+
+  module _ (x : Token) (here : get b.tokens c ≡ Some x) where
+    abbrev policies : List Text
+    policies = new_policies (have_root x.policies) x asked
+
+    abbrev may : Result ⊤ Refusal
+    may = may_make (have_root x.policies) (makes_orphans m) x policies asked
+
+    abbrev new : Token
+    new = new_token b.clock (new_parent c (makes_orphans m) asked) names.accessor policies asked
+
+    -- one that may not is refused
+    pub create_refused : (r : Refusal) → may ≡ Err r → create b c names m asked ≡ Err r
+    create_refused r no = ap made_by here ∙ ap (λ (v : Result ⊤ Refusal). v >>= (λ _. Ok (made b names new))) no
+
+    -- and one that may makes the token
+    pub create_made : (u : ⊤) → may ≡ Ok u → create b c names m asked ≡ Ok (made b names new)
+    create_made u yes = ap made_by here ∙ ap (λ (v : Result ⊤ Refusal). v >>= (λ _. Ok (made b names new))) yes
+
+    -- ---- by the row of the caller
+
+    module _ (e : TokenEntry) (told : e ≡ token_entry x) (p : Bool) (root : p ≡ have_root e.policies) (ps : List Text)
+        (given : ps ≡ new_policies p (token_told e) asked) where
+      same_root : p ≡ have_root x.policies
+      same_root = root ∙ ap (λ (e : TokenEntry). have_root e.policies) told
+
+      -- the policies are those of the definition
+      pub same_policies_told : ps ≡ policies
+      same_policies_told = given ∙ (λ i. new_policies (same_root i) (token_told (told i)) asked)
+
+      -- and so are the tests
+      pub same_may : (orphans : Bool) → makes_orphans m ≡ orphans → (r : Result ⊤ Refusal)
+          → r ≡ may_make p orphans (token_told e) ps asked → may ≡ r
+      same_may orphans of r is =
+          sym (is ∙ (λ i. may_make (same_root i) (sym of i) (token_told (told i)) (same_policies_told i) asked))

@@ -1,0 +1,11 @@
+use Rattle.broker.specs.Forms.{forms}
+use Rattle.broker.proofs.Expired.{represents_tokens}
+use Rattle.broker.proofs.parts.tokens.creation.find_caller.Goals as goal
+
+pub returns-clause-told : goal.returns-clause-told
+returns-clause-told g c honest b st =
+    c.find.ensures.told honest forms b (represents_tokens b (g.T.RecordsTx.seen c.args.tx.now).rows st)
+
+pub returns-clause-wants : goal.returns-clause-wants
+returns-clause-wants g c honest b st =
+    c.find.ensures.undamaged honest forms b (represents_tokens b (g.T.RecordsTx.seen c.args.tx.now).rows st)
