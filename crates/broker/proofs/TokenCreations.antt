@@ -50,11 +50,11 @@ module _ (b : Broker) (c : Text) (names : Names) (m : Making) (asked : TokenCrea
 
     -- one that may not is refused
     pub create_refused : (r : Refusal) → may ≡ Err r → create b c names m asked ≡ Err r
-    create_refused r no = ap made_by here ∙ ap (λ (v : Result ⊤ Refusal). v >>= (λ _. Ok (made b names new))) no
+    create_refused r denied = ap made_by here ∙ ap (λ (v : Result ⊤ Refusal). v >>= (λ _. Ok (made b names new))) denied
 
     -- and one that may makes the token
     pub create_made : (u : ⊤) → may ≡ Ok u → create b c names m asked ≡ Ok (made b names new)
-    create_made u yes = ap made_by here ∙ ap (λ (v : Result ⊤ Refusal). v >>= (λ _. Ok (made b names new))) yes
+    create_made u granted = ap made_by here ∙ ap (λ (v : Result ⊤ Refusal). v >>= (λ _. Ok (made b names new))) granted
 
     -- ---- by the row of the caller
 

@@ -1,5 +1,5 @@
 -- A token that was made: its rows, its identifiers, and the answer.
-use Rattle.std.specs.Prelude.{◌≡◌, List, [], ◌∷◌, Bool, true, false, if◌then◌else◌, cond, Option, Some, None, option_map, ⊤}
+use Rattle.std.specs.Prelude.{◌≡◌, ◌==◌, length, List, [], ◌∷◌, Bool, true, false, if◌then◌else◌, cond, Option, Some, None, option_map, ⊤}
 use Rattle.std.proofs.Common.{refl, sym, ◌∙◌, ap, subst}
 use Rattle.std.proofs.lemmas.Bool.{false≢true, true≢false}
 use Rattle.broker_types.specs.Broker.{Broker}
@@ -30,6 +30,7 @@ use Rattle.broker.specs.Stages.{IsDone}
 use Rattle.broker.specs.declared.answered.Answered.TheVariants.{Made}
 use Rattle.broker.specs.parts.TokenReplies.{auth_reply}
 use Rattle.broker.specs.parts.Tokens.{made}
+use Rattle.broker.proofs.Expired.{tokens_long}
 use Rattle.broker.proofs.TokenSound.{IsLeft, served_tokens, no_leases_put}
 use Rattle.broker.proofs.TokenTables.{represents-created}
 
@@ -85,3 +86,13 @@ module _ {c : Text} (b : Broker) (names : Names) (x : Token) (old mid new : Rows
       (marks_told b (token_text names.token) x (table_of mid) (table_of new) marks
       (λ q. others kind.Used q refl ∙ ap (λ (table : Table). table kind.Used q) st.rows))
       (marks_keep b (token_text names.token) x (table_of mid) (table_of new) marks)))
+
+-- ---- no token has an empty text
+
+pub no_empty_token : {who : Option Text} (b : Broker) (rows : Rows) → Represents who rows b → (t : Text) → true ≡ (length t == 0)
+    → None ≡ option_map token_entry (get b.tokens t)
+no_empty_token b rows st t none = by (get b.tokens t) refl
+  where
+    by : (o : Option Token) → get b.tokens t ≡ o → None ≡ option_map token_entry o
+    by None e = refl
+    by (Some x) e = absurd (true≢false (none ∙ ap (λ n. n == 0) (tokens_long b rows st t x e)))

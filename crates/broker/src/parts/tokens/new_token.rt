@@ -2,6 +2,7 @@
 
 ghost use Rattle.std.specs.Prelude.{◌≡◌, ◌≤◌, ◌+◌, ◌||◌, None, Some, is_none, not, IfOk, if◌then◌else◌};
 ghost use Rattle.std.specs.List.{list_all};
+ghost use Rattle.broker_types.specs.Moment.{greatest_moment};
 ghost use Rattle.broker_types.specs.Limits.{longest_ttl};
 ghost use Rattle.broker_types.specs.Name as names;
 ghost use Rattle.broker_types.specs.Refuse as refuse;
@@ -132,7 +133,8 @@ pub(super) fn new_record(
     policies: Vec<TextBuf>,
     asked: TokenCreation,
 ) -> TokenRecord
-    ensures { result ≡ new_entry now parent accessor policies.items asked }
+    ensures entry { result ≡ new_entry now parent accessor policies.items asked }
+    ensures within { now ≤ greatest_moment }
 {
     let endless = has_no_end(&policies, &asked);
     let ttl = asked_ttl(&asked);
