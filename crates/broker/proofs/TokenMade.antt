@@ -51,8 +51,8 @@ module _ (b : Broker) (t : Text) (x : Token) (mid new : Table)
       ap (λ (table : Table). table kind.Used q) is
       ∙ inner (same q (token_identifier t)) (same q x.accessor) (mid kind.Used q) (get b.used q) (before q)
       ∙ ap (option_map (λ _. used_row))
-          (sym (get-put (put b.used x.accessor tt) (token_identifier t) tt q
-          ∙ ap (cond (same q (token_identifier t)) (Some (tt {0}))) (get-put b.used x.accessor tt q)))
+      (sym (get-put (put b.used x.accessor tt) (token_identifier t) tt q
+      ∙ ap (cond (same q (token_identifier t)) (Some (tt {0}))) (get-put b.used x.accessor tt q)))
   marks_told before _ q h = absurd (false≢true h)
 
   marks_outside : (k : Kind) (q : Text) → of_used k ≡ false
@@ -79,13 +79,14 @@ module _ {c : Text} (b : Broker) (names : Names) (x : Token) (old mid new : Rows
       → table_of new ≡ with_row (with_row (table_of mid) kind.Used x.accessor used_row) kind.Used names.token used_row
       → (r : Reply) (a : Text) → r ≡ auth_reply names.request b.clock (token_text names.token) (token_entry x) → a ≡ x.accessor
       → IsDone c new (Made r a) (made b names x)
-  made_done tells others marks r a shown given =
-      (λ i. operation.reply (shown i) (Some ((given ∙ named) i)),
-      subst (λ i. Represents (Some c) new (record (with_token b (token_text names.token) x) { used = use_up b.used (names.token ∷ i ∷ []) })) named
-      (represents-created b (token_text names.token) x old st can mid new bare left tells others
-      (marks_told b (token_text names.token) x (table_of mid) (table_of new) marks
-      (λ q. others kind.Used q refl ∙ ap (λ (table : Table). table kind.Used q) st.rows))
-      (marks_keep b (token_text names.token) x (table_of mid) (table_of new) marks)))
+  made_done tells others marks r a shown given = (
+    λ i. operation.reply (shown i) (Some ((given ∙ named) i)),
+    subst (λ i. Represents (Some c) new (record (with_token b (token_text names.token) x) { used = use_up b.used (names.token ∷ i ∷ []) })) named
+        (represents-created b (token_text names.token) x old st can mid new bare left tells others
+        (marks_told b (token_text names.token) x (table_of mid) (table_of new) marks
+        (λ q. others kind.Used q refl ∙ ap (λ (table : Table). table kind.Used q) st.rows))
+        (marks_keep b (token_text names.token) x (table_of mid) (table_of new) marks)),
+  )
 
 -- ---- no token has an empty text
 

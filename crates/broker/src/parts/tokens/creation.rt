@@ -13,6 +13,7 @@ ghost use Rattle.records.specs.Ranges.{IsTokenInRange};
 ghost use Rattle.records.specs.Reading.{IsSomeIn};
 ghost use Rattle.records.specs.TokenEntry.{token_entry};
 ghost use Rattle.records.specs.Transaction.{IsHonest, GoesOn, is_storage};
+ghost use Rattle.api_json.specs.Kept.{IsKeptCreation};
 ghost use Rattle.mounts.specs.Calls.{OnFault};
 ghost use Rattle.mounts.specs.declared.operation.TokenOperation.TheVariants as operations;
 ghost use Rattle.broker.specs.ClockRow.{IsNotBadStart};
@@ -21,7 +22,6 @@ ghost use Rattle.broker.specs.Operating.{Operates, Performs};
 ghost use Rattle.broker.specs.Representing.{Represents};
 ghost use Rattle.broker.specs.parts.TokenCreation.{Making, makes_orphans};
 ghost use Rattle.broker.specs.parts.TokenMaking.{MakesAsked, PutsToken};
-ghost use Rattle.broker.specs.parts.TokenRanges.{IsInRange};
 ghost use Rattle.broker.specs.parts.Tokens as part;
 
 use crate::answered::Answered;
@@ -78,15 +78,15 @@ fn make<T: RecordsTx>(
     orphans: bool,
     asked: TokenCreation,
 ) -> Result<Answered, RequestError>
-    requires { IsInRange asked }
+    requires { IsKeptCreation asked }
     ensures ok { (m : Making) → makes_orphans m ≡ orphans → Performs context.now (T.seen tx.old) (T.seen tx.new)
         (λ b. part.if_new b (names_of context.now.words) (part.create b context.now.caller (names_of context.now.words) m asked))
         result }
     ensures started { OnFault result IsNotBadStart }
     ensures goes_on { GoesOn (T.seen tx.old) (T.seen tx.new) (step_fails result) }
 {
-    let token = id_text(alloc, context.words.0[1])?;
-    let accessor = id_text(alloc, context.words.0[2])?;
+    let token = identifier(alloc, context.words.0[1])?;
+    let accessor = identifier(alloc, context.words.0[2])?;
     if !are_both_new(tx, token.as_str(), accessor.as_str())? {
         return Err(RequestError::Refused(Refusal::IdentifierUsed));
     }
@@ -101,7 +101,7 @@ fn make_asked<T: RecordsTx>(
     orphans: bool,
     asked: TokenCreation,
 ) -> Result<Answered, RequestError>
-    requires { IsInRange asked }
+    requires { IsKeptCreation asked }
     ensures ok { MakesAsked context.now (T.seen tx.old) (T.seen tx.new) orphans asked result }
     ensures started { OnFault result IsNotBadStart }
     ensures goes_on { GoesOn (T.seen tx.old) (T.seen tx.new) (step_fails result) }
@@ -114,7 +114,8 @@ fn make_asked<T: RecordsTx>(
     check(privileged, orphans, &caller, &policies, &asked)?;
     let parent = new_parent(alloc, context.caller, orphans, &asked)?;
     let accessor = identifier(alloc, context.words.0[2])?;
-    let token = new_record(context.clock, parent, accessor, policies, asked);
+    let clock = context.clock;
+    let token = new_record(alloc, clock, parent, accessor, policies, &asked)?;
     put(alloc, tx, context, token)
 }
 
