@@ -1,6 +1,9 @@
 -- A creation beside its definition: what is refused, and what is made.
 use Rattle.std.specs.Prelude.{◌≡◌, ◌≢◌, ◌≤◌, ◌||◌, ℕ, List, [], ◌∷◌, Bool, true, false, if◌then◌else◌, codes, Option, Some, None, option_map, Result, Ok, Err, ⊤}
+use Rattle.std.specs.Prelude.{All}
+use Rattle.std.specs.List.{AllByRecursion}
 use Rattle.std.proofs.Common.{refl, sym, ◌∙◌, ap, subst}
+use Rattle.std.proofs.lemmas.List.Elements.{All-nil, All-cons}
 use Rattle.std.proofs.lemmas.Option.{none-some, same_Some}
 use Rattle.broker_types.specs.Broker.{Broker}
 use Rattle.broker_types.specs.Map.{get}
@@ -18,7 +21,13 @@ use Rattle.records.specs.TokenEntry.{TokenEntry, token_entry}
 use Rattle.api_json.specs.declared.token_bodies.TokenCreation.{TokenCreation}
 use Rattle.broker.specs.parts.TokenCreation.{Making, makes_orphans, making_path, is_privileged, have_root, new_policies, may_make, new_parent, new_token}
 use Rattle.broker.specs.parts.TokenEntries.{token_told}
+use Rattle.broker.specs.parts.TokenRanges.{IsTextPair}
 use Rattle.broker.specs.parts.Tokens.{create, create_with, made}
+
+-- pairs of texts, one by one
+pub each_pair : (es : List (Text × Text)) → AllByRecursion IsTextPair es → All IsTextPair es
+each_pair [] h = All-nil IsTextPair
+each_pair (e ∷ es) h = All-cons IsTextPair e es h.0 (each_pair es h.1)
 
 -- no token has an empty parent
 pub parent_named : (c : Text) (orphans : Bool) (asked : TokenCreation) (parent : Option Text) → parent ≡ new_parent c orphans asked → c ≢ []
@@ -50,11 +59,11 @@ module _ (b : Broker) (c : Text) (names : Names) (m : Making) (asked : TokenCrea
 
     -- one that may not is refused
     pub create_refused : (r : Refusal) → may ≡ Err r → create b c names m asked ≡ Err r
-    create_refused r no = ap made_by here ∙ ap (λ (v : Result ⊤ Refusal). v >>= (λ _. Ok (made b names new))) no
+    create_refused r denied = ap made_by here ∙ ap (λ (v : Result ⊤ Refusal). v >>= (λ _. Ok (made b names new))) denied
 
     -- and one that may makes the token
     pub create_made : (u : ⊤) → may ≡ Ok u → create b c names m asked ≡ Ok (made b names new)
-    create_made u yes = ap made_by here ∙ ap (λ (v : Result ⊤ Refusal). v >>= (λ _. Ok (made b names new))) yes
+    create_made u granted = ap made_by here ∙ ap (λ (v : Result ⊤ Refusal). v >>= (λ _. Ok (made b names new))) granted
 
     -- ---- by the row of the caller
 

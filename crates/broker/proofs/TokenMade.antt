@@ -1,5 +1,5 @@
 -- A token that was made: its rows, its identifiers, and the answer.
-use Rattle.std.specs.Prelude.{◌≡◌, List, [], ◌∷◌, Bool, true, false, if◌then◌else◌, cond, Option, Some, None, option_map, ⊤}
+use Rattle.std.specs.Prelude.{◌≡◌, ◌==◌, length, List, [], ◌∷◌, Bool, true, false, if◌then◌else◌, cond, Option, Some, None, option_map, ⊤}
 use Rattle.std.proofs.Common.{refl, sym, ◌∙◌, ap, subst}
 use Rattle.std.proofs.lemmas.Bool.{false≢true, true≢false}
 use Rattle.broker_types.specs.Broker.{Broker}
@@ -30,6 +30,7 @@ use Rattle.broker.specs.Stages.{IsDone}
 use Rattle.broker.specs.declared.answered.Answered.TheVariants.{Made}
 use Rattle.broker.specs.parts.TokenReplies.{auth_reply}
 use Rattle.broker.specs.parts.Tokens.{made}
+use Rattle.broker.proofs.Expired.{tokens_long}
 use Rattle.broker.proofs.TokenSound.{IsLeft, served_tokens, no_leases_put}
 use Rattle.broker.proofs.TokenTables.{represents-created}
 
@@ -50,8 +51,8 @@ module _ (b : Broker) (t : Text) (x : Token) (mid new : Table)
       ap (λ (table : Table). table kind.Used q) is
       ∙ inner (same q (token_identifier t)) (same q x.accessor) (mid kind.Used q) (get b.used q) (before q)
       ∙ ap (option_map (λ _. used_row))
-          (sym (get-put (put b.used x.accessor tt) (token_identifier t) tt q
-          ∙ ap (cond (same q (token_identifier t)) (Some (tt {0}))) (get-put b.used x.accessor tt q)))
+      (sym (get-put (put b.used x.accessor tt) (token_identifier t) tt q
+      ∙ ap (cond (same q (token_identifier t)) (Some (tt {0}))) (get-put b.used x.accessor tt q)))
   marks_told before _ q h = absurd (false≢true h)
 
   marks_outside : (k : Kind) (q : Text) → of_used k ≡ false
@@ -78,10 +79,21 @@ module _ {c : Text} (b : Broker) (names : Names) (x : Token) (old mid new : Rows
       → table_of new ≡ with_row (with_row (table_of mid) kind.Used x.accessor used_row) kind.Used names.token used_row
       → (r : Reply) (a : Text) → r ≡ auth_reply names.request b.clock (token_text names.token) (token_entry x) → a ≡ x.accessor
       → IsDone c new (Made r a) (made b names x)
-  made_done tells others marks r a shown given =
-      (λ i. operation.reply (shown i) (Some ((given ∙ named) i)),
-      subst (λ i. Represents (Some c) new (record (with_token b (token_text names.token) x) { used = use_up b.used (names.token ∷ i ∷ []) })) named
-      (represents-created b (token_text names.token) x old st can mid new bare left tells others
-      (marks_told b (token_text names.token) x (table_of mid) (table_of new) marks
-      (λ q. others kind.Used q refl ∙ ap (λ (table : Table). table kind.Used q) st.rows))
-      (marks_keep b (token_text names.token) x (table_of mid) (table_of new) marks)))
+  made_done tells others marks r a shown given = (
+    λ i. operation.reply (shown i) (Some ((given ∙ named) i)),
+    subst (λ i. Represents (Some c) new (record (with_token b (token_text names.token) x) { used = use_up b.used (names.token ∷ i ∷ []) })) named
+        (represents-created b (token_text names.token) x old st can mid new bare left tells others
+        (marks_told b (token_text names.token) x (table_of mid) (table_of new) marks
+        (λ q. others kind.Used q refl ∙ ap (λ (table : Table). table kind.Used q) st.rows))
+        (marks_keep b (token_text names.token) x (table_of mid) (table_of new) marks)),
+  )
+
+-- ---- no token has an empty text
+
+pub no_empty_token : {who : Option Text} (b : Broker) (rows : Rows) → Represents who rows b → (t : Text) → true ≡ (length t == 0)
+    → None ≡ option_map token_entry (get b.tokens t)
+no_empty_token b rows st t none = by (get b.tokens t) refl
+  where
+    by : (o : Option Token) → get b.tokens t ≡ o → None ≡ option_map token_entry o
+    by None e = refl
+    by (Some x) e = absurd (true≢false (none ∙ ap (λ n. n == 0) (tokens_long b rows st t x e)))

@@ -161,7 +161,7 @@ no_leases_orphaned ts t none q y is =
 -- ---- by creation
 
 -- the policies of a sound token
-sound_policies : (forms : Forms) (t : Text) (x : Token) → IsSoundToken forms t x → ArePolicies IsPolicyName x.policies
+pub sound_policies : (forms : Forms) (t : Text) (x : Token) → IsSoundToken forms t x → ArePolicies IsPolicyName x.policies
 sound_policies forms t x s = record { names = s.policy_names; ascend = s.policies_ascend; few = s.few_policies }
 
 module _ (forms : Forms) (who : Option Text) (b : Broker) (sound : Sound forms who b) (names : Names) (good : AreTokenNames names)

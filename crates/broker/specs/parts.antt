@@ -3,6 +3,7 @@ pub mod Cubbyholes
 pub mod TokenCommands
 pub mod TokenCreation
 pub mod TokenEntries
+pub mod TokenMaking
 pub mod TokenRanges
 pub mod TokenReplies
 pub mod TokenSets

@@ -3,16 +3,21 @@ use Rattle.std.specs.Prelude.{◌<◌, ◌≤◌, ◌^◌, All, IsUtf8, ⊤}
 use Rattle.broker_types.specs.Duration.{longest_duration}
 use Rattle.broker_types.specs.Names.{Names}
 use Rattle.broker_types.specs.Sound.{IsIdentifier}
+use Rattle.broker_types.specs.Text.{Text}
 use Rattle.api_json.specs.Kept.{IsKeptCreation}
 use Rattle.api_json.specs.declared.token_bodies.TokenCreation.{TokenCreation}
 use Rattle.broker.specs.parts.TokenCommands.{TokenCommand, create_token, create_orphan}
+
+-- both are texts
+abbrev pub IsTextPair : Text × Text → Type 0
+IsTextPair e = IsUtf8 e.0 × IsUtf8 e.1
 
 -- the members of a new token are in range: they can be kept, and the metadata are texts
 pub record IsInRange (asked : TokenCreation) : Type 0 where
   pub kept : IsKeptCreation asked
   pub explicit_max_ttl : asked.explicit_max_ttl ≤ longest_duration
   pub num_uses : asked.num_uses < 2 ^ 64
-  pub texts : All (λ e. IsUtf8 e.0 × IsUtf8 e.1) asked.meta
+  pub texts : All IsTextPair asked.meta
 
 -- what the command brings is in range
 abbrev pub IsCommandInRange : TokenCommand → Type 0

@@ -3,29 +3,25 @@
 ghost use Rattle.std.specs.Prelude.{◌≡◌, ◌≤◌, [], true, None, Some, Ok, option_map, IfOk, IfErr, OnOk, length};
 ghost use Rattle.broker_types.specs.Broker.{Broker};
 ghost use Rattle.broker_types.specs.Fault.{IsMemoryOrStorage};
+ghost use Rattle.broker_types.specs.Identifier.{id};
 ghost use Rattle.broker_types.specs.Limits.{longest_body};
-ghost use Rattle.broker_types.specs.Map.{empty, get};
+ghost use Rattle.broker_types.specs.Map.{get};
 ghost use Rattle.broker_types.specs.Names.{names_of};
-ghost use Rattle.broker_types.specs.RequestError.{Ends, step_fails};
-ghost use Rattle.broker_types.specs.Token.{Token};
-ghost use Rattle.broker_types.specs.TokenText.{token_text};
-ghost use Rattle.broker_types.specs.Used.{are_new};
+ghost use Rattle.broker_types.specs.RequestError.{step_fails};
+ghost use Rattle.broker_types.specs.Sound.{IsIdentifier};
 ghost use Rattle.records.specs.Ranges.{IsTokenInRange};
 ghost use Rattle.records.specs.Reading.{IsSomeIn};
 ghost use Rattle.records.specs.TokenEntry.{token_entry};
 ghost use Rattle.records.specs.Transaction.{IsHonest, GoesOn, is_storage};
+ghost use Rattle.api_json.specs.Kept.{IsKeptCreation};
 ghost use Rattle.mounts.specs.Calls.{OnFault};
 ghost use Rattle.mounts.specs.declared.operation.TokenOperation.TheVariants as operations;
-ghost use Rattle.token_tree.specs.Tokens.{MayBeMade};
 ghost use Rattle.broker.specs.ClockRow.{IsNotBadStart};
 ghost use Rattle.broker.specs.Command.{on_tokens};
-ghost use Rattle.broker.specs.Forms.{forms};
-ghost use Rattle.broker.specs.Operating.{Operates, Performs, Starts};
+ghost use Rattle.broker.specs.Operating.{Operates, Performs};
 ghost use Rattle.broker.specs.Representing.{Represents};
-ghost use Rattle.broker.specs.Stages.{IsDone};
-ghost use Rattle.broker.specs.parts.TokenCommands.{token_names};
 ghost use Rattle.broker.specs.parts.TokenCreation.{Making, makes_orphans};
-ghost use Rattle.broker.specs.parts.TokenRanges.{IsInRange};
+ghost use Rattle.broker.specs.parts.TokenMaking.{MakesAsked, PutsToken};
 ghost use Rattle.broker.specs.parts.Tokens as part;
 
 use crate::answered::Answered;
@@ -37,7 +33,7 @@ use crate::parts::tokens::shown::auth_reply;
 use api_json::{TokenCreation, read_body, token_creation};
 use broker_types::{Denial, Fault, Refusal, RequestError, TextBuf, TokenText, id_text};
 use records::{RecordsTx, TokenRecord};
-use std::alloc::Global;
+use std::alloc::{AllocError, Global};
 use token_tree::{create as create_token, find, is_among};
 
 /// Makes a child of the caller, or a token without parent if the body asks for it.
@@ -82,15 +78,15 @@ fn make<T: RecordsTx>(
     orphans: bool,
     asked: TokenCreation,
 ) -> Result<Answered, RequestError>
-    requires { IsInRange asked }
+    requires { IsKeptCreation asked }
     ensures ok { (m : Making) → makes_orphans m ≡ orphans → Performs context.now (T.seen tx.old) (T.seen tx.new)
         (λ b. part.if_new b (names_of context.now.words) (part.create b context.now.caller (names_of context.now.words) m asked))
         result }
     ensures started { OnFault result IsNotBadStart }
     ensures goes_on { GoesOn (T.seen tx.old) (T.seen tx.new) (step_fails result) }
 {
-    let token = id_text(alloc, context.words.0[1])?;
-    let accessor = id_text(alloc, context.words.0[2])?;
+    let token = identifier(alloc, context.words.0[1])?;
+    let accessor = identifier(alloc, context.words.0[2])?;
     if !are_both_new(tx, token.as_str(), accessor.as_str())? {
         return Err(RequestError::Refused(Refusal::IdentifierUsed));
     }
@@ -105,11 +101,8 @@ fn make_asked<T: RecordsTx>(
     orphans: bool,
     asked: TokenCreation,
 ) -> Result<Answered, RequestError>
-    requires { IsInRange asked }
-    ensures ok { IsHonest (T.seen tx.new) → (b : Broker) → Starts context.now (T.seen tx.old).rows b
-        → are_new b.used (token_names (names_of context.now.words)) ≡ true → (m : Making) → makes_orphans m ≡ orphans
-        → Ends (IsDone context.now.caller (T.seen tx.new).rows) (Represents (Some context.now.caller) (T.seen tx.new).rows b)
-            result (part.create b context.now.caller (names_of context.now.words) m asked) }
+    requires { IsKeptCreation asked }
+    ensures ok { MakesAsked context.now (T.seen tx.old) (T.seen tx.new) orphans asked result }
     ensures started { OnFault result IsNotBadStart }
     ensures goes_on { GoesOn (T.seen tx.old) (T.seen tx.new) (step_fails result) }
 {
@@ -120,8 +113,9 @@ fn make_asked<T: RecordsTx>(
     let policies = new_policies(alloc, privileged, &caller, &asked)?;
     check(privileged, orphans, &caller, &policies, &asked)?;
     let parent = new_parent(alloc, context.caller, orphans, &asked)?;
-    let accessor = TextBuf::new(id_text(alloc, context.words.0[2])?);
-    let token = new_record(context.clock, parent, accessor, policies, asked);
+    let accessor = identifier(alloc, context.words.0[2])?;
+    let clock = context.clock;
+    let token = new_record(alloc, clock, parent, accessor, policies, &asked)?;
     put(alloc, tx, context, token)
 }
 
@@ -147,6 +141,14 @@ fn find_caller<T: RecordsTx>(
     find(alloc, tx, caller)
 }
 
+/// The identifier of a word.
+fn identifier(alloc: Global, word: u128) -> Result<TextBuf, AllocError>
+    ensures value { IfOk result (λ t. t ≡ id word) }
+    ensures good { IfOk result IsIdentifier }
+{
+    Ok(TextBuf::new(id_text(alloc, word)?))
+}
+
 /// Writes a new token, and marks its identifiers as given out.
 fn put<T: RecordsTx>(
     alloc: Global,
@@ -155,11 +157,7 @@ fn put<T: RecordsTx>(
     token: TokenRecord,
 ) -> Result<Answered, RequestError>
     requires { IsTokenInRange token }
-    ensures ok { IsHonest (T.seen tx.new) → (b : Broker) → Starts context.now (T.seen tx.old).rows b → (x : Token)
-        → token_entry x ≡ token → MayBeMade forms b (token_text (names_of context.now.words).token) x
-        → x.cubbyhole ≡ empty → x.accessor ≡ (names_of context.now.words).accessor
-        → Ends (IsDone context.now.caller (T.seen tx.new).rows) (Represents (Some context.now.caller) (T.seen tx.new).rows b)
-            result (Ok (part.made b (names_of context.now.words) x)) }
+    ensures ok { PutsToken context.now (T.seen tx.old) (T.seen tx.new) token result }
     ensures started { OnFault result IsNotBadStart }
     ensures goes_on { GoesOn (T.seen tx.old) (T.seen tx.new) (step_fails result) }
 {

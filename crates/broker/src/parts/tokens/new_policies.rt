@@ -109,11 +109,7 @@ fn as_set(alloc: Global, texts: &[TextBuf]) -> Result<Vec<TextBuf>, AllocError>
 }
 
 /// Puts texts in a set.
-fn put_each(
-    alloc: Global,
-    set: &mut BTreeSet<String>,
-    texts: &[TextBuf],
-) -> Result<(), AllocError>
+fn put_each(alloc: Global, set: &mut BTreeSet<String>, texts: &[TextBuf]) -> Result<(), AllocError>
     ensures { OnOk result (map string_bytes set.new.keys ≡ sets.put_each (map string_bytes set.old.keys) texts.now) }
 {
     for text in texts {

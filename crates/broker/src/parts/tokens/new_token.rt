@@ -1,12 +1,16 @@
 //! Which token is made, and the reasons to make none.
 
-ghost use Rattle.std.specs.Prelude.{◌≡◌, ◌≤◌, ◌+◌, ◌||◌, None, Some, is_none, not, IfOk, if◌then◌else◌};
+ghost use Rattle.std.specs.Prelude.{◌≡◌, ◌≤◌, ◌<◌, ◌+◌, ◌^◌, ◌||◌, None, Some, is_none, not, IfOk, if◌then◌else◌};
 ghost use Rattle.std.specs.List.{list_all};
+ghost use Rattle.broker_types.specs.Moment.{greatest_moment};
 ghost use Rattle.broker_types.specs.Limits.{longest_ttl};
 ghost use Rattle.broker_types.specs.Name as names;
 ghost use Rattle.broker_types.specs.Refuse as refuse;
 ghost use Rattle.records.specs.Children.{has};
 ghost use Rattle.broker.specs.parts.TokenCreation as part;
+ghost use Rattle.std.specs.List.{AllByRecursion};
+ghost use Rattle.broker_types.specs.Duration.{longest_duration};
+ghost use Rattle.broker.specs.parts.TokenRanges.{IsTextPair};
 ghost use Rattle.broker.specs.parts.TokenEntries.{token_told, new_entry};
 
 use api_json::TokenCreation;
@@ -29,8 +33,14 @@ pub(super) fn check(
     unless(is_unlimited(caller), Reason::RestrictedToken)?;
     unless(are_names(asked), Reason::InvalidName)?;
     unless(is_root_its_own(caller, asked), Reason::RootByRootAlone)?;
-    unless(are_its_own(privileged, caller, asked), Reason::PoliciesBeyondParent)?;
-    unless(is_parted(privileged, orphans, asked), Reason::OrphanNeedsSudo)?;
+    unless(
+        are_its_own(privileged, caller, asked),
+        Reason::PoliciesBeyondParent,
+    )?;
+    unless(
+        is_parted(privileged, orphans, asked),
+        Reason::OrphanNeedsSudo,
+    )?;
     unless(is_end_kept(caller, policies, asked), Reason::ExpiringRoot)
 }
 
@@ -124,30 +134,69 @@ fn has_no_end(policies: &[TextBuf], asked: &TokenCreation) -> bool
     is_among(policies, "root") && asked.ttl.count() == 0 && asked.explicit_max_ttl.count() == 0
 }
 
-/// The row of the new token.
+/// The row of the new token. What it brings can be kept: the clauses but the first tell it.
 pub(super) fn new_record(
+    alloc: Global,
     now: Moment,
     parent: Option<TextBuf>,
     accessor: TextBuf,
     policies: Vec<TextBuf>,
-    asked: TokenCreation,
-) -> TokenRecord
-    ensures { result ≡ new_entry now parent accessor policies.items asked }
+    asked: &TokenCreation,
+) -> Result<TokenRecord, AllocError>
+    ensures entry { IfOk result (λ made. made ≡ new_entry now parent accessor policies.items asked.now) }
+    ensures within { IfOk result (λ made. now ≤ greatest_moment) }
+    ensures long { IfOk result (λ made. asked.now.explicit_max_ttl ≤ longest_duration) }
+    ensures wide { IfOk result (λ made. asked.now.num_uses < 2 ^ 64) }
+    ensures texts { IfOk result (λ made. AllByRecursion IsTextPair asked.now.meta) }
 {
-    let endless = has_no_end(&policies, &asked);
-    let ttl = asked_ttl(&asked);
-    TokenRecord {
+    let meta = copied_pairs(alloc, asked.meta.as_slice())?;
+    let endless = has_no_end(&policies, asked);
+    let ttl = asked_ttl(asked);
+    Ok(TokenRecord {
         parent,
         accessor,
         policies,
         issued: now.seconds(),
         ends: new_end(endless, now, ttl),
         ttl: new_ttl(endless, ttl),
-        explicit_max_ttl: u64::from(asked.explicit_max_ttl.count()),
+        explicit_max_ttl: longest(asked.explicit_max_ttl),
         period: 0,
         uses_left: use_limit(asked.num_uses),
-        meta: asked.meta.into_vec(),
+        meta,
+    })
+}
+
+/// Copies of names and texts.
+fn copied_pairs(
+    alloc: Global,
+    pairs: &[(TextBuf, TextBuf)],
+) -> Result<Vec<(TextBuf, TextBuf)>, AllocError>
+    ensures value { IfOk result (λ copies. copies.items ≡ pairs.now) }
+    ensures texts { IfOk result (λ copies. AllByRecursion IsTextPair pairs.now) }
+{
+    let mut copies = Vec::new(alloc);
+    for pair in pairs {
+        copies.push(copied_pair(alloc, pair)?)?;
     }
+    Ok(copies)
+}
+
+/// A copy of a name and a text.
+fn copied_pair(alloc: Global, pair: &(TextBuf, TextBuf)) -> Result<(TextBuf, TextBuf), AllocError>
+    ensures value { IfOk result (λ copy. copy ≡ pair.now) }
+    ensures texts { IfOk result (λ copy. IsTextPair pair.now) }
+{
+    let name = TextBuf::copied(alloc, pair.0.as_str())?;
+    let text = TextBuf::copied(alloc, pair.1.as_str())?;
+    Ok((name, text))
+}
+
+/// The longest that a token lasts, in seconds.
+fn longest(asked: Seconds) -> u64
+    ensures value { result ≡ asked }
+    ensures within { asked ≤ longest_duration }
+{
+    u64::from(asked.count())
 }
 
 /// The parent of a new token of the caller.
@@ -185,7 +234,8 @@ fn new_ttl(endless: bool, ttl: u64) -> u64
 
 /// A number of uses; 0 is no limit.
 fn use_limit(uses: u64) -> Option<u64>
-    ensures { result ≡ part.use_limit uses }
+    ensures value { result ≡ part.use_limit uses }
+    ensures wide { uses < 2 ^ 64 }
 {
     if uses == 0 { None } else { Some(uses) }
 }

@@ -1,6 +1,12 @@
+use Rattle.std.proofs.Common.{rules}
 use Rattle.broker.specs.Forms.{forms}
 use Rattle.broker.proofs.Expired.{represents_tokens}
+use Rattle.broker.proofs.TokenMade.{no_empty_token}
 use Rattle.broker.proofs.parts.tokens.creation.find_caller.Goals as goal
+
+pub returns-then-is_empty-clause-told : goal.returns-then-is_empty-clause-told
+returns-then-is_empty-clause-told g c honest b st =
+    no_empty_token b (g.T.RecordsTx.seen c.args.tx.now).rows st c.args.caller.now c.if-is_empty.ensures
 
 pub returns-clause-told : goal.returns-clause-told
 returns-clause-told g c honest b st =

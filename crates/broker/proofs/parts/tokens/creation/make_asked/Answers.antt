@@ -1,0 +1,114 @@
+use Rattle.std.specs.Prelude.{List, codes}
+use Rattle.std.proofs.Common.{◌≡◌, Ok, Err, Some, refl, sym, ◌∙◌, ap, subst}
+use Rattle.std.proofs.lemmas.Option.{none-some}
+use Rattle.std.proofs.lemmas.Result.{err_from_is_err_and}
+use Rattle.broker_types.specs.Map.{get}
+use Rattle.broker_types.specs.Names.{names_of}
+use Rattle.broker_types.specs.Operation.{Done}
+use Rattle.broker_types.specs.OptionLaws.{mapped}
+use Rattle.broker_types.specs.RequestError.{Ends}
+use Rattle.broker_types.specs.Sound.{IsShortText}
+use Rattle.broker_types.specs.Text.{Text}
+use Rattle.broker_types.specs.declared.refusal.Refusal.{Refusal}
+use Rattle.broker_types.specs.declared.request_error.RequestError.TheVariants.{Refused}
+use Rattle.records.specs.CallLaws.{honest_before, goes_further}
+use Rattle.records.specs.Children.{has}
+use Rattle.records.specs.Ranges.{IsTokenInRange}
+use Rattle.records.specs.TokenEntry.{TokenEntry, token_entry}
+use Rattle.broker.specs.Forms.{forms}
+use Rattle.broker.specs.parts.TokenCreation.{makes_orphans, have_root, new_policies, may_make, new_parent, new_token}
+use Rattle.broker.specs.parts.TokenEntries.{token_told, new_entry}
+use Rattle.broker.specs.parts.TokenMaking.{MakesAsked, PutsToken}
+use Rattle.broker.specs.parts.TokenRanges.{IsInRange}
+use Rattle.broker.proofs.Serving.{still_represented}
+use Rattle.broker.proofs.TokenCreations.{each_pair, parent_named, create_refused, create_made, same_may, same_policies_told}
+use Rattle.broker.proofs.TokenPolicies.{ArePolicies, IsPolicyName, each_passes, new_policies_are}
+use Rattle.broker.proofs.TokenRecords.{new_in_range, new_policies_short, same_new}
+use Rattle.broker.proofs.TokenRules.{allowed}
+use Rattle.broker.proofs.TokenSound.{may_be_made, sound_policies}
+use Rattle.broker.proofs.parts.tokens.creation.make_asked.Goals as goal
+
+pub put-requires : goal.put-requires
+put-requires g c =
+    let asked = c.args.asked in
+    let privileged = c.is_among-privileged.result in
+    let told = token_told c.in-Some.caller in
+    let may : may_make privileged c.args.orphans told c.deref-2.result.now asked ≡ Ok c.in_ok-check.field-0 = sym c.check.ensures ∙ c.in_ok-check.was in
+    let names = (allowed privileged c.args.orphans told c.deref-2.result.now asked c.in_ok-check.field-0 may).named in
+    let read : IsTokenInRange c.in-Some.caller = c.in_ok-caller.ensures.in_range c.in-Some.caller c.in-Some.is in
+    let made = c.in_ok-token.ensures in
+    let range : IsInRange asked = record { kept = c.requires; explicit_max_ttl = made.long; num_uses = made.wide; texts = each_pair asked.meta made.texts } in
+    subst IsTokenInRange (sym made.entry)
+    (new_in_range c.context.inside.clock c.in_ok-parent.parent c.in_ok-accessor.accessor c.in_ok-policies.policies.items asked made.within
+    (parent_named c.context.inside.caller.now c.args.orphans asked c.in_ok-parent.parent c.in_ok-parent.ensures
+    (λ none. none-some _ (sym (c.in_ok-caller.ensures.named none) ∙ c.in-Some.is)))
+    c.in_ok-accessor.ensures.good
+    (subst (ArePolicies IsShortText) (sym c.in_ok-policies.ensures) (new_policies_short privileged c.in-Some.caller asked read names range)) range)
+
+pub returns-in_err-check-clause-ok : goal.returns-in_err-check-clause-ok
+returns-in_err-check-clause-ok g c =
+    let seen = g.T.RecordsTx.seen in
+    let asked = c.args.asked in
+    let e = c.in-Some.caller in
+    let root : c.is_among-privileged.result ≡ have_root e.policies = c.is_among-privileged.ensures
+    ∙ ap (λ (ps : List Text). has ps (codes "root")) (c.deref.ensures.value ∙ ap (λ (e : TokenEntry). e.policies) c.caller.view_is) in
+    let p = err_from_is_err_and c.from_residual-in_err-check.result c.from_residual-in_err-check.ensures.1 in
+    subst (λ x. MakesAsked x (seen c.args.tx.now) (seen c.find_caller.new.tx) c.args.orphans asked c.from_residual-in_err-check.result) c.context.view_is
+    (λ honest b starts good fresh m of.
+    let caller = c.context.inside.caller.now in
+    let names = names_of c.context.inside.words.now in
+    let st = starts.represents in
+    let rows = (seen c.args.tx.now).rows in
+    let told = c.in_ok-caller.ensures.told honest b st in
+    let x = mapped token_entry (get b.tokens caller) e (sym told ∙ c.in-Some.is) in
+    let may = same_may b caller names m asked x.0 x.1 e x.2 c.is_among-privileged.result root c.in_ok-policies.policies.items c.in_ok-policies.ensures
+    c.args.orphans of c.check.result
+    (c.check.ensures ∙ (λ i. may_make c.is_among-privileged.result c.args.orphans (token_told e) (c.deref-2.ensures.value i) asked)) in
+    let refused = create_refused b caller names m asked x.0 x.1 c.in_err-check.field-0.0 (may ∙ c.in_err-check.was) in
+    rw (p.1 ∙ ap Err p.2) (rw refused (refl, still_represented b rows (seen c.find_caller.new.tx).rows (c.in_ok-caller.ensures.same honest) st)))
+
+pub returns-clause-goes_on : goal.returns-clause-goes_on
+returns-clause-goes_on g c =
+    let seen = g.T.RecordsTx.seen in
+    goes_further (seen c.args.tx.now) (seen c.find_caller.new.tx) (seen c.put.new.tx) _ c.in_ok-caller.ensures.goes_on c.put.ensures.goes_on
+
+pub returns-clause-ok : goal.returns-clause-ok
+unfolding names_of
+returns-clause-ok g c =
+    let seen = g.T.RecordsTx.seen in
+    let asked = c.args.asked in
+    let e = c.in-Some.caller in
+    let root : c.is_among-privileged.result ≡ have_root e.policies = c.is_among-privileged.ensures
+    ∙ ap (λ (ps : List Text). has ps (codes "root")) (c.deref.ensures.value ∙ ap (λ (e : TokenEntry). e.policies) c.caller.view_is) in
+    let row = c.in_ok-token.ensures in
+    let range : IsInRange asked = record { kept = c.requires; explicit_max_ttl = row.long; num_uses = row.wide; texts = each_pair asked.meta row.texts } in
+    subst (λ x. MakesAsked x (seen c.args.tx.now) (seen c.put.new.tx) c.args.orphans asked c.put.result) c.context.view_is
+    (λ honest b starts good fresh m of.
+    let caller = c.context.inside.caller.now in
+    let names = names_of c.context.inside.words.now in
+    let st = starts.represents in
+    let rows = (seen c.args.tx.now).rows in
+    let mid = honest_before (seen c.find_caller.new.tx) (seen c.put.new.tx) _ c.put.ensures.goes_on honest in
+    let told = c.in_ok-caller.ensures.told mid b st in
+    let x = mapped token_entry (get b.tokens caller) e (sym told ∙ c.in-Some.is) in
+    let ps = c.in_ok-policies.policies.items in
+    let may = same_may b caller names m asked x.0 x.1 e x.2 c.is_among-privileged.result root ps c.in_ok-policies.ensures c.args.orphans of c.check.result
+    (c.check.ensures ∙ (λ i. may_make c.is_among-privileged.result c.args.orphans (token_told e) (c.deref-2.ensures.value i) asked))
+    ∙ c.in_ok-check.was in
+    let given = new_policies (have_root x.0.policies) x.0 asked in
+    let same = same_policies_told b caller names m asked x.0 x.1 e x.2 c.is_among-privileged.result root ps c.in_ok-policies.ensures in
+    let new = new_token b.clock (new_parent caller (makes_orphans m) asked) names.accessor given asked in
+    let entry : token_entry new ≡ c.in_ok-token.token =
+    same_new b.clock (new_parent caller (makes_orphans m) asked) names.accessor given asked range
+    ∙ (λ i. new_entry (starts.clock i) (((λ j. new_parent caller (of j) asked) ∙ sym c.in_ok-parent.ensures) i) (sym c.in_ok-accessor.ensures.value i)
+    (sym same i) asked)
+    ∙ sym row.entry in
+    let named = (allowed (have_root x.0.policies) (makes_orphans m) x.0 given asked c.in_ok-check.field-0 may).named in
+    let are = new_policies_are IsPolicyName refl refl (have_root x.0.policies) x.0 asked (sound_policies forms caller x.0 (st.sound.tokens.each caller x.0 x.1))
+    (each_passes asked.policies named) c.requires.few_policies in
+    let can = may_be_made forms (Some caller) b st.sound names good fresh caller (makes_orphans m) given asked range starts.here are in
+    let puts = subst (λ x. PutsToken x (seen c.find_caller.new.tx) (seen c.put.new.tx) c.in_ok-token.token c.put.result) (sym c.context.view_is)
+    c.put.ensures.ok in
+    let still = still_represented b rows (seen c.find_caller.new.tx).rows (c.in_ok-caller.ensures.same mid) st in
+    rw (create_made b caller names m asked x.0 x.1 c.in_ok-check.field-0 may)
+    (puts honest b (record { represents = still; here = starts.here; clock = starts.clock }) new entry can refl refl))

@@ -1,0 +1,41 @@
+-- What the steps of a creation come to (this project's definition).
+use Rattle.std.specs.Prelude.{◌≡◌, Bool, true, Some, Result, Ok}
+use Rattle.broker_types.specs.Broker.{Broker}
+use Rattle.broker_types.specs.Map.{empty}
+use Rattle.broker_types.specs.Names.{names_of}
+use Rattle.broker_types.specs.RequestError.{Ends}
+use Rattle.broker_types.specs.Token.{Token}
+use Rattle.broker_types.specs.TokenText.{token_text}
+use Rattle.broker_types.specs.Used.{are_new}
+use Rattle.broker_types.specs.declared.request_error.RequestError.{RequestError}
+use Rattle.records.specs.TokenEntry.{TokenEntry, token_entry}
+use Rattle.records.specs.Transaction.{Seen, IsHonest}
+use Rattle.token_tree.specs.Tokens.{MayBeMade}
+use Rattle.api_json.specs.declared.token_bodies.TokenCreation.{TokenCreation}
+use Rattle.broker.specs.Context.{Context}
+use Rattle.broker.specs.Forms.{forms}
+use Rattle.broker.specs.Operating.{Starts}
+use Rattle.broker.specs.Representing.{Represents}
+use Rattle.broker.specs.Stages.{IsDone}
+use Rattle.broker.specs.declared.answered.Answered.{Answered}
+use Rattle.broker.specs.parts.TokenCommands.{token_names}
+use Rattle.broker.specs.parts.TokenCreation.{Making, makes_orphans}
+use Rattle.broker.specs.parts.TokenRanges.{AreTokenNames}
+use Rattle.broker.specs.parts.Tokens.{create, made}
+
+-- the token of the entry is made, if it may be
+abbrev pub PutsToken : Context → Seen → Seen → TokenEntry → Result Answered RequestError → Type 0
+PutsToken x old new entry result =
+    IsHonest new → (b : Broker) → Starts x old.rows b → (y : Token) → token_entry y ≡ entry
+    → MayBeMade forms b (token_text (names_of x.words).token) y → y.cubbyhole ≡ empty
+    → y.accessor ≡ (names_of x.words).accessor
+    → Ends (IsDone x.caller new.rows) (Represents (Some x.caller) new.rows b) result (Ok (made b (names_of x.words) y))
+
+-- the token that is asked for is made or refused, where its identifiers are new
+abbrev pub MakesAsked : Context → Seen → Seen → Bool → TokenCreation → Result Answered RequestError → Type 0
+MakesAsked x old new orphans asked result =
+    IsHonest new → (b : Broker) → Starts x old.rows b → AreTokenNames (names_of x.words)
+    → are_new b.used (token_names (names_of x.words)) ≡ true
+    → (m : Making) → makes_orphans m ≡ orphans
+    → Ends (IsDone x.caller new.rows) (Represents (Some x.caller) new.rows b) result
+    (create b x.caller (names_of x.words) m asked)
