@@ -32,7 +32,7 @@ returns-clause-ok g c honest b starts =
     let are = subst (AreEnded b (revoke_orphan b t)) (sym c.deref.ensures.value) (c.in_ok-ended.ensures.ended revoked forms b tokens) in
     let others = c.in_ok-ended.ensures.others revoked in
     let objects = c.in_ok-drop_cubbyholes.ensures.told honest b (revoke_orphan b t) (gone_long b us old st ended are) (gone_lost b us old st ended keep are)
-        (gone_left b us old st mid others) in (
+    (gone_left b us old st mid others) in (
       refl,
       represents-revoked_alone b t old mid new ended st others (c.in_ok-drop_cubbyholes.ensures.rows honest) are
           (c.in_ok-ended.ensures.ok revoked forms b tokens) objects,

@@ -29,8 +29,8 @@ returns-in_default-clause-ok g c honest b starts =
     let new = (seen c.find_accessor.new.tx).rows in
     let told = c.in_ok-token.ensures.told honest forms b (represents_tokens b old starts.represents) in
     let meant =
-        acts_on_named b caller (names_of c.args.context.now.words) c.args.body.now (members_of c.in_ok-members.members) c.as_str.result.now
-        c.in_ok-accessor.accessor c.in_ok-token.field-0 c.in_ok-members.ensures c.in_ok-accessor.ensures c.as_str.ensures told in
+    acts_on_named b caller (names_of c.args.context.now.words) c.args.body.now (members_of c.in_ok-members.members) c.as_str.result.now
+    c.in_ok-accessor.accessor c.in_ok-token.field-0 c.in_ok-members.ensures c.in_ok-accessor.ensures c.as_str.ensures told in
     subst (EndsRefused (Represents (Some caller) new b) (refusal.BadRequest reason.InvalidAccessor))
     (sym (meant ∙ ap (ended_if_found b) c.in_default.is))
     (refl, still_represented b old new (c.in_ok-token.ensures.same honest) starts.represents)
@@ -45,8 +45,8 @@ returns-clause-ok g c honest b starts =
     let found = honest_before (seen c.find_accessor.new.tx) (seen c.end.new.tx) _ c.end.ensures.goes_on honest in
     let told = c.in_ok-token.ensures.told found forms b (represents_tokens b old starts.represents) in
     let meant =
-        acts_on_named b caller (names_of c.args.context.now.words) c.args.body.now (members_of c.in_ok-members.members) c.as_str.result.now
-        c.in_ok-accessor.accessor c.in_ok-token.field-0 c.in_ok-members.ensures c.in_ok-accessor.ensures c.as_str.ensures told in
+    acts_on_named b caller (names_of c.args.context.now.words) c.args.body.now (members_of c.in_ok-members.members) c.as_str.result.now
+    c.in_ok-accessor.accessor c.in_ok-token.field-0 c.in_ok-members.ensures c.in_ok-accessor.ensures c.as_str.ensures told in
     subst (Ends (IsDone caller new) (Represents (Some caller) new b) c.end.result)
     (sym (meant ∙ ap (ended_if_found b) c.in-Some.is ∙ ap (λ t. ended_if_found b (Some t)) (sym c.as_str-2.ensures)))
     (c.end.ensures.ok honest b (record {
