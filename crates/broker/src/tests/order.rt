@@ -126,7 +126,7 @@ fn plant(alloc: Global, tx: &mut ListTx, planted: &Planted) -> Result<(), Fail> 
     };
     let row = Row {
         owner: TextBuf::copied(alloc, owner)?,
-        due: Due::new(START + planted.ttl),
+        due: Due::new(START.saturating_add(planted.ttl)),
         body: body_of(alloc, planted)?,
     };
     tx.put(Kind::Token, token.as_str(), row)?;
@@ -157,7 +157,13 @@ fn answered(
 ) -> Result<Answer, Fail> {
     let token = TokenText::of_word(alloc, u128::from(word))?;
     let ask = asked(verb, path, Some(token.as_str()), body)?;
-    Ok(handle(alloc, tx, moment(START + seconds)?, &words(0x20), &ask)?)
+    Ok(handle(
+        alloc,
+        tx,
+        moment(START.saturating_add(seconds))?,
+        &words(0x20),
+        &ask,
+    )?)
 }
 
 /// The tokens that are left beside the root token, each with its accessor and its object.
@@ -170,7 +176,8 @@ fn expect_left<R: Abort>(rt: &R, alloc: Global, tx: &mut ListTx, left: &[u64]) -
         assert!(rt; tx.get(Kind::Accessor, accessor.as_str())?.is_some());
         assert!(rt; tx.get(Kind::Cubby, object.as_str())?.is_some());
     }
-    assert!(rt; counted(tx)? == (left.len() + 1, left.len() + 1, left.len()));
+    let with_root = left.len().saturating_add(1);
+    assert!(rt; counted(tx)? == (with_root, with_root, left.len()));
     Ok(())
 }
 
