@@ -105,7 +105,8 @@ renew b names t increment = do
   x ← known b t
   ending ← unless (is_some x.ends) (refusal.BadRequest reason.TokenNotRenewable)
   let next = new_end b.clock (token_entry x) increment in
-      Ok (plainly (reply (auth_reply names.request b.clock t (token_entry (tree.with_end next x))) None) (tree.renew b t next))
+      Ok (plainly (reply (auth_reply names.request b.clock t (token_entry (tree.with_end next x))) None)
+      (tree.renew b t next))
 
 -- ---- revocation
 

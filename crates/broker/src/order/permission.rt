@@ -17,8 +17,8 @@ use token_tree::{find, is_among};
 /// 403 `permission denied`.
 pub(crate) const PERMISSION_DENIED: Refusal = Refusal::Forbidden(Denial::PermissionDenied);
 
-/// Whether the caller may ask at this path. So far a caller may do everything but what asks for `sudo`, which the policy
-/// `root` alone grants.
+/// Whether the caller may ask at this path. So far a caller may do everything but what asks for `sudo`, which the
+/// policy `root` alone grants.
 pub(crate) fn is_permitted<T: RecordsTx>(
     alloc: Global,
     tx: &mut T,

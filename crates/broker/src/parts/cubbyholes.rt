@@ -82,7 +82,8 @@ fn write<T: RecordsTx>(
 ) -> Result<Answered, RequestError>
     requires { length body.now ≤ longest_body }
     ensures ok { is_path path.now ≡ true
-        → Operates context.now (T.seen tx.old) (T.seen tx.new) (λ b. on_cubbyholes operations.Write path.now body.now) result }
+        → Operates context.now (T.seen tx.old) (T.seen tx.new)
+        (λ b. on_cubbyholes operations.Write path.now body.now) result }
     ensures started { OnFault result IsNotBadStart }
     ensures goes_on { GoesOn (T.seen tx.old) (T.seen tx.new) (step_fails result) }
 {

@@ -44,7 +44,8 @@ pub(super) fn create<T: RecordsTx>(
     body: &[u8],
 ) -> Result<Answered, RequestError>
     requires { length body.now ≤ longest_body }
-    ensures ok { Operates context.now (T.seen tx.old) (T.seen tx.new) (λ b. on_tokens operations.Create body.now) result }
+    ensures ok { Operates context.now (T.seen tx.old) (T.seen tx.new)
+        (λ b. on_tokens operations.Create body.now) result }
     ensures started { OnFault result IsNotBadStart }
     ensures goes_on { GoesOn (T.seen tx.old) (T.seen tx.new) (step_fails result) }
 {
@@ -61,7 +62,8 @@ pub(super) fn create_orphan<T: RecordsTx>(
     body: &[u8],
 ) -> Result<Answered, RequestError>
     requires { length body.now ≤ longest_body }
-    ensures ok { Operates context.now (T.seen tx.old) (T.seen tx.new) (λ b. on_tokens operations.CreateOrphan body.now) result }
+    ensures ok { Operates context.now (T.seen tx.old) (T.seen tx.new)
+        (λ b. on_tokens operations.CreateOrphan body.now) result }
     ensures started { OnFault result IsNotBadStart }
     ensures goes_on { GoesOn (T.seen tx.old) (T.seen tx.new) (step_fails result) }
 {
@@ -80,7 +82,8 @@ fn make<T: RecordsTx>(
 ) -> Result<Answered, RequestError>
     requires { IsKeptCreation asked }
     ensures ok { (m : Making) → makes_orphans m ≡ orphans → Performs context.now (T.seen tx.old) (T.seen tx.new)
-        (λ b. part.if_new b (names_of context.now.words) (part.create b context.now.caller (names_of context.now.words) m asked))
+        (λ b. part.if_new b (names_of context.now.words)
+        (part.create b context.now.caller (names_of context.now.words) m asked))
         result }
     ensures started { OnFault result IsNotBadStart }
     ensures goes_on { GoesOn (T.seen tx.old) (T.seen tx.new) (step_fails result) }

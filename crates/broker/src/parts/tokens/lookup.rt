@@ -30,7 +30,8 @@ pub(super) fn look_up<T: RecordsTx>(
     body: &[u8],
 ) -> Result<Answered, RequestError>
     requires { length body.now ≤ longest_body }
-    ensures ok { Operates context.now (T.seen tx.old) (T.seen tx.new) (λ b. on_tokens operations.LookUp body.now) result }
+    ensures ok { Operates context.now (T.seen tx.old) (T.seen tx.new)
+        (λ b. on_tokens operations.LookUp body.now) result }
     ensures started { OnFault result IsNotBadStart }
     ensures goes_on { GoesOn (T.seen tx.old) (T.seen tx.new) (step_fails result) }
 {
@@ -61,7 +62,8 @@ pub(super) fn look_up_accessor<T: RecordsTx>(
     body: &[u8],
 ) -> Result<Answered, RequestError>
     requires { length body.now ≤ longest_body }
-    ensures ok { Operates context.now (T.seen tx.old) (T.seen tx.new) (λ b. on_tokens operations.LookUpAccessor body.now) result }
+    ensures ok { Operates context.now (T.seen tx.old) (T.seen tx.new)
+        (λ b. on_tokens operations.LookUpAccessor body.now) result }
     ensures started { OnFault result IsNotBadStart }
     ensures goes_on { GoesOn (T.seen tx.old) (T.seen tx.new) (step_fails result) }
 {

@@ -30,7 +30,8 @@ pub(super) fn renew<T: RecordsTx>(
     body: &[u8],
 ) -> Result<Answered, RequestError>
     requires { length body.now ≤ longest_body }
-    ensures ok { Operates context.now (T.seen tx.old) (T.seen tx.new) (λ b. on_tokens operations.Renew body.now) result }
+    ensures ok { Operates context.now (T.seen tx.old) (T.seen tx.new)
+        (λ b. on_tokens operations.Renew body.now) result }
     ensures started { OnFault result IsNotBadStart }
     ensures goes_on { GoesOn (T.seen tx.old) (T.seen tx.new) (step_fails result) }
 {
@@ -47,7 +48,8 @@ pub(super) fn renew_self<T: RecordsTx>(
     body: &[u8],
 ) -> Result<Answered, RequestError>
     requires { length body.now ≤ longest_body }
-    ensures ok { Operates context.now (T.seen tx.old) (T.seen tx.new) (λ b. on_tokens operations.RenewSelf body.now) result }
+    ensures ok { Operates context.now (T.seen tx.old) (T.seen tx.new)
+        (λ b. on_tokens operations.RenewSelf body.now) result }
     ensures started { OnFault result IsNotBadStart }
     ensures goes_on { GoesOn (T.seen tx.old) (T.seen tx.new) (step_fails result) }
 {

@@ -28,7 +28,8 @@ pub(super) fn revoke<T: RecordsTx>(
     body: &[u8],
 ) -> Result<Answered, RequestError>
     requires { length body.now ≤ longest_body }
-    ensures ok { Operates context.now (T.seen tx.old) (T.seen tx.new) (λ b. on_tokens operations.Revoke body.now) result }
+    ensures ok { Operates context.now (T.seen tx.old) (T.seen tx.new)
+        (λ b. on_tokens operations.Revoke body.now) result }
     ensures started { OnFault result IsNotBadStart }
     ensures goes_on { GoesOn (T.seen tx.old) (T.seen tx.new) (step_fails result) }
 {
@@ -45,7 +46,8 @@ pub(super) fn revoke_orphan<T: RecordsTx>(
     body: &[u8],
 ) -> Result<Answered, RequestError>
     requires { length body.now ≤ longest_body }
-    ensures ok { Operates context.now (T.seen tx.old) (T.seen tx.new) (λ b. on_tokens operations.RevokeOrphan body.now) result }
+    ensures ok { Operates context.now (T.seen tx.old) (T.seen tx.new)
+        (λ b. on_tokens operations.RevokeOrphan body.now) result }
     ensures started { OnFault result IsNotBadStart }
     ensures goes_on { GoesOn (T.seen tx.old) (T.seen tx.new) (step_fails result) }
 {
@@ -62,7 +64,8 @@ pub(super) fn revoke_self<T: RecordsTx>(
     body: &[u8],
 ) -> Result<Answered, RequestError>
     requires { length body.now ≤ longest_body }
-    ensures ok { Operates context.now (T.seen tx.old) (T.seen tx.new) (λ b. on_tokens operations.RevokeSelf body.now) result }
+    ensures ok { Operates context.now (T.seen tx.old) (T.seen tx.new)
+        (λ b. on_tokens operations.RevokeSelf body.now) result }
     ensures started { OnFault result IsNotBadStart }
     ensures goes_on { GoesOn (T.seen tx.old) (T.seen tx.new) (step_fails result) }
 {
@@ -79,7 +82,8 @@ pub(super) fn revoke_accessor<T: RecordsTx>(
     body: &[u8],
 ) -> Result<Answered, RequestError>
     requires { length body.now ≤ longest_body }
-    ensures ok { Operates context.now (T.seen tx.old) (T.seen tx.new) (λ b. on_tokens operations.RevokeAccessor body.now) result }
+    ensures ok { Operates context.now (T.seen tx.old) (T.seen tx.new)
+        (λ b. on_tokens operations.RevokeAccessor body.now) result }
     ensures started { OnFault result IsNotBadStart }
     ensures goes_on { GoesOn (T.seen tx.old) (T.seen tx.new) (step_fails result) }
 {

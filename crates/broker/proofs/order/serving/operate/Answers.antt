@@ -59,7 +59,8 @@ returns-in_err-found-clause-ok g c honest b starts =
     let new = (seen c.route.new.tx).rows in
     let p = err_from_is_err_and c.from_residual.result c.from_residual.ensures.1 in
     rw (p.1 ∙ ap Err p.2)
-    (operated_nowhere b c.args.context.now.caller (names_of c.args.context.now.words) c.args.ask.now rows new c.in_err-found.field-0.0 c.as_str.result.now c.as_str.ensures.text
+    (operated_nowhere b c.args.context.now.caller
+    (names_of c.args.context.now.words) c.args.ask.now rows new c.in_err-found.field-0.0 c.as_str.result.now c.as_str.ensures.text
     starts.represents (c.in_err-found.ensures.same honest)
     (c.in_err-found.ensures.told honest b.mounts (mounts_there b rows starts.represents)))
 

@@ -33,7 +33,8 @@ returns-in_default-clause-ok g c =
     c.context.view_is
     (λ honest b starts.
     let still = still_represented b rows (seen c.read.new.tx).rows (c.in_ok-object.ensures.same honest) starts.represents in
-    let told = c.in_ok-object.ensures.told honest b (tells_part of_cubbyholes b rows starts.represents) (caller_len b rows caller starts.represents starts.here) in
+    let told = c.in_ok-object.ensures.told honest b (tells_part of_cubbyholes b rows starts.represents)
+    (caller_len b rows caller starts.represents starts.here) in
     acts_no_object b (seen c.read.new.tx).rows caller c.args.path.now (names_of c.context.inside.words.now) still (sym c.in_default.is ∙ told))
 
 pub returns-clause-ok : goal.returns-clause-ok
@@ -42,11 +43,13 @@ returns-clause-ok g c =
     let seen = g.T.RecordsTx.seen in
     let rows = (seen c.args.tx.now).rows in
     let caller = c.context.inside.caller.now in
-    subst (λ x. Operates x (seen c.args.tx.now) (seen c.read.new.tx) (λ b. Ok (on_cubbyhole (read_object c.args.path.now))) (Ok (Given c.in_ok-plain_reply.field-0)))
+    subst (λ x. Operates x (seen c.args.tx.now) (seen c.read.new.tx) (λ b. Ok (on_cubbyhole (read_object c.args.path.now))) (Ok
+    (Given c.in_ok-plain_reply.field-0)))
     c.context.view_is
     (λ honest b starts.
     let still = still_represented b rows (seen c.read.new.tx).rows (c.in_ok-object.ensures.same honest) starts.represents in
-    let told = c.in_ok-object.ensures.told honest b (tells_part of_cubbyholes b rows starts.represents) (caller_len b rows caller starts.represents starts.here) in
+    let told = c.in_ok-object.ensures.told honest b (tells_part of_cubbyholes b rows starts.represents)
+    (caller_len b rows caller starts.represents starts.here) in
     acts_read b (seen c.read.new.tx).rows caller c.args.path.now c.as_str.result.now c.in-Some.object
     (names_of c.context.inside.words.now) _ still (sym (c.as_str.ensures.value ∙ c.in_ok-request.ensures))
     (sym c.in-Some.is ∙ told) c.in_ok-plain_reply.ensures)

@@ -27,7 +27,11 @@ returns-then-not-branch-clause-ok g c m of =
     let accessor : names.accessor ≡ c.as_str-2.result.now = sym (c.as_str-2.ensures ∙ c.in_ok-accessor.ensures.value) in
     let used : are_new b.used (token_names names) ≡ false =
     (λ i. are_new b.used (token i ∷ accessor i ∷ [])) ∙ sym told ∙ c.if-not-branch.true in
-    rw used (refl, still_represented b (seen c.args.tx.now).rows (seen c.are_both_new.new.tx).rows (c.in_ok-are_both_new.ensures.same honest) starts.represents))
+    rw used (
+      refl,
+      still_represented b (seen c.args.tx.now).rows (seen c.are_both_new.new.tx).rows
+          (c.in_ok-are_both_new.ensures.same honest) starts.represents,
+    ))
 
 pub returns-clause-ok : goal.returns-clause-ok
 unfolding names_of
