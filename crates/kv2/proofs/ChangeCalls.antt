@@ -1,5 +1,5 @@
 -- Changes of versions, from what their calls say.
-use Rattle.std.specs.Prelude.{◌≡◌, ◌∷◌, [], true, false, if◌then◌else◌, Option, Some, None, option_map, ℕ, List}
+use Rattle.std.specs.Prelude.{◌≡◌, ◌<◌, ◌^◌, ◌∷◌, [], true, false, if◌then◌else◌, Option, Some, None, option_map, ℕ, List}
 use Rattle.std.proofs.Common.{refl, sym, ◌∙◌, ap, subst}
 use Rattle.broker_types.specs.Text.{Text, same}
 use Rattle.broker_types.specs.TextLaws.{same_true}
@@ -11,7 +11,7 @@ use Rattle.broker_types.specs.Sound.{Forms, SoundSecrets, IsSecretName}
 use Rattle.records.specs.KeyEntry.{key_entry}
 use Rattle.records.specs.Parts.{of_secrets, Tells}
 use Rattle.records.specs.Table.{Table}
-use Rattle.kv2.specs.SecretRows.{HasKey, HasVersion, HasVersions, AreChanged, current_of}
+use Rattle.kv2.specs.SecretRows.{HasKey, HasVersion, IsReadableVersion, AreChanged, current_of}
 use Rattle.kv2.specs.Secrets.{secret_name, with_key}
 use Rattle.kv2.specs.Versions.{version_of, with_changed}
 use Rattle.kv2.proofs.Digits.{KeyLaws}
@@ -38,7 +38,7 @@ module _ (forms : Forms) (b : Broker) (sound : SoundSecrets forms b.secrets) (ol
 
   module _ (laws : KeyLaws) (is_name : IsSecretName (secret_name mount path)) where
     -- and of its versions
-    pub its_versions : HasVersions old name
+    pub its_versions : (n : ℕ) → n < 2 ^ 64 → IsReadableVersion old name n
     its_versions n small = (
       version_of (get b.secrets (secret_name mount path)) n,
       subst (λ q. HasVersion old q n (version_of (get b.secrets (secret_name mount path)) n)) (sym is)

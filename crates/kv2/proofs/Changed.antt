@@ -26,7 +26,7 @@ use Rattle.records.specs.Splits.{line_feed}
 use Rattle.records.specs.SplitLaws.{eqb_self}
 use Rattle.records.specs.Table.{Table, with_row}
 use Rattle.records.specs.ValueLaws.{mapped_unseen, unseen}
-use Rattle.kv2.specs.SecretRows.{HasVersion, HasVersions, IsReadableVersion, AreChanged, is_key_of}
+use Rattle.kv2.specs.SecretRows.{HasVersion, IsReadableVersion, AreChanged, is_key_of}
 use Rattle.kv2.specs.VersionLaws.{get-change_versions}
 use Rattle.kv2.specs.Versions.{version_of, with_changed, is_among}
 use Rattle.kv2.proofs.Digits.{KeyLaws}
@@ -60,10 +60,10 @@ module _ (f : Version → Version) (name : Text) where
     row_is = h.others kind.KvVersion (version_key name n) is ∙ has.row_is;
   }
 
-  -- each row of a version still says what it is
-  pub changed_has : (ns : List ℕ) (a b : Table) → AreChanged f ns name a b → HasVersions a name → HasVersions b name
-  changed_has ns a b h has n small =
-      let x = has n small in (_, changed_at ns a b h n x.0 (is_key_of ns name (version_key name n)) refl x.1)
+  -- a version that could be read before changes can be read after them
+  pub read_after : (ns : List ℕ) (a b : Table) → AreChanged f ns name a b → (n : ℕ) → IsReadableVersion a name n
+      → IsReadableVersion b name n
+  read_after ns a b h n has = (_, changed_at ns a b h n has.0 (is_key_of ns name (version_key name n)) refl has.1)
 
   -- a version that can be read after changes could be read before
   read_before : (ns : List ℕ) (a b : Table) → AreChanged f ns name a b → (n : ℕ) (p : Bool) → is_key_of ns name (version_key name n) ≡ p

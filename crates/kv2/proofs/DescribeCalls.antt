@@ -1,7 +1,8 @@
 -- Metadata, from what its calls say.
-use Rattle.std.specs.Prelude.{◌≡◌, ℕ, List, Option, Some, None, option_map, false}
+use Rattle.std.specs.Prelude.{◌≡◌, ℕ, List, Option, Some, None, option_map, map, All, false}
 use Rattle.std.specs.FinMap as fin
 use Rattle.std.proofs.Common.{sym, ◌∙◌, ap, subst}
+use Rattle.std.proofs.lemmas.List.Elements.{All-map, All-weaker}
 use Rattle.broker_types.specs.Text.{Text}
 use Rattle.broker_types.specs.Map.{get}
 use Rattle.broker_types.specs.OptionLaws.{mapped, mapped_none}
@@ -12,12 +13,20 @@ use Rattle.records.specs.KeyEntry.{KeyEntry, key_entry}
 use Rattle.records.specs.Parts.{of_secrets, Tells}
 use Rattle.records.specs.Table.{table_of}
 use Rattle.records.specs.Transaction.{Rows}
-use Rattle.kv2.specs.Metadata.{metadata_of, metadata_with}
-use Rattle.kv2.specs.SecretRows.{HasKey, AreVersions}
+use Rattle.kv2.specs.InRange.{IsToldInRange, AreToldInRange}
+use Rattle.kv2.specs.Metadata.{metadata_of, metadata_with, version_metadata}
+use Rattle.kv2.specs.SecretRows.{HasKey, IsNumbered, AreVersions}
 use Rattle.kv2.specs.Secrets.{secret_name, metadata}
 use Rattle.kv2.proofs.Digits.{KeyLaws}
 use Rattle.kv2.proofs.SecretsTold.{has_key}
 use Rattle.kv2.proofs.VersionsListed.{versions_listed}
+
+-- what is told of versions that rows hold is in their range
+pub told_in_range : (vs : List (ℕ × Version)) → All IsNumbered vs → AreToldInRange (map version_metadata vs)
+told_in_range vs all =
+    All-map IsToldInRange version_metadata vs
+    (All-weaker IsNumbered (λ v. IsToldInRange (version_metadata v))
+    (λ v n. record { created = n.in_range.created; deleted = n.in_range.deleted }) vs all)
 
 module _ (forms : Forms) (b : Broker) (sound : SoundSecrets forms b.secrets) (rows : Rows) (told : Tells of_secrets (table_of rows) b) (mount path name : Text)
     (is : name ≡ secret_name mount path) where

@@ -1,6 +1,7 @@
 -- What stays of a key from one operation to the next.
 use Rattle.std.specs.Prelude.{◌≡◌, ◌≢◌, ◌≤◌, ◌+◌, ◌-◌, ◌==◌, ℕ, List, nat_lt, Bool, true, false, cond, if◌then◌else◌, Option, Some, None, option_map}
-use Rattle.std.specs.Prelude.{is_none, Ok}
+use Rattle.std.specs.Prelude.{is_none, Ok, nat_eq, [], not}
+use Rattle.std.specs.List.{starts_with}
 use Rattle.std.specs.Option.{option_map_or}
 use Rattle.std.specs.FinMap as fin
 use Rattle.std.proofs.Common.{refl, sym, ◌∙◌, ap, subst, arith}
@@ -9,13 +10,13 @@ use Rattle.std.proofs.lemmas.Option.{none-some}
 use Rattle.broker_types.specs.Text.{Text, same}
 use Rattle.broker_types.specs.TextLaws.{same_self}
 use Rattle.broker_types.specs.Map.{get}
-use Rattle.broker_types.specs.MapLaws.{get-put, get-put_self, get-change}
+use Rattle.broker_types.specs.MapLaws.{get-put, get-put_self, get-change, get-without, get-keep}
 use Rattle.broker_types.specs.OptionLaws.{mapped}
 use Rattle.broker_types.specs.Secret.{Key, Version}
 use Rattle.broker_types.specs.Broker.{Broker}
 use Rattle.broker_types.specs.Sound.{Forms, SoundSecrets}
 use Rattle.kv2.specs.Laws.{last_number, version_at, HasNoSecret}
-use Rattle.kv2.specs.Secrets.{Written, secret_name, key_at, with_key, write}
+use Rattle.kv2.specs.Secrets.{Written, secret_name, key_at, with_key, write, remove_key, drop_mount}
 use Rattle.kv2.specs.SoundLaws.{write_is}
 use Rattle.kv2.specs.VersionLaws.{get-change_versions, next_versions}
 use Rattle.kv2.specs.Versions.{version_of, key_or_new, new_version, with_version, with_changed, is_among, versions_kept, soft_deleted, restored, destroyed}
@@ -40,6 +41,15 @@ module _ (b : Broker) (mount path : Text) (f : Version → Version) (numbers : K
           ≡ option_map_or (λ (k : Key). k.current) o 0
       inner None = refl
       inner (Some k) = refl
+
+  still : (o : Option Key) → option_map (λ k. k) o ≡ o
+  still None = refl
+  still (Some k) = refl
+
+  pub other_stays : (q : Text) → same q name ≡ false → get next.secrets q ≡ get b.secrets q
+  other_stays q apart =
+      get-change b.secrets name (λ k. with_changed f (numbers k) k) q
+      ∙ ap (λ v. option_map (λ k. if v then with_changed f (numbers k) k else k) (get b.secrets q)) apart ∙ still (get b.secrets q)
 
   pub nothing_restored : ((v : Version) → v.secret ≡ None → (f v).secret ≡ None) → (n : ℕ) → HasNoSecret (version_at b mount path n)
       → HasNoSecret (version_at next mount path n)
@@ -71,6 +81,19 @@ restored_gone v e = elim (is_none v.secret) as (λ p. (if p then v else record v
 
 pub destroyed_gone : (v : Version) → v.secret ≡ None → (destroyed v).secret ≡ None
 destroyed_gone v e = refl
+
+-- ---- removals
+
+pub removed_apart : (b : Broker) (mount path q : Text) → same q (secret_name mount path) ≡ false
+    → get (remove_key b mount path).secrets q ≡ get b.secrets q
+removed_apart b mount path q apart =
+    get-without b.secrets (secret_name mount path) q ∙ ap (λ v. cond v None (get b.secrets q)) apart
+
+pub dropped_apart : (b : Broker) (mount q : Text) → starts_with nat_eq q (secret_name mount []) ≡ false
+    → get (drop_mount b mount).secrets q ≡ get b.secrets q
+dropped_apart b mount q apart =
+    get-keep (λ q. not (starts_with nat_eq q (secret_name mount []))) b.secrets q
+    ∙ ap (λ v. cond (not v) (get b.secrets q) None) apart
 
 -- ---- a write
 

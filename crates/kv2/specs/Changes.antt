@@ -12,7 +12,7 @@ use Rattle.records.specs.Table.{table_of}
 use Rattle.records.specs.Transaction.{Seen, IsHonest, GoesOn, is_storage}
 use Rattle.kv2.specs.declared.changing.Change.{Change}
 use Rattle.kv2.specs.declared.changing.Change.TheVariants as done
-use Rattle.kv2.specs.SecretRows.{AreChanged, HasVersions}
+use Rattle.kv2.specs.SecretRows.{AreChanged, AreReadableVersions}
 use Rattle.kv2.specs.Secrets.{secret_name, with_versions}
 use Rattle.kv2.specs.Versions.{soft_deleted, restored, destroyed}
 
@@ -39,8 +39,8 @@ pub record ChangesVersions {A : Type 0} (f : Version → Version) (ns : List ℕ
   pub told : IsHonest new → (forms : Forms) (b : Broker) → SoundSecrets forms b.secrets
       → Tells of_secrets (table_of old.rows) b → IsSecretName (secret_name mount path)
       → OnOk result (Tells of_secrets (table_of new.rows) (with_versions f b mount path ns))
-  -- it fails as damaged only if a row of the versions is
-  pub readable : IsHonest new → HasVersions (table_of old.rows) (secret_name mount path)
+  -- it fails as damaged only if a row of these versions is
+  pub readable : IsHonest new → AreReadableVersions (table_of old.rows) (secret_name mount path) ns
       → IfErr result IsMemoryOrStorage
   pub undamaged : IsHonest new → (forms : Forms) (b : Broker) → SoundSecrets forms b.secrets
       → Tells of_secrets (table_of old.rows) b → IsSecretName (secret_name mount path) → IfErr result IsMemoryOrStorage

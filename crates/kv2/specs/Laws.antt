@@ -1,5 +1,6 @@
 -- Laws of versioned secrets, as statements (this project's; Vault's documentation, "KV secrets engine - version 2").
-use Rattle.std.specs.Prelude.{◌≡◌, ◌≢◌, ◌<◌, ◌≤◌, ◌+◌, ◌^◌, ℕ, List, Bool, false, Option, Some, None, Ok}
+use Rattle.std.specs.Prelude.{◌≡◌, ◌≢◌, ◌<◌, ◌≤◌, ◌+◌, ◌^◌, ℕ, nat_eq, List, [], Bool, false, Option, Some, None, Ok}
+use Rattle.std.specs.List.{starts_with}
 use Rattle.std.specs.FinMap as fin
 use Rattle.std.specs.Option.{option_map_or}
 use Rattle.broker_types.specs.Text.{Text, same}
@@ -78,6 +79,20 @@ OthersStay =
     (b : Broker) (mount path : Text) (cas : Option ℕ) (object : Text) (w : Written)
     → write b mount path cas object ≡ Ok w → (q : Text) → same q (secret_name mount path) ≡ false
     → get w.next.secrets q ≡ get b.secrets q
+
+-- nor does a change of versions, or the removal of a key, change the secret of another name
+pub record OthersAreKept (b : Broker) (mount path : Text) (ns : List ℕ) (q : Text) : Type 0 where
+  pub deleted : get (delete b mount path).secrets q ≡ get b.secrets q
+  pub versions_deleted : get (delete_versions b mount path ns).secrets q ≡ get b.secrets q
+  pub restored : get (undelete b mount path ns).secrets q ≡ get b.secrets q
+  pub destroyed : get (destroy b mount path ns).secrets q ≡ get b.secrets q
+  pub removed : get (remove_key b mount path).secrets q ≡ get b.secrets q
+
+-- a mount that is dropped takes no secret along whose name does not begin with its own
+abbrev pub OtherMountsStay : Type 0
+OtherMountsStay =
+    (b : Broker) (mount q : Text) → starts_with nat_eq q (secret_name mount []) ≡ false
+    → get (drop_mount b mount).secrets q ≡ get b.secrets q
 
 -- ---- what is destroyed stays so
 

@@ -1,4 +1,5 @@
 pub mod Changes
+pub mod InRange
 pub mod Laws
 pub mod Metadata
 pub mod SecretRows

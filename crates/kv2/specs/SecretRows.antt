@@ -48,10 +48,6 @@ HasKey rows name o = IsRowOf IsKeyInRange key_entry_row (rows kind.KvKey name) o
 abbrev pub HasVersion : Table → Text → ℕ → Option Version → Type 0
 HasVersion rows name n o = IsRowOf IsVersionInRange version_row (rows kind.KvVersion (version_key name n)) o
 
--- each row of a version of the name says what it is
-abbrev pub HasVersions : Table → Text → Type 0
-HasVersions rows name = (n : ℕ) → n < 2 ^ 64 → (o : Option Version) × HasVersion rows name n o
-
 -- what the row of a mount says
 abbrev pub HasMount : Table → Text → Option Mount → Type 0
 HasMount rows name o = IsRowOf IsMountInRange mount_row (rows kind.Mount name) o
@@ -69,6 +65,10 @@ IsReadableKey rows name = (k : Option KeyEntry) × HasKey rows name k
 -- the row of a version is that of a version, or there is none
 abbrev pub IsReadableVersion : Table → Text → ℕ → Type 0
 IsReadableVersion rows name n = (v : Option Version) × HasVersion rows name n v
+
+-- the rows of the versions of these numbers are not damaged
+abbrev pub AreReadableVersions : Table → Text → List ℕ → Type 0
+AreReadableVersions rows name ns = (n : ℕ) → n < 2 ^ 64 → is_among ns n ≡ true → IsReadableVersion rows name n
 
 -- the rows that a write reads are not damaged: its mount's, and its key's if the mount is there
 abbrev pub AreReadable : Table → Text → Text → Type 0

@@ -10,8 +10,8 @@ ghost use Rattle.records.specs.Parts.{of_secrets, Tells};
 ghost use Rattle.records.specs.Table.{table_of};
 ghost use Rattle.records.specs.Transaction.{IsHonest, GoesOn, is_storage};
 ghost use Rattle.kv2.specs.Changes.{change_of, IsTimely, ChangesVersions};
-ghost use Rattle.kv2.specs.SecretRows.{HasKey, HasVersion, HasVersions, AreChanged, KeepsOtherNames, current_of};
-ghost use Rattle.kv2.specs.SecretRows.{IsReadableKey};
+ghost use Rattle.kv2.specs.SecretRows.{HasKey, HasVersion, AreChanged, KeepsOtherNames, current_of};
+ghost use Rattle.kv2.specs.SecretRows.{IsReadableKey, AreReadableVersions};
 ghost use Rattle.kv2.specs.Secrets as secrets;
 ghost use Rattle.kv2.specs.Versions as versions;
 
@@ -102,7 +102,8 @@ fn change_versions<T: RecordsTx>(
     ensures rows { IsHonest (T.seen tx.new) → IsTimely change → OnOk result (AreChanged (change_of change)
         numbers.now name.now (table_of (T.seen tx.old).rows) (table_of (T.seen tx.new).rows)) }
     ensures undamaged { IsHonest (T.seen tx.new) → IsTimely change
-        → HasVersions (table_of (T.seen tx.old).rows) name.now → IfErr result IsMemoryOrStorage }
+        → AreReadableVersions (table_of (T.seen tx.old).rows) name.now numbers.now
+        → IfErr result IsMemoryOrStorage }
     ensures started { IfErr result (λ fault. fault ≢ Fault.BadStart) }
     ensures goes_on { GoesOn (T.seen tx.old) (T.seen tx.new) (is_storage result) }
 {
@@ -128,7 +129,8 @@ fn change_current<T: RecordsTx>(
     ensures others { IsHonest (T.seen tx.new) → IsTimely change → OnOk result
         (KeepsOtherNames name.now (table_of (T.seen tx.old).rows) (table_of (T.seen tx.new).rows)) }
     ensures undamaged { IsHonest (T.seen tx.new) → (k : Option KeyEntry)
-        → HasKey (table_of (T.seen tx.old).rows) name.now k → HasVersions (table_of (T.seen tx.old).rows) name.now
+        → HasKey (table_of (T.seen tx.old).rows) name.now k
+        → AreReadableVersions (table_of (T.seen tx.old).rows) name.now (current_of k)
         → IfErr result IsMemoryOrStorage }
     ensures started { IfErr result (λ fault. fault ≢ Fault.BadStart) }
     ensures goes_on { GoesOn (T.seen tx.old) (T.seen tx.new) (is_storage result) }
@@ -165,7 +167,7 @@ pub fn delete<T: RecordsTx>(
         → OnOk result (Tells of_secrets (table_of (T.seen tx.new).rows) (secrets.delete b mount.now path.now)) }
     ensures readable { IsHonest (T.seen tx.new) → (k : Option KeyEntry)
         → HasKey (table_of (T.seen tx.old).rows) (secrets.secret_name mount.now path.now) k
-        → HasVersions (table_of (T.seen tx.old).rows) (secrets.secret_name mount.now path.now)
+        → AreReadableVersions (table_of (T.seen tx.old).rows) (secrets.secret_name mount.now path.now) (current_of k)
         → IfErr result IsMemoryOrStorage }
     ensures undamaged { IsHonest (T.seen tx.new) → (forms : Forms) (b : Broker) → SoundSecrets forms b.secrets
         → Tells of_secrets (table_of (T.seen tx.old).rows) b

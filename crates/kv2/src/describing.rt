@@ -9,9 +9,12 @@ ghost use Rattle.broker_types.specs.Secret.{Version};
 ghost use Rattle.broker_types.specs.Sound.{Forms, SoundSecrets};
 ghost use Rattle.records.specs.KeyEntry.{KeyEntry};
 ghost use Rattle.records.specs.Parts.{of_secrets, Tells};
+ghost use Rattle.records.specs.Ranges.{IsKeyInRange};
+ghost use Rattle.records.specs.Reading.{IsSomeIn};
 ghost use Rattle.records.specs.Rows as rows;
 ghost use Rattle.records.specs.Table.{table_of};
 ghost use Rattle.records.specs.Transaction.{IsHonest, GoesOn, is_storage};
+ghost use Rattle.kv2.specs.InRange.{AreToldInRange, IsMetadataInRange};
 ghost use Rattle.kv2.specs.Metadata as spec;
 ghost use Rattle.kv2.specs.Metadata.{Metadata};
 ghost use Rattle.kv2.specs.SecretRows.{IsNumbered, IsEntryOf, AreEntriesOf, AreVersions, IsMetadata, versions_prefix};
@@ -114,6 +117,7 @@ fn find_versions<T: RecordsTx>(
         → MatchResult result (λ list. list.items ≡ map spec.version_metadata vs) IsMemoryOrStorage }
     ensures exact { IsHonest (T.seen tx.new) → IfOk result (λ list. (vs : List (ℕ × Version))
         × AreVersions (T.seen tx.old).rows name.now vs × (list.items ≡ map spec.version_metadata vs)) }
+    ensures in_range { IfOk result (λ list. AreToldInRange list.items) }
     ensures same { IsHonest (T.seen tx.new) → OnOk result ((T.seen tx.new).rows ≡ (T.seen tx.old).rows) }
     ensures started { IfErr result (λ fault. fault ≢ Fault.BadStart) }
     ensures goes_on { GoesOn (T.seen tx.old) (T.seen tx.new) (is_storage result) }
@@ -141,8 +145,9 @@ fn oldest_of(versions: &[VersionMetadata]) -> u64
 
 /// A key with its versions. It has no settings of its own.
 fn with_versions(key: &KeyRecord, versions: Vec<VersionMetadata>) -> SecretMetadata
-    ensures { (vs : List (ℕ × Version)) → versions.items ≡ map spec.version_metadata vs
+    ensures told { (vs : List (ℕ × Version)) → versions.items ≡ map spec.version_metadata vs
         → result ≡ spec.metadata_with false 0 key.now vs }
+    ensures in_range { IsKeyInRange key.now → AreToldInRange versions.items → IsMetadataInRange result }
 {
     SecretMetadata {
         cas_required: false,
@@ -170,6 +175,7 @@ pub fn metadata<T: RecordsTx>(
     ensures told { IsHonest (T.seen tx.new) → (forms : Forms) (b : Broker) → SoundSecrets forms b.secrets
         → Tells of_secrets (table_of (T.seen tx.old).rows) b
         → IfOk result (λ o. o ≡ secrets.metadata b mount.now path.now) }
+    ensures in_range { IfOk result (IsSomeIn IsMetadataInRange) }
     ensures same { IsHonest (T.seen tx.new) → OnOk result ((T.seen tx.new).rows ≡ (T.seen tx.old).rows) }
     ensures readable { IsHonest (T.seen tx.new) → (o : Option Metadata)
         → IsMetadata (T.seen tx.old).rows (secrets.secret_name mount.now path.now) o → IfErr result IsMemoryOrStorage }

@@ -4,6 +4,8 @@ ghost use Rattle.std.specs.Prelude.{◌≡◌, ◌≢◌, Option, IfOk, IfErr, O
 ghost use Rattle.broker_types.specs.Broker.{Mount};
 ghost use Rattle.broker_types.specs.Fault.{IsMemoryOrStorage};
 ghost use Rattle.records.specs.KeyEntry.{KeyEntry};
+ghost use Rattle.records.specs.Ranges.{IsKeyInRange};
+ghost use Rattle.records.specs.Reading.{IsSomeIn};
 ghost use Rattle.records.specs.Table.{table_of};
 ghost use Rattle.records.specs.Transaction.{IsHonest, GoesOn, is_storage};
 ghost use Rattle.kv2.specs.SecretRows.{HasKey, HasMount};
@@ -38,6 +40,7 @@ pub(crate) fn find_key<T: RecordsTx>(tx: &mut T, name: &str) -> Result<Option<Ke
     ensures found { IsHonest (T.seen tx.new) → (k : Option KeyEntry)
         → HasKey (table_of (T.seen tx.old).rows) name.now k → IfOk result (λ o. o ≡ k) }
     ensures exact { IsHonest (T.seen tx.new) → IfOk result (HasKey (table_of (T.seen tx.old).rows) name.now) }
+    ensures in_range { IfOk result (IsSomeIn IsKeyInRange) }
     ensures same { IsHonest (T.seen tx.new) → OnOk result ((T.seen tx.new).rows ≡ (T.seen tx.old).rows) }
     ensures undamaged { IsHonest (T.seen tx.new) → (k : Option KeyEntry)
         → HasKey (table_of (T.seen tx.old).rows) name.now k → IfErr result IsMemoryOrStorage }

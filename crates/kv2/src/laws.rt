@@ -1,13 +1,15 @@
 //! Laws of the definitions, each the contract of a function that does nothing.
 
-ghost use Rattle.std.specs.Prelude.{ℕ, List, Option};
-ghost use Rattle.broker_types.specs.Text.{Text};
+ghost use Rattle.std.specs.Prelude.{◌≡◌, ℕ, List, Option, false};
+ghost use Rattle.broker_types.specs.Text.{Text, same};
 ghost use Rattle.broker_types.specs.Broker.{Broker};
 ghost use Rattle.broker_types.specs.Sound.{Forms, Sound};
 ghost use Rattle.kv2.specs.Laws.{WriteKeepsSoundness, ChangesKeepSoundness, RemovalsKeepSoundness};
 ghost use Rattle.kv2.specs.Laws.{SettingsKeepSoundness, SecretsEvolve, SettingsEvolve};
-ghost use Rattle.kv2.specs.Laws.{NumbersAreNew, NumbersStay, OthersStay, version_at, HasNoSecret};
+ghost use Rattle.kv2.specs.Laws.{NumbersAreNew, NumbersStay, OthersStay, OthersAreKept, OtherMountsStay};
+ghost use Rattle.kv2.specs.Laws.{version_at, HasNoSecret};
 ghost use Rattle.kv2.specs.Laws.{WriteRestoresNothing, ChangesRestoreNothing, OldestIsSmallest};
+ghost use Rattle.kv2.specs.Secrets.{secret_name};
 
 /// A law: the operations leave a sound broker sound, whoever may have spent its last use.
 pub fn operations_keep_soundness()
@@ -32,9 +34,12 @@ pub fn numbers_are_given_once()
     ensures changed { (b : Broker) (mount path : Text) (ns : List ℕ) → NumbersStay b mount path ns }
 {}
 
-/// A law: a write of one key changes no other.
+/// A law: a call on one key changes no other, and a mount that is dropped takes no key of another mount along.
 pub fn other_keys_stay()
-    ensures { OthersStay }
+    ensures written { OthersStay }
+    ensures changed { (b : Broker) (mount path : Text) (ns : List ℕ) (q : Text)
+        → same q (secret_name mount path) ≡ false → OthersAreKept b mount path ns q }
+    ensures dropped { OtherMountsStay }
 {}
 
 /// A law: the secret of a version that is destroyed never comes back (Vault's documentation, "KV secrets engine -

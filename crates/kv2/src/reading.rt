@@ -6,6 +6,8 @@ ghost use Rattle.broker_types.specs.Fault.{IsMemoryOrStorage};
 ghost use Rattle.broker_types.specs.Secret.{Version};
 ghost use Rattle.broker_types.specs.Sound.{Forms, SoundSecrets};
 ghost use Rattle.records.specs.Parts.{of_secrets, Tells};
+ghost use Rattle.records.specs.Ranges.{IsVersionInRange};
+ghost use Rattle.records.specs.Reading.{IsSomeIn};
 ghost use Rattle.records.specs.Table.{table_of};
 ghost use Rattle.records.specs.Transaction.{IsHonest, GoesOn, is_storage};
 ghost use Rattle.kv2.specs.SecretRows.{HasVersion, IsReading};
@@ -33,6 +35,7 @@ fn find_version<T: RecordsTx>(
     ensures exact { IsHonest (T.seen tx.new) → IfOk result (λ o. (v : Option Version)
         × HasVersion (table_of (T.seen tx.old).rows) name.now number v
         × (o ≡ option_map (versions.numbered number) v)) }
+    ensures in_range { IfOk result (IsSomeIn (λ v. IsVersionInRange v.1)) }
     ensures same { IsHonest (T.seen tx.new) → OnOk result ((T.seen tx.new).rows ≡ (T.seen tx.old).rows) }
     ensures undamaged { IsHonest (T.seen tx.new) → (v : Option Version)
         → HasVersion (table_of (T.seen tx.old).rows) name.now number v → IfErr result IsMemoryOrStorage }
@@ -70,6 +73,7 @@ pub fn read<T: RecordsTx>(
     ensures told { IsHonest (T.seen tx.new) → (forms : Forms) (b : Broker) → SoundSecrets forms b.secrets
         → Tells of_secrets (table_of (T.seen tx.old).rows) b
         → IfOk result (λ o. o ≡ secrets.read b mount.now path.now number) }
+    ensures in_range { IfOk result (IsSomeIn (λ v. IsVersionInRange v.1)) }
     ensures same { IsHonest (T.seen tx.new) → OnOk result ((T.seen tx.new).rows ≡ (T.seen tx.old).rows) }
     ensures readable { IsHonest (T.seen tx.new) → (o : Option (ℕ × Version))
         → IsReading (table_of (T.seen tx.old).rows) (secrets.secret_name mount.now path.now) number o

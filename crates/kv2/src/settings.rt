@@ -5,6 +5,7 @@ ghost use Rattle.broker_types.specs.Broker.{Broker, Mount};
 ghost use Rattle.broker_types.specs.Fault.{IsMemoryOrStorage};
 ghost use Rattle.broker_types.specs.Sound.{SoundMounts};
 ghost use Rattle.records.specs.Parts.{of_mounts, Tells};
+ghost use Rattle.records.specs.Reading.{IsSomeIn, IsWide};
 ghost use Rattle.records.specs.Table.{table_of};
 ghost use Rattle.records.specs.Transaction.{IsHonest, GoesOn, is_storage};
 ghost use Rattle.kv2.specs.SecretRows as rows;
@@ -71,6 +72,7 @@ pub fn set_config<T: RecordsTx>(
         → HasMount (table_of (T.seen tx.old).rows) mount.now m → IfErr result IsMemoryOrStorage }
     ensures undamaged { IsHonest (T.seen tx.new) → (b : Broker) → SoundMounts b.mounts
         → Tells of_mounts (table_of (T.seen tx.old).rows) b → IfErr result IsMemoryOrStorage }
+    ensures wide { IsSomeIn IsWide max_versions }
     ensures started { IfErr result (λ fault. fault ≢ Fault.BadStart) }
     ensures goes_on { GoesOn (T.seen tx.old) (T.seen tx.new) (is_storage result) }
 {

@@ -1,3 +1,6 @@
+//! Secrets over a transaction in memory: each call, run once with enough memory, and check-and-set, pruning and
+//! changes of versions on small examples.
+
 use crate::{
     SecretVersion, config, delete, delete_versions, destroy, drop_mount, list, metadata, read,
     remove_key, set_config, undelete, write,

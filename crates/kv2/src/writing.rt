@@ -1,6 +1,6 @@
 //! Secrets, written.
 
-ghost use Rattle.std.specs.Prelude.{◌≡◌, ◌<◌, ◌^◌, Option, unwrap_or, length, OnOk, ⊤};
+ghost use Rattle.std.specs.Prelude.{◌≡◌, ◌≢◌, ◌<◌, ◌^◌, Option, None, unwrap_or, length, OnOk, ⊤};
 ghost use Rattle.broker_types.specs.Broker.{Broker, Mount};
 ghost use Rattle.broker_types.specs.Limits.{greatest_version};
 ghost use Rattle.broker_types.specs.RequestError.{Ends, step_fails};
@@ -125,7 +125,8 @@ fn write_named<T: RecordsTx>(
 ) -> Result<u64, RequestError>
     requires { length object.now < 2 ^ 32 }
     ensures rows { IsHonest (T.seen tx.new) → (m : Option Mount) (k : Option KeyEntry)
-        → HasMount (table_of (T.seen tx.old).rows) mount.now m → HasKey (table_of (T.seen tx.old).rows) name.now k
+        → HasMount (table_of (T.seen tx.old).rows) mount.now m
+        → (m ≢ None → HasKey (table_of (T.seen tx.old).rows) name.now k)
         → Ends (λ v w. (v ≡ w.number) × (table_of (T.seen tx.new).rows ≡ w.rows)) ⊤ result
         (rows.write (table_of (T.seen tx.old).rows) m k name.now now cas object.now) }
     ensures refused { IsHonest (T.seen tx.new) → OnRefused result ((T.seen tx.new).rows ≡ (T.seen tx.old).rows) }
@@ -165,7 +166,7 @@ pub fn write<T: RecordsTx>(
     requires { length object.now < 2 ^ 32 }
     ensures rows { IsHonest (T.seen tx.new) → (m : Option Mount) (k : Option KeyEntry)
         → HasMount (table_of (T.seen tx.old).rows) mount.now m
-        → HasKey (table_of (T.seen tx.old).rows) (secrets.secret_name mount.now path.now) k
+        → (m ≢ None → HasKey (table_of (T.seen tx.old).rows) (secrets.secret_name mount.now path.now) k)
         → Ends (λ v w. (v ≡ w.number) × (table_of (T.seen tx.new).rows ≡ w.rows)) ⊤ result
         (rows.write (table_of (T.seen tx.old).rows) m k (secrets.secret_name mount.now path.now) now cas object.now) }
     ensures told { IsHonest (T.seen tx.new) → (forms : Forms) (b : Broker) → SoundSecrets forms b.secrets

@@ -1,11 +1,13 @@
-use Rattle.std.proofs.Common.{◌<◌, ◌^◌, subst, sym}
+use Rattle.std.proofs.Common.{◌≡◌, ◌∙◌, ◌<◌, ◌^◌, ◌||◌, true, false, Some, ap, subst, sym}
 use Rattle.std.proofs.lemmas.Result.{on_ok_weaker}
 use Rattle.records.specs.CallLaws.{honest_before}
 use Rattle.records.specs.KeyEntry.{KeyEntry}
+use Rattle.records.specs.SplitLaws.{eqb_self}
 use Rattle.records.specs.Table.{table_of}
 use Rattle.records.specs.Transaction.{Rows, IsHonest}
 use Rattle.kv2.specs.Changes.{change_of}
-use Rattle.kv2.specs.SecretRows.{KeepsOtherNames, HasVersion}
+use Rattle.kv2.specs.SecretRows.{KeepsOtherNames, HasVersion, current_of}
+use Rattle.kv2.specs.Versions.{is_among}
 use Rattle.kv2.proofs.Digits.{wide}
 use Rattle.kv2.proofs.Others.{changed_keeps}
 use Rattle.kv2.proofs.changing.change_current.Goals as goal
@@ -28,7 +30,8 @@ returns-clause-undamaged g c honest k has versions =
     let n = c.in-Some.key.current in
     let range = (c.in_ok-key.ensures.exact first).in_range c.in-Some.key c.in-Some.is in
     let small : n < 2 ^ 64 = wide n range.current in
-    let v = versions n small in
+    let known : Some c.in-Some.key ≡ k = sym c.in-Some.is ∙ c.in_ok-key.ensures.found first k has in
+    let v = versions n small (subst (λ o. is_among (current_of o) n ≡ true) known (ap (λ b. b || false) (eqb_self n))) in
     c.change_version.ensures.undamaged honest v.0
     (subst (λ (e : KeyEntry). HasVersion (table_of (seen c.find_key.new.tx).rows) name e.current v.0) (sym c.key.view_is)
     (subst (λ (r : Rows). HasVersion (table_of r) name n v.0) (sym (c.in_ok-key.ensures.same first)) v.1))

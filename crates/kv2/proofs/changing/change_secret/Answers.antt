@@ -3,7 +3,7 @@ use Rattle.std.proofs.lemmas.Result.{on_ok_weaker}
 use Rattle.broker_types.specs.Text.{Text}
 use Rattle.records.specs.Table.{table_of}
 use Rattle.kv2.specs.Changes.{change_of}
-use Rattle.kv2.specs.SecretRows.{AreChanged, HasVersions}
+use Rattle.kv2.specs.SecretRows.{AreChanged, AreReadableVersions}
 use Rattle.kv2.proofs.ChangeCalls.{its_versions, versions_told}
 use Rattle.kv2.proofs.Digits.{KeyLaws}
 use Rattle.kv2.proofs.changing.change_secret.Goals as goal
@@ -30,9 +30,9 @@ returns g c timely =
       rows = λ honest. subst (λ (q : Text). OnOk c.change_versions.result (AreChanged f ns q old new)) is (made.rows honest timely);
       told = λ honest forms b sound told is_name.
           on_ok_weaker c.change_versions.result (versions_told forms b sound old told mount path name is laws is_name f ns new) (made.rows honest timely);
-      readable = λ honest versions. made.undamaged honest timely (subst (λ (q : Text). HasVersions old q) (sym is) versions);
+      readable = λ honest versions. made.undamaged honest timely (subst (λ (q : Text). AreReadableVersions old q ns) (sym is) versions);
       undamaged = λ honest forms b sound told is_name.
-          made.undamaged honest timely (its_versions forms b sound old told mount path name is laws is_name);
+          made.undamaged honest timely (λ n small _. its_versions forms b sound old told mount path name is laws is_name n small);
       started = made.started;
       goes_on = made.goes_on;
     }

@@ -1,13 +1,15 @@
-use Rattle.std.proofs.Common.{◌<◌, ◌^◌, ℕ, List, get_or, take, subst, sym, arith, rules}
+use Rattle.std.proofs.Common.{◌<◌, ◌^◌, ◌==◌, ℕ, List, get_or, take, subst, sym, arith, rules}
 use Rattle.std.proofs.lemmas.List.{take_more}
+use Rattle.std.proofs.lemmas.List.Folds.{list_any_at}
 use Rattle.std.proofs.lemmas.Result.{err_from_is_err_and}
 use Rattle.records.specs.CallLaws.{honest_before}
+use Rattle.records.specs.SplitLaws.{eqb_self}
 use Rattle.records.specs.Table.{table_of}
 use Rattle.records.specs.Transaction.{IsHonest}
 use Rattle.kv2.specs.Changes.{change_of}
 use Rattle.kv2.specs.SecretRows.{AreChanged}
 use Rattle.kv2.proofs.ChangeLemmas.{twice}
-use Rattle.kv2.proofs.Changed.{changed_nothing, changed_more, changed_has}
+use Rattle.kv2.proofs.Changed.{changed_nothing, changed_more, read_after}
 use Rattle.kv2.proofs.changing.change_versions.Goals as goal
 
 pub loop-number-init : goal.loop-number-init
@@ -22,8 +24,9 @@ returns-in_err-change_version-clause-undamaged g c honest timely has =
     let first : IsHonest (seen c.loop-number.tx) = honest_before _ _ _ c.change_version.ensures.goes_on honest in
     let n = get_or c.args.numbers.now c.loop-number.number-index 0 in
     let small : n < 2 ^ 64 = omega arith in
-    let x = changed_has (change_of c.args.change) c.args.name.now (take c.loop-number.number-index c.args.numbers.now) (table_of (seen c.args.tx.now).rows)
-    (table_of (seen c.loop-number.tx).rows) (c.loop-number.invariant.rows first timely) has n small in
+    let among = list_any_at (λ m. m == n) c.args.numbers.now c.loop-number.number-index 0 c.loop-number-test.true (eqb_self n) in
+    let x = read_after (change_of c.args.change) c.args.name.now (take c.loop-number.number-index c.args.numbers.now) (table_of (seen c.args.tx.now).rows)
+    (table_of (seen c.loop-number.tx).rows) (c.loop-number.invariant.rows first timely) n (has n small among) in
     let p = err_from_is_err_and c.from_residual.result c.from_residual.ensures.1 in
     rw (p.1, p.2) (c.in_err-change_version.ensures.undamaged honest x.0 x.1)
 

@@ -6,7 +6,7 @@ use Rattle.broker_types.specs.Text.{Text}
 use Rattle.records.specs.KeyEntry.{key_entry}
 use Rattle.records.specs.Parts.{of_secrets, Tells}
 use Rattle.records.specs.Table.{table_of}
-use Rattle.kv2.specs.SecretRows.{HasKey, HasVersions, KeepsOtherNames}
+use Rattle.kv2.specs.SecretRows.{HasKey, AreReadableVersions, KeepsOtherNames, current_of}
 use Rattle.kv2.specs.Secrets.{secret_name, with_key}
 use Rattle.kv2.specs.Versions.{with_changed, soft_deleted}
 use Rattle.kv2.proofs.ChangeCalls.{its_key, its_versions, current_told}
@@ -55,11 +55,11 @@ returns-clause-undamaged g c honest forms b sound told is_name =
       split = c.versions_have_keys.ensures.split;
     } in
     c.change_current.ensures.undamaged honest (option_map key_entry (get b.secrets (secret_name mount path)))
-    (its_key forms b sound old told mount path name is) (its_versions forms b sound old told mount path name is laws is_name)
+    (its_key forms b sound old told mount path name is) (λ n small _. its_versions forms b sound old told mount path name is laws is_name n small)
 
 pub returns-clause-readable : goal.returns-clause-readable
 returns-clause-readable g c honest k has versions =
     let old = table_of (g.T.RecordsTx.seen c.args.tx.now).rows in
     let is = c.as_str.ensures.value ∙ c.in_ok-name.ensures in
     c.change_current.ensures.undamaged honest k (subst (λ (q : Text). HasKey old q k) (sym is) has)
-    (subst (λ (q : Text). HasVersions old q) (sym is) versions)
+    (subst (λ (q : Text). AreReadableVersions old q (current_of k)) (sym is) versions)

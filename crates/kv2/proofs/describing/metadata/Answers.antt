@@ -1,4 +1,5 @@
 use Rattle.std.proofs.Common.{ap, sym, subst, ◌∙◌, Some, option_map}
+use Rattle.std.proofs.lemmas.Option.{same_Some}
 use Rattle.std.proofs.lemmas.Result.{err_from_is_err_and}
 use Rattle.broker_types.specs.Map.{get}
 use Rattle.records.specs.CallLaws.{honest_before}
@@ -6,6 +7,7 @@ use Rattle.records.specs.KeyEntry.{key_entry}
 use Rattle.records.specs.Table.{table_of}
 use Rattle.records.specs.Transaction.{IsHonest, Rows}
 use Rattle.records.specs.ValueLaws.{none_of}
+use Rattle.kv2.specs.InRange.{IsMetadataInRange}
 use Rattle.kv2.specs.SecretRows.{HasKey, AreVersions}
 use Rattle.kv2.specs.Secrets.{secret_name}
 use Rattle.kv2.proofs.DescribeCalls.{key_told, describe_none, describe_some}
@@ -57,7 +59,7 @@ returns-clause-found g c honest =
         r.0,
         subst (λ (z : Rows). AreVersions z (secret_name c.args.mount.now c.args.path.now) r.0) (c.in_ok-key.ensures.same first)
             (subst (λ q. AreVersions (seen c.find_key.new.tx).rows q r.0) (c.as_str-2.ensures.value ∙ c.in_ok-name.ensures) r.1),
-        ap Some (c.with_versions.ensures r.0 r.2),
+        ap Some (c.with_versions.ensures.told r.0 r.2),
       ),
     )
 
@@ -77,4 +79,9 @@ returns-clause-told g c honest forms b sound told =
     let versions = c.in_ok-versions.ensures.told honest r.0
     (subst (λ (z : Rows). AreVersions z c.as_str-2.result.now r.0) (sym (c.in_ok-key.ensures.same first))
     (subst (λ q. AreVersions rows q r.0) (c.as_str.ensures.value ∙ sym c.as_str-2.ensures.value) r.1)) in
-    ap Some (c.with_versions.ensures r.0 versions) ∙ r.2
+    ap Some (c.with_versions.ensures.told r.0 versions) ∙ r.2
+
+pub returns-clause-in_range : goal.returns-clause-in_range
+returns-clause-in_range g c x is =
+    subst IsMetadataInRange (same_Some _ _ is)
+    (c.with_versions.ensures.in_range (c.in_ok-key.ensures.in_range c.in-Some.key c.in-Some.is) c.in_ok-versions.ensures.in_range)

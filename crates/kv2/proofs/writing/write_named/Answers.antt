@@ -1,4 +1,5 @@
-use Rattle.std.proofs.Common.{◌+◌, ap, sym, subst, ◌∙◌, unwrap_or}
+use Rattle.std.proofs.Common.{◌≢◌, ◌+◌, None, ap, sym, subst, ◌∙◌, unwrap_or}
+use Rattle.std.proofs.lemmas.Option.{none-some}
 use Rattle.broker_types.specs.RequestError.{EndsOk}
 use Rattle.records.specs.CallLaws.{honest_before}
 use Rattle.records.specs.KeyEntry.{KeyEntry}
@@ -26,7 +27,8 @@ returns-clause-rows g c honest m k has_mount has_key =
     let e = c.key_or_new-key.result in
     let limit = c.versions_kept-limit.result in
     let some = sym c.in-Some.is ∙ c.in_ok-settings.ensures.found first m has_mount in
-    let found = c.in_ok-found.ensures.found second k (subst (λ (r : Rows). HasKey (table_of r) name k) (sym same) has_key) in
+    let there : m ≢ None = λ none. none-some _ (sym (some ∙ none)) in
+    let found = c.in_ok-found.ensures.found second k (subst (λ (r : Rows). HasKey (table_of r) name k) (sym same) (has_key there)) in
     subst (λ (e : KeyEntry). EndsOk (IsWritten new) (e.current + 1) (rows.write old m k name now cas object)) (sym c.key.view_is)
     (subst (λ o. EndsOk (IsWritten new) (e.current + 1) (rows.write old o k name now cas object)) some
     (rows_written old new c.in-Some.settings k name object now limit cas e
