@@ -7,9 +7,9 @@ Writes one JSON object a line, with the `name` of a run and its `stdin`. Every r
 generator of its own, seeded by the seed and the run's name, so that a theme that is changed or added
 leaves the inputs of the others as they were. What the replies must be is not known here.
 
-An input is a start line and 3 to 12 events, up to 16 in the themes about tokens, but for some runs of the
-theme `lines`, in which a line is bad at once. A theme draws inputs about one matter; `THEMES` names them all,
-with how many runs each has.
+An input is a start line and 3 to 12 events, up to 16 in the themes about tokens and secrets, but for some runs
+of the theme `lines`, in which a line is bad at once. A theme draws inputs about one matter; `THEMES` names them
+all, with how many runs each has.
 """
 
 import argparse
@@ -18,6 +18,9 @@ import json
 import sys
 
 from drawing import GREATEST_CONNECTION, GREATEST_MOMENT, GREATEST_WORD, Run, identifier, request
+from secret_themes import (asked_versions, check_and_set, deletions, folders, forgotten_secrets, mixed_secrets,
+                           old_versions, refused_secrets, secret_callers, secret_moments, secret_routes, secret_writes,
+                           settings, version_lists)
 from token_themes import (accessors, children, creations, ends, families, given_twice, lenient_creations, look_ups,
                           mixed_tokens, other_cubbyholes, refused_creations, renewals, revocations, sudo_paths,
                           token_routes, uses)
@@ -510,8 +513,8 @@ def mixed(run):
 UNSERVED_ROUTES = (
     ("GET", "auth/token/roles/x", None), ("POST", "auth/token/create/x", '{"ttl":60}'),
     ("POST", "auth/token/tidy", "["), ("LIST", "auth/token/roles", None), ("GET", "auth/token", None),
-    ("GET", "secret/data/x", None), ("PUT", "secret/data/x", '{"data":{}}'),
-    ("LIST", "secret/metadata", None), ("DELETE", "secret/data/x", None), ("POST", "secret/config", "{}"),
+    ("POST", "secret/metadata/x", '{"max_versions":1}'), ("PUT", "secret/metadata/a/b", "["),
+    ("GET", "secret/subkeys/x", None),
     ("GET", "sys/mounts", None), ("POST", "sys/mounts/db", '{"type":"issued"}'),
     ("GET", "sys/policies/acl/default", None), ("LIST", "sys/policies/acl", None),
     ("POST", "sys/wrapping/wrap", '{"a":1}'), ("POST", "sys/wrapping/unwrap", '{"token":"x"}'),
@@ -522,7 +525,7 @@ UNSERVED_ROUTES = (
 
 
 def unserved_routes(run):
-    """Routes of the broker that are not served so far, and methods of the cubbyhole that are not."""
+    """Routes of the broker that are not served so far, and methods of cubbyholes and secrets that are not."""
     path = run.path()
     run.event(run.write(path, run.object_text(1)))
     while run.room() > 0:
@@ -610,14 +613,17 @@ def unserved_lines(run):
 
 
 THEMES = {
-    bodies: 14, refused_bodies: 20, numbers: 8, replaced_members: 8, depths: 6, paths: 16, tokens: 12, methods: 8,
-    heads: 24, changed_heads: 12, line_ends: 10, many_fields: 6, body_lengths: 10, cuts: 12, single_bytes: 6,
-    pipelines: 10, connections: 10, closing: 10, moments: 8, spellings: 8, lines: 32, changed_lines: 12, large: 4,
-    mixed: 24, queries: 10, limits: 8,
-    creations: 12, lenient_creations: 16, refused_creations: 14, children: 14, families: 12, look_ups: 10,
-    accessors: 8, renewals: 14, ends: 12, uses: 10, revocations: 12, sudo_paths: 6, given_twice: 8,
-    other_cubbyholes: 8, token_routes: 8, mixed_tokens: 8,
-    unserved_routes: 10, unserved_targets: 6, unserved_lines: 4,
+    bodies: 10, refused_bodies: 12, numbers: 6, replaced_members: 6, depths: 4, paths: 12, tokens: 8, methods: 6,
+    heads: 16, changed_heads: 8, line_ends: 6, many_fields: 4, body_lengths: 6, cuts: 8, single_bytes: 4,
+    pipelines: 6, connections: 6, closing: 6, moments: 6, spellings: 6, lines: 16, changed_lines: 8, large: 2,
+    mixed: 14, queries: 8, limits: 6,
+    creations: 6, lenient_creations: 12, refused_creations: 10, children: 10, families: 8, look_ups: 8,
+    accessors: 6, renewals: 10, ends: 8, uses: 8, revocations: 8, sudo_paths: 4, given_twice: 6,
+    other_cubbyholes: 6, token_routes: 6, mixed_tokens: 6,
+    secret_writes: 8, check_and_set: 16, old_versions: 10, asked_versions: 16, deletions: 16, version_lists: 10,
+    refused_secrets: 10, settings: 14, folders: 14, forgotten_secrets: 8, secret_callers: 16, secret_routes: 10,
+    secret_moments: 4, mixed_secrets: 10,
+    unserved_routes: 8, unserved_targets: 4, unserved_lines: 4,
 }
 
 

@@ -1,6 +1,6 @@
 -- What the body of each route brings, member by member: the first bad member is refused (this profile's members).
 use Rattle.std.specs.Prelude.{ℕ, List, [], ◌∷◌, ◌==◌, ◌||◌, Bool, true, false, length, Option, unwrap_or, codes}
-use Rattle.std.specs.Prelude.{Result, Ok, Err}
+use Rattle.std.specs.Prelude.{Result, Ok, Err, if◌then◌else◌}
 use Rattle.serde_json.specs.Data.{Members}
 use Rattle.broker_types.specs.Text.{Text, same}
 use Rattle.broker_types.specs.declared.refusal.Refusal.{Refusal}
@@ -105,6 +105,12 @@ unfoldable pub versions : Members → Result (List ℕ) Refusal
 versions ms = do
   versions ← required kind.as_counts field.Versions ms
   one_or_more versions
+
+-- The version that a query asks for, by what follows `version=`: 1 to 18 digits. 0, and nothing at all, is the current
+-- version.
+unfoldable pub version_number : List ℕ → Result ℕ Refusal
+version_number text =
+    if length text == 0 then Ok 0 else some_or (invalid field.Version) (kind.count_text text)
 
 -- the settings of a mount of secrets; what is absent stays as it is
 unfoldable pub mount_settings : Members → Result MountSettings Refusal

@@ -26,21 +26,21 @@ impl FromMember for u64 {
     fn from_member(_: Global, member: &Value) -> Result<Option<u64>, AllocError> {
         match member {
             Value::Number(number) => Ok(number.as_u64()),
-            Value::String(digits) => Ok(count_text(digits.as_str())),
+            Value::String(digits) => Ok(count_text(digits.as_str().as_bytes())),
             Value::Null | Value::Bool(_) | Value::Array(_) | Value::Object(_) => Ok(None),
         }
     }
 }
 
 /// The number of 1 to 18 digits.
-pub(crate) fn count_text(text: &str) -> Option<u64>
+pub(crate) fn count_text(text: &[u8]) -> Option<u64>
     ensures { result ≡ count_text text.now }
 {
     if text.is_empty() || text.len() > 18 {
         return None;
     }
     let mut count = 0u64;
-    for digit in text.as_bytes() {
+    for digit in text {
         if !digit.is_ascii_digit() {
             return None;
         }

@@ -31,7 +31,9 @@ pub use policy_bodies::policy_text;
 pub use policy_objects::policy_object;
 pub use reading::read_body;
 pub use reply::{plain_reply, reply_text};
-pub use secret_bodies::{MountSettings, SecretWrite, mount_settings, secret_write, versions};
+pub use secret_bodies::{
+    MountSettings, SecretWrite, mount_settings, secret_write, version_number, versions,
+};
 pub use secret_objects::{
     KeyObject, key_object, keys_object, read_object, settings_object, version_object,
 };

@@ -94,7 +94,7 @@ fn part_counts(alloc: Global, parts: &[TextBuf]) -> Result<Option<Counts>, Alloc
 {
     let mut list = Vec::new(alloc);
     for part in parts {
-        match count_text(part.as_str()) {
+        match count_text(part.as_str().as_bytes()) {
             Some(count) => list.push(count)?,
             None => return Ok(None),
         }

@@ -1,4 +1,5 @@
-//! The bodies of the routes of secrets (Vault's documentation, "KV secrets engine - version 2 (API)").
+//! The bodies of the routes of secrets, and the versions that queries ask for (Vault's documentation, "KV secrets
+//! engine - version 2 (API)").
 ghost use Rattle.std.specs.Prelude.{◌≡◌, ◌≤◌, ℕ, List, Ok, IfOk, length};
 ghost use Rattle.broker_types.specs.Limits.{longest_body};
 ghost use Rattle.api_json.specs.Json.{body_members};
@@ -7,7 +8,7 @@ ghost use Rattle.api_json.specs.Parsed.{members_of};
 ghost use Rattle.api_json.specs.Reads.{IsRead};
 ghost use Rattle.api_json.specs.Readers as reader;
 
-use crate::from_member::DeletionTime;
+use crate::from_member::{DeletionTime, count_text};
 use crate::lists::Counts;
 use crate::members::{missing, object, optional, payload, required, within};
 use crate::parsed::Body;
@@ -52,6 +53,21 @@ pub fn versions(alloc: Global, body: &Body) -> Result<Counts, RequestError>
         return Err(missing(Field::Versions));
     }
     Ok(versions)
+}
+
+/// Reads the version that a query asks for, by what follows `version=` there: 1 to 18 digits. 0, and nothing at all, is
+/// the current version. Any other text is refused with 400 `invalid field: version`.
+#[tactic(auto, unfolding(crate::specs::Readers::version_number))]
+pub fn version_number(text: &[u8]) -> Result<u64, Refusal>
+    ensures { result ≡ reader.version_number text.now }
+{
+    if text.is_empty() {
+        return Ok(0);
+    }
+    match count_text(text) {
+        Some(number) => Ok(number),
+        None => Err(Refusal::BadRequest(Reason::InvalidField(Field::Version))),
+    }
 }
 
 /// The settings of a mount of secrets in a body. An absent one stays as it is.

@@ -71,9 +71,7 @@ module _ (b : Broker) (c : Text) where
   served-spend s = record {
     no_leases = spent_no_leases s.no_leases;
     none_waits = s.none_waits;
-    no_secrets = s.no_secrets;
     no_roles = s.no_roles;
-    one_mount = s.one_mount;
     one_policy = s.one_policy;
   }
 
@@ -102,9 +100,7 @@ module _ (b : Broker) (c : Text) (old : Rows) (st : Represents (Some c) old b) w
   served-revoke = record {
     no_leases = left_no_leases;
     none_waits = st.served.none_waits;
-    no_secrets = st.served.no_secrets;
     no_roles = st.served.no_roles;
-    one_mount = st.served.one_mount;
     one_policy = st.served.one_policy;
   }
 

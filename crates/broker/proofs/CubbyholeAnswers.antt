@@ -36,7 +36,6 @@ use Rattle.cubbyhole.specs.SoundLaws.{write_sound, write_evolves}
 use Rattle.mounts.specs.Route.{Route}
 use Rattle.mounts.specs.declared.operation.Cubbyhole.{Cubbyhole}
 use Rattle.mounts.specs.declared.operation.Cubbyhole.TheVariants as operation
-use Rattle.mounts.specs.declared.operation.Operation.{Operation}
 use Rattle.mounts.specs.declared.operation.Operation.TheVariants.{Cubbyholes}
 use Rattle.api_json.specs.Json.{body_members, has_members}
 use Rattle.api_json.specs.Reply.{plain_reply}
@@ -66,9 +65,7 @@ served-write b t path object s =
           let x = mapped written (get b.tokens q) y (sym (get-change b.tokens t (with_cubbyhole (λ m. put m path object)) q) ∙ is) in
           ap (λ (z : Token). z.leases) x.2 ∙ written_leases (same q t) path object x.0 ∙ s.no_leases q x.0 x.1;
       none_waits = s.none_waits;
-      no_secrets = s.no_secrets;
       no_roles = s.no_roles;
-      one_mount = s.one_mount;
       one_policy = s.one_policy;
     }
 

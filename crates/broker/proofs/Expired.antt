@@ -9,7 +9,7 @@ use Rattle.std.specs.Ordering.{is_eq}
 use Rattle.std.proofs.Common.{refl, sym, ◌∙◌, ap, subst}
 use Rattle.std.proofs.Math.Nat.{le-max_right, le_trans}
 use Rattle.std.proofs.lemmas.Bool.{false≢true, and_parts, false_from_ne_true}
-use Rattle.std.proofs.lemmas.Option.{none-some}
+use Rattle.std.proofs.lemmas.Option.{none-some, same_Some}
 use Rattle.broker_types.specs.Text.{Text, same}
 use Rattle.broker_types.specs.Map.{get}
 use Rattle.broker_types.specs.Moment.{greatest_moment}
@@ -26,6 +26,7 @@ use Rattle.records.specs.ClockLaws.{with_clock}
 use Rattle.records.specs.CubbyKeyLaws.{length-token}
 use Rattle.records.specs.KeyLaws.{same_kind}
 use Rattle.records.specs.Kind.{RowKey, key_cmp, kind_number, is_of_kind}
+use Rattle.records.specs.Ranges.{IsTokenInRange}
 use Rattle.records.specs.Parts.{Tells, KeepsOthers, of_clock, of_tokens, of_cubbyholes}
 use Rattle.records.specs.Rows.{rows_of, token_len}
 use Rattle.records.specs.Table.{Table, table_of}
@@ -38,7 +39,7 @@ use Rattle.cubbyhole.specs.Laws.{without_owners}
 use Rattle.cubbyhole.specs.Objects.{object_key}
 use Rattle.broker.specs.Ending.{of_ended, of_expired, AreTokenLong, HasTokenKeys, KeepsCubbyholes, LosesObjects}
 use Rattle.broker.specs.Forms.{forms}
-use Rattle.broker.specs.ReadableRow.{IsReadable}
+use Rattle.broker.specs.ReadableRow.{IsReadable, IsReadableToken, KeepsDamaged}
 use Rattle.broker.specs.Representing.{Represents}
 use Rattle.broker.proofs.Clocks.{expired_is, served-at_moment}
 use Rattle.broker.proofs.Ended.{others_kept, neither, left_alone, KeepCubbyholes, ended_long, objects_lost, rows_left}
@@ -156,6 +157,40 @@ others_expired old mid swept new clock tokens objects k q h =
     let apart = neither (of_clock k) (of_ended k) h in
     let parts = neither (of_tokens k) (of_cubbyholes k) apart.1 in
     objects k q parts.1 ∙ tokens k q parts.0 ∙ clock k q apart.0
+
+-- a row of a token that can be read then could be read before, and so could that of a token that ended
+pub damaged_still : (old mid swept new : Rows) (s : Start) (ended : List Text) → KeepsOthers of_clock (table_of old) (table_of mid)
+    → EndsDescent s mid ended swept → table_of new ≡ without_owners (table_of swept) ended → KeepsDamaged old new
+damaged_still old mid swept new s ended clock ends dropped t readable =
+    elim (has ended t) as (λ v. has ended t ≡ v → IsReadableToken old t) [
+      | true ↦ λ gone. was gone (table_of mid kind.Token t) refl
+      | false ↦ λ left. (
+        readable.0,
+        readable.1,
+        sym (clock kind.Token t refl) ∙ sym (at_t ∙ ap (λ v. if v then None else table_of mid kind.Token t) left) ∙ readable.2,
+      )
+    ] refl
+  where
+    at_t : table_of new kind.Token t ≡ (if has ended t then None else table_of mid kind.Token t)
+    at_t =
+        ap (λ (z : Table). z kind.Token t) dropped ∙ others_kept ended (table_of swept) kind.Token t refl
+        ∙ ap (λ (z : Table). z kind.Token t) ends.rows
+
+    was : has ended t ≡ true → (o : Option Row) → table_of mid kind.Token t ≡ o → IsReadableToken old t
+    was gone None none = (None, (λ x e. absurd (none-some _ e)), sym (clock kind.Token t refl) ∙ none)
+    was gone (Some row) some =
+        let is = ends.readable t row gone some in
+        (Some is.0, (λ x e. subst IsTokenInRange (same_Some _ _ e) is.1), sym (clock kind.Token t refl) ∙ some ∙ ap Some is.2)
+
+-- a text without a row has none that is damaged
+pub readable_gone : (rows : Rows) (t : Text) → map.get rows (kind.Token, t) ≡ None → IsReadableToken rows t
+readable_gone rows t none = (None, (λ x e. absurd (none-some _ e)), none)
+
+-- a row of a token that can be read once tokens have expired could be read before
+pub readable_token_before : (old expired new : Rows) (t u : Text) → KeepsDamaged old expired → new ≡ expired → t ≡ u → IsReadableToken new u
+    → IsReadableToken old t
+readable_token_before old expired new t u keeps same caller readable =
+    keeps t (subst (λ rows. IsReadableToken rows t) same (subst (IsReadableToken new) (sym caller) readable))
 
 -- a row of a cubbyhole that can be read once tokens have expired can be read before
 pub readable_before : (old expired new : Rows) (t u path : Text) → KeepsCubbyholes old expired → map.get expired (kind.Token, t) ≢ None

@@ -1,22 +1,18 @@
 -- The end of a request: from what was served or refused to the outcome.
-use Rattle.std.specs.Prelude.{◌≡◌, ◌⊎◌, Some, None, Result, Ok, Err, IfOk}
-use Rattle.std.proofs.Common.{refl, sym, ◌∙◌, ap, inl, inr}
-use Rattle.std.proofs.lemmas.Result.{IfOk-weaker}
+use Rattle.std.specs.Prelude.{◌≡◌, Some, None, Result, Ok, Err, IfOk, OnOk}
+use Rattle.std.proofs.Common.{refl, sym, ◌∙◌, ap}
 use Rattle.broker_types.specs.Text.{Text}
 use Rattle.broker_types.specs.Answer.{response_of, refused}
 use Rattle.broker_types.specs.Broker.{Broker}
 use Rattle.broker_types.specs.Spending.{end_spent}
 use Rattle.broker_types.specs.declared.answer.Answer.{Answer}
-use Rattle.broker_types.specs.declared.fault.Fault.{Fault}
 use Rattle.broker_types.specs.declared.refusal.Refusal.{Refusal}
-use Rattle.broker_types.specs.declared.request_error.RequestError.{RequestError}
-use Rattle.broker_types.specs.declared.request_error.RequestError.TheVariants.{Refused}
 use Rattle.records.specs.declared.kind.Kind.TheVariants as kind
 use Rattle.records.specs.Parts.{KeepsOthers, of_tokens}
 use Rattle.records.specs.Table.{table_of}
 use Rattle.records.specs.Transaction.{Rows}
 use Rattle.cubbyhole.specs.Objects.{object_key}
-use Rattle.broker.specs.ReadableRow.{IsReadable, IsForbidden, ForbidsCaller, IsDenied}
+use Rattle.broker.specs.ReadableRow.{IsReadable}
 use Rattle.broker.specs.Order.{Wrapped, finish, response_to}
 use Rattle.broker.specs.Representing.{Represents, Gives}
 use Rattle.broker.specs.Stages.{answered_of, counted, HasServed}
@@ -49,22 +45,11 @@ pub if_ok : {T E P : Type 0} (r : Result T E) → P → IfOk r (λ _. P)
 if_ok (Ok x) p = p
 if_ok (Err e) p = tt
 
+-- a fact that does not depend on the answer
+pub on_ok : {T E P : Type 0} (r : Result T E) → P → OnOk r P
+on_ok (Ok x) p = p
+on_ok (Err e) p = tt
+
 -- a row of a cubbyhole that can be read once a use was spent can be read before
 pub readable_unspent : (old new : Rows) (t path : Text) → KeepsOthers of_tokens (table_of old) (table_of new) → IsReadable new t path → IsReadable old t path
 readable_unspent old new t path others readable = (readable.0, sym (others kind.Cubby (object_key t path) refl) ∙ readable.1)
-
-same_refusal : {r q : Refusal} → ◌≡◌ {A = Result Answered RequestError} (Err (Refused r)) (Err (Refused q)) → r ≡ q
-same_refusal e = cc
-
--- what holds before a use was spent if the caller was refused: the fact, or the answer forbids what asks for `sudo`
-pub forbidden_kept : {P Q : Type 0} (path : Text) (r : Refusal) (result : Result Answer Fault) → (P → Q)
-    → IfOk result (λ a. response_of a ≡ refused r)
-    → (P ⊎ IsForbidden {A = Answered} (Err (Refused r)) path) → IfOk result (λ a. Q ⊎ ForbidsCaller a path)
-forbidden_kept path r result keeps told (inl p) = IfOk-weaker result _ _ (λ a response. inl (keeps p)) told
-forbidden_kept path r result keeps told (inr (is, sudo)) =
-    IfOk-weaker result _ _ (λ a response. inr (response ∙ ap refused (same_refusal is), sudo)) told
-
--- what holds of the rows before, or the answer denies the caller
-pub or_denied : {P Q : Type 0} (a : Answer) (rows : Rows) (t path : Text) → (P → Q) → (P ⊎ ForbidsCaller a path) → (Q ⊎ IsDenied a rows t path)
-or_denied a rows t path keeps (inl p) = inl (keeps p)
-or_denied a rows t path keeps (inr forbids) = inr (forbids.0, inr forbids.1)

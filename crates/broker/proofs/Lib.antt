@@ -12,8 +12,13 @@ pub mod Identifiers
 pub mod Operations
 pub mod Permitted
 pub mod Revocations
+pub mod RoutedBy
 pub mod Routes
+pub mod SecretAnswers
+pub mod SecretRoutes
+pub mod SecretTables
 pub mod Serving
+pub mod SudoPaths
 pub mod TokenAnswers
 pub mod TokenChecks
 pub mod TokenCreations

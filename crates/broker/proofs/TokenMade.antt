@@ -1,5 +1,5 @@
 -- A token that was made: its rows, its identifiers, and the answer.
-use Rattle.std.specs.Prelude.{◌≡◌, ◌==◌, length, List, [], ◌∷◌, Bool, true, false, if◌then◌else◌, cond, Option, Some, None, option_map, ⊤}
+use Rattle.std.specs.Prelude.{◌≡◌, ◌==◌, length, [], ◌∷◌, Bool, true, false, if◌then◌else◌, cond, Option, Some, None, option_map, ⊤}
 use Rattle.std.proofs.Common.{refl, sym, ◌∙◌, ap, subst}
 use Rattle.std.proofs.lemmas.Bool.{false≢true, true≢false}
 use Rattle.broker_types.specs.Broker.{Broker}
@@ -17,7 +17,7 @@ use Rattle.records.specs.Parts.{Tells, KeepsOthers, of_tokens, of_used}
 use Rattle.records.specs.RowForms.{used_row}
 use Rattle.records.specs.Rows.{rows_of}
 use Rattle.records.specs.Table.{Table, table_of, with_row}
-use Rattle.records.specs.TokenEntry.{TokenEntry, token_entry}
+use Rattle.records.specs.TokenEntry.{token_entry}
 use Rattle.records.specs.Transaction.{Rows}
 use Rattle.records.specs.declared.kind.Kind.{Kind}
 use Rattle.records.specs.declared.kind.Kind.TheVariants as kind

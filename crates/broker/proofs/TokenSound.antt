@@ -127,9 +127,7 @@ pub served_tokens : (b : Broker) (us : Tokens) (used : Map ⊤) → AsServed b �
 served_tokens b us used s none = record {
   no_leases = none;
   none_waits = s.none_waits;
-  no_secrets = s.no_secrets;
   no_roles = s.no_roles;
-  one_mount = s.one_mount;
   one_policy = s.one_policy;
 }
 

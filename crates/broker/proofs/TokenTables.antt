@@ -1,11 +1,10 @@
 -- The part of tokens: from rows that a call on tokens left to the broker that they represent.
-use Rattle.std.specs.Prelude.{◌≡◌, ◌+◌, ℕ, List, Bool, true, false, cond, if◌then◌else◌, not, Option, Some, None, option_map, option_and_then, take, drop, ⊤}
+use Rattle.std.specs.Prelude.{◌≡◌, ◌+◌, ℕ, List, Bool, true, false, cond, if◌then◌else◌, not, Option, Some, None, option_map, option_and_then, take, drop}
 use Rattle.std.specs.FinMap.{get-empty}
 use Rattle.std.proofs.Common.{refl, sym, ◌∙◌, ap, subst}
 use Rattle.std.proofs.lemmas.Bool.{false≢true}
-use Rattle.std.proofs.lemmas.Option.{none-some}
 use Rattle.broker_types.specs.Text.{Text, text_cmp, same}
-use Rattle.broker_types.specs.Map.{Map, get, put, empty, change}
+use Rattle.broker_types.specs.Map.{get, put, empty, change}
 use Rattle.broker_types.specs.MapLaws.{get-put, get-change}
 use Rattle.broker_types.specs.SearchLaws.{kept_get}
 use Rattle.broker_types.specs.TextLaws.{same_true}

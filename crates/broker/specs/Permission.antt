@@ -1,5 +1,5 @@
 -- What a caller may ask (Vault's documentation, "Policies").
-use Rattle.std.specs.Prelude.{Bool, true, false, not, ◌||◌, nat_eq, codes, Option, Some, None}
+use Rattle.std.specs.Prelude.{Bool, false, not, ◌||◌, nat_eq, codes, Option, Some, None}
 use Rattle.std.specs.List.{starts_with}
 use Rattle.std.specs.Option.{option_map_or}
 use Rattle.broker_types.specs.Text.{Text, same}

@@ -1,31 +1,69 @@
--- Which rows of a cubbyhole can be read, and whom a request denies (this project's definition).
-use Rattle.std.specs.Prelude.{◌≡◌, ◌⊎◌, true, None, Option, Result, Err}
+-- Which rows of cubbyholes, tokens and secrets can be read, and whom a request denies (this project's definition).
+use Rattle.std.specs.Prelude.{◌≡◌, ℕ, List, [], None, Option, Ok}
 use Rattle.std.specs.FinMap as map
 use Rattle.broker_types.specs.Text.{Text}
 use Rattle.broker_types.specs.Answer.{response_of, refused}
 use Rattle.broker_types.specs.declared.answer.Answer.{Answer}
-use Rattle.broker_types.specs.declared.request_error.RequestError.{RequestError}
-use Rattle.broker_types.specs.declared.request_error.RequestError.TheVariants.{Refused}
 use Rattle.records.specs.declared.kind.Kind.TheVariants as kind
 use Rattle.records.specs.Table.{table_of}
-use Rattle.records.specs.Transaction.{Rows}
+use Rattle.records.specs.Transaction.{Rows, rows_under}
+use Rattle.records.specs.Ranges.{IsTokenInRange}
+use Rattle.records.specs.Reading.{IsSomeIn}
+use Rattle.records.specs.TokenEntry.{TokenEntry}
+use Rattle.token_tree.specs.Ended.{IsDescent, is_named}
+use Rattle.token_tree.specs.Endings.{AreTokenRows}
+use Rattle.token_tree.specs.TokenRows.{IsTokenAt}
 use Rattle.cubbyhole.specs.Objects.{IsObjectAt}
+use Rattle.broker_types.specs.Broker.{Mount}
+use Rattle.broker_types.specs.Secret.{Version}
+use Rattle.broker_types.specs.declared.ask.Ask.{Ask}
+use Rattle.api_json.specs.Readers.{version_number}
+use Rattle.kv2.specs.SecretRows.{IsReading}
+use Rattle.kv2.specs.Secrets.{secret_name}
+use Rattle.mounts.specs.MountRows.{IsKnownAt}
+use Rattle.mounts.specs.Route.{Route, cut, route_at}
+use Rattle.mounts.specs.declared.operation.Operation.TheVariants.{Secrets}
+use Rattle.mounts.specs.declared.operation.SecretOperation.TheVariants as secret
+use Rattle.broker.specs.Command.{place_of}
+use Rattle.broker.specs.parts.SecretCommands.{Place}
 use Rattle.broker.specs.Order.{permission_denied}
-use Rattle.broker.specs.Permission.{needs_sudo}
 
 -- the row at the path of t's cubbyhole is that of some object, or there is none
 abbrev pub IsReadable : Rows → Text → Text → Type 0
 IsReadable rows t path = (object : Option Text) × IsObjectAt (table_of rows) t path object
 
--- the caller is refused with 403 `permission denied`, and the path asks for `sudo`
-abbrev pub IsForbidden : {A : Type 0} → Result A RequestError → Text → Type 0
-IsForbidden result path = (result ≡ Err (Refused permission_denied)) × (needs_sudo path ≡ true)
+-- The rows that a read of version n of a secret asks for can be read: that of its key is one of a key, or there is
+-- none; and if there is one, so it is with that of the version.
+abbrev pub IsReadableSecret : Rows → Place → ℕ → Type 0
+IsReadableSecret rows p n =
+    (o : Option (ℕ × Version)) × IsReading (table_of rows) (secret_name p.mount p.path) n o
 
--- the same of an answer
-abbrev pub ForbidsCaller : Answer → Text → Type 0
-ForbidsCaller a path = (response_of a ≡ refused permission_denied) × (needs_sudo path ≡ true)
+-- The ask is for version n of a secret: what is at the first segment of its path is known, and the route is a read of
+-- this place.
+pub record AsksForVersion (rows : Rows) (a : Ask) (p : Place) (n : ℕ) : Type 0 where
+  pub mount : Option Mount
+  pub route : Route
+  pub known : IsKnownAt (table_of rows) (cut a.path).0 mount
+  pub found : route_at mount a.verb a.path ≡ Ok route
+  pub reads : route.operation ≡ Secrets secret.Read
+  pub place : place_of route ≡ p
+  pub version : version_number a.version ≡ Ok n
 
--- the answer is 403 `permission denied`, and there is no token t or the path asks for `sudo`
-abbrev pub IsDenied : Answer → Rows → Text → Text → Type 0
-IsDenied a rows t path =
-    (response_of a ≡ refused permission_denied) × ((map.get rows (kind.Token, t) ≡ None) ⊎ (needs_sudo path ≡ true))
+-- the row of t is that of some token, or there is none
+abbrev pub IsReadableToken : Rows → Text → Type 0
+IsReadableToken rows t =
+    (entry : Option TokenEntry) × IsSomeIn IsTokenInRange entry × IsTokenAt (table_of rows) t entry
+
+-- the rows of the token t and of all below it are those of tokens; none, if t has no row
+abbrev pub IsReadableDescent : Rows → Text → Type 0
+IsReadableDescent rows t =
+    (ended : List Text) × IsDescent (is_named t) (rows_under rows kind.Token []) ended
+    × AreTokenRows ended (table_of rows)
+
+-- each row of a token that was damaged before is damaged still: none was mended, and none taken out
+abbrev pub KeepsDamaged : Rows → Rows → Type 0
+KeepsDamaged old new = (t : Text) → IsReadableToken new t → IsReadableToken old t
+
+-- the answer is 403 `permission denied`, and there is no token t
+abbrev pub IsDenied : Answer → Rows → Text → Type 0
+IsDenied a rows t = (response_of a ≡ refused permission_denied) × (map.get rows (kind.Token, t) ≡ None)

@@ -12,7 +12,7 @@ use Rattle.records.specs.Transaction.{Rows}
 use Rattle.broker.specs.Order.{Outcome, Wrapped, for_caller, denied}
 use Rattle.broker.specs.Representing.{Represents}
 use Rattle.broker.specs.declared.answered.Answered.{Answered}
-use Rattle.broker.specs.declared.answered.Answered.TheVariants.{Nothing, Given, Made}
+use Rattle.broker.specs.declared.answered.Answered.TheVariants.{Nothing, Given, Made, Missing}
 
 -- The client token t is looked for, and the rows represent a broker then. It is the caller, which is there; or it is
 -- denied.
@@ -27,6 +27,7 @@ abbrev pub answered_of : Answered → operation.Answered
 answered_of Nothing = operation.nothing
 answered_of (Given r) = operation.reply r None
 answered_of (Made r accessor) = operation.reply r (Some accessor)
+answered_of (Missing r) = operation.missing r
 
 -- the broker that an operation left, with the identifiers that it gave out
 abbrev pub counted : Done → Broker

@@ -1,5 +1,8 @@
 -- The parts of the broker: what the commands of each mean, and what they do to the maps.
 pub mod Cubbyholes
+pub mod SecretCommands
+pub mod SecretReplies
+pub mod Secrets
 pub mod TokenCommands
 pub mod TokenCreation
 pub mod TokenEntries

@@ -9,4 +9,6 @@ pub(crate) enum Answered {
     Given(Reply),
     /// 200 with the reply that made a token, and its accessor.
     Made(Reply, TextBuf),
+    /// 404 with a reply.
+    Missing(Reply),
 }

@@ -1,4 +1,6 @@
 //! What is asked of the broker, part by part.
 
 pub(crate) mod cubbyholes;
+mod moments;
+pub(crate) mod secrets;
 pub(crate) mod tokens;

@@ -53,6 +53,20 @@ macro_rules! ask {
     };
 }
 
+/// A write of the root token to a route of secrets, with a body of so many bytes.
+macro_rules! change {
+    ($route:literal, $len:literal, $body:literal) => {
+        concat!(
+            "POST /v1/secret/",
+            $route,
+            " HTTP/1.1\r\nHost: b\r\nX-Vault-Token: hvs.00000000-0000-0000-0000-000000000001\r\nContent-Length: ",
+            $len,
+            "\r\n\r\n",
+            $body
+        )
+    };
+}
+
 /// A request with sixty-four fields, and what comes after them.
 macro_rules! sixty_four_fields {
     ($end:literal) => {
@@ -113,11 +127,36 @@ macro_rules! refused {
     };
 }
 
-/// The reply to a read: the date, the length of its body, the data, and the end of the request's identifier.
-macro_rules! found_at {
-    ($date:literal, $len:literal, $data:literal, $id:literal) => {
+/// The refusal of a method at the moment 1000: the methods that the path has.
+macro_rules! not_allowed {
+    ($methods:literal) => {
         concat!(
-            "HTTP/1.1 200 OK\r\nDate: ",
+            "HTTP/1.1 405 Method Not Allowed\r\nDate: Thu, 01 Jan 1970 00:16:40 GMT\r\nAllow: ",
+            $methods,
+            "\r\nCache-Control: no-store\r\nContent-Type: application/json\r\nContent-Length: 37\r\n\r\n",
+            "{\"errors\":[\"unsupported operation\"]}\n"
+        )
+    };
+}
+
+/// The reply to what was done and has nothing to tell, at a date.
+macro_rules! written_at {
+    ($date:literal) => {
+        concat!(
+            "HTTP/1.1 204 No Content\r\nDate: ",
+            $date,
+            "\r\nCache-Control: no-store\r\n\r\n"
+        )
+    };
+}
+
+/// A reply with data: the status, the date, the length of its body, the data, and the end of the request's identifier.
+macro_rules! answered_at {
+    ($status:literal, $date:literal, $len:literal, $data:literal, $id:literal) => {
+        concat!(
+            "HTTP/1.1 ",
+            $status,
+            "\r\nDate: ",
             $date,
             "\r\nCache-Control: no-store\r\nContent-Type: application/json\r\nContent-Length: ",
             $len,
@@ -128,6 +167,13 @@ macro_rules! found_at {
             $id,
             "\",\"warnings\":null,\"wrap_info\":null}\n"
         )
+    };
+}
+
+/// The same with the status 200.
+macro_rules! found_at {
+    ($date:literal, $len:literal, $data:literal, $id:literal) => {
+        answered_at!("200 OK", $date, $len, $data, $id)
     };
 }
 
@@ -182,6 +228,67 @@ macro_rules! made {
     };
 }
 
+/// The reply to a write of a secret at the moment 1000: the length of its body, the number of the version, and the end
+/// of the request's identifier.
+macro_rules! version_made {
+    ($len:literal, $number:literal, $id:literal) => {
+        concat!(
+            "HTTP/1.1 200 OK\r\nDate: Thu, 01 Jan 1970 00:16:40 GMT\r\nCache-Control: no-store\r\n",
+            "Content-Type: application/json\r\nContent-Length: ",
+            $len,
+            "\r\n\r\n{\"auth\":null,\"data\":{\"created_time\":\"1970-01-01T00:16:40Z\",\"custom_metadata\":null,",
+            "\"deletion_time\":\"\",\"destroyed\":false,\"version\":",
+            $number,
+            "},\"lease_duration\":0,\"lease_id\":\"\",\"renewable\":false,",
+            "\"request_id\":\"00000000-0000-0000-0000-000000000",
+            $id,
+            "\",\"warnings\":null,\"wrap_info\":null}\n"
+        )
+    };
+}
+
+/// The reply to a read of a secret: the status, the length of its body, the data of the version, when it was deleted,
+/// whether it is destroyed, its number, and the end of the request's identifier. Both it and the read are of the moment
+/// 1000.
+macro_rules! version_told {
+    ($status:literal, $len:literal, $data:literal, $deleted:literal, $destroyed:literal, $number:literal,
+     $id:literal) => {
+        concat!(
+            "HTTP/1.1 ",
+            $status,
+            "\r\nDate: Thu, 01 Jan 1970 00:16:40 GMT\r\nCache-Control: no-store\r\n",
+            "Content-Type: application/json\r\nContent-Length: ",
+            $len,
+            "\r\n\r\n{\"auth\":null,\"data\":{\"data\":",
+            $data,
+            ",\"metadata\":{\"created_time\":\"1970-01-01T00:16:40Z\",\"custom_metadata\":null,\"deletion_time\":\"",
+            $deleted,
+            "\",\"destroyed\":",
+            $destroyed,
+            ",\"version\":",
+            $number,
+            "}},\"lease_duration\":0,\"lease_id\":\"\",\"renewable\":false,",
+            "\"request_id\":\"00000000-0000-0000-0000-000000000",
+            $id,
+            "\",\"warnings\":null,\"wrap_info\":null}\n"
+        )
+    };
+}
+
+/// The same of a version that is there.
+macro_rules! version_found {
+    ($len:literal, $data:literal, $number:literal, $id:literal) => {
+        version_told!("200 OK", $len, $data, "", "false", $number, $id)
+    };
+}
+
+/// The same of a version that is deleted or destroyed.
+macro_rules! version_gone {
+    ($len:literal, $deleted:literal, $destroyed:literal, $number:literal, $id:literal) => {
+        version_told!("404 Not Found", $len, "null", $deleted, $destroyed, $number, $id)
+    };
+}
+
 /// What comes on a connection, and the reply to it, event by event.
 macro_rules! row {
     ($($conn:literal $piece:expr => $reply:expr;)*) => {
@@ -189,14 +296,16 @@ macro_rules! row {
     };
 }
 
+mod limits;
+mod secret_bodies;
+mod secrets;
 mod token_bodies;
 mod tokens;
 mod unserved;
 
 const NONE: &str = "";
 
-const WRITTEN: &str = "HTTP/1.1 204 No Content\r\nDate: Thu, 01 Jan 1970 00:16:40 GMT\r\n\
-    Cache-Control: no-store\r\n\r\n";
+const WRITTEN: &str = written_at!("Thu, 01 Jan 1970 00:16:40 GMT");
 
 const WRITTEN_CLOSING: &str = "HTTP/1.1 204 No Content\r\nDate: Thu, 01 Jan 1970 00:16:40 GMT\r\n\
     Cache-Control: no-store\r\nConnection: close\r\n\r\n";
@@ -257,43 +366,13 @@ const FORBIDDEN: &str = reply!(
     "{\"errors\":[\"permission denied\"]}"
 );
 
-const NOT_ALLOWED: &str = reply!(
-    "405 Method Not Allowed",
-    "Allow: GET, POST, PUT\r\nCache-Control: no-store\r\n",
-    "37",
-    "{\"errors\":[\"unsupported operation\"]}"
-);
+const NOT_ALLOWED: &str = not_allowed!("GET, POST, PUT");
 
 const NOT_IMPLEMENTED: &str =
     "HTTP/1.1 501 Not Implemented\r\nDate: Thu, 01 Jan 1970 00:16:40 GMT\r\n\
     Cache-Control: no-store\r\nConnection: close\r\nContent-Length: 0\r\n\r\n";
 
-const TOO_LARGE_IN_2023: &str = reply_at!(
-    "413 Payload Too Large",
-    "Tue, 14 Nov 2023 22:13:20 GMT",
-    "Cache-Control: no-store\r\nConnection: close\r\n",
-    "38",
-    "{\"errors\":[\"request body too large\"]}"
-);
-
-const MALFORMED_IN_2023: &str = reply_at!(
-    "400 Bad Request",
-    "Tue, 14 Nov 2023 22:13:20 GMT",
-    "Cache-Control: no-store\r\nConnection: close\r\n",
-    "33",
-    "{\"errors\":[\"malformed request\"]}"
-);
-
-const NOT_FOUND_IN_2023: &str = reply_at!(
-    "404 Not Found",
-    "Tue, 14 Nov 2023 22:13:20 GMT",
-    "Cache-Control: no-store\r\n",
-    "14",
-    "{\"errors\":[]}"
-);
-
-const WRITTEN_IN_2023: &str = "HTTP/1.1 204 No Content\r\nDate: Tue, 14 Nov 2023 22:13:20 GMT\r\n\
-    Cache-Control: no-store\r\n\r\n";
+const WRITTEN_IN_2023: &str = written_at!("Tue, 14 Nov 2023 22:13:20 GMT");
 
 const READ_IN_2023: &str = "HTTP/1.1 200 OK\r\nDate: Tue, 14 Nov 2023 22:13:20 GMT\r\n\
     Cache-Control: no-store\r\nContent-Type: application/json\r\nContent-Length: 167\r\n\r\n\
@@ -600,105 +679,4 @@ fn two_client_tokens(rt: HostRuntime) -> Result<(), Fail> {
         1 request!("GET /v1/cubbyhole/a", "\r\n") => NOT_FOUND;
     };
     expect_replies(&rt, 1000, &row)
-}
-
-/// The greatest body, one byte more, no Host, and a target outside the API.
-#[test]
-fn limits_of_requests(rt: HostRuntime) -> Result<(), Fail> {
-    let row = row! {
-        1 "POST /v1/cubbyhole/a HTTP/1.1\r\nHost: b\r\nContent-Length: 1048576\r\n\r\n" => NONE;
-        2 "POST /v1/cubbyhole/a HTTP/1.1\r\nHost: b\r\nContent-Length: 1048577\r\n\r\n" => TOO_LARGE_IN_2023;
-        3 "GET /v1/cubbyhole/a HTTP/1.1\r\n\r\n" => MALFORMED_IN_2023;
-        4 request!("GET /v2/x", "\r\n") => NOT_FOUND_IN_2023;
-        4 request!("GET /v2/x", "\r\n") => NOT_FOUND_IN_2023;
-    };
-    expect_replies(&rt, 1_700_000_000, &row)
-}
-
-/// HTTP/1.0: no Host is asked for, and the connection always closes.
-#[test]
-fn old_http(rt: HostRuntime) -> Result<(), Fail> {
-    let row = row! {
-        1 "GET /v1/cubbyhole/a HTTP/1.0\r\nX-Vault-Token: hvs.00000000-0000-0000-0000-000000000001\r\n\
-             Connection: keep-alive\r\n\r\n"
-            => NOT_FOUND_CLOSING;
-        2 "GET /v1/cubbyhole/a HTTP/1.0\r\nHost: b\r\nHost: b\r\n\r\n" => MALFORMED;
-        3 "GET /v1/cubbyhole/a HTTP/1.1\r\nHost: b\r\nHost: b\r\n\r\n" => MALFORMED;
-    };
-    expect_replies(&rt, 1000, &row)
-}
-
-/// Transfer-Encoding comes before a missing Host.
-#[test]
-fn transfer_encoding(rt: HostRuntime) -> Result<(), Fail> {
-    let row = row! {
-        1 "POST /v1/cubbyhole/a HTTP/1.1\r\nTransfer-Encoding: chunked\r\n\r\n" => NOT_IMPLEMENTED;
-    };
-    expect_replies(&rt, 1000, &row)
-}
-
-/// The parts of a query: `list=true`, versions, and what is ignored.
-#[test]
-fn queries(rt: HostRuntime) -> Result<(), Fail> {
-    let row = row! {
-        1 request!("PUT /v1/cubbyhole/a?list=true&version=2", "Content-Length: 7\r\n\r\n{\"a\":1}") => WRITTEN;
-        1 request!("GET /v1/cubbyhole/a?list=true", "\r\n") => NOT_ALLOWED;
-        1 request!("GET /v1/cubbyhole/a?a=b&list=true", "\r\n") => NOT_ALLOWED;
-        1 request!("GET /v1/cubbyhole/a?list=true&list=false", "\r\n") => NOT_ALLOWED;
-        1 request!("GET /v1/cubbyhole/a?list=1", "\r\n") => found!("165", "{\"a\":1}", "050");
-        1 request!("GET /v1/cubbyhole/a?list=TRUE", "\r\n") => found!("165", "{\"a\":1}", "060");
-        1 request!("GET /v1/cubbyhole/a?list=true=", "\r\n") => found!("165", "{\"a\":1}", "070");
-        1 request!("GET /v1/cubbyhole/a?list=tru", "\r\n") => found!("165", "{\"a\":1}", "080");
-        1 request!("GET /v1/cubbyhole/a?list", "\r\n") => found!("165", "{\"a\":1}", "090");
-        1 request!("GET /v1/cubbyhole/a?&&", "\r\n") => found!("165", "{\"a\":1}", "0a0");
-        1 request!("GET /v1/cubbyhole/a?", "\r\n") => found!("165", "{\"a\":1}", "0b0");
-        1 request!("GET /v1/cubbyhole/a?version=2", "\r\n") => found!("165", "{\"a\":1}", "0c0");
-        1 request!("GET /v1/cubbyhole/a?version=1&version=x", "\r\n") => found!("165", "{\"a\":1}", "0d0");
-        1 request!("GET /v1/cubbyhole/a?list=true?", "\r\n") => found!("165", "{\"a\":1}", "0e0");
-        1 request!("GET /v1/cubbyhole/a?a?list=true", "\r\n") => found!("165", "{\"a\":1}", "0f0");
-        1 request!("GET /v1/cubbyhole/a??list=true", "\r\n") => found!("165", "{\"a\":1}", "100");
-        1 request!("GET /v1/cubbyhole/a?a&b/../c&d=e?f", "\r\n") => found!("165", "{\"a\":1}", "110");
-        1 request!("DELETE /v1/cubbyhole/a?list=true", "\r\n") => NOT_ALLOWED;
-        1 request!("LIST /v1/cubbyhole/a?list=false", "\r\n") => NOT_ALLOWED;
-        1 request!("GET /v1/cubbyhole/a/?list=false", "\r\n") => found!("165", "{\"a\":1}", "140");
-        1 request!("GET /v1/cubbyhole/?/a", "\r\n") => NOT_FOUND;
-        1 request!("GET /v1/?cubbyhole/a", "\r\n") => INVALID_PATH;
-        1 request!("GET /v1?/cubbyhole/a", "\r\n") => NOT_FOUND;
-        1 request!("GET ?/v1/cubbyhole/a", "\r\n") => NOT_FOUND;
-        1 request!("GET /v1/cubbyhole/a?list=tru%65", "\r\n") => INVALID_PATH;
-    };
-    expect_replies(&rt, 1000, &row)
-}
-
-/// When a reply comes: each event at its own moment. In the row the piece of the eighth event is longer.
-#[test]
-fn moments_of_replies(rt: HostRuntime) -> Result<(), Fail> {
-    let row = row! {
-        1 "PUT /v1/cubbyhole/a " => NONE;
-        1 "HTTP/1.1\r\nHost: b\r\nX-Vault-Token: hvs.00000000-0000-0000-0000-000000000001\r\n\
-             Content-Length: 7\r\n\r\n{\"a\""
-            => NONE;
-        1 "" => NONE;
-        1 request!(":1}PUT /v1/cubbyhole/a", "Content-Length: 7\r\n\r\n{\"a\":1}PUT /v1/c")
-            => "HTTP/1.1 204 No Content\r\nDate: Thu, 01 Jan 1970 00:16:44 GMT\r\nCache-Control: no-store\r\n\r\n";
-        1 "" => "HTTP/1.1 204 No Content\r\nDate: Thu, 01 Jan 1970 00:16:45 GMT\r\nCache-Control: no-store\r\n\r\n";
-        1 "" => NONE;
-        2 "PUT /v1/a HTTP/1.1\r\nHost: b\r\nContent-Length: 1048577\r\n\r\n"
-            => reply_at!("413 Payload Too Large", "Thu, 01 Jan 1970 00:16:47 GMT",
-                "Cache-Control: no-store\r\nConnection: close\r\n", "38",
-                "{\"errors\":[\"request body too large\"]}");
-        2 "xxxxxxxxxxxxxxxxxxxx" => NONE;
-        3 "GET /v1/cubby" => NONE;
-        4 "hole/a HTTP/1.1\r\nHost: b\r\n\r\n"
-            => reply_at!("400 Bad Request", "Thu, 01 Jan 1970 00:16:48 GMT",
-                "Cache-Control: no-store\r\nConnection: close\r\n", "33",
-                "{\"errors\":[\"malformed request\"]}");
-        3 "hole/a HTTP/1.1\r\nHost: b\r\n\r\n"
-            => reply_at!("403 Forbidden", "Thu, 01 Jan 1970 00:16:49 GMT", "Cache-Control: no-store\r\n", "33",
-                "{\"errors\":[\"permission denied\"]}");
-    };
-    let moments = [
-        1001, 1002, 1003, 1004, 1005, 1006, 1007, 1008, 1008, 1008, 1009,
-    ];
-    expect_replies_at(&rt, 1000, &moments, &row)
 }

@@ -6,9 +6,11 @@ use Rattle.broker_types.specs.declared.ask.Verb.TheVariants as verb
 use Rattle.mounts.specs.declared.mount_type.MountType.{MountType}
 use Rattle.mounts.specs.declared.mount_type.MountType.TheVariants as mount
 use Rattle.mounts.specs.declared.operation.Operation.{Operation}
-use Rattle.mounts.specs.declared.operation.Operation.TheVariants.{Cubbyholes, Tokens}
+use Rattle.mounts.specs.declared.operation.Operation.TheVariants.{Cubbyholes, Tokens, Secrets}
 use Rattle.mounts.specs.declared.operation.Cubbyhole.TheVariants as cubbyhole
 use Rattle.mounts.specs.declared.operation.TokenOperation.TheVariants as token
+use Rattle.mounts.specs.declared.operation.SecretOperation.{SecretOperation}
+use Rattle.mounts.specs.declared.operation.SecretOperation.TheVariants as secret
 use Rattle.mounts.specs.Row.{Row, on}
 
 -- the rows of a type of mounts
@@ -32,11 +34,32 @@ rows_of mount.Cubbyhole =
     on verb.Get (codes "{*path}") (Cubbyholes cubbyhole.Read)
     ∷ on verb.Write (codes "{*path}") (Cubbyholes cubbyhole.Write)
     ∷ []
-rows_of mount.Kv = []
+rows_of mount.Kv =
+    on verb.Get (codes "config") (Secrets secret.ShowSettings)
+    ∷ on verb.Write (codes "config") (Secrets secret.SetSettings)
+    ∷ on verb.Get (codes "data/{*path}") (Secrets secret.Read)
+    ∷ on verb.Write (codes "data/{*path}") (Secrets secret.Write)
+    ∷ on verb.Delete (codes "data/{*path}") (Secrets secret.DeleteCurrent)
+    ∷ on verb.Write (codes "delete/{*path}") (Secrets secret.Delete)
+    ∷ on verb.Write (codes "undelete/{*path}") (Secrets secret.Undelete)
+    ∷ on verb.Write (codes "destroy/{*path}") (Secrets secret.Destroy)
+    ∷ on verb.List (codes "metadata") (Secrets secret.List)
+    ∷ on verb.Get (codes "metadata/{*path}") (Secrets secret.ShowMetadata)
+    ∷ on verb.List (codes "metadata/{*path}") (Secrets secret.List)
+    ∷ on verb.Delete (codes "metadata/{*path}") (Secrets secret.Remove)
+    ∷ []
 rows_of mount.Issued = []
 
--- whether the operation needs what a path has in place of the parameter
+-- whether the operation needs the path of a secret
+abbrev pub takes_path : SecretOperation → Bool
+takes_path secret.ShowSettings = false
+takes_path secret.SetSettings = false
+takes_path secret.List = false
+takes_path _ = true
+
+-- whether the operation needs what a path has in place of the parameter; a list of the whole mount has none
 abbrev pub takes_parameter : Operation → Bool
 takes_parameter (Cubbyholes cubbyhole.Read) = true
 takes_parameter (Cubbyholes cubbyhole.Write) = true
 takes_parameter (Tokens operation) = false
+takes_parameter (Secrets operation) = takes_path operation

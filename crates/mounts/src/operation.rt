@@ -9,6 +9,8 @@ pub enum Operation {
     Cubbyholes(Cubbyhole),
     /// On tokens.
     Tokens(TokenOperation),
+    /// On the secrets of a mount.
+    Secrets(SecretOperation),
 }
 
 /// What is done with a path of the caller's cubbyhole (Vault's documentation, "Cubbyhole secrets engine
@@ -48,6 +50,33 @@ pub enum TokenOperation {
     RevokeAccessor,
     /// The accessors of all tokens are listed.
     ListAccessors,
+}
+
+/// What is done with the secrets of a mount (Vault's documentation, "KV secrets engine - version 2 (API)").
+#[derive(Clone, Copy, Debug, PartialEq, Eq)]
+pub enum SecretOperation {
+    /// The settings of the mount are shown.
+    ShowSettings,
+    /// Settings of the mount are set.
+    SetSettings,
+    /// A version of a secret is read.
+    Read,
+    /// A version of a secret is written.
+    Write,
+    /// The current version of a secret is deleted.
+    DeleteCurrent,
+    /// Versions of a secret are deleted.
+    Delete,
+    /// The deletion of versions of a secret is taken back.
+    Undelete,
+    /// Versions of a secret are destroyed.
+    Destroy,
+    /// A secret is shown without its texts.
+    ShowMetadata,
+    /// A secret is removed with all its versions.
+    Remove,
+    /// The secrets and folders of a folder are listed.
+    List,
 }
 
 /// Where a request goes.

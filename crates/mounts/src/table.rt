@@ -6,9 +6,9 @@ ghost use Rattle.mounts.specs.Row.{rows_in};
 ghost use Rattle.mounts.specs.Table as table;
 
 use crate::mount_type::MountType;
-use crate::operation::Operation::{Cubbyholes, Tokens};
-use crate::operation::{Cubbyhole, Operation, TokenOperation};
-use broker_types::Verb::{self, Get, List, Write};
+use crate::operation::Operation::{Cubbyholes, Secrets, Tokens};
+use crate::operation::{Cubbyhole, Operation, SecretOperation, TokenOperation};
+use broker_types::Verb::{self, Delete, Get, List, Write};
 
 /// A row of the table: the verb, the pattern and the operation.
 #[derive(Clone, Copy)]
@@ -64,7 +64,32 @@ const CUBBYHOLE: &[Row] = &[
     Row(Write, "{*path}", Cubbyholes(Cubbyhole::Write)),
 ];
 
-const KV: &[Row] = &[];
+const KV: &[Row] = &[
+    Row(Get, "config", Secrets(SecretOperation::ShowSettings)),
+    Row(Write, "config", Secrets(SecretOperation::SetSettings)),
+    Row(Get, "data/{*path}", Secrets(SecretOperation::Read)),
+    Row(Write, "data/{*path}", Secrets(SecretOperation::Write)),
+    Row(
+        Delete,
+        "data/{*path}",
+        Secrets(SecretOperation::DeleteCurrent),
+    ),
+    Row(Write, "delete/{*path}", Secrets(SecretOperation::Delete)),
+    Row(
+        Write,
+        "undelete/{*path}",
+        Secrets(SecretOperation::Undelete),
+    ),
+    Row(Write, "destroy/{*path}", Secrets(SecretOperation::Destroy)),
+    Row(List, "metadata", Secrets(SecretOperation::List)),
+    Row(
+        Get,
+        "metadata/{*path}",
+        Secrets(SecretOperation::ShowMetadata),
+    ),
+    Row(List, "metadata/{*path}", Secrets(SecretOperation::List)),
+    Row(Delete, "metadata/{*path}", Secrets(SecretOperation::Remove)),
+];
 
 const ISSUED: &[Row] = &[];
 

@@ -1,4 +1,4 @@
-use crate::operation::{Cubbyhole, Operation, TokenOperation};
+use crate::operation::{Cubbyhole, Operation, SecretOperation, TokenOperation};
 use crate::{MountType, disable, enable, list, route};
 use broker_types::Verb::{self, Delete, Get, List, Write};
 use broker_types::{Methods, Reason, Refusal, RequestError};
@@ -15,6 +15,37 @@ const NONE: &[(Verb, Operation)] = &[];
 const IN_CUBBYHOLES: &[(Verb, Operation)] = &[
     (Get, Operation::Cubbyholes(Cubbyhole::Read)),
     (Write, Operation::Cubbyholes(Cubbyhole::Write)),
+];
+
+const OF_SETTINGS: &[(Verb, Operation)] = &[
+    (Get, Operation::Secrets(SecretOperation::ShowSettings)),
+    (Write, Operation::Secrets(SecretOperation::SetSettings)),
+];
+
+const OF_DATA: &[(Verb, Operation)] = &[
+    (Get, Operation::Secrets(SecretOperation::Read)),
+    (Write, Operation::Secrets(SecretOperation::Write)),
+    (Delete, Operation::Secrets(SecretOperation::DeleteCurrent)),
+];
+
+const OF_DELETION: &[(Verb, Operation)] = &[(Write, Operation::Secrets(SecretOperation::Delete))];
+
+const OF_UNDELETION: &[(Verb, Operation)] = &[(
+    Write,
+    Operation::Secrets(SecretOperation::Undelete),
+)];
+
+const OF_DESTRUCTION: &[(Verb, Operation)] = &[(
+    Write,
+    Operation::Secrets(SecretOperation::Destroy),
+)];
+
+const OF_LISTS: &[(Verb, Operation)] = &[(List, Operation::Secrets(SecretOperation::List))];
+
+const OF_METADATA: &[(Verb, Operation)] = &[
+    (Get, Operation::Secrets(SecretOperation::ShowMetadata)),
+    (List, Operation::Secrets(SecretOperation::List)),
+    (Delete, Operation::Secrets(SecretOperation::Remove)),
 ];
 
 /// The routes of the profile, each with a path that fits, one with a segment more and one with a segment less.
@@ -124,24 +155,24 @@ const LINES: &[Line] = &[
     Line("cubbyhole", NONE, &[List]),
     Line("cubbyhole/a", IN_CUBBYHOLES, &[List, Delete]),
     Line("cubbyhole/a/b", IN_CUBBYHOLES, &[List, Delete]),
-    Line("secret/config", NONE, &[Get, Write]),
+    Line("secret/config", OF_SETTINGS, &[]),
     Line("secret/config/a", NONE, &[]),
     Line("secret", NONE, &[]),
-    Line("secret/data/a", NONE, &[Get, Write, Delete]),
-    Line("secret/data/a/b", NONE, &[Get, Write, Delete]),
+    Line("secret/data/a", OF_DATA, &[]),
+    Line("secret/data/a/b", OF_DATA, &[]),
     Line("secret/data", NONE, &[]),
-    Line("secret/delete/a", NONE, &[Write]),
-    Line("secret/delete/a/b", NONE, &[Write]),
+    Line("secret/delete/a", OF_DELETION, &[]),
+    Line("secret/delete/a/b", OF_DELETION, &[]),
     Line("secret/delete", NONE, &[]),
-    Line("secret/undelete/a", NONE, &[Write]),
-    Line("secret/undelete/a/b", NONE, &[Write]),
+    Line("secret/undelete/a", OF_UNDELETION, &[]),
+    Line("secret/undelete/a/b", OF_UNDELETION, &[]),
     Line("secret/undelete", NONE, &[]),
-    Line("secret/destroy/a", NONE, &[Write]),
-    Line("secret/destroy/a/b", NONE, &[Write]),
+    Line("secret/destroy/a", OF_DESTRUCTION, &[]),
+    Line("secret/destroy/a/b", OF_DESTRUCTION, &[]),
     Line("secret/destroy", NONE, &[]),
-    Line("secret/metadata", NONE, &[List]),
-    Line("secret/metadata/a", NONE, &[Get, List, Delete]),
-    Line("secret/metadata/a/b", NONE, &[Get, List, Delete]),
+    Line("secret/metadata", OF_LISTS, &[]),
+    Line("secret/metadata/a", OF_METADATA, &[]),
+    Line("secret/metadata/a/b", OF_METADATA, &[]),
     Line("db/roles/r", NONE, &[Get, Write, Delete]),
     Line("db/roles/r/a", NONE, &[]),
     Line("db/roles", NONE, &[]),

@@ -84,7 +84,7 @@ has_no_end policies asked = have_root policies && (asked.ttl == 0 && asked.expli
 
 -- The first reason that holds against the caller x is 400: its uses are limited; a name is no name of a policy; `root`
 -- is asked for, which it has not; it is not privileged, and asks for a policy that it has not; or it is not, and asks
--- for a token without parent where that is no matter of course; it has an end, and the new token, which would have
+-- for a token without parent on the route that makes children too; it has an end, and the new token, which would have
 -- these policies, would have none.
 abbrev pub may_make : Bool → Bool → Token → List Text → TokenCreation → Result ⊤ Refusal
 may_make privileged orphans x policies asked = do

@@ -11,6 +11,7 @@ ghost use Rattle.records.specs.Parts.{KeepsOthers, of_tokens};
 ghost use Rattle.records.specs.Table.{table_of};
 ghost use Rattle.records.specs.Transaction.{IsHonest, IsCall, GoesOn, is_storage};
 ghost use Rattle.broker.specs.ClockRow.{IsNotBadStart};
+ghost use Rattle.broker.specs.ReadableRow.{IsReadableToken};
 ghost use Rattle.broker.specs.Representing.{Represents};
 ghost use Rattle.broker.specs.Stages.{IsFound};
 
@@ -39,7 +40,10 @@ pub(crate) fn spend<T: RecordsTx>(alloc: Global, tx: &mut T, caller: &str) -> Re
     ensures wants { IsHonest (T.seen tx.new) → (b : Broker) → Represents None (T.seen tx.old).rows b
         → IfErr result IsMemoryOrStorage }
 
-    // Whatever the rows are: no row changes but those of tokens.
+    // Whatever the rows are: nobody has spent a use whose row is damaged.
+    ensures readable { IsHonest (T.seen tx.new) → OnOk result (IsReadableToken (T.seen tx.old).rows caller.now) }
+
+    // Nor does any row change but those of tokens.
     ensures others { IsHonest (T.seen tx.new)
         → OnOk result (KeepsOthers of_tokens (table_of (T.seen tx.old).rows) (table_of (T.seen tx.new).rows)) }
     ensures started { IfErr result IsNotBadStart }

@@ -10,6 +10,7 @@ ghost use Rattle.records.specs.Table.{table_of};
 ghost use Rattle.records.specs.Transaction.{IsHonest, GoesOn, is_storage};
 ghost use Rattle.broker.specs.ClockRow.{NeedsClock};
 ghost use Rattle.broker.specs.Ending.{of_expired, HasTokenKeys, KeepsCubbyholes};
+ghost use Rattle.broker.specs.ReadableRow.{KeepsDamaged};
 ghost use Rattle.broker.specs.Representing.{Represents};
 
 use crate::order::ending::drop_cubbyholes;
@@ -39,6 +40,10 @@ pub(crate) fn expire<T: RecordsTx>(
     // Nor does a cubbyhole whose token is left.
     ensures left { IsHonest (T.seen tx.new) → HasTokenKeys (T.seen tx.old).rows
         → OnOk result (KeepsCubbyholes (T.seen tx.old).rows (T.seen tx.new).rows) }
+
+    // Nor does a token end whose row is damaged.
+    ensures damaged { IsHonest (T.seen tx.new)
+        → OnOk result (KeepsDamaged (T.seen tx.old).rows (T.seen tx.new).rows) }
     ensures goes_on { GoesOn (T.seen tx.old) (T.seen tx.new) (is_storage result) }
 {
     let now = advance_clock(alloc, tx, moment)?;

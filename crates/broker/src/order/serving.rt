@@ -1,6 +1,6 @@
 //! A caller is served.
 
-ghost use Rattle.std.specs.Prelude.{◌≡◌, ◌≢◌, ◌⊎◌, None, Ok, Some, Option, IfOk, IfErr};
+ghost use Rattle.std.specs.Prelude.{◌≡◌, ◌≢◌, ℕ, None, Ok, Some, Option, IfOk, IfErr, OnOk};
 ghost use Rattle.broker_types.specs.Broker.{Broker, Mount};
 ghost use Rattle.broker_types.specs.Map.{get};
 ghost use Rattle.broker_types.specs.Names.{names_of};
@@ -15,7 +15,8 @@ ghost use Rattle.mounts.specs.declared.operation.Operation.TheVariants.{Cubbyhol
 ghost use Rattle.broker.specs.ClockRow.{IsNotBadStart};
 ghost use Rattle.broker.specs.Command.{command_of};
 ghost use Rattle.broker.specs.Operating.{Starts, Operates};
-ghost use Rattle.broker.specs.ReadableRow.{IsReadable, IsForbidden, ForbidsCaller};
+ghost use Rattle.broker.specs.ReadableRow.{IsReadable, IsReadableSecret, IsReadableToken, AsksForVersion};
+ghost use Rattle.broker.specs.parts.SecretCommands.{Place};
 ghost use Rattle.broker.specs.Representing.{Represents, Gives};
 ghost use Rattle.broker.specs.Safely.{AnswersSafely};
 ghost use Rattle.broker.specs.Serving.{called, served};
@@ -26,7 +27,8 @@ use crate::context::Context;
 use crate::order::caller::spend;
 use crate::order::finishing::finish;
 use crate::order::permission::{PERMISSION_DENIED, is_permitted};
-use crate::parts::{cubbyholes, tokens};
+use crate::parts::secrets::Place;
+use crate::parts::{cubbyholes, secrets, tokens};
 use broker_types::{Answer, Ask, Fault, RequestError};
 use mounts::{Operation, route};
 use records::RecordsTx;
@@ -44,17 +46,23 @@ pub(crate) fn answer_caller<T: RecordsTx>(
         → IfOk result (λ a. Gives a (T.seen tx.new).rows
         (called b context.now.caller (names_of context.now.words) ask.now)) }
 
-    // Whatever the rows are: a read of a cubbyhole is not answered if its row is damaged, unless it is forbidden.
+    // Whatever the rows are: a read of a cubbyhole is not answered if its row is damaged.
     ensures undamaged { IsHonest (T.seen tx.new) → (mount : Option Mount) (r : Route)
         → IsKnownAt (table_of (T.seen tx.old).rows) (cut ask.now.path).0 mount
         → route_at mount ask.now.verb ask.now.path ≡ Ok r → r.operation ≡ Cubbyholes cubbyhole.Read
-        → IfOk result (λ a. IsReadable (T.seen tx.old).rows context.now.caller r.parameter
-        ⊎ ForbidsCaller a ask.now.path) }
+        → IfOk result (λ a. IsReadable (T.seen tx.old).rows context.now.caller r.parameter) }
+
+    // Nor is a read of a secret if a row that it asks for is damaged.
+    ensures secret { IsHonest (T.seen tx.new) → (p : Place) (n : ℕ) → AsksForVersion (T.seen tx.old).rows ask.now p n
+        → IfOk result (λ a. IsReadableSecret (T.seen tx.old).rows p n) }
 
     // Nor is anything if the row of the mount that the path names is damaged.
     ensures mount { IsHonest (T.seen tx.new)
-        → IfOk result (λ a. IsReadableAt (table_of (T.seen tx.old).rows) (cut ask.now.path).0
-        ⊎ ForbidsCaller a ask.now.path) }
+        → IfOk result (λ a. IsReadableAt (table_of (T.seen tx.old).rows) (cut ask.now.path).0) }
+
+    // Nor is anything if the row of the caller's token is damaged.
+    ensures caller { IsHonest (T.seen tx.new)
+        → OnOk result (IsReadableToken (T.seen tx.old).rows context.now.caller) }
     ensures safely { AnswersSafely (T.seen tx.old) (T.seen tx.new)
         (λ b. (get b.tokens context.now.caller ≢ None) × (b.clock ≡ context.now.clock)) result }
     ensures started { IfErr result IsNotBadStart }
@@ -80,18 +88,19 @@ fn serve<T: RecordsTx>(
         (Represents (Some context.now.caller) (T.seen tx.new).rows b) result
         (served b context.now.caller (names_of context.now.words) ask.now) }
 
-    // Whatever the rows are: a read of a cubbyhole is neither answered nor refused if its row is damaged, unless it is
-    // forbidden.
+    // Whatever the rows are: a read of a cubbyhole is neither answered nor refused if its row is damaged.
     ensures undamaged { IsHonest (T.seen tx.new) → (mount : Option Mount) (r : Route)
         → IsKnownAt (table_of (T.seen tx.old).rows) (cut ask.now.path).0 mount
         → route_at mount ask.now.verb ask.now.path ≡ Ok r → r.operation ≡ Cubbyholes cubbyhole.Read
-        → OnAnswer result (IsReadable (T.seen tx.old).rows context.now.caller r.parameter)
-        ⊎ IsForbidden result ask.now.path }
+        → OnAnswer result (IsReadable (T.seen tx.old).rows context.now.caller r.parameter) }
+
+    // Nor is a read of a secret if a row that it asks for is damaged.
+    ensures secret { IsHonest (T.seen tx.new) → (p : Place) (n : ℕ) → AsksForVersion (T.seen tx.old).rows ask.now p n
+        → OnAnswer result (IsReadableSecret (T.seen tx.old).rows p n) }
 
     // Nor is anything if the row of the mount that the path names is damaged.
     ensures mount { IsHonest (T.seen tx.new)
-        → OnAnswer result (IsReadableAt (table_of (T.seen tx.old).rows) (cut ask.now.path).0)
-        ⊎ IsForbidden result ask.now.path }
+        → OnAnswer result (IsReadableAt (table_of (T.seen tx.old).rows) (cut ask.now.path).0) }
     ensures started { OnFault result IsNotBadStart }
     ensures goes_on { GoesOn (T.seen tx.old) (T.seen tx.new) (step_fails result) }
 {
@@ -117,6 +126,10 @@ fn operate<T: RecordsTx>(
         → route_at mount ask.now.verb ask.now.path ≡ Ok r → r.operation ≡ Cubbyholes cubbyhole.Read
         → OnAnswer result (IsReadable (T.seen tx.old).rows context.now.caller r.parameter) }
 
+    // Nor is a read of a secret if a row that it asks for is damaged.
+    ensures secret { IsHonest (T.seen tx.new) → (p : Place) (n : ℕ) → AsksForVersion (T.seen tx.old).rows ask.now p n
+        → OnAnswer result (IsReadableSecret (T.seen tx.old).rows p n) }
+
     // Nor is anything if the row of the mount that the path names is damaged.
     ensures mount { IsHonest (T.seen tx.new)
         → OnAnswer result (IsReadableAt (table_of (T.seen tx.old).rows) (cut ask.now.path).0) }
@@ -130,5 +143,13 @@ fn operate<T: RecordsTx>(
             cubbyholes::act(alloc, tx, context, operation, found.parameter, body)
         }
         Operation::Tokens(operation) => tokens::act(alloc, tx, context, operation, body),
+        Operation::Secrets(operation) => {
+            let place = Place {
+                mount: found.mount,
+                path: found.parameter,
+            };
+            let version = ask.version.as_slice();
+            secrets::act(alloc, tx, context, operation, &place, version, body)
+        }
     }
 }

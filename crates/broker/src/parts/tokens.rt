@@ -24,6 +24,9 @@ use mounts::TokenOperation;
 use records::RecordsTx;
 use std::alloc::Global;
 
+/// The longest time that a token is made or renewed for, in seconds.
+const LONGEST_TTL: u64 = 2_764_800;
+
 /// Carries out an operation on tokens.
 pub(crate) fn act<T: RecordsTx>(
     alloc: Global,

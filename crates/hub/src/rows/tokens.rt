@@ -26,7 +26,7 @@ fn life_of_a_token(rt: HostRuntime) -> Result<(), Fail> {
                 metadata "null", uses "0", orphan "false", policies "[\"app\",\"default\"]", renewable "true",
                 request "030");
         1 ask!("001", "revoke", "52", "{\"token\":\"hvs.00000000-0000-0000-0000-000000000011\"}")
-            => "HTTP/1.1 204 No Content\r\nDate: Tue, 14 Nov 2023 22:44:20 GMT\r\nCache-Control: no-store\r\n\r\n";
+            => written_at!("Tue, 14 Nov 2023 22:44:20 GMT");
         1 by!("011", "GET /v1/auth/token/lookup-self", "\r\n")
             => reply_at!("403 Forbidden", "Tue, 14 Nov 2023 22:44:20 GMT", "Cache-Control: no-store\r\n", "33",
                 "{\"errors\":[\"permission denied\"]}");
@@ -451,8 +451,9 @@ fn callers_and_sudo(rt: HostRuntime) -> Result<(), Fail> {
         1 ask!("001", "create", "18", "{\"policies\":[\"p\"]}")
             => made!("451", token "021", accessor "022", seconds "2764800", metadata "null", uses "0",
                 orphan "false", policies "[\"default\",\"p\"]", renewable "true", request "020");
-        1 by!("021", "POST /v1/secret/data/x", "Content-Length: 11\r\n\r\n{\"data\":{}}") => NOT_FOUND;
-        1 by!("021", "GET /v1/secret/data/x?version=1", "\r\n") => NOT_FOUND;
+        1 by!("021", "POST /v1/secret/data/x", "Content-Length: 11\r\n\r\n{\"data\":{}}")
+            => version_made!("269", "1", "030");
+        1 by!("021", "GET /v1/secret/data/x?version=1", "\r\n") => version_found!("292", "{}", "1", "040");
         1 by!("021", "LIST /v1/auth/token/accessors", "\r\n") => FORBIDDEN;
         1 ask!("021", "revoke-orphan", "13", "{\"token\":\"x\"}") => FORBIDDEN;
         1 ask!("021", "create", "18", "{\"no_parent\":true}")

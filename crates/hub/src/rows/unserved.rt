@@ -45,6 +45,29 @@ fn unserved_routes(rt: HostRuntime) -> Result<(), Fail> {
     expect_replies(&rt, 1000, &row)
 }
 
+/// Listing and deleting in a cubbyhole are refused so far.
+#[test]
+fn unserved_cubbyhole_lists(rt: HostRuntime) -> Result<(), Fail> {
+    let row = row! {
+        1 request!("POST /v1/cubbyhole/a", "Content-Length: 7\r\n\r\n{\"a\":1}") => WRITTEN;
+        1 request!("LIST /v1/cubbyhole/a", "\r\n") => NOT_ALLOWED;
+        1 request!("DELETE /v1/cubbyhole/a", "\r\n") => NOT_ALLOWED;
+        1 request!("LIST /v1/cubbyhole", "\r\n") => NOT_FOUND;
+        1 request!("GET /v1/cubbyhole/a?list=true", "\r\n") => NOT_ALLOWED;
+    };
+    expect_replies(&rt, 1000, &row)
+}
+
+/// A write to the metadata of a secret is refused so far.
+#[test]
+fn unserved_key_settings(rt: HostRuntime) -> Result<(), Fail> {
+    let row = row! {
+        1 change!("metadata/x", "18", "{\"max_versions\":1}") => not_allowed!("GET, LIST, DELETE");
+        1 change!("data/x", "11", "{\"data\":{}}") => version_made!("269", "1", "020");
+    };
+    expect_replies(&rt, 1000, &row)
+}
+
 /// The wrap TTL is ignored, and the routes of wrapping are not served so far.
 #[test]
 fn unserved_wrapping(rt: HostRuntime) -> Result<(), Fail> {

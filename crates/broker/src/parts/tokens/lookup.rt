@@ -4,12 +4,13 @@ ghost use Rattle.std.specs.Prelude.{◌≤◌, Ok, length};
 ghost use Rattle.broker_types.specs.Limits.{longest_body};
 ghost use Rattle.broker_types.specs.Names.{names_of};
 ghost use Rattle.broker_types.specs.RequestError.{step_fails};
-ghost use Rattle.records.specs.Transaction.{GoesOn};
-ghost use Rattle.mounts.specs.Calls.{OnFault};
+ghost use Rattle.records.specs.Transaction.{IsHonest, GoesOn};
+ghost use Rattle.mounts.specs.Calls.{OnAnswer, OnFault};
 ghost use Rattle.mounts.specs.declared.operation.TokenOperation.TheVariants as operations;
 ghost use Rattle.broker.specs.ClockRow.{IsNotBadStart};
 ghost use Rattle.broker.specs.Command.{on_token, on_tokens};
 ghost use Rattle.broker.specs.Operating.{Operates, Performs};
+ghost use Rattle.broker.specs.ReadableRow.{IsReadableToken};
 ghost use Rattle.broker.specs.parts.TokenCommands.{lookup_self, list_accessors};
 ghost use Rattle.broker.specs.parts.Tokens as part;
 
@@ -101,6 +102,10 @@ fn show<T: RecordsTx>(
 ) -> Result<Answered, RequestError>
     ensures ok { Performs context.now (T.seen tx.old) (T.seen tx.new)
         (λ b. part.look_up b (names_of context.now.words) token.now id.now) result }
+
+    // Whatever the rows are: a damaged row is answered neither as a token nor as an unknown text.
+    ensures undamaged { IsHonest (T.seen tx.new)
+        → OnAnswer result (IsReadableToken (T.seen tx.old).rows token.now) }
     ensures started { OnFault result IsNotBadStart }
     ensures goes_on { GoesOn (T.seen tx.old) (T.seen tx.new) (step_fails result) }
 {

@@ -13,6 +13,7 @@ ghost use Rattle.broker_types.specs.Duration.{longest_duration};
 ghost use Rattle.broker.specs.parts.TokenRanges.{IsTextPair};
 ghost use Rattle.broker.specs.parts.TokenEntries.{token_told, new_entry};
 
+use crate::parts::tokens::LONGEST_TTL;
 use api_json::TokenCreation;
 use broker_types::{Moment, Reason, Refusal, Seconds, TextBuf};
 use mounts::is_name;
@@ -159,7 +160,7 @@ pub(super) fn new_record(
         issued: now.seconds(),
         ends: new_end(endless, now, ttl),
         ttl: new_ttl(endless, ttl),
-        explicit_max_ttl: longest(asked.explicit_max_ttl),
+        explicit_max_ttl: seconds_of(asked.explicit_max_ttl),
         period: 0,
         uses_left: use_limit(asked.num_uses),
         meta,
@@ -191,8 +192,8 @@ fn copied_pair(alloc: Global, pair: &(TextBuf, TextBuf)) -> Result<(TextBuf, Tex
     Ok((name, text))
 }
 
-/// The longest that a token lasts, in seconds.
-fn longest(asked: Seconds) -> u64
+/// A length of time that is asked for, in seconds.
+fn seconds_of(asked: Seconds) -> u64
     ensures value { result ≡ asked }
     ensures within { asked ≤ longest_duration }
 {
@@ -257,6 +258,3 @@ fn or_longest(length: Seconds) -> u64
         seconds => u64::from(seconds),
     }
 }
-
-/// The longest time that a token is made or renewed for, in seconds.
-const LONGEST_TTL: u64 = 2_764_800;

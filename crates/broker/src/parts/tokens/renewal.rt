@@ -5,16 +5,18 @@ ghost use Rattle.broker_types.specs.Limits.{longest_body};
 ghost use Rattle.broker_types.specs.Names.{names_of};
 ghost use Rattle.broker_types.specs.RequestError.{step_fails};
 ghost use Rattle.records.specs.Ranges.{IsTokenInRange};
-ghost use Rattle.records.specs.Transaction.{GoesOn};
-ghost use Rattle.mounts.specs.Calls.{OnFault};
+ghost use Rattle.records.specs.Transaction.{IsHonest, GoesOn};
+ghost use Rattle.mounts.specs.Calls.{OnAnswer, OnFault};
 ghost use Rattle.mounts.specs.declared.operation.TokenOperation.TheVariants as operations;
 ghost use Rattle.broker.specs.ClockRow.{IsNotBadStart};
 ghost use Rattle.broker.specs.Command.{on_tokens};
 ghost use Rattle.broker.specs.Operating.{Operates, Performs};
+ghost use Rattle.broker.specs.ReadableRow.{IsReadableToken};
 ghost use Rattle.broker.specs.parts.Tokens as part;
 
 use crate::answered::Answered;
 use crate::context::Context;
+use crate::parts::tokens::LONGEST_TTL;
 use crate::parts::tokens::shown::auth_reply;
 use api_json::{increment, read_body, token_renewal};
 use broker_types::{Denial, Moment, Reason, Refusal, RequestError, Seconds, id_text};
@@ -70,6 +72,10 @@ fn renew_to<T: RecordsTx>(
 ) -> Result<Answered, RequestError>
     ensures ok { Performs context.now (T.seen tx.old) (T.seen tx.new)
         (λ b. part.renew b (names_of context.now.words) token.now increment) result }
+
+    // Whatever the rows are: a damaged row is answered neither as a token nor as an unknown text.
+    ensures undamaged { IsHonest (T.seen tx.new)
+        → OnAnswer result (IsReadableToken (T.seen tx.old).rows token.now) }
     ensures started { OnFault result IsNotBadStart }
     ensures goes_on { GoesOn (T.seen tx.old) (T.seen tx.new) (step_fails result) }
 {
@@ -101,6 +107,3 @@ fn new_end(now: Moment, token: &TokenRecord, increment: Seconds) -> Due
     };
     Due::at((now.seconds() + asked).min(token.issued + longest))
 }
-
-/// The longest time that a token is made or renewed for, in seconds.
-const LONGEST_TTL: u64 = 2_764_800;

@@ -3,12 +3,13 @@
 ghost use Rattle.std.specs.Prelude.{◌≤◌, Ok, length};
 ghost use Rattle.broker_types.specs.Limits.{longest_body};
 ghost use Rattle.broker_types.specs.RequestError.{step_fails};
-ghost use Rattle.records.specs.Transaction.{GoesOn};
-ghost use Rattle.mounts.specs.Calls.{OnFault};
+ghost use Rattle.records.specs.Transaction.{IsHonest, GoesOn};
+ghost use Rattle.mounts.specs.Calls.{OnAnswer, OnFault};
 ghost use Rattle.mounts.specs.declared.operation.TokenOperation.TheVariants as operations;
 ghost use Rattle.broker.specs.ClockRow.{IsNotBadStart};
 ghost use Rattle.broker.specs.Command.{on_tokens};
 ghost use Rattle.broker.specs.Operating.{Operates, Performs};
+ghost use Rattle.broker.specs.ReadableRow.{IsReadableDescent};
 ghost use Rattle.broker.specs.parts.Tokens as part;
 
 use crate::answered::Answered;
@@ -103,6 +104,10 @@ fn end<T: RecordsTx>(
     token: &str,
 ) -> Result<Answered, RequestError>
     ensures ok { Performs context.now (T.seen tx.old) (T.seen tx.new) (λ b. Ok (part.revoke b token.now)) result }
+
+    // Whatever the rows are: it is not answered if the row of the token, or of one below it, is damaged.
+    ensures undamaged { IsHonest (T.seen tx.new)
+        → OnAnswer result (IsReadableDescent (T.seen tx.old).rows token.now) }
     ensures started { OnFault result IsNotBadStart }
     ensures goes_on { GoesOn (T.seen tx.old) (T.seen tx.new) (step_fails result) }
 {

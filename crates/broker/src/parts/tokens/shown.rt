@@ -1,11 +1,12 @@
 //! What replies show of a token.
 
 ghost use Rattle.std.specs.Prelude.{◌≡◌, ◌≤◌, IfOk, None, option_map};
-ghost use Rattle.broker_types.specs.Sound.{IsMoment, IsEnd};
+ghost use Rattle.broker_types.specs.Sound.{IsEnd};
 ghost use Rattle.records.specs.Ranges.{IsTokenInRange};
 ghost use Rattle.records.specs.Reading.{IsSomeIn};
 ghost use Rattle.broker.specs.parts.TokenReplies as part;
 
+use crate::parts::moments::moment;
 use api_json::{AuthObject, EndTime, Pairs, Texts, TokenObject, auth_object};
 use broker_types::{Moment, Reply, TextBuf};
 use records::{Due, TokenRecord};
@@ -24,7 +25,7 @@ pub(super) fn looked_up(
     let ends = end_time(token.ends);
     Ok(TokenObject {
         accessor: token.accessor,
-        issued: issue_time(token.issued),
+        issued: moment(token.issued),
         creation_ttl: token.ttl,
         ends,
         explicit_max_ttl: token.explicit_max_ttl,
@@ -87,12 +88,4 @@ fn end_time(ends: Option<Due>) -> Option<EndTime>
         None => None,
         Some(end) => EndTime::new(end.seconds()),
     }
-}
-
-/// The moment at which a token was made that a row can hold.
-fn issue_time(issued: u64) -> Moment
-    requires { IsMoment issued }
-    ensures { result ≡ issued }
-{
-    Moment::new(issued).unwrap()
 }

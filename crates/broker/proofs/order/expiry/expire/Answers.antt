@@ -9,7 +9,7 @@ use Rattle.token_tree.specs.Tokens.{AreEnded, without_expired}
 use Rattle.cubbyhole.specs.Laws.{without_owners}
 use Rattle.broker.specs.Forms.{forms}
 use Rattle.broker.proofs.Ended.{others_kept}
-use Rattle.broker.proofs.Expired.{represents_tokens, represents-expired, left_expired, others_expired}
+use Rattle.broker.proofs.Expired.{represents_tokens, represents-expired, left_expired, others_expired, damaged_still}
 use Rattle.broker.proofs.order.expiry.expire.Goals as goal
 
 pub returns-in_err-ended-clause-wants : goal.returns-in_err-ended-clause-wants
@@ -65,3 +65,13 @@ returns-clause-left g c honest keys =
     left_expired (seen c.args.tx.now).rows (seen c.advance_clock.new.tx).rows mid (seen c.drop_cubbyholes.new.tx).rows (has_come c.in_ok-now.now)
     c.in_ok-ended.ended.items (c.in_ok-now.ensures.others ticked) (c.in_ok-ended.ensures.rows swept)
     (c.in_ok-drop_cubbyholes.ensures.rows honest ∙ ap (without_owners (table_of mid)) c.deref.ensures.value) keys
+
+pub returns-clause-damaged : goal.returns-clause-damaged
+returns-clause-damaged g c honest =
+    let seen = g.T.RecordsTx.seen in
+    let swept = honest_before (seen c.sweep_tokens.new.tx) (seen c.drop_cubbyholes.new.tx) _ c.drop_cubbyholes.ensures.call.goes_on honest in
+    let ticked = honest_before (seen c.advance_clock.new.tx) (seen c.sweep_tokens.new.tx) _ c.sweep_tokens.ensures.goes_on swept in
+    let mid = (seen c.sweep_tokens.new.tx).rows in
+    damaged_still (seen c.args.tx.now).rows (seen c.advance_clock.new.tx).rows mid (seen c.drop_cubbyholes.new.tx).rows (has_come c.in_ok-now.now)
+    c.in_ok-ended.ended.items (c.in_ok-now.ensures.others ticked) (c.in_ok-ended.ensures.rows swept)
+    (c.in_ok-drop_cubbyholes.ensures.rows honest ∙ ap (without_owners (table_of mid)) c.deref.ensures.value)

@@ -8,12 +8,14 @@ use Rattle.records.specs.declared.kind.Kind.TheVariants as kind
 use Rattle.broker.specs.Context.{Context}
 use Rattle.broker.specs.Operating.{Starts}
 use Rattle.broker.specs.Order.{Wrapped, finish}
+use Rattle.broker.specs.ReadableRow.{IsReadableToken}
 use Rattle.broker.specs.Representing.{Represents, Gives}
 use Rattle.broker.specs.Serving.{served}
 use Rattle.broker.specs.Stages.{HasServed}
 use Rattle.broker.proofs.Callers.{spent_here}
-use Rattle.broker.proofs.Finishing.{readable_unspent, forbidden_kept}
+use Rattle.broker.proofs.Finishing.{if_ok, readable_unspent, on_ok}
 use Rattle.broker.proofs.Routes.{known_still, fault_goes_on}
+use Rattle.broker.proofs.SecretTables.{of_no_token, secret_still, asks_still}
 use Rattle.broker.proofs.order.serving.answer_caller.Goals as goal
 
 pub returns-in-Ok-clause-ok : goal.returns-in-Ok-clause-ok
@@ -121,7 +123,46 @@ returns-in-Err-Refused-clause-undamaged g c honest mount r known found reads =
     let mid = honest_before (seen c.spend.new.tx) (seen c.serve.new.tx) _ c.serve.ensures.goes_on left in
     let others = c.in_ok-spend.ensures.others mid in
     let name = (cut c.args.ask.now.path).0 in
-    forbidden_kept c.args.ask.now.path c.in-Err-Refused.refusal c.finish-in-Err-Refused.result
-    (readable_unspent old new c.args.context.now.caller r.parameter others) c.finish-in-Err-Refused.ensures.refused
-    (rw c.in-Err-Refused.field-0-is at
-    (c.in-Err-Refused.ensures.undamaged left mount r (known_still old new name mount (others kind.Mount name refl) known) found reads))
+    let readable = rw c.in-Err-Refused.field-0-is at
+    (c.in-Err-Refused.ensures.undamaged left mount r (known_still old new name mount (others kind.Mount name refl) known) found reads) in
+    if_ok c.finish-in-Err-Refused.result (readable_unspent old new c.args.context.now.caller r.parameter others readable)
+
+pub returns-in-Ok-clause-secret : goal.returns-in-Ok-clause-secret
+returns-in-Ok-clause-secret g c honest p n asks =
+    let seen = g.T.RecordsTx.seen in
+    let old = (seen c.args.tx.now).rows in
+    let new = (seen c.spend.new.tx).rows in
+    let left = honest_before (seen c.serve.new.tx) (seen c.finish.new.tx) _ c.finish.ensures.goes_on honest in
+    let mid = honest_before (seen c.spend.new.tx) (seen c.serve.new.tx) _ c.serve.ensures.goes_on left in
+    let others = c.in_ok-spend.ensures.others mid in
+    if_ok c.finish.result
+    (secret_still old new p n (λ k q inside. others k q (of_no_token k inside))
+    (c.in-Ok.ensures.secret left p n (asks_still old new c.args.ask.now p n (others kind.Mount (cut c.args.ask.now.path).0 refl) asks)))
+
+pub returns-in-Err-Refused-clause-secret : goal.returns-in-Err-Refused-clause-secret
+returns-in-Err-Refused-clause-secret g c honest p n asks =
+    let seen = g.T.RecordsTx.seen in
+    let old = (seen c.args.tx.now).rows in
+    let new = (seen c.spend.new.tx).rows in
+    let left = honest_before (seen c.serve.new.tx) (seen c.finish-in-Err-Refused.new.tx) _ c.finish-in-Err-Refused.ensures.goes_on honest in
+    let mid = honest_before (seen c.spend.new.tx) (seen c.serve.new.tx) _ c.serve.ensures.goes_on left in
+    let others = c.in_ok-spend.ensures.others mid in
+    let readable = rw c.in-Err-Refused.field-0-is at
+    (c.in-Err-Refused.ensures.secret left p n (asks_still old new c.args.ask.now p n (others kind.Mount (cut c.args.ask.now.path).0 refl) asks)) in
+    if_ok c.finish-in-Err-Refused.result (secret_still old new p n (λ k q inside. others k q (of_no_token k inside)) readable)
+
+pub returns-in-Ok-clause-caller : goal.returns-in-Ok-clause-caller
+returns-in-Ok-clause-caller g c honest =
+    let seen = g.T.RecordsTx.seen in
+    let left = honest_before (seen c.serve.new.tx) (seen c.finish.new.tx) _ c.finish.ensures.goes_on honest in
+    let mid = honest_before (seen c.spend.new.tx) (seen c.serve.new.tx) _ c.serve.ensures.goes_on left in
+    on_ok c.finish.result
+    (subst (IsReadableToken (seen c.args.tx.now).rows) (ap (λ (x : Context). x.caller) c.context.view_is) (c.in_ok-spend.ensures.readable mid))
+
+pub returns-in-Err-Refused-clause-caller : goal.returns-in-Err-Refused-clause-caller
+returns-in-Err-Refused-clause-caller g c honest =
+    let seen = g.T.RecordsTx.seen in
+    let left = honest_before (seen c.serve.new.tx) (seen c.finish-in-Err-Refused.new.tx) _ c.finish-in-Err-Refused.ensures.goes_on honest in
+    let mid = honest_before (seen c.spend.new.tx) (seen c.serve.new.tx) _ c.serve.ensures.goes_on left in
+    on_ok c.finish-in-Err-Refused.result
+    (subst (IsReadableToken (seen c.args.tx.now).rows) (ap (λ (x : Context). x.caller) c.context.view_is) (c.in_ok-spend.ensures.readable mid))

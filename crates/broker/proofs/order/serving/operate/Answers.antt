@@ -3,16 +3,25 @@ use Rattle.std.proofs.lemmas.Result.{err_from_is_err_and}
 use Rattle.records.specs.CallLaws.{honest_before}
 use Rattle.records.specs.Table.{table_of}
 use Rattle.broker_types.specs.Names.{names_of}
+use Rattle.broker_types.specs.Name.{is_mount_name}
 use Rattle.broker_types.specs.Path.{is_path}
-use Rattle.mounts.specs.Table.{takes_parameter}
+use Rattle.mounts.specs.Table.{takes_parameter, takes_path}
 use Rattle.mounts.specs.Calls.{OnAnswer}
-use Rattle.mounts.specs.MountRows.{IsReadableAt}
-use Rattle.mounts.specs.Route.{Route, cut}
+use Rattle.api_json.specs.Readers.{version_number}
+use Rattle.records.specs.Transaction.{Rows}
+use Rattle.records.specs.ValueLaws.{ok_inj}
+use Rattle.mounts.specs.MountRows.{IsKnownAt, IsReadableAt}
+use Rattle.mounts.specs.declared.operation.SecretOperation.TheVariants as secret
+use Rattle.mounts.specs.Route.{Route, cut, route_at}
 use Rattle.mounts.specs.declared.operation.Operation.TheVariants.{Cubbyholes}
+use Rattle.broker.specs.Command.{place_of}
+use Rattle.broker.specs.ReadableRow.{IsReadableSecret}
 use Rattle.broker.specs.Serving.{acted}
 use Rattle.broker.specs.declared.answered.Answered.{Answered}
+use Rattle.broker.specs.parts.SecretCommands.{Place, at}
 use Rattle.broker.proofs.CubbyholeAnswers.{ActsAs, meant_there}
-use Rattle.broker.proofs.Routes.{meant_on_tokens, mounts_there, operated_by, operated_nowhere, on_answer, on_error}
+use Rattle.broker.proofs.Routes.{found_is, meant_on_tokens, mounts_there, operated_by, operated_nowhere, on_answer, on_error}
+use Rattle.broker.proofs.SecretRoutes.{mount_named, meant_on_secrets, secrets_inj}
 use Rattle.broker.proofs.Serving.{still_represented}
 use Rattle.broker.proofs.order.serving.operate.Goals as goal
 
@@ -52,6 +61,33 @@ returns-in-Tokens-clause-ok g c honest b starts =
     (subst (ActsAs caller b (seen c.act-in-Tokens.new.tx).rows c.act-in-Tokens.result) (ap (acted b caller names) (sym meant))
     (c.act-in-Tokens.ensures.ok honest b (record { represents = still; here = starts.here; clock = starts.clock })))
 
+pub returns-in-Secrets-clause-ok : goal.returns-in-Secrets-clause-ok
+returns-in-Secrets-clause-ok g c honest b starts =
+    let seen = g.T.RecordsTx.seen in
+    let rows = (seen c.args.tx.now).rows in
+    let mid = honest_before (seen c.route.new.tx) (seen c.act-in-Secrets.new.tx) _ c.act-in-Secrets.ensures.goes_on honest in
+    let ends = c.in_ok-found.ensures.told mid b.mounts (mounts_there b rows starts.represents) in
+    let still = still_represented b rows (seen c.route.new.tx).rows (c.in_ok-found.ensures.same mid) starts.represents in
+    let caller = c.args.context.now.caller in
+    let names = names_of c.args.context.now.words in
+    let ask = c.args.ask.now in
+    let is : c.in_ok-found.found.operation ≡ c.found.inside.operation = sym (ap (λ (r : Route). r.operation) c.found.view_is) in
+    let of_secrets = is ∙ c.in-Secrets.is in
+    let place : place_of c.in_ok-found.found ≡ at c.found.inside.mount.now c.found.inside.parameter.now =
+    sym (ap place_of c.found.view_is) in
+    let named : is_mount_name c.found.inside.mount.now ≡ true =
+    sym (ap (λ (p : Place). is_mount_name p.mount) place)
+    ∙ mount_named b ask.verb c.as_str.result.now c.in_ok-found.found c.in-Secrets.operation starts.represents.sound.mounts
+    (found_is _ c.in_ok-found.found ends) of_secrets in
+    let good = λ (takes : takes_path c.in-Secrets.operation ≡ true).
+    sym (ap (λ (p : Place). is_path p.path) place) ∙ c.in_ok-found.ensures.parameter c.as_str.ensures.good (ap takes_parameter of_secrets ∙ takes) in
+    let meant = meant_on_secrets c.in_ok-found.found ask c.in-Secrets.operation (at c.found.inside.mount.now c.found.inside.parameter.now)
+    c.as_slice-version.result.now c.as_slice-body.result.now of_secrets place c.as_slice-version.ensures c.as_slice-body.ensures.bytes in
+    operated_by b caller names ask (seen c.act-in-Secrets.new.tx).rows c.act-in-Secrets.result c.in_ok-found.found c.as_str.result.now
+    c.as_str.ensures.text ends
+    (subst (ActsAs caller b (seen c.act-in-Secrets.new.tx).rows c.act-in-Secrets.result) (ap (acted b caller names) (sym meant))
+    (c.act-in-Secrets.ensures.ok named good honest b (record { represents = still; here = starts.here; clock = starts.clock })))
+
 pub returns-in_err-found-clause-ok : goal.returns-in_err-found-clause-ok
 returns-in_err-found-clause-ok g c honest b starts =
     let seen = g.T.RecordsTx.seen in
@@ -78,6 +114,33 @@ returns-in-Tokens-clause-mount g c honest =
     let rows = (seen c.args.tx.now).rows in
     let mid = honest_before (seen c.route.new.tx) (seen c.act-in-Tokens.new.tx) _ c.act-in-Tokens.ensures.goes_on honest in
     on_answer c.act-in-Tokens.result
+    (subst (λ path. IsReadableAt (table_of rows) (cut path).0) c.as_str.ensures.text (c.in_ok-found.ensures.undamaged mid))
+
+pub returns-in-Secrets-clause-secret : goal.returns-in-Secrets-clause-secret
+returns-in-Secrets-clause-secret g c honest p n asks =
+    let seen = g.T.RecordsTx.seen in
+    let rows = (seen c.args.tx.now).rows in
+    let ask = c.args.ask.now in
+    let path = c.as_str.ensures.text in
+    let mid = honest_before (seen c.route.new.tx) (seen c.act-in-Secrets.new.tx) _ c.act-in-Secrets.ensures.goes_on honest in
+    let ends = c.in_ok-found.ensures.found mid asks.mount (subst (λ q. IsKnownAt (table_of rows) (cut q).0 asks.mount) (sym path) asks.known) in
+    let route : c.in_ok-found.found ≡ asks.route =
+    ok_inj (sym (found_is _ c.in_ok-found.found ends) ∙ ap (route_at asks.mount ask.verb) path ∙ asks.found) in
+    let is : c.in_ok-found.found.operation ≡ c.found.inside.operation = sym (ap (λ (r : Route). r.operation) c.found.view_is) in
+    let reads : c.in-Secrets.operation ≡ secret.Read =
+    secrets_inj _ _ (sym (is ∙ c.in-Secrets.is) ∙ ap (λ (r : Route). r.operation) route ∙ asks.reads) in
+    let place : at c.found.inside.mount.now c.found.inside.parameter.now ≡ p = ap place_of c.found.view_is ∙ ap place_of route ∙ asks.place in
+    subst (λ q. OnAnswer c.act-in-Secrets.result (IsReadableSecret rows q n)) place
+    (subst (λ (z : Rows). OnAnswer c.act-in-Secrets.result (IsReadableSecret z (at c.found.inside.mount.now c.found.inside.parameter.now) n))
+    (c.in_ok-found.ensures.same mid)
+    (c.act-in-Secrets.ensures.undamaged honest reads n (ap version_number c.as_slice-version.ensures ∙ asks.version)))
+
+pub returns-in-Secrets-clause-mount : goal.returns-in-Secrets-clause-mount
+returns-in-Secrets-clause-mount g c honest =
+    let seen = g.T.RecordsTx.seen in
+    let rows = (seen c.args.tx.now).rows in
+    let mid = honest_before (seen c.route.new.tx) (seen c.act-in-Secrets.new.tx) _ c.act-in-Secrets.ensures.goes_on honest in
+    on_answer c.act-in-Secrets.result
     (subst (λ path. IsReadableAt (table_of rows) (cut path).0) c.as_str.ensures.text (c.in_ok-found.ensures.undamaged mid))
 
 pub returns-in_err-found-clause-mount : goal.returns-in_err-found-clause-mount

@@ -4,13 +4,9 @@ use Rattle.std.proofs.lemmas.Option.{none-some}
 use Rattle.std.proofs.lemmas.Result.{err_from_is_err_and}
 use Rattle.broker_types.specs.Map.{get}
 use Rattle.broker_types.specs.Names.{names_of}
-use Rattle.broker_types.specs.Operation.{Done}
 use Rattle.broker_types.specs.OptionLaws.{mapped}
-use Rattle.broker_types.specs.RequestError.{Ends}
 use Rattle.broker_types.specs.Sound.{IsShortText}
 use Rattle.broker_types.specs.Text.{Text}
-use Rattle.broker_types.specs.declared.refusal.Refusal.{Refusal}
-use Rattle.broker_types.specs.declared.request_error.RequestError.TheVariants.{Refused}
 use Rattle.records.specs.CallLaws.{honest_before, goes_further}
 use Rattle.records.specs.Children.{has}
 use Rattle.records.specs.Ranges.{IsTokenInRange}

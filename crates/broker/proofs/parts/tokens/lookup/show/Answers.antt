@@ -45,3 +45,10 @@ returns-clause-ok g c =
     c.as_str.result.now c.context.inside.clock c.in-Some.found c.in_ok-plain_reply.field-0
     (sym (c.as_str.ensures.value ∙ c.in_ok-request.ensures)) starts.clock c.in-Some.is
     (c.in_ok-plain_reply.ensures ∙ ap (plain_reply c.as_str.result.now) (c.in_ok-object.ensures ∙ ap token_object c.in_ok-shown.ensures)))
+
+pub returns-in_default-clause-undamaged : goal.returns-in_default-clause-undamaged
+returns-in_default-clause-undamaged g c honest =
+    (c.in_ok-found.field-0, c.in_ok-found.ensures.in_range, c.in_ok-found.ensures.found honest)
+
+pub returns-clause-undamaged : goal.returns-clause-undamaged
+returns-clause-undamaged g c honest = (c.in_ok-found.field-0, c.in_ok-found.ensures.in_range, c.in_ok-found.ensures.found honest)

@@ -67,3 +67,17 @@ returns-clause-ok g c =
     (represents-renewed b c.args.token.now ends (seen c.find.new.tx).rows (seen c.renew.new.tx).rows st
     (subst IsEnd (sym c.new_end-ends.ensures) (new_end_near now asked c.in-Some.found (c.in_ok-found.ensures.in_range c.in-Some.found c.in-Some.is)))
     (c.in_ok-renew.ensures.ok honest forms b (represents_tokens b (seen c.find.new.tx).rows st)) (c.in_ok-renew.ensures.others honest)))
+
+pub returns-in_default-clause-undamaged : goal.returns-in_default-clause-undamaged
+returns-in_default-clause-undamaged g c honest =
+    (c.in_ok-found.field-0, c.in_ok-found.ensures.in_range, c.in_ok-found.ensures.found honest)
+
+pub returns-then-is_none-clause-undamaged : goal.returns-then-is_none-clause-undamaged
+returns-then-is_none-clause-undamaged g c honest =
+    (c.in_ok-found.field-0, c.in_ok-found.ensures.in_range, c.in_ok-found.ensures.found honest)
+
+pub returns-clause-undamaged : goal.returns-clause-undamaged
+returns-clause-undamaged g c honest =
+    let seen = g.T.RecordsTx.seen in
+    let before = honest_before (seen c.find.new.tx) (seen c.renew.new.tx) _ c.in_ok-renew.ensures.goes_on honest in
+    (c.in_ok-found.field-0, c.in_ok-found.ensures.in_range, c.in_ok-found.ensures.found before)

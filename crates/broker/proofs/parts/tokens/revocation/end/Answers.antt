@@ -37,3 +37,10 @@ returns-clause-ok g c honest b starts =
       represents-revoked b t old mid new ended st others (c.in_ok-drop_cubbyholes.ensures.rows honest) are
           (c.in_ok-ended.ensures.ok revoked forms b tokens) objects,
     )
+
+pub returns-clause-undamaged : goal.returns-clause-undamaged
+returns-clause-undamaged g c honest =
+    let seen = g.T.RecordsTx.seen in
+    let revoked = honest_before (seen c.revoke.new.tx) (seen c.drop_cubbyholes.new.tx) _ c.drop_cubbyholes.ensures.call.goes_on honest in
+    let ends = c.in_ok-ended.ensures.rows revoked in
+    (c.in_ok-ended.ended.items, ends.descent, ends.readable)

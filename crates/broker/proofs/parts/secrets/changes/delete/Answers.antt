@@ -1,0 +1,52 @@
+use Rattle.std.proofs.Common.{Some, Ok, Err, ap, sym, subst, ◌∙◌}
+use Rattle.std.proofs.lemmas.Result.{err_from_is_err_and}
+use Rattle.api_json.specs.Parsed.{members_of}
+use Rattle.api_json.specs.Readers as reader
+use Rattle.broker_types.specs.Names.{names_of}
+use Rattle.broker_types.specs.Operation.{nothing, plainly}
+use Rattle.broker_types.specs.Sound.{Sound}
+use Rattle.records.specs.Parts.{Tells, of_secrets}
+use Rattle.records.specs.Table.{table_of}
+use Rattle.kv2.specs.Secrets.{secret_name, with_versions}
+use Rattle.kv2.specs.SoundLaws.{delete_versions_sound, is_secret_name}
+use Rattle.kv2.specs.Versions.{soft_deleted}
+use Rattle.broker.specs.Context.{Context}
+use Rattle.broker.specs.Forms.{forms}
+use Rattle.broker.specs.declared.answered.Answered.TheVariants.{Nothing}
+use Rattle.broker.specs.parts.SecretCommands.{at, delete_versions}
+use Rattle.broker.proofs.CubbyholeAnswers.{ActsAs}
+use Rattle.broker.proofs.SecretAnswers.{acts_meant, acts_changed}
+use Rattle.broker.proofs.SecretTables.{changes_inside}
+use Rattle.broker.proofs.Serving.{tells_part}
+use Rattle.broker.proofs.parts.secrets.changes.delete.Goals as goal
+
+pub returns-in_err-delete_versions-clause-ok : goal.returns-in_err-delete_versions-clause-ok
+returns-in_err-delete_versions-clause-ok g c named good honest b starts =
+    let p = err_from_is_err_and c.from_residual-in_err-delete_versions.result c.from_residual-in_err-delete_versions.ensures.1 in
+    rw (p.1 ∙ ap Err p.2)
+    (c.in_err-delete_versions.ensures.undamaged honest forms b starts.represents.sound.secrets
+    (tells_part of_secrets b (g.T.RecordsTx.seen c.args.tx.now).rows starts.represents)
+    (is_secret_name c.args.mount.now c.args.path.now named (record { good = good; utf8 = c.utf8.path })))
+
+pub returns-clause-ok : goal.returns-clause-ok
+returns-clause-ok g c named good honest b starts =
+    let seen = g.T.RecordsTx.seen in
+    let old = (seen c.args.tx.now).rows in
+    let new = (seen c.delete_versions.new.tx).rows in
+    let caller = c.args.context.now.caller in
+    let mount = c.args.mount.now in
+    let path = c.args.path.now in
+    let st = starts.represents in
+    let now = c.context.inside.clock in
+    let clock = ap (λ (x : Context). x.clock) c.context.view_is ∙ sym starts.clock in
+    acts_meant b new caller (names_of c.args.context.now.words) (at mount path) c.args.body.now reader.versions delete_versions
+    (members_of c.in_ok-members.members) c.in_ok-numbers.numbers (Ok Nothing) c.in_ok-members.ensures c.in_ok-numbers.ensures
+    (subst (λ m. ActsAs caller b new (Ok Nothing) (Ok (plainly nothing (with_versions (soft_deleted m) b mount path c.in_ok-numbers.numbers)))) clock
+    (acts_changed b caller old new (with_versions (soft_deleted now) b mount path c.in_ok-numbers.numbers).secrets st
+    (subst (λ m. Sound forms (Some caller) (with_versions (soft_deleted m) b mount path c.in_ok-numbers.numbers)) (sym clock)
+    (delete_versions_sound forms (Some caller) b st.sound mount path c.in_ok-numbers.numbers))
+    (subst (λ ns. Tells of_secrets (table_of new) (with_versions (soft_deleted now) b mount path ns)) c.as_slice.ensures
+    (c.in_ok-delete_versions.ensures.told honest forms b st.sound.secrets (tells_part of_secrets b old st)
+    (is_secret_name mount path named (record { good = good; utf8 = c.utf8.path }))))
+    (changes_inside (soft_deleted now) c.as_slice.result.now (secret_name mount path) (table_of old) (table_of new)
+    (c.in_ok-delete_versions.ensures.rows honest))))

@@ -1,0 +1,43 @@
+use Rattle.std.proofs.Common.{Some, Ok, Err, ap, subst, ◌∙◌}
+use Rattle.std.proofs.lemmas.Result.{err_from_is_err_and}
+use Rattle.api_json.specs.Parsed.{members_of}
+use Rattle.api_json.specs.Readers as reader
+use Rattle.broker_types.specs.Names.{names_of}
+use Rattle.records.specs.Parts.{Tells, of_secrets}
+use Rattle.records.specs.Table.{table_of}
+use Rattle.kv2.specs.Secrets.{secret_name, destroy}
+use Rattle.kv2.specs.SoundLaws.{destroy_sound, is_secret_name}
+use Rattle.kv2.specs.Versions.{destroyed}
+use Rattle.broker.specs.Forms.{forms}
+use Rattle.broker.specs.declared.answered.Answered.TheVariants.{Nothing}
+use Rattle.broker.specs.parts.SecretCommands.{at, destroy_versions}
+use Rattle.broker.proofs.SecretAnswers.{acts_meant, acts_changed}
+use Rattle.broker.proofs.SecretTables.{changes_inside}
+use Rattle.broker.proofs.Serving.{tells_part}
+use Rattle.broker.proofs.parts.secrets.changes.destroy.Goals as goal
+
+pub returns-in_err-destroy-clause-ok : goal.returns-in_err-destroy-clause-ok
+returns-in_err-destroy-clause-ok g c named good honest b starts =
+    let p = err_from_is_err_and c.from_residual-in_err-destroy.result c.from_residual-in_err-destroy.ensures.1 in
+    rw (p.1 ∙ ap Err p.2)
+    (c.in_err-destroy.ensures.undamaged honest forms b starts.represents.sound.secrets
+    (tells_part of_secrets b (g.T.RecordsTx.seen c.args.tx.now).rows starts.represents)
+    (is_secret_name c.args.mount.now c.args.path.now named (record { good = good; utf8 = c.utf8.path })))
+
+pub returns-clause-ok : goal.returns-clause-ok
+returns-clause-ok g c named good honest b starts =
+    let seen = g.T.RecordsTx.seen in
+    let old = (seen c.args.tx.now).rows in
+    let new = (seen c.destroy.new.tx).rows in
+    let caller = c.args.context.now.caller in
+    let mount = c.args.mount.now in
+    let path = c.args.path.now in
+    let st = starts.represents in
+    acts_meant b new caller (names_of c.args.context.now.words) (at mount path) c.args.body.now reader.versions destroy_versions
+    (members_of c.in_ok-members.members) c.in_ok-numbers.numbers (Ok Nothing) c.in_ok-members.ensures c.in_ok-numbers.ensures
+    (acts_changed b caller old new (destroy b mount path c.in_ok-numbers.numbers).secrets st
+    (destroy_sound forms (Some caller) b st.sound mount path c.in_ok-numbers.numbers)
+    (subst (λ ns. Tells of_secrets (table_of new) (destroy b mount path ns)) c.as_slice.ensures
+    (c.in_ok-destroy.ensures.told honest forms b st.sound.secrets (tells_part of_secrets b old st)
+    (is_secret_name mount path named (record { good = good; utf8 = c.utf8.path }))))
+    (changes_inside destroyed c.as_slice.result.now (secret_name mount path) (table_of old) (table_of new) (c.in_ok-destroy.ensures.rows honest)))

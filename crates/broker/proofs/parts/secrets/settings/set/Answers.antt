@@ -1,0 +1,32 @@
+use Rattle.std.proofs.Common.{Some, Ok, refl}
+use Rattle.api_json.specs.Parsed.{members_of}
+use Rattle.api_json.specs.Readers as reader
+use Rattle.broker_types.specs.Names.{names_of}
+use Rattle.records.specs.Parts.{of_mounts}
+use Rattle.kv2.specs.Secrets.{set_config}
+use Rattle.kv2.specs.SoundLaws.{set_config_sound}
+use Rattle.broker.specs.Forms.{forms}
+use Rattle.broker.specs.declared.answered.Answered.TheVariants.{Nothing}
+use Rattle.broker.specs.parts.SecretCommands.{at, set_settings}
+use Rattle.broker.proofs.SecretAnswers.{acts_meant}
+use Rattle.broker.proofs.SecretTables.{represents-settings}
+use Rattle.broker.proofs.Serving.{tells_part}
+use Rattle.broker.proofs.parts.secrets.settings.set.Goals as goal
+
+pub returns-clause-ok : goal.returns-clause-ok
+returns-clause-ok g c path honest b starts =
+    let seen = g.T.RecordsTx.seen in
+    let old = (seen c.args.tx.now).rows in
+    let new = (seen c.set_config.new.tx).rows in
+    let caller = c.args.context.now.caller in
+    let mount = c.args.mount.now in
+    let asked = c.in_ok-asked.asked in
+    let st = starts.represents in
+    acts_meant b new caller (names_of c.args.context.now.words) (at mount path) c.args.body.now reader.mount_settings set_settings
+    (members_of c.in_ok-members.members) asked (Ok Nothing) c.in_ok-members.ensures c.in_ok-asked.ensures (
+      refl,
+      represents-settings b old new st mount (set_config b mount asked.cas_required asked.max_versions).mounts
+          (set_config_sound forms (Some caller) b st.sound mount asked.cas_required asked.max_versions c.in_ok-set_config.ensures.wide)
+          (c.in_ok-set_config.ensures.told honest b st.sound.mounts (tells_part of_mounts b old st))
+          (c.in_ok-set_config.ensures.others honest),
+    )

@@ -1,0 +1,61 @@
+//! Secrets without their texts, shown and listed.
+
+ghost use Rattle.std.specs.Prelude.{Ok};
+ghost use Rattle.broker_types.specs.RequestError.{step_fails};
+ghost use Rattle.records.specs.Transaction.{GoesOn};
+ghost use Rattle.mounts.specs.Calls.{OnFault};
+ghost use Rattle.broker.specs.ClockRow.{IsNotBadStart};
+ghost use Rattle.broker.specs.Command.{on_secret};
+ghost use Rattle.broker.specs.Operating.{Operates};
+ghost use Rattle.broker.specs.parts.SecretCommands.{at, show_metadata, list_secrets};
+
+use crate::answered::Answered;
+use crate::answers::shown;
+use crate::context::Context;
+use crate::parts::secrets::shown::secret_told;
+use api_json::{key_object, keys_object};
+use broker_types::{Refusal, RequestError};
+use records::RecordsTx;
+use std::alloc::Global;
+
+/// Shows a secret without its texts.
+pub(super) fn show<T: RecordsTx>(
+    alloc: Global,
+    tx: &mut T,
+    context: &Context<'_>,
+    mount: &str,
+    path: &str,
+) -> Result<Answered, RequestError>
+    ensures ok { Operates context.now (T.seen tx.old) (T.seen tx.new)
+        (λ b. Ok (on_secret (at mount.now path.now) show_metadata)) result }
+    ensures started { OnFault result IsNotBadStart }
+    ensures goes_on { GoesOn (T.seen tx.old) (T.seen tx.new) (step_fails result) }
+{
+    let Some(found) = kv2::metadata(alloc, tx, mount, path)? else {
+        return Err(RequestError::Refused(Refusal::NotFound));
+    };
+    let told = secret_told(alloc, &found)?;
+    let object = key_object(alloc, &told)?;
+    Ok(shown(alloc, context, object)?)
+}
+
+/// Lists the secrets and folders of a folder.
+pub(super) fn list<T: RecordsTx>(
+    alloc: Global,
+    tx: &mut T,
+    context: &Context<'_>,
+    mount: &str,
+    path: &str,
+) -> Result<Answered, RequestError>
+    ensures ok { Operates context.now (T.seen tx.old) (T.seen tx.new)
+        (λ b. Ok (on_secret (at mount.now path.now) list_secrets)) result }
+    ensures started { OnFault result IsNotBadStart }
+    ensures goes_on { GoesOn (T.seen tx.old) (T.seen tx.new) (step_fails result) }
+{
+    let names = kv2::list(alloc, tx, mount, path)?;
+    if names.is_empty() {
+        return Err(RequestError::Refused(Refusal::NotFound));
+    }
+    let object = keys_object(alloc, &names)?;
+    Ok(shown(alloc, context, object)?)
+}

@@ -1,0 +1,61 @@
+//! Settings of a mount of secrets.
+
+ghost use Rattle.std.specs.Prelude.{◌≤◌, Ok, [], length};
+ghost use Rattle.broker_types.specs.Limits.{longest_body};
+ghost use Rattle.broker_types.specs.Text.{Text};
+ghost use Rattle.broker_types.specs.RequestError.{step_fails};
+ghost use Rattle.records.specs.Transaction.{GoesOn};
+ghost use Rattle.mounts.specs.Calls.{OnFault};
+ghost use Rattle.mounts.specs.declared.operation.SecretOperation.TheVariants as operations;
+ghost use Rattle.broker.specs.ClockRow.{IsNotBadStart};
+ghost use Rattle.broker.specs.Command.{on_secret, on_secrets};
+ghost use Rattle.broker.specs.Operating.{Operates};
+ghost use Rattle.broker.specs.parts.SecretCommands.{at, show_settings};
+
+use crate::answered::Answered;
+use crate::answers::shown;
+use crate::context::Context;
+use api_json::{mount_settings, read_body, settings_object};
+use broker_types::{Refusal, RequestError};
+use kv2::{config, set_config};
+use records::RecordsTx;
+use std::alloc::Global;
+
+/// Shows the settings of a mount.
+pub(super) fn show<T: RecordsTx>(
+    alloc: Global,
+    tx: &mut T,
+    context: &Context<'_>,
+    mount: &str,
+) -> Result<Answered, RequestError>
+    ensures ok { (path : Text) → Operates context.now (T.seen tx.old) (T.seen tx.new)
+        (λ b. Ok (on_secret (at mount.now path) show_settings)) result }
+    ensures started { OnFault result IsNotBadStart }
+    ensures goes_on { GoesOn (T.seen tx.old) (T.seen tx.new) (step_fails result) }
+{
+    let Some(found) = config(tx, mount)? else {
+        return Err(RequestError::Refused(Refusal::NotFound));
+    };
+    let object = settings_object(alloc, found.cas_required, found.max_versions)?;
+    Ok(shown(alloc, context, object)?)
+}
+
+/// Sets those settings of a mount that a body gives.
+pub(super) fn set<T: RecordsTx>(
+    alloc: Global,
+    tx: &mut T,
+    context: &Context<'_>,
+    mount: &str,
+    body: &[u8],
+) -> Result<Answered, RequestError>
+    requires { length body.now ≤ longest_body }
+    ensures ok { (path : Text) → Operates context.now (T.seen tx.old) (T.seen tx.new)
+        (λ b. on_secrets operations.SetSettings (at mount.now path) [] body.now) result }
+    ensures started { OnFault result IsNotBadStart }
+    ensures goes_on { GoesOn (T.seen tx.old) (T.seen tx.new) (step_fails result) }
+{
+    let members = read_body(alloc, body)?;
+    let asked = mount_settings(alloc, &members)?;
+    set_config(alloc, tx, mount, asked.cas_required, asked.max_versions)?;
+    Ok(Answered::Nothing)
+}
