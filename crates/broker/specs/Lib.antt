@@ -11,6 +11,7 @@ pub mod Operating
 pub mod Order
 pub mod Permission
 pub mod ReadableRow
+pub mod Reads
 pub mod Representing
 pub mod Request
 pub mod Responses
