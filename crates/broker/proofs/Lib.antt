@@ -18,6 +18,7 @@ pub mod SecretAnswers
 pub mod SecretRoutes
 pub mod SecretTables
 pub mod Serving
+pub mod StillReadable
 pub mod SudoPaths
 pub mod TokenAnswers
 pub mod TokenChecks

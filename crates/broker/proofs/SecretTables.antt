@@ -7,8 +7,6 @@ use Rattle.broker_types.specs.Map.{Map}
 use Rattle.broker_types.specs.Secret.{Key, Version}
 use Rattle.broker_types.specs.Sound.{Sound}
 use Rattle.broker_types.specs.Text.{Text}
-use Rattle.broker_types.specs.declared.ask.Ask.{Ask}
-use Rattle.records.specs.KeyEntry.{KeyEntry}
 use Rattle.records.specs.declared.kind.Kind.{Kind}
 use Rattle.records.specs.declared.kind.Kind.TheVariants as kind
 use Rattle.records.specs.Kind.{kind_number}
@@ -16,15 +14,10 @@ use Rattle.records.specs.PartLaws.{joined_rows, rows_of-other_secrets, rows_of-o
 use Rattle.records.specs.Parts.{Tells, KeepsOthers, of_secrets, of_mounts, of_tokens}
 use Rattle.records.specs.Table.{Table, table_of, is_at, has_prefix}
 use Rattle.records.specs.Transaction.{Rows}
-use Rattle.kv2.specs.SecretRows.{AreChanged, KeepsOtherNames, KeepsOtherMounts, IsReadingOf, is_key_of, versions_prefix}
-use Rattle.kv2.specs.Secrets.{secret_name}
-use Rattle.mounts.specs.Route.{cut}
+use Rattle.kv2.specs.SecretRows.{AreChanged, KeepsOtherNames, KeepsOtherMounts, is_key_of, versions_prefix}
 use Rattle.broker.specs.Ending.{of_expired}
 use Rattle.broker.specs.Forms.{forms}
-use Rattle.broker.specs.ReadableRow.{IsReadableSecret, AsksForVersion}
 use Rattle.broker.specs.Representing.{AsServed, Represents}
-use Rattle.broker.specs.parts.SecretCommands.{Place}
-use Rattle.broker.proofs.Routes.{known_still}
 
 -- ---- rows of other parts
 
@@ -96,35 +89,3 @@ pub of_none_expired : (k : Kind) → of_secrets k ≡ true → of_expired k ≡ 
 of_none_expired kind.KvKey h = refl
 of_none_expired kind.KvVersion h = refl
 of_none_expired _ h = absurd (false≢true h)
-
--- a secret that can be read when its rows are as before could be read before
-pub secret_still : (old new : Rows) (p : Place) (n : ℕ) → ((k : Kind) (q : Text) → of_secrets k ≡ true → table_of new k q ≡ table_of old k q)
-    → IsReadableSecret new p n → IsReadableSecret old p n
-secret_still old new p n same readable =
-    let r = readable.1 in (
-      readable.0,
-      (
-        r.0,
-        record { in_range = r.1.in_range; row_is = sym (same kind.KvKey (secret_name p.mount p.path) refl) ∙ r.1.row_is },
-        version r.0 r.2,
-      ),
-    )
-  where
-    version : (k : Option KeyEntry) → IsReadingOf (table_of new) (secret_name p.mount p.path) n k readable.0
-        → IsReadingOf (table_of old) (secret_name p.mount p.path) n k readable.0
-    version None is = is
-    version (Some k) v =
-        (v.0, record { in_range = v.1.in_range; row_is = sym (same kind.KvVersion _ refl) ∙ v.1.row_is }, v.2)
-
--- an ask for a version is one as long as the row of its mount stays
-pub asks_still : (old new : Rows) (a : Ask) (p : Place) (n : ℕ) → table_of new kind.Mount (cut a.path).0 ≡ table_of old kind.Mount (cut a.path).0
-    → AsksForVersion old a p n → AsksForVersion new a p n
-asks_still old new a p n same asks = record {
-  mount = asks.mount;
-  route = asks.route;
-  known = known_still old new (cut a.path).0 asks.mount same asks.known;
-  found = asks.found;
-  reads = asks.reads;
-  place = asks.place;
-  version = asks.version;
-}

@@ -1,18 +1,26 @@
 -- What goes when tokens end within a request (this project's definition).
-use Rattle.std.specs.Prelude.{◌≡◌, ◌≢◌, ◌||◌, true, List, length, None, if◌then◌else◌}
+use Rattle.std.specs.Prelude.{◌≡◌, ◌≢◌, ◌||◌, ◌==◌, Bool, true, false, List, [], length, Option, Some, None}
+use Rattle.std.specs.Prelude.{if◌then◌else◌}
 use Rattle.std.specs.FinMap as map
+use Rattle.std.specs.Option.{option_map_or}
 use Rattle.broker_types.specs.Text.{Text}
 use Rattle.broker_types.specs.Map.{get, empty}
 use Rattle.broker_types.specs.Token.{Token, Tokens}
 use Rattle.broker_types.specs.Broker.{Broker}
-use Rattle.std.specs.Prelude.{Some}
 use Rattle.records.specs.declared.kind.Kind.TheVariants as kind
 use Rattle.records.specs.Children.{has}
 use Rattle.records.specs.Parts.{Part, of_clock, of_tokens, of_cubbyholes}
+use Rattle.records.specs.Ranges.{IsTokenInRange}
+use Rattle.records.specs.Reading.{IsSomeIn}
 use Rattle.records.specs.Rows.{token_len}
 use Rattle.records.specs.Table.{table_of}
-use Rattle.records.specs.Transaction.{Rows}
+use Rattle.records.specs.TokenEntry.{TokenEntry}
+use Rattle.records.specs.Transaction.{Rows, rows_under}
+use Rattle.token_tree.specs.Ended.{IsDescent, is_named}
+use Rattle.token_tree.specs.Endings.{AreTokenRows, without_tokens}
+use Rattle.token_tree.specs.TokenRows.{IsTokenAt}
 use Rattle.cubbyhole.specs.Cubbyhole.{object_at}
+use Rattle.cubbyhole.specs.Laws.{without_owners}
 use Rattle.cubbyhole.specs.Objects.{object_key}
 
 -- tokens, their accessors and their cubbyholes
@@ -45,3 +53,29 @@ KeepsCubbyholes old new =
 -- no token has leases
 abbrev pub HaveNoLeases : Tokens → Type 0
 HaveNoLeases ts = (t : Text) (x : Token) → get ts t ≡ Some x → x.leases ≡ empty
+
+-- ---- a caller that has spent its last use, whatever the rows are
+
+-- a token with limited uses has none left
+abbrev pub has_no_uses : TokenEntry → Bool
+has_no_uses x = option_map_or (λ n. n == 0) x.uses_left false
+
+-- the row of t is that of a token, or there is none; and by it the token has no uses left, or it has
+abbrev pub IsSpentAt : Rows → Text → Bool → Type 0
+IsSpentAt rows t spent =
+    (entry : Option TokenEntry) × IsSomeIn IsTokenInRange entry × IsTokenAt (table_of rows) t entry
+    × (spent ≡ option_map_or has_no_uses entry false)
+
+-- The token t has ended with all below it and with their cubbyholes. The rows of these tokens were read, and no other
+-- row has changed but those of their accessors.
+abbrev pub HasEnded : Text → Rows → Rows → Type 0
+HasEnded t old new =
+    (ended : List Text) × IsDescent (is_named t) (rows_under old kind.Token []) ended × AreTokenRows ended (table_of old)
+    × (table_of new ≡ without_owners (without_tokens ended (table_of old)) ended)
+
+-- if the token t has no uses left, then it has ended; else no row has changed
+pub record EndsCaller (t : Text) (old new : Rows) : Type 0 where
+  pub spent : Bool
+  pub told : IsSpentAt old t spent
+  pub stays : spent ≡ false → new ≡ old
+  pub ends : spent ≡ true → HasEnded t old new

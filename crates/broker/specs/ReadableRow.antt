@@ -1,5 +1,5 @@
 -- Which rows of cubbyholes, tokens and secrets can be read, and whom a request denies (this project's definition).
-use Rattle.std.specs.Prelude.{◌≡◌, ℕ, List, [], None, Option, Ok}
+use Rattle.std.specs.Prelude.{◌≡◌, ℕ, List, [], None, Option}
 use Rattle.std.specs.FinMap as map
 use Rattle.broker_types.specs.Text.{Text}
 use Rattle.broker_types.specs.Answer.{response_of, refused}
@@ -14,17 +14,9 @@ use Rattle.token_tree.specs.Ended.{IsDescent, is_named}
 use Rattle.token_tree.specs.Endings.{AreTokenRows}
 use Rattle.token_tree.specs.TokenRows.{IsTokenAt}
 use Rattle.cubbyhole.specs.Objects.{IsObjectAt}
-use Rattle.broker_types.specs.Broker.{Mount}
 use Rattle.broker_types.specs.Secret.{Version}
-use Rattle.broker_types.specs.declared.ask.Ask.{Ask}
-use Rattle.api_json.specs.Readers.{version_number}
 use Rattle.kv2.specs.SecretRows.{IsReading}
 use Rattle.kv2.specs.Secrets.{secret_name}
-use Rattle.mounts.specs.MountRows.{IsKnownAt}
-use Rattle.mounts.specs.Route.{Route, cut, route_at}
-use Rattle.mounts.specs.declared.operation.Operation.TheVariants.{Secrets}
-use Rattle.mounts.specs.declared.operation.SecretOperation.TheVariants as secret
-use Rattle.broker.specs.Command.{place_of}
 use Rattle.broker.specs.parts.SecretCommands.{Place}
 use Rattle.broker.specs.Order.{permission_denied}
 
@@ -37,17 +29,6 @@ IsReadable rows t path = (object : Option Text) × IsObjectAt (table_of rows) t 
 abbrev pub IsReadableSecret : Rows → Place → ℕ → Type 0
 IsReadableSecret rows p n =
     (o : Option (ℕ × Version)) × IsReading (table_of rows) (secret_name p.mount p.path) n o
-
--- The ask is for version n of a secret: what is at the first segment of its path is known, and the route is a read of
--- this place.
-pub record AsksForVersion (rows : Rows) (a : Ask) (p : Place) (n : ℕ) : Type 0 where
-  pub mount : Option Mount
-  pub route : Route
-  pub known : IsKnownAt (table_of rows) (cut a.path).0 mount
-  pub found : route_at mount a.verb a.path ≡ Ok route
-  pub reads : route.operation ≡ Secrets secret.Read
-  pub place : place_of route ≡ p
-  pub version : version_number a.version ≡ Ok n
 
 -- the row of t is that of some token, or there is none
 abbrev pub IsReadableToken : Rows → Text → Type 0

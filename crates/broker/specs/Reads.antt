@@ -1,9 +1,13 @@
 -- Which rows a command reads, and that none of them is damaged (this project's definition). What a command only writes,
 -- lists by its key or takes away is not read.
-use Rattle.std.specs.Prelude.{◌≡◌, Option, Some, None, Ok, ⊤}
+use Rattle.std.specs.Prelude.{◌≡◌, true, Option, Some, None, Result, Ok, Err, ⊤}
+use Rattle.broker_types.specs.Answer.{response_of, refused}
 use Rattle.broker_types.specs.Broker.{Mount}
 use Rattle.broker_types.specs.Text.{Text}
+use Rattle.broker_types.specs.declared.answer.Answer.{Answer}
 use Rattle.broker_types.specs.declared.ask.Ask.{Ask}
+use Rattle.broker_types.specs.declared.request_error.RequestError.{RequestError}
+use Rattle.broker_types.specs.declared.request_error.RequestError.TheVariants.{Refused}
 use Rattle.records.specs.KeyEntry.{KeyEntry}
 use Rattle.records.specs.Table.{table_of}
 use Rattle.records.specs.Transaction.{Rows}
@@ -14,6 +18,8 @@ use Rattle.token_tree.specs.Accessors.{AreAccessorRows, IsFoundAt}
 use Rattle.mounts.specs.MountRows.{IsKnownAt}
 use Rattle.mounts.specs.Route.{Route, cut, route_at}
 use Rattle.broker.specs.Command.{Command, on_cubbyhole, on_token, on_secret, command_for}
+use Rattle.broker.specs.Order.{permission_denied}
+use Rattle.broker.specs.Permission.{needs_sudo}
 use Rattle.broker.specs.ReadableRow.{IsReadable, IsReadableSecret, IsReadableToken, IsReadableDescent}
 use Rattle.broker.specs.parts.Cubbyholes.{CubbyholeCommand, read_object, write_object}
 use Rattle.broker.specs.parts.SecretCommands.{Place, SecretCommand, show_settings, set_settings, read_version}
@@ -27,7 +33,7 @@ use Rattle.broker.specs.parts.TokenCommands.{revoke_accessor, revoke_self, list_
 
 abbrev pub AreReadableObjects : Rows → Text → CubbyholeCommand → Type 0
 AreReadableObjects rows caller (read_object path) = IsReadable rows caller path
-AreReadableObjects rows caller (write_object path members) = ⊤
+AreReadableObjects rows caller (write_object path _) = ⊤
 
 -- ---- tokens
 
@@ -92,6 +98,21 @@ AreReadable rows caller (on_cubbyhole command) = AreReadableObjects rows caller 
 AreReadable rows caller (on_token command) = AreReadableTokens rows caller command
 AreReadable rows caller (on_secret place command) = AreReadableSecrets rows place command
 
+-- the token that a command names in its body
+abbrev pub named_token : TokenCommand → Option Text
+named_token (lookup_token t) = Some t
+named_token (renew_token asked) = Some asked.token
+named_token (revoke_token t) = Some t
+named_token (revoke_orphan t) = Some t
+named_token _ = None
+
+-- The same of the rows as they were before tokens expired and a use was spent. What a command reads of cubbyholes and
+-- secrets was the same then; of tokens this is said of the one that the command names.
+abbrev pub AreReadableBefore : Rows → Text → Command → Type 0
+AreReadableBefore rows caller (on_cubbyhole command) = AreReadableObjects rows caller command
+AreReadableBefore rows caller (on_token command) = IfNamed (IsReadableToken rows) (named_token command)
+AreReadableBefore rows caller (on_secret place command) = AreReadableSecrets rows place command
+
 -- The ask means this command: what is at the first segment of its path is known, and by that the route and the command
 -- are found.
 pub record Asks (rows : Rows) (a : Ask) (command : Command) : Type 0 where
@@ -100,3 +121,13 @@ pub record Asks (rows : Rows) (a : Ask) (command : Command) : Type 0 where
   pub known : IsKnownAt (table_of rows) (cut a.path).0 mount
   pub found : route_at mount a.verb a.path ≡ Ok route
   pub meant : command_for route a ≡ Ok command
+
+-- ---- a caller without `sudo`
+
+-- the ask is refused as not permitted, and its path asks for `sudo`
+abbrev pub LacksSudo : {A : Type 0} → Ask → Result A RequestError → Type 0
+LacksSudo a result = (result ≡ Err (Refused permission_denied)) × (needs_sudo a.path ≡ true)
+
+-- it is answered so
+abbrev pub IsNotPermitted : Ask → Answer → Type 0
+IsNotPermitted ask a = (response_of a ≡ refused permission_denied) × (needs_sudo ask.path ≡ true)

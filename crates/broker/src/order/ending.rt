@@ -11,7 +11,7 @@ ghost use Rattle.records.specs.Table.{table_of};
 ghost use Rattle.records.specs.Transaction.{IsHonest, IsCall, GoesOn, is_storage};
 ghost use Rattle.cubbyhole.specs.Laws.{without_owners};
 ghost use Rattle.broker.specs.ClockRow.{IsNotBadStart};
-ghost use Rattle.broker.specs.Ending.{AreTokenLong, LosesObjects};
+ghost use Rattle.broker.specs.Ending.{AreTokenLong, LosesObjects, IsSpentAt, EndsCaller};
 ghost use Rattle.broker.specs.Representing.{Represents};
 
 use broker_types::{Fault, TextBuf};
@@ -44,6 +44,10 @@ pub(crate) fn drop_cubbyholes<T: RecordsTx>(
 pub(crate) fn end_spent<T: RecordsTx>(alloc: Global, tx: &mut T, caller: &str) -> Result<(), Fault>
     ensures ok { IsHonest (T.seen tx.new) → (b : Broker) → Represents (Some caller.now) (T.seen tx.old).rows b
         → OnOk result (Represents None (T.seen tx.new).rows (spending.end_spent b (Some caller.now))) }
+
+    // Whatever the rows are: by its row the caller ends or stays, and a damaged one says neither.
+    ensures rows { IsHonest (T.seen tx.new)
+        → OnOk result (EndsCaller caller.now (T.seen tx.old).rows (T.seen tx.new).rows) }
     ensures wants { IsHonest (T.seen tx.new) → (b : Broker) → Represents (Some caller.now) (T.seen tx.old).rows b
         → IfErr result IsMemoryOrStorage }
     ensures started { IfErr result IsNotBadStart }
@@ -60,6 +64,9 @@ pub(crate) fn end_spent<T: RecordsTx>(alloc: Global, tx: &mut T, caller: &str) -
 fn is_spent<T: RecordsTx>(alloc: Global, tx: &mut T, caller: &str) -> Result<bool, Fault>
     ensures ok { IsHonest (T.seen tx.new) → (b : Broker) → Represents (Some caller.now) (T.seen tx.old).rows b
         → IfOk result (λ v. v ≡ option_map_or spending.is_spent (get b.tokens caller.now) false) }
+
+    // Whatever the rows are: the row says so, and a damaged one says nothing.
+    ensures found { IsHonest (T.seen tx.new) → IfOk result (IsSpentAt (T.seen tx.old).rows caller.now) }
     ensures wants { IsHonest (T.seen tx.new) → (b : Broker) → Represents (Some caller.now) (T.seen tx.old).rows b
         → IfErr result IsMemoryOrStorage }
     ensures same { IsHonest (T.seen tx.new) → OnOk result ((T.seen tx.new).rows ≡ (T.seen tx.old).rows) }

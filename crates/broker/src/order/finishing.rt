@@ -1,6 +1,6 @@
 //! The end of a request.
 
-ghost use Rattle.std.specs.Prelude.{◌≡◌, Some, Result, IfOk, IfErr};
+ghost use Rattle.std.specs.Prelude.{◌≡◌, Some, Result, IfOk, IfErr, OnOk};
 ghost use Rattle.broker_types.specs.Answer.{HasRoom, response_of, refused};
 ghost use Rattle.broker_types.specs.Broker.{Broker};
 ghost use Rattle.broker_types.specs.Fault.{IsMemoryOrStorage};
@@ -8,6 +8,7 @@ ghost use Rattle.broker_types.specs.declared.refusal.Refusal as declared;
 ghost use Rattle.records.specs.Transaction.{IsHonest, GoesOn, is_storage};
 ghost use Rattle.broker.specs.ClockRow.{IsNotBadStart};
 ghost use Rattle.broker.specs.Listed.{IsListed};
+ghost use Rattle.broker.specs.Ending.{EndsCaller};
 ghost use Rattle.broker.specs.Order as order;
 ghost use Rattle.broker.specs.Representing.{Gives};
 ghost use Rattle.broker.specs.Stages.{HasServed};
@@ -34,6 +35,10 @@ pub(crate) fn finish<T: RecordsTx>(
         → HasServed caller.now (T.seen tx.old).rows b served m → IfErr result IsMemoryOrStorage }
     ensures room { IfOk result HasRoom }
     ensures listed { IfOk result (λ a. IsListed (response_of a)) }
+
+    // Whatever the rows are: by its row the caller ends or stays, and a damaged one says neither.
+    ensures rows { IsHonest (T.seen tx.new)
+        → OnOk result (EndsCaller caller.now (T.seen tx.old).rows (T.seen tx.new).rows) }
     ensures refused { IfErr served (λ r. IfOk result (λ a. response_of a ≡ refused r)) }
     ensures started { IfErr result IsNotBadStart }
     ensures goes_on { GoesOn (T.seen tx.old) (T.seen tx.new) (is_storage result) }

@@ -1,22 +1,20 @@
 //! A caller is served.
 
-ghost use Rattle.std.specs.Prelude.{◌≡◌, ◌≢◌, ℕ, None, Ok, Some, Option, IfOk, IfErr, OnOk};
-ghost use Rattle.broker_types.specs.Broker.{Broker, Mount};
+ghost use Rattle.std.specs.Prelude.{◌≡◌, ◌≢◌, ◌⊎◌, None, Some, IfOk, IfErr, OnOk};
+ghost use Rattle.broker_types.specs.Broker.{Broker};
 ghost use Rattle.broker_types.specs.Map.{get};
 ghost use Rattle.broker_types.specs.Names.{names_of};
 ghost use Rattle.broker_types.specs.RequestError.{Ends, step_fails};
 ghost use Rattle.records.specs.Table.{table_of};
 ghost use Rattle.records.specs.Transaction.{IsHonest, GoesOn};
 ghost use Rattle.mounts.specs.Calls.{OnAnswer, OnFault};
-ghost use Rattle.mounts.specs.MountRows.{IsKnownAt, IsReadableAt};
-ghost use Rattle.mounts.specs.Route.{Route, cut, route_at};
-ghost use Rattle.mounts.specs.declared.operation.Cubbyhole.TheVariants as cubbyhole;
-ghost use Rattle.mounts.specs.declared.operation.Operation.TheVariants.{Cubbyholes};
+ghost use Rattle.mounts.specs.MountRows.{IsReadableAt};
+ghost use Rattle.mounts.specs.Route.{cut};
 ghost use Rattle.broker.specs.ClockRow.{IsNotBadStart};
-ghost use Rattle.broker.specs.Command.{command_of};
+ghost use Rattle.broker.specs.Command.{Command, command_of};
 ghost use Rattle.broker.specs.Operating.{Starts, Operates};
-ghost use Rattle.broker.specs.ReadableRow.{IsReadable, IsReadableSecret, IsReadableToken, AsksForVersion};
-ghost use Rattle.broker.specs.parts.SecretCommands.{Place};
+ghost use Rattle.broker.specs.ReadableRow.{IsReadableToken};
+ghost use Rattle.broker.specs.Reads.{AreReadable, AreReadableBefore, Asks, LacksSudo, IsNotPermitted};
 ghost use Rattle.broker.specs.Representing.{Represents, Gives};
 ghost use Rattle.broker.specs.Safely.{AnswersSafely};
 ghost use Rattle.broker.specs.Serving.{called, served};
@@ -46,15 +44,10 @@ pub(crate) fn answer_caller<T: RecordsTx>(
         → IfOk result (λ a. Gives a (T.seen tx.new).rows
         (called b context.now.caller (names_of context.now.words) ask.now)) }
 
-    // Whatever the rows are: a read of a cubbyhole is not answered if its row is damaged.
-    ensures undamaged { IsHonest (T.seen tx.new) → (mount : Option Mount) (r : Route)
-        → IsKnownAt (table_of (T.seen tx.old).rows) (cut ask.now.path).0 mount
-        → route_at mount ask.now.verb ask.now.path ≡ Ok r → r.operation ≡ Cubbyholes cubbyhole.Read
-        → IfOk result (λ a. IsReadable (T.seen tx.old).rows context.now.caller r.parameter) }
-
-    // Nor is a read of a secret if a row that it asks for is damaged.
-    ensures secret { IsHonest (T.seen tx.new) → (p : Place) (n : ℕ) → AsksForVersion (T.seen tx.old).rows ask.now p n
-        → IfOk result (λ a. IsReadableSecret (T.seen tx.old).rows p n) }
+    // Whatever the rows are: it is not answered if a row that the command reads is damaged, unless it is denied for
+    // want of `sudo`.
+    ensures undamaged { IsHonest (T.seen tx.new) → (c : Command) → Asks (T.seen tx.old).rows ask.now c
+        → IfOk result (λ a. AreReadableBefore (T.seen tx.old).rows context.now.caller c ⊎ IsNotPermitted ask.now a) }
 
     // Nor is anything if the row of the mount that the path names is damaged.
     ensures mount { IsHonest (T.seen tx.new)
@@ -88,15 +81,10 @@ fn serve<T: RecordsTx>(
         (Represents (Some context.now.caller) (T.seen tx.new).rows b) result
         (served b context.now.caller (names_of context.now.words) ask.now) }
 
-    // Whatever the rows are: a read of a cubbyhole is neither answered nor refused if its row is damaged.
-    ensures undamaged { IsHonest (T.seen tx.new) → (mount : Option Mount) (r : Route)
-        → IsKnownAt (table_of (T.seen tx.old).rows) (cut ask.now.path).0 mount
-        → route_at mount ask.now.verb ask.now.path ≡ Ok r → r.operation ≡ Cubbyholes cubbyhole.Read
-        → OnAnswer result (IsReadable (T.seen tx.old).rows context.now.caller r.parameter) }
-
-    // Nor is a read of a secret if a row that it asks for is damaged.
-    ensures secret { IsHonest (T.seen tx.new) → (p : Place) (n : ℕ) → AsksForVersion (T.seen tx.old).rows ask.now p n
-        → OnAnswer result (IsReadableSecret (T.seen tx.old).rows p n) }
+    // Whatever the rows are: it is neither answered nor refused if a row that the command reads is damaged, unless it
+    // is refused for want of `sudo`.
+    ensures undamaged { IsHonest (T.seen tx.new) → (c : Command) → Asks (T.seen tx.old).rows ask.now c
+        → OnAnswer result (AreReadable (T.seen tx.old).rows context.now.caller c ⊎ LacksSudo ask.now result) }
 
     // Nor is anything if the row of the mount that the path names is damaged.
     ensures mount { IsHonest (T.seen tx.new)
@@ -120,15 +108,9 @@ fn operate<T: RecordsTx>(
 ) -> Result<Answered, RequestError>
     ensures ok { Operates context.now (T.seen tx.old) (T.seen tx.new) (λ b. command_of b.mounts ask.now) result }
 
-    // Whatever the rows are: a read of a cubbyhole is neither answered nor refused if its row is damaged.
-    ensures undamaged { IsHonest (T.seen tx.new) → (mount : Option Mount) (r : Route)
-        → IsKnownAt (table_of (T.seen tx.old).rows) (cut ask.now.path).0 mount
-        → route_at mount ask.now.verb ask.now.path ≡ Ok r → r.operation ≡ Cubbyholes cubbyhole.Read
-        → OnAnswer result (IsReadable (T.seen tx.old).rows context.now.caller r.parameter) }
-
-    // Nor is a read of a secret if a row that it asks for is damaged.
-    ensures secret { IsHonest (T.seen tx.new) → (p : Place) (n : ℕ) → AsksForVersion (T.seen tx.old).rows ask.now p n
-        → OnAnswer result (IsReadableSecret (T.seen tx.old).rows p n) }
+    // Whatever the rows are: it is neither answered nor refused if a row that the command reads is damaged.
+    ensures undamaged { IsHonest (T.seen tx.new) → (c : Command) → Asks (T.seen tx.old).rows ask.now c
+        → OnAnswer result (AreReadable (T.seen tx.old).rows context.now.caller c) }
 
     // Nor is anything if the row of the mount that the path names is damaged.
     ensures mount { IsHonest (T.seen tx.new)

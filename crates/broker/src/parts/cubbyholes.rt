@@ -13,6 +13,7 @@ ghost use Rattle.broker.specs.ClockRow.{IsNotBadStart};
 ghost use Rattle.broker.specs.Command.{on_cubbyhole, on_cubbyholes};
 ghost use Rattle.broker.specs.Operating.{Operates};
 ghost use Rattle.broker.specs.ReadableRow.{IsReadable};
+ghost use Rattle.broker.specs.Reads.{AreReadableObjects};
 ghost use Rattle.broker.specs.parts.Cubbyholes as part;
 
 use crate::answered::Answered;
@@ -36,9 +37,10 @@ pub(crate) fn act<T: RecordsTx>(
     ensures ok { (takes_parameter (Cubbyholes operation) ≡ true → is_path path.now ≡ true)
         → Operates context.now (T.seen tx.old) (T.seen tx.new) (λ b. on_cubbyholes operation path.now body.now) result }
 
-    // Whatever the rows are: a read is neither answered nor refused if its row is damaged.
-    ensures undamaged { IsHonest (T.seen tx.new) → operation ≡ operations.Read
-        → OnAnswer result (IsReadable (T.seen tx.old).rows context.now.caller path.now) }
+    // Whatever the rows are: it is neither answered nor refused if a row that the command reads is damaged.
+    ensures undamaged { IsHonest (T.seen tx.new)
+        → (c : part.CubbyholeCommand) → part.cubbyhole_command operation path.now body.now ≡ Ok c
+        → OnAnswer result (AreReadableObjects (T.seen tx.old).rows context.now.caller c) }
     ensures started { OnFault result IsNotBadStart }
     ensures goes_on { GoesOn (T.seen tx.old) (T.seen tx.new) (step_fails result) }
 {

@@ -1,13 +1,15 @@
 //! Requests on tokens (Vault's documentation, "Token auth method (API)").
 
-ghost use Rattle.std.specs.Prelude.{◌≤◌, length};
+ghost use Rattle.std.specs.Prelude.{◌≡◌, ◌≤◌, Ok, length};
 ghost use Rattle.broker_types.specs.Limits.{longest_body};
 ghost use Rattle.broker_types.specs.RequestError.{step_fails};
-ghost use Rattle.records.specs.Transaction.{GoesOn};
-ghost use Rattle.mounts.specs.Calls.{OnFault};
+ghost use Rattle.records.specs.Transaction.{IsHonest, GoesOn};
+ghost use Rattle.mounts.specs.Calls.{OnAnswer, OnFault};
 ghost use Rattle.broker.specs.ClockRow.{IsNotBadStart};
 ghost use Rattle.broker.specs.Command.{on_tokens};
 ghost use Rattle.broker.specs.Operating.{Operates};
+ghost use Rattle.broker.specs.Reads.{AreReadableTokens};
+ghost use Rattle.broker.specs.parts.TokenCommands.{TokenCommand, token_command};
 
 mod creation;
 mod lookup;
@@ -37,6 +39,10 @@ pub(crate) fn act<T: RecordsTx>(
 ) -> Result<Answered, RequestError>
     requires { length body.now ≤ longest_body }
     ensures ok { Operates context.now (T.seen tx.old) (T.seen tx.new) (λ b. on_tokens operation body.now) result }
+
+    // Whatever the rows are: it is neither answered nor refused if a row that the command reads is damaged.
+    ensures undamaged { IsHonest (T.seen tx.new) → (c : TokenCommand) → token_command operation body.now ≡ Ok c
+        → OnAnswer result (AreReadableTokens (T.seen tx.old).rows context.now.caller c) }
     ensures started { OnFault result IsNotBadStart }
     ensures goes_on { GoesOn (T.seen tx.old) (T.seen tx.new) (step_fails result) }
 {

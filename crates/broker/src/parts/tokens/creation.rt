@@ -1,6 +1,6 @@
 //! Creation of tokens.
 
-ghost use Rattle.std.specs.Prelude.{◌≡◌, ◌≤◌, [], true, None, Some, Ok, option_map, IfOk, IfErr, OnOk, length};
+ghost use Rattle.std.specs.Prelude.{◌≡◌, ◌≢◌, ◌≤◌, [], true, None, Some, Ok, option_map, IfOk, IfErr, OnOk, length};
 ghost use Rattle.broker_types.specs.Broker.{Broker};
 ghost use Rattle.broker_types.specs.Fault.{IsMemoryOrStorage};
 ghost use Rattle.broker_types.specs.Identifier.{id};
@@ -14,11 +14,12 @@ ghost use Rattle.records.specs.Reading.{IsSomeIn};
 ghost use Rattle.records.specs.TokenEntry.{token_entry};
 ghost use Rattle.records.specs.Transaction.{IsHonest, GoesOn, is_storage};
 ghost use Rattle.api_json.specs.Kept.{IsKeptCreation};
-ghost use Rattle.mounts.specs.Calls.{OnFault};
+ghost use Rattle.mounts.specs.Calls.{OnAnswer, OnFault};
 ghost use Rattle.mounts.specs.declared.operation.TokenOperation.TheVariants as operations;
 ghost use Rattle.broker.specs.ClockRow.{IsNotBadStart};
 ghost use Rattle.broker.specs.Command.{on_tokens};
 ghost use Rattle.broker.specs.Operating.{Operates, Performs};
+ghost use Rattle.broker.specs.ReadableRow.{IsReadableToken};
 ghost use Rattle.broker.specs.Representing.{Represents};
 ghost use Rattle.broker.specs.parts.TokenCreation.{Making, makes_orphans};
 ghost use Rattle.broker.specs.parts.TokenMaking.{MakesAsked, PutsToken};
@@ -106,6 +107,10 @@ fn make_asked<T: RecordsTx>(
 ) -> Result<Answered, RequestError>
     requires { IsKeptCreation asked }
     ensures ok { MakesAsked context.now (T.seen tx.old) (T.seen tx.new) orphans asked result }
+
+    // Whatever the rows are: it is neither answered nor refused if the row of the caller is damaged.
+    ensures undamaged { IsHonest (T.seen tx.new) → context.now.caller ≢ []
+        → OnAnswer result (IsReadableToken (T.seen tx.old).rows context.now.caller) }
     ensures started { OnFault result IsNotBadStart }
     ensures goes_on { GoesOn (T.seen tx.old) (T.seen tx.new) (step_fails result) }
 {
@@ -130,6 +135,10 @@ fn find_caller<T: RecordsTx>(
 ) -> Result<Option<TokenRecord>, Fault>
     ensures told { IsHonest (T.seen tx.new) → (b : Broker) → Represents (Some caller.now) (T.seen tx.old).rows b
         → IfOk result (λ found. found ≡ option_map token_entry (get b.tokens caller.now)) }
+
+    // Whatever the rows are: a damaged row is answered neither as a token nor as an absent one.
+    ensures undamaged { IsHonest (T.seen tx.new) → caller.now ≢ []
+        → OnOk result (IsReadableToken (T.seen tx.old).rows caller.now) }
     ensures in_range { IfOk result (IsSomeIn IsTokenInRange) }
     ensures named { caller.now ≡ [] → IfOk result (λ found. found ≡ None) }
     ensures wants { IsHonest (T.seen tx.new) → (b : Broker) → Represents (Some caller.now) (T.seen tx.old).rows b

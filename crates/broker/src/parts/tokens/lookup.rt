@@ -1,17 +1,19 @@
 //! Look-up of tokens.
 
-ghost use Rattle.std.specs.Prelude.{◌≤◌, Ok, length};
+ghost use Rattle.std.specs.Prelude.{◌≡◌, ◌≤◌, Ok, length};
 ghost use Rattle.broker_types.specs.Limits.{longest_body};
 ghost use Rattle.broker_types.specs.Names.{names_of};
 ghost use Rattle.broker_types.specs.RequestError.{step_fails};
 ghost use Rattle.records.specs.Transaction.{IsHonest, GoesOn};
+ghost use Rattle.token_tree.specs.Accessors.{AreAccessorRows};
 ghost use Rattle.mounts.specs.Calls.{OnAnswer, OnFault};
 ghost use Rattle.mounts.specs.declared.operation.TokenOperation.TheVariants as operations;
 ghost use Rattle.broker.specs.ClockRow.{IsNotBadStart};
 ghost use Rattle.broker.specs.Command.{on_token, on_tokens};
 ghost use Rattle.broker.specs.Operating.{Operates, Performs};
 ghost use Rattle.broker.specs.ReadableRow.{IsReadableToken};
-ghost use Rattle.broker.specs.parts.TokenCommands.{lookup_self, list_accessors};
+ghost use Rattle.broker.specs.Reads.{AreReadableTokens};
+ghost use Rattle.broker.specs.parts.TokenCommands.{TokenCommand, token_command, lookup_self, list_accessors};
 ghost use Rattle.broker.specs.parts.Tokens as part;
 
 use crate::answered::Answered;
@@ -33,6 +35,10 @@ pub(super) fn look_up<T: RecordsTx>(
     requires { length body.now ≤ longest_body }
     ensures ok { Operates context.now (T.seen tx.old) (T.seen tx.new)
         (λ b. on_tokens operations.LookUp body.now) result }
+
+    // Whatever the rows are: it is neither answered nor refused if a row that the command reads is damaged.
+    ensures undamaged { IsHonest (T.seen tx.new) → (c : TokenCommand) → token_command operations.LookUp body.now ≡ Ok c
+        → OnAnswer result (AreReadableTokens (T.seen tx.old).rows context.now.caller c) }
     ensures started { OnFault result IsNotBadStart }
     ensures goes_on { GoesOn (T.seen tx.old) (T.seen tx.new) (step_fails result) }
 {
@@ -48,6 +54,10 @@ pub(super) fn look_up_self<T: RecordsTx>(
     context: &Context<'_>,
 ) -> Result<Answered, RequestError>
     ensures ok { Operates context.now (T.seen tx.old) (T.seen tx.new) (λ b. Ok (on_token lookup_self)) result }
+
+    // Whatever the rows are: a damaged row is answered neither as a token nor as an unknown text.
+    ensures undamaged { IsHonest (T.seen tx.new)
+        → OnAnswer result (IsReadableToken (T.seen tx.old).rows context.now.caller) }
     ensures started { OnFault result IsNotBadStart }
     ensures goes_on { GoesOn (T.seen tx.old) (T.seen tx.new) (step_fails result) }
 {
@@ -65,6 +75,10 @@ pub(super) fn look_up_accessor<T: RecordsTx>(
     requires { length body.now ≤ longest_body }
     ensures ok { Operates context.now (T.seen tx.old) (T.seen tx.new)
         (λ b. on_tokens operations.LookUpAccessor body.now) result }
+
+    // Whatever the rows are: it is neither answered nor refused if a row that the command reads is damaged.
+    ensures undamaged { IsHonest (T.seen tx.new) → (c : TokenCommand) → token_command operations.LookUpAccessor body.now ≡ Ok c
+        → OnAnswer result (AreReadableTokens (T.seen tx.old).rows context.now.caller c) }
     ensures started { OnFault result IsNotBadStart }
     ensures goes_on { GoesOn (T.seen tx.old) (T.seen tx.new) (step_fails result) }
 {
@@ -83,6 +97,9 @@ pub(super) fn list_accessors<T: RecordsTx>(
     context: &Context<'_>,
 ) -> Result<Answered, RequestError>
     ensures ok { Operates context.now (T.seen tx.old) (T.seen tx.new) (λ b. Ok (on_token list_accessors)) result }
+
+    // Whatever the rows are: no list passes over a damaged row.
+    ensures undamaged { IsHonest (T.seen tx.new) → OnAnswer result (AreAccessorRows (T.seen tx.old).rows) }
     ensures started { OnFault result IsNotBadStart }
     ensures goes_on { GoesOn (T.seen tx.old) (T.seen tx.new) (step_fails result) }
 {

@@ -1,6 +1,6 @@
 //! Renewal of tokens.
 
-ghost use Rattle.std.specs.Prelude.{◌≡◌, ◌≤◌, length};
+ghost use Rattle.std.specs.Prelude.{◌≡◌, ◌≤◌, Ok, length};
 ghost use Rattle.broker_types.specs.Limits.{longest_body};
 ghost use Rattle.broker_types.specs.Names.{names_of};
 ghost use Rattle.broker_types.specs.RequestError.{step_fails};
@@ -12,6 +12,8 @@ ghost use Rattle.broker.specs.ClockRow.{IsNotBadStart};
 ghost use Rattle.broker.specs.Command.{on_tokens};
 ghost use Rattle.broker.specs.Operating.{Operates, Performs};
 ghost use Rattle.broker.specs.ReadableRow.{IsReadableToken};
+ghost use Rattle.broker.specs.Reads.{AreReadableTokens};
+ghost use Rattle.broker.specs.parts.TokenCommands.{TokenCommand, token_command};
 ghost use Rattle.broker.specs.parts.Tokens as part;
 
 use crate::answered::Answered;
@@ -34,6 +36,10 @@ pub(super) fn renew<T: RecordsTx>(
     requires { length body.now ≤ longest_body }
     ensures ok { Operates context.now (T.seen tx.old) (T.seen tx.new)
         (λ b. on_tokens operations.Renew body.now) result }
+
+    // Whatever the rows are: it is neither answered nor refused if a row that the command reads is damaged.
+    ensures undamaged { IsHonest (T.seen tx.new) → (c : TokenCommand) → token_command operations.Renew body.now ≡ Ok c
+        → OnAnswer result (AreReadableTokens (T.seen tx.old).rows context.now.caller c) }
     ensures started { OnFault result IsNotBadStart }
     ensures goes_on { GoesOn (T.seen tx.old) (T.seen tx.new) (step_fails result) }
 {
@@ -52,6 +58,10 @@ pub(super) fn renew_self<T: RecordsTx>(
     requires { length body.now ≤ longest_body }
     ensures ok { Operates context.now (T.seen tx.old) (T.seen tx.new)
         (λ b. on_tokens operations.RenewSelf body.now) result }
+
+    // Whatever the rows are: it is neither answered nor refused if a row that the command reads is damaged.
+    ensures undamaged { IsHonest (T.seen tx.new) → (c : TokenCommand) → token_command operations.RenewSelf body.now ≡ Ok c
+        → OnAnswer result (AreReadableTokens (T.seen tx.old).rows context.now.caller c) }
     ensures started { OnFault result IsNotBadStart }
     ensures goes_on { GoesOn (T.seen tx.old) (T.seen tx.new) (step_fails result) }
 {

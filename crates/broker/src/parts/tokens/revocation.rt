@@ -1,6 +1,6 @@
 //! Revocation of tokens.
 
-ghost use Rattle.std.specs.Prelude.{◌≤◌, Ok, length};
+ghost use Rattle.std.specs.Prelude.{◌≡◌, ◌≤◌, Ok, length};
 ghost use Rattle.broker_types.specs.Limits.{longest_body};
 ghost use Rattle.broker_types.specs.RequestError.{step_fails};
 ghost use Rattle.records.specs.Transaction.{IsHonest, GoesOn};
@@ -9,7 +9,9 @@ ghost use Rattle.mounts.specs.declared.operation.TokenOperation.TheVariants as o
 ghost use Rattle.broker.specs.ClockRow.{IsNotBadStart};
 ghost use Rattle.broker.specs.Command.{on_tokens};
 ghost use Rattle.broker.specs.Operating.{Operates, Performs};
-ghost use Rattle.broker.specs.ReadableRow.{IsReadableDescent};
+ghost use Rattle.broker.specs.ReadableRow.{IsReadableDescent, IsReadableToken};
+ghost use Rattle.broker.specs.Reads.{AreReadableTokens};
+ghost use Rattle.broker.specs.parts.TokenCommands.{TokenCommand, token_command};
 ghost use Rattle.broker.specs.parts.Tokens as part;
 
 use crate::answered::Answered;
@@ -31,6 +33,10 @@ pub(super) fn revoke<T: RecordsTx>(
     requires { length body.now ≤ longest_body }
     ensures ok { Operates context.now (T.seen tx.old) (T.seen tx.new)
         (λ b. on_tokens operations.Revoke body.now) result }
+
+    // Whatever the rows are: it is neither answered nor refused if a row that the command reads is damaged.
+    ensures undamaged { IsHonest (T.seen tx.new) → (c : TokenCommand) → token_command operations.Revoke body.now ≡ Ok c
+        → OnAnswer result (AreReadableTokens (T.seen tx.old).rows context.now.caller c) }
     ensures started { OnFault result IsNotBadStart }
     ensures goes_on { GoesOn (T.seen tx.old) (T.seen tx.new) (step_fails result) }
 {
@@ -49,6 +55,10 @@ pub(super) fn revoke_orphan<T: RecordsTx>(
     requires { length body.now ≤ longest_body }
     ensures ok { Operates context.now (T.seen tx.old) (T.seen tx.new)
         (λ b. on_tokens operations.RevokeOrphan body.now) result }
+
+    // Whatever the rows are: it is neither answered nor refused if a row that the command reads is damaged.
+    ensures undamaged { IsHonest (T.seen tx.new) → (c : TokenCommand) → token_command operations.RevokeOrphan body.now ≡ Ok c
+        → OnAnswer result (AreReadableTokens (T.seen tx.old).rows context.now.caller c) }
     ensures started { OnFault result IsNotBadStart }
     ensures goes_on { GoesOn (T.seen tx.old) (T.seen tx.new) (step_fails result) }
 {
@@ -67,6 +77,10 @@ pub(super) fn revoke_self<T: RecordsTx>(
     requires { length body.now ≤ longest_body }
     ensures ok { Operates context.now (T.seen tx.old) (T.seen tx.new)
         (λ b. on_tokens operations.RevokeSelf body.now) result }
+
+    // Whatever the rows are: it is neither answered nor refused if a row that the command reads is damaged.
+    ensures undamaged { IsHonest (T.seen tx.new) → (c : TokenCommand) → token_command operations.RevokeSelf body.now ≡ Ok c
+        → OnAnswer result (AreReadableTokens (T.seen tx.old).rows context.now.caller c) }
     ensures started { OnFault result IsNotBadStart }
     ensures goes_on { GoesOn (T.seen tx.old) (T.seen tx.new) (step_fails result) }
 {
@@ -85,6 +99,10 @@ pub(super) fn revoke_accessor<T: RecordsTx>(
     requires { length body.now ≤ longest_body }
     ensures ok { Operates context.now (T.seen tx.old) (T.seen tx.new)
         (λ b. on_tokens operations.RevokeAccessor body.now) result }
+
+    // Whatever the rows are: it is neither answered nor refused if a row that the command reads is damaged.
+    ensures undamaged { IsHonest (T.seen tx.new) → (c : TokenCommand) → token_command operations.RevokeAccessor body.now ≡ Ok c
+        → OnAnswer result (AreReadableTokens (T.seen tx.old).rows context.now.caller c) }
     ensures started { OnFault result IsNotBadStart }
     ensures goes_on { GoesOn (T.seen tx.old) (T.seen tx.new) (step_fails result) }
 {
@@ -124,6 +142,10 @@ fn end_alone<T: RecordsTx>(
     token: &str,
 ) -> Result<Answered, RequestError>
     ensures ok { Performs context.now (T.seen tx.old) (T.seen tx.new) (λ b. Ok (part.revoke_alone b token.now)) result }
+
+    // Whatever the rows are: it is not answered if the row of the token is damaged.
+    ensures undamaged { IsHonest (T.seen tx.new)
+        → OnAnswer result (IsReadableToken (T.seen tx.old).rows token.now) }
     ensures started { OnFault result IsNotBadStart }
     ensures goes_on { GoesOn (T.seen tx.old) (T.seen tx.new) (step_fails result) }
 {

@@ -1,5 +1,5 @@
-use Rattle.std.proofs.Common.{sym, subst}
-use Rattle.std.proofs.lemmas.Result.{err_from_is_err_and}
+use Rattle.std.proofs.Common.{sym, ap, ◌∙◌, subst}
+use Rattle.std.proofs.lemmas.Result.{err_from_is_err_and, on_ok_weaker}
 use Rattle.broker_types.specs.Broker.{revoke}
 use Rattle.records.specs.CallLaws.{honest_before}
 use Rattle.token_tree.specs.Tokens.{AreEnded}
@@ -7,6 +7,13 @@ use Rattle.broker.specs.Forms.{forms}
 use Rattle.broker.proofs.Callers.{revoked_long, revoked_lost, revoked_left, represents-revoked, represents-unspent, on_both}
 use Rattle.broker.proofs.Expired.{represents_tokens}
 use Rattle.broker.proofs.Serving.{still_represented}
+use Rattle.std.specs.Prelude.{true, false}
+use Rattle.std.proofs.lemmas.Bool.{true≢false, false≢true}
+use Rattle.records.specs.Transaction.{Rows}
+use Rattle.cubbyhole.specs.Laws.{without_owners}
+use Rattle.token_tree.specs.Ended.{is_named}
+use Rattle.token_tree.specs.Endings.{EndsDescent}
+use Rattle.broker.specs.Ending.{IsSpentAt}
 use Rattle.broker.proofs.order.ending.end_spent.Goals as goal
 
 pub returns-then-not-branch-clause-ok : goal.returns-then-not-branch-clause-ok
@@ -44,3 +51,33 @@ returns-clause-ok g c honest b st =
     (c.drop_cubbyholes.ensures.rows honest)
     (c.drop_cubbyholes.ensures.told honest b (revoke b caller) (revoked_long b caller old still ended are) (revoked_lost b caller old still ended are)
     (revoked_left b caller old still mid others))
+
+pub returns-then-not-branch-clause-rows : goal.returns-then-not-branch-clause-rows
+returns-then-not-branch-clause-rows g c honest = record {
+  spent = false;
+  told = subst (IsSpentAt (g.T.RecordsTx.seen c.args.tx.now).rows c.args.caller.now) c.if-not-branch.true (c.in_ok-is_spent.ensures.found honest);
+  stays = λ _. c.in_ok-is_spent.ensures.same honest;
+  ends = λ e. absurd (false≢true e);
+}
+
+pub returns-clause-rows : goal.returns-clause-rows
+returns-clause-rows g c honest =
+    let seen = g.T.RecordsTx.seen in
+    let caller = c.args.caller.now in
+    let ended = c.deref.result.now in
+    let old = (seen c.args.tx.now).rows in
+    let mid = (seen c.revoke.new.tx).rows in
+    let revoked = honest_before (seen c.revoke.new.tx) (seen c.drop_cubbyholes.new.tx) _ c.drop_cubbyholes.ensures.call.goes_on honest in
+    let asked = honest_before (seen c.is_spent.new.tx) (seen c.revoke.new.tx) _ c.revoke.ensures.goes_on revoked in
+    let ends : EndsDescent (is_named caller) old ended mid =
+    subst (λ (z : Rows). EndsDescent (is_named caller) z ended mid) (c.in_ok-is_spent.ensures.same asked)
+    (subst (λ list. EndsDescent (is_named caller) (seen c.is_spent.new.tx).rows list mid) (sym c.deref.ensures.value)
+    (c.in_ok-ended.ensures.rows revoked)) in
+    on_ok_weaker c.drop_cubbyholes.result
+    (λ dropped. record {
+      spent = true;
+      told = subst (IsSpentAt old caller) c.if-not-branch.false (c.in_ok-is_spent.ensures.found asked);
+      stays = λ e. absurd (true≢false e);
+      ends = λ _. (ended, ends.descent, ends.readable, dropped ∙ ap (λ z. without_owners z ended) ends.rows);
+    })
+    (c.drop_cubbyholes.ensures.rows honest)

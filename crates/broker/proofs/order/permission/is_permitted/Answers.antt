@@ -31,3 +31,10 @@ returns-clause-ok g c honest b verb st =
     (root_told (get b.tokens c.args.caller.now) c.in_ok-token.field-0 c.in-Some.token _ told c.in-Some.is
     (c.is_among.ensures
     ∙ ap (λ (policies : List Text). has policies (codes "root")) (c.deref.ensures.value ∙ ap (λ (e : TokenEntry). e.policies) c.token.view_is)))
+
+pub returns-in_default-clause-undamaged : goal.returns-in_default-clause-undamaged
+returns-in_default-clause-undamaged g c honest sudo =
+    (c.in_ok-token.field-0, c.in_ok-token.ensures.in_range, c.in_ok-token.ensures.found honest)
+
+pub returns-clause-undamaged : goal.returns-clause-undamaged
+returns-clause-undamaged g c honest sudo = (c.in_ok-token.field-0, c.in_ok-token.ensures.in_range, c.in_ok-token.ensures.found honest)

@@ -1,7 +1,10 @@
-use Rattle.std.proofs.Common.{◌≡◌, Some, Ok, Err, Result, IfOk, sym, ap, subst, rules, refl}
+use Rattle.std.specs.Prelude.{◌⊎◌}
+use Rattle.std.proofs.Common.{◌≡◌, Some, Ok, Err, Result, IfOk, sym, ap, subst, rules, refl, inl}
+use Rattle.std.proofs.lemmas.Result.{IfOk-weaker}
 use Rattle.broker_types.specs.Names.{names_of}
 use Rattle.broker_types.specs.Spending.{spend}
 use Rattle.broker_types.specs.declared.refusal.Refusal.{Refusal}
+use Rattle.broker_types.specs.declared.request_error.RequestError.TheVariants.{Refused}
 use Rattle.mounts.specs.Route.{cut}
 use Rattle.records.specs.CallLaws.{honest_before, goes_further}
 use Rattle.records.specs.declared.kind.Kind.TheVariants as kind
@@ -9,13 +12,15 @@ use Rattle.broker.specs.Context.{Context}
 use Rattle.broker.specs.Operating.{Starts}
 use Rattle.broker.specs.Order.{Wrapped, finish}
 use Rattle.broker.specs.ReadableRow.{IsReadableToken}
+use Rattle.broker.specs.Reads.{AreReadable, LacksSudo}
 use Rattle.broker.specs.Representing.{Represents, Gives}
 use Rattle.broker.specs.Serving.{served}
 use Rattle.broker.specs.Stages.{HasServed}
+use Rattle.broker.specs.declared.answered.Answered.{Answered}
 use Rattle.broker.proofs.Callers.{spent_here}
-use Rattle.broker.proofs.Finishing.{if_ok, readable_unspent, on_ok}
-use Rattle.broker.proofs.Routes.{known_still, fault_goes_on}
-use Rattle.broker.proofs.SecretTables.{of_no_token, secret_still, asks_still}
+use Rattle.broker.proofs.Finishing.{if_ok, on_ok}
+use Rattle.broker.proofs.StillReadable.{asks_still, as_before, before_step, spent_still, reads_served, reads_refused, earlier}
+use Rattle.broker.proofs.Routes.{fault_goes_on}
 use Rattle.broker.proofs.order.serving.answer_caller.Goals as goal
 
 pub returns-in-Ok-clause-ok : goal.returns-in-Ok-clause-ok
@@ -114,42 +119,38 @@ returns-in-Err-Fault-clause-safely g c =
           (rw c.in-Err-Fault.field-0-is at c.in-Err-Fault.ensures.goes_on));
     }
 
-pub returns-in-Err-Refused-clause-undamaged : goal.returns-in-Err-Refused-clause-undamaged
-returns-in-Err-Refused-clause-undamaged g c honest mount r known found reads =
+pub returns-in-Ok-clause-undamaged : goal.returns-in-Ok-clause-undamaged
+returns-in-Ok-clause-undamaged g c honest command asks =
     let seen = g.T.RecordsTx.seen in
-    let old = (seen c.args.tx.now).rows in
-    let new = (seen c.spend.new.tx).rows in
-    let left = honest_before (seen c.serve.new.tx) (seen c.finish-in-Err-Refused.new.tx) _ c.finish-in-Err-Refused.ensures.goes_on honest in
-    let mid = honest_before (seen c.spend.new.tx) (seen c.serve.new.tx) _ c.serve.ensures.goes_on left in
-    let others = c.in_ok-spend.ensures.others mid in
-    let name = (cut c.args.ask.now.path).0 in
-    let readable = rw c.in-Err-Refused.field-0-is at
-    (c.in-Err-Refused.ensures.undamaged left mount r (known_still old new name mount (others kind.Mount name refl) known) found reads) in
-    if_ok c.finish-in-Err-Refused.result (readable_unspent old new c.args.context.now.caller r.parameter others readable)
-
-pub returns-in-Ok-clause-secret : goal.returns-in-Ok-clause-secret
-returns-in-Ok-clause-secret g c honest p n asks =
-    let seen = g.T.RecordsTx.seen in
+    let caller = c.args.context.now.caller in
     let old = (seen c.args.tx.now).rows in
     let new = (seen c.spend.new.tx).rows in
     let left = honest_before (seen c.serve.new.tx) (seen c.finish.new.tx) _ c.finish.ensures.goes_on honest in
     let mid = honest_before (seen c.spend.new.tx) (seen c.serve.new.tx) _ c.serve.ensures.goes_on left in
     let others = c.in_ok-spend.ensures.others mid in
-    if_ok c.finish.result
-    (secret_still old new p n (λ k q inside. others k q (of_no_token k inside))
-    (c.in-Ok.ensures.secret left p n (asks_still old new c.args.ask.now p n (others kind.Mount (cut c.args.ask.now.path).0 refl) asks)))
+    let still = spent_still caller old new others (c.in_ok-spend.ensures.damaged mid) in
+    let asked = asks_still old new c.args.ask.now command (others kind.Mount (cut c.args.ask.now.path).0 refl) asks in
+    let readable = reads_served (AreReadable new caller command) c.args.ask.now c.in-Ok.answered (c.in-Ok.ensures.undamaged left command asked) in
+    IfOk-weaker c.finish.result _ _ (λ a room. inl (before_step caller caller old new still command (as_before new caller command readable)))
+    c.finish.ensures.room
 
-pub returns-in-Err-Refused-clause-secret : goal.returns-in-Err-Refused-clause-secret
-returns-in-Err-Refused-clause-secret g c honest p n asks =
+pub returns-in-Err-Refused-clause-undamaged : goal.returns-in-Err-Refused-clause-undamaged
+returns-in-Err-Refused-clause-undamaged g c honest command asks =
     let seen = g.T.RecordsTx.seen in
+    let caller = c.args.context.now.caller in
     let old = (seen c.args.tx.now).rows in
     let new = (seen c.spend.new.tx).rows in
     let left = honest_before (seen c.serve.new.tx) (seen c.finish-in-Err-Refused.new.tx) _ c.finish-in-Err-Refused.ensures.goes_on honest in
     let mid = honest_before (seen c.spend.new.tx) (seen c.serve.new.tx) _ c.serve.ensures.goes_on left in
     let others = c.in_ok-spend.ensures.others mid in
-    let readable = rw c.in-Err-Refused.field-0-is at
-    (c.in-Err-Refused.ensures.secret left p n (asks_still old new c.args.ask.now p n (others kind.Mount (cut c.args.ask.now.path).0 refl) asks)) in
-    if_ok c.finish-in-Err-Refused.result (secret_still old new p n (λ k q inside. others k q (of_no_token k inside)) readable)
+    let still = spent_still caller old new others (c.in_ok-spend.ensures.damaged mid) in
+    let asked = asks_still old new c.args.ask.now command (others kind.Mount (cut c.args.ask.now.path).0 refl) asks in
+    let found : AreReadable new caller command ⊎ LacksSudo {A = Answered} c.args.ask.now (Err (Refused c.in-Err-Refused.refusal)) =
+    rw c.in-Err-Refused.field-0-is at (c.in-Err-Refused.ensures.undamaged left command asked) in
+    IfOk-weaker c.finish-in-Err-Refused.result _ _
+    (λ a response. earlier (λ readable. before_step caller caller old new still command (as_before new caller command readable))
+    (reads_refused (AreReadable new caller command) c.args.ask.now c.in-Err-Refused.refusal a found response))
+    c.finish-in-Err-Refused.ensures.refused
 
 pub returns-in-Ok-clause-caller : goal.returns-in-Ok-clause-caller
 returns-in-Ok-clause-caller g c honest =

@@ -7,21 +7,19 @@ use Rattle.broker_types.specs.Name.{is_mount_name}
 use Rattle.broker_types.specs.Path.{is_path}
 use Rattle.mounts.specs.Table.{takes_parameter, takes_path}
 use Rattle.mounts.specs.Calls.{OnAnswer}
-use Rattle.api_json.specs.Readers.{version_number}
 use Rattle.records.specs.Transaction.{Rows}
-use Rattle.records.specs.ValueLaws.{ok_inj}
-use Rattle.mounts.specs.MountRows.{IsKnownAt, IsReadableAt}
-use Rattle.mounts.specs.declared.operation.SecretOperation.TheVariants as secret
-use Rattle.mounts.specs.Route.{Route, cut, route_at}
+use Rattle.mounts.specs.MountRows.{IsReadableAt}
+use Rattle.mounts.specs.Route.{Route, cut}
 use Rattle.mounts.specs.declared.operation.Operation.TheVariants.{Cubbyholes}
 use Rattle.broker.specs.Command.{place_of}
-use Rattle.broker.specs.ReadableRow.{IsReadableSecret}
+use Rattle.broker.specs.Reads.{AreReadable}
 use Rattle.broker.specs.Serving.{acted}
 use Rattle.broker.specs.declared.answered.Answered.{Answered}
 use Rattle.broker.specs.parts.SecretCommands.{Place, at}
 use Rattle.broker.proofs.CubbyholeAnswers.{ActsAs, meant_there}
+use Rattle.broker.proofs.StillReadable.{cubbyholes_read, tokens_read, secrets_read, known_by, meant_by_route}
 use Rattle.broker.proofs.Routes.{found_is, meant_on_tokens, mounts_there, operated_by, operated_nowhere, on_answer, on_error}
-use Rattle.broker.proofs.SecretRoutes.{mount_named, meant_on_secrets, secrets_inj}
+use Rattle.broker.proofs.SecretRoutes.{mount_named, meant_on_secrets}
 use Rattle.broker.proofs.Serving.{still_represented}
 use Rattle.broker.proofs.order.serving.operate.Goals as goal
 
@@ -116,24 +114,56 @@ returns-in-Tokens-clause-mount g c honest =
     on_answer c.act-in-Tokens.result
     (subst (λ path. IsReadableAt (table_of rows) (cut path).0) c.as_str.ensures.text (c.in_ok-found.ensures.undamaged mid))
 
-pub returns-in-Secrets-clause-secret : goal.returns-in-Secrets-clause-secret
-returns-in-Secrets-clause-secret g c honest p n asks =
+pub returns-in-Cubbyholes-clause-undamaged : goal.returns-in-Cubbyholes-clause-undamaged
+returns-in-Cubbyholes-clause-undamaged g c honest command asks =
     let seen = g.T.RecordsTx.seen in
     let rows = (seen c.args.tx.now).rows in
+    let found = (seen c.route.new.tx).rows in
+    let caller = c.args.context.now.caller in
+    let ask = c.args.ask.now in
+    let path = c.as_str.ensures.text in
+    let mid = honest_before (seen c.route.new.tx) (seen c.act.new.tx) _ c.act.ensures.goes_on honest in
+    let ends = c.in_ok-found.ensures.found mid asks.mount (known_by rows ask command c.as_str.result.now path asks) in
+    let meant = meant_by_route rows ask command c.as_str.result.now c.in_ok-found.found path asks ends in
+    let is : c.in_ok-found.found.operation ≡ c.found.inside.operation = sym (ap (λ (r : Route). r.operation) c.found.view_is) in
+    let there : c.in_ok-found.found.parameter ≡ c.found.inside.parameter.now = sym (ap (λ (r : Route). r.parameter) c.found.view_is) in
+    subst (λ (z : Rows). OnAnswer c.act.result (AreReadable z caller command)) (c.in_ok-found.ensures.same mid)
+    (cubbyholes_read found caller ask c.in_ok-found.found c.act.result c.in-Cubbyholes.operation c.found.inside.parameter.now c.as_slice-body.result.now
+    (is ∙ c.in-Cubbyholes.is) there c.as_slice-body.ensures.bytes (c.act.ensures.undamaged honest) command meant)
+
+pub returns-in-Tokens-clause-undamaged : goal.returns-in-Tokens-clause-undamaged
+returns-in-Tokens-clause-undamaged g c honest command asks =
+    let seen = g.T.RecordsTx.seen in
+    let rows = (seen c.args.tx.now).rows in
+    let found = (seen c.route.new.tx).rows in
+    let caller = c.args.context.now.caller in
+    let ask = c.args.ask.now in
+    let path = c.as_str.ensures.text in
+    let mid = honest_before (seen c.route.new.tx) (seen c.act-in-Tokens.new.tx) _ c.act-in-Tokens.ensures.goes_on honest in
+    let ends = c.in_ok-found.ensures.found mid asks.mount (known_by rows ask command c.as_str.result.now path asks) in
+    let meant = meant_by_route rows ask command c.as_str.result.now c.in_ok-found.found path asks ends in
+    let is : c.in_ok-found.found.operation ≡ c.found.inside.operation = sym (ap (λ (r : Route). r.operation) c.found.view_is) in
+    subst (λ (z : Rows). OnAnswer c.act-in-Tokens.result (AreReadable z caller command)) (c.in_ok-found.ensures.same mid)
+    (tokens_read found caller ask c.in_ok-found.found c.act-in-Tokens.result c.in-Tokens.operation c.as_slice-body.result.now
+    (is ∙ c.in-Tokens.is) c.as_slice-body.ensures.bytes (c.act-in-Tokens.ensures.undamaged honest) command meant)
+
+pub returns-in-Secrets-clause-undamaged : goal.returns-in-Secrets-clause-undamaged
+returns-in-Secrets-clause-undamaged g c honest command asks =
+    let seen = g.T.RecordsTx.seen in
+    let rows = (seen c.args.tx.now).rows in
+    let found = (seen c.route.new.tx).rows in
+    let caller = c.args.context.now.caller in
     let ask = c.args.ask.now in
     let path = c.as_str.ensures.text in
     let mid = honest_before (seen c.route.new.tx) (seen c.act-in-Secrets.new.tx) _ c.act-in-Secrets.ensures.goes_on honest in
-    let ends = c.in_ok-found.ensures.found mid asks.mount (subst (λ q. IsKnownAt (table_of rows) (cut q).0 asks.mount) (sym path) asks.known) in
-    let route : c.in_ok-found.found ≡ asks.route =
-    ok_inj (sym (found_is _ c.in_ok-found.found ends) ∙ ap (route_at asks.mount ask.verb) path ∙ asks.found) in
+    let ends = c.in_ok-found.ensures.found mid asks.mount (known_by rows ask command c.as_str.result.now path asks) in
+    let meant = meant_by_route rows ask command c.as_str.result.now c.in_ok-found.found path asks ends in
     let is : c.in_ok-found.found.operation ≡ c.found.inside.operation = sym (ap (λ (r : Route). r.operation) c.found.view_is) in
-    let reads : c.in-Secrets.operation ≡ secret.Read =
-    secrets_inj _ _ (sym (is ∙ c.in-Secrets.is) ∙ ap (λ (r : Route). r.operation) route ∙ asks.reads) in
-    let place : at c.found.inside.mount.now c.found.inside.parameter.now ≡ p = ap place_of c.found.view_is ∙ ap place_of route ∙ asks.place in
-    subst (λ q. OnAnswer c.act-in-Secrets.result (IsReadableSecret rows q n)) place
-    (subst (λ (z : Rows). OnAnswer c.act-in-Secrets.result (IsReadableSecret z (at c.found.inside.mount.now c.found.inside.parameter.now) n))
-    (c.in_ok-found.ensures.same mid)
-    (c.act-in-Secrets.ensures.undamaged honest reads n (ap version_number c.as_slice-version.ensures ∙ asks.version)))
+    let place : place_of c.in_ok-found.found ≡ at c.found.inside.mount.now c.found.inside.parameter.now = sym (ap place_of c.found.view_is) in
+    subst (λ (z : Rows). OnAnswer c.act-in-Secrets.result (AreReadable z caller command)) (c.in_ok-found.ensures.same mid)
+    (secrets_read found caller ask c.in_ok-found.found c.act-in-Secrets.result c.in-Secrets.operation
+    (at c.found.inside.mount.now c.found.inside.parameter.now) c.as_slice-version.result.now c.as_slice-body.result.now
+    (is ∙ c.in-Secrets.is) place c.as_slice-version.ensures c.as_slice-body.ensures.bytes (c.act-in-Secrets.ensures.undamaged honest) command meant)
 
 pub returns-in-Secrets-clause-mount : goal.returns-in-Secrets-clause-mount
 returns-in-Secrets-clause-mount g c honest =

@@ -1,21 +1,17 @@
-use Rattle.std.proofs.Common.{◌≡◌, Some, true, refl, sym, ap, ◌∙◌, subst}
+use Rattle.std.proofs.Common.{◌≡◌, Some, true, refl, sym, ap, ◌∙◌, subst, inl, inr}
 use Rattle.records.specs.CallLaws.{honest_before}
 use Rattle.records.specs.Table.{table_of}
 use Rattle.records.specs.Transaction.{Rows}
 use Rattle.broker_types.specs.Names.{names_of}
 use Rattle.mounts.specs.Calls.{OnAnswer}
-use Rattle.mounts.specs.MountRows.{IsKnownAt}
-use Rattle.mounts.specs.Route.{cut}
-use Rattle.mounts.specs.declared.operation.Cubbyhole.TheVariants as cubbyhole
-use Rattle.mounts.specs.declared.operation.Operation.TheVariants.{Cubbyholes, Secrets}
-use Rattle.mounts.specs.declared.operation.SecretOperation.TheVariants as secret
 use Rattle.broker.specs.Context.{Context}
 use Rattle.broker.specs.Permission.{needs_sudo, permits}
-use Rattle.broker.specs.ReadableRow.{IsReadable, IsReadableSecret, AsksForVersion}
+use Rattle.broker.specs.Reads.{AreReadable, Asks}
 use Rattle.broker.specs.Representing.{Represents}
+use Rattle.broker.proofs.StillReadable.{on_answer_weaker}
 use Rattle.broker.proofs.Routes.{served_permitted}
 use Rattle.broker.proofs.Serving.{still_represented}
-use Rattle.broker.proofs.SudoPaths.{sudo_readable, sudo_reads_none}
+use Rattle.broker.proofs.SudoPaths.{sudo_readable}
 use Rattle.broker.proofs.order.serving.serve.Goals as goal
 
 pub returns-clause-ok : goal.returns-clause-ok
@@ -34,33 +30,18 @@ returns-clause-ok g c honest b starts =
     (c.operate.ensures.ok honest b (record { represents = still; here = starts.here; clock = starts.clock }))
 
 pub returns-clause-undamaged : goal.returns-clause-undamaged
-returns-clause-undamaged g c honest mount r known found reads =
+returns-clause-undamaged g c honest command asks =
     let seen = g.T.RecordsTx.seen in
+    let caller = c.args.context.now.caller in
     let mid = honest_before (seen c.is_permitted.new.tx) (seen c.operate.new.tx) _ c.operate.ensures.goes_on honest in
     let same = c.in_ok-is_permitted.ensures.same mid in
-    subst (λ (rows : Rows). OnAnswer c.operate.result (IsReadable rows c.args.context.now.caller r.parameter)) same
-    (c.operate.ensures.undamaged honest mount r
-    (subst (λ (rows : Rows). IsKnownAt (table_of rows) (cut c.args.ask.now.path).0 mount) (sym same) known) found reads)
+    on_answer_weaker c.operate.result inl
+    (subst (λ (rows : Rows). OnAnswer c.operate.result (AreReadable rows caller command)) same
+    (c.operate.ensures.undamaged honest command (subst (λ (rows : Rows). Asks rows c.args.ask.now command) (sym same) asks)))
 
 pub returns-then-not-branch-clause-undamaged : goal.returns-then-not-branch-clause-undamaged
-returns-then-not-branch-clause-undamaged g c honest mount r known found reads =
-    let ask = c.args.ask.now in
-    let sudo = subst (λ path. needs_sudo path ≡ true) c.as_str.ensures.text (c.in_ok-is_permitted.ensures.denied c.if-not-branch.true) in
-    absurd (sudo_reads_none mount ask.verb ask.path r (Cubbyholes cubbyhole.Read) refl sudo found reads)
-
-pub returns-clause-secret : goal.returns-clause-secret
-returns-clause-secret g c honest p n asks =
-    let seen = g.T.RecordsTx.seen in
-    let mid = honest_before (seen c.is_permitted.new.tx) (seen c.operate.new.tx) _ c.operate.ensures.goes_on honest in
-    let same = c.in_ok-is_permitted.ensures.same mid in
-    subst (λ (rows : Rows). OnAnswer c.operate.result (IsReadableSecret rows p n)) same
-    (c.operate.ensures.secret honest p n (subst (λ (rows : Rows). AsksForVersion rows c.args.ask.now p n) (sym same) asks))
-
-pub returns-then-not-branch-clause-secret : goal.returns-then-not-branch-clause-secret
-returns-then-not-branch-clause-secret g c honest p n asks =
-    let ask = c.args.ask.now in
-    let sudo = subst (λ path. needs_sudo path ≡ true) c.as_str.ensures.text (c.in_ok-is_permitted.ensures.denied c.if-not-branch.true) in
-    absurd (sudo_reads_none asks.mount ask.verb ask.path asks.route (Secrets secret.Read) refl sudo asks.found asks.reads)
+returns-then-not-branch-clause-undamaged g c honest command asks =
+    inr (refl, subst (λ path. needs_sudo path ≡ true) c.as_str.ensures.text (c.in_ok-is_permitted.ensures.denied c.if-not-branch.true))
 
 pub returns-then-not-branch-clause-mount : goal.returns-then-not-branch-clause-mount
 returns-then-not-branch-clause-mount g c honest =

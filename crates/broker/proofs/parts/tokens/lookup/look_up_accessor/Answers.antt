@@ -1,5 +1,5 @@
 use Rattle.std.specs.Prelude.{Ok, Err, Some}
-use Rattle.std.proofs.Common.{sym, ap, ◌∙◌}
+use Rattle.std.proofs.Common.{sym, ap, ◌∙◌, subst}
 use Rattle.std.proofs.lemmas.Result.{err_from_is_err_and}
 use Rattle.broker_types.specs.Names.{names_of}
 use Rattle.api_json.specs.Parsed.{members_of}
@@ -8,6 +8,13 @@ use Rattle.broker.specs.Forms.{forms}
 use Rattle.broker.proofs.Expired.{represents_tokens}
 use Rattle.broker.proofs.Serving.{still_represented}
 use Rattle.broker.proofs.TokenLookups.{acts_by_accessor, acts_no_accessor}
+use Rattle.api_json.specs.Readers as reader
+use Rattle.mounts.specs.Calls.{OnAnswer}
+use Rattle.records.specs.Transaction.{Rows}
+use Rattle.broker.specs.ReadableRow.{IsReadableToken}
+use Rattle.broker.specs.Reads.{AreReadableTokens, IfNamed}
+use Rattle.broker.specs.parts.TokenCommands.{lookup_accessor}
+use Rattle.broker.proofs.StillReadable.{meant_as, on_answer_weaker}
 use Rattle.broker.proofs.parts.tokens.lookup.look_up_accessor.Goals as goal
 
 pub returns-in_err-token-clause-ok : goal.returns-in_err-token-clause-ok
@@ -42,3 +49,29 @@ returns-clause-ok g c honest b starts =
       here = starts.here;
       clock = starts.clock;
     }))
+
+pub returns-in_default-clause-undamaged : goal.returns-in_default-clause-undamaged
+returns-in_default-clause-undamaged g c honest command meant =
+    let rows = (g.T.RecordsTx.seen c.args.tx.now).rows in
+    subst (AreReadableTokens rows c.args.context.now.caller)
+    (meant_as reader.accessor lookup_accessor c.args.body.now (members_of c.in_ok-members.members) c.as_str.result.now command c.in_ok-members.ensures
+    (c.in_ok-accessor.ensures ∙ ap Ok (sym c.as_str.ensures)) meant)
+    (c.in_ok-token.field-0, c.in_ok-token.ensures.found honest, subst (IfNamed (IsReadableToken rows)) (sym c.in_default.is) tt)
+
+pub returns-clause-undamaged : goal.returns-clause-undamaged
+returns-clause-undamaged g c honest command meant =
+    let seen = g.T.RecordsTx.seen in
+    let rows = (seen c.args.tx.now).rows in
+    let mid = honest_before (seen c.find_accessor.new.tx) (seen c.show.new.tx) _ c.show.ensures.goes_on honest in
+    let is = c.in-Some.is ∙ ap Some (sym c.as_str-2.ensures) in
+    subst (λ x. OnAnswer c.show.result (AreReadableTokens rows c.args.context.now.caller x))
+    (meant_as reader.accessor lookup_accessor c.args.body.now (members_of c.in_ok-members.members) c.as_str.result.now command c.in_ok-members.ensures
+    (c.in_ok-accessor.ensures ∙ ap Ok (sym c.as_str.ensures)) meant)
+    (on_answer_weaker c.show.result
+    (λ readable. (
+      c.in_ok-token.field-0,
+      c.in_ok-token.ensures.found mid,
+      subst (IfNamed (IsReadableToken rows)) (sym is)
+          (subst (λ (z : Rows). IsReadableToken z c.as_str-2.result.now) (c.in_ok-token.ensures.same mid) readable),
+    ))
+    (c.show.ensures.undamaged honest))

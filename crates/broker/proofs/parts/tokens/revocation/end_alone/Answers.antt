@@ -7,6 +7,7 @@ use Rattle.token_tree.specs.Tokens.{AreEnded}
 use Rattle.broker.specs.Forms.{forms}
 use Rattle.broker.proofs.Expired.{represents_tokens}
 use Rattle.broker.proofs.TokenTables.{orphaned_keep, gone_long, gone_lost, gone_left, represents-revoked_alone}
+use Rattle.broker.proofs.StillReadable.{readable_alone}
 use Rattle.broker.proofs.parts.tokens.revocation.end_alone.Goals as goal
 
 pub returns-in_err-ended-clause-ok : goal.returns-in_err-ended-clause-ok
@@ -37,3 +38,10 @@ returns-clause-ok g c honest b starts =
       represents-revoked_alone b t old mid new ended st others (c.in_ok-drop_cubbyholes.ensures.rows honest) are
           (c.in_ok-ended.ensures.ok revoked forms b tokens) objects,
     )
+
+pub returns-clause-undamaged : goal.returns-clause-undamaged
+returns-clause-undamaged g c honest =
+    let seen = g.T.RecordsTx.seen in
+    let revoked = honest_before (seen c.revoke_one.new.tx) (seen c.drop_cubbyholes.new.tx) _ c.drop_cubbyholes.ensures.call.goes_on honest in
+    readable_alone c.args.token.now (seen c.args.tx.now).rows c.in_ok-ended.ended.items (seen c.revoke_one.new.tx).rows
+    (c.in_ok-ended.ensures.rows revoked)

@@ -1,4 +1,4 @@
-use Rattle.std.proofs.Common.{Some, Err, refl, sym, ap, ◌∙◌, subst}
+use Rattle.std.proofs.Common.{Some, Ok, Err, refl, sym, ap, ◌∙◌, subst}
 use Rattle.std.proofs.lemmas.Result.{err_from_is_err_and}
 use Rattle.api_json.specs.Parsed.{members_of}
 use Rattle.broker_types.specs.Names.{names_of}
@@ -12,6 +12,13 @@ use Rattle.broker.specs.Stages.{IsDone}
 use Rattle.broker.proofs.Expired.{represents_tokens}
 use Rattle.broker.proofs.Revocations.{acts_on_named, ended_if_found}
 use Rattle.broker.proofs.Serving.{still_represented}
+use Rattle.api_json.specs.Readers as reader
+use Rattle.mounts.specs.Calls.{OnAnswer}
+use Rattle.records.specs.Transaction.{Rows}
+use Rattle.broker.specs.ReadableRow.{IsReadableDescent}
+use Rattle.broker.specs.Reads.{AreReadableTokens, IfNamed}
+use Rattle.broker.specs.parts.TokenCommands.{revoke_accessor}
+use Rattle.broker.proofs.StillReadable.{meant_as, on_answer_weaker}
 use Rattle.broker.proofs.parts.tokens.revocation.revoke_accessor.Goals as goal
 
 pub returns-in_err-token-clause-ok : goal.returns-in_err-token-clause-ok
@@ -54,3 +61,29 @@ returns-clause-ok g c honest b starts =
       here = starts.here;
       clock = starts.clock;
     }))
+
+pub returns-in_default-clause-undamaged : goal.returns-in_default-clause-undamaged
+returns-in_default-clause-undamaged g c honest command meant =
+    let rows = (g.T.RecordsTx.seen c.args.tx.now).rows in
+    subst (AreReadableTokens rows c.args.context.now.caller)
+    (meant_as reader.accessor revoke_accessor c.args.body.now (members_of c.in_ok-members.members) c.as_str.result.now command c.in_ok-members.ensures
+    (c.in_ok-accessor.ensures ∙ ap Ok (sym c.as_str.ensures)) meant)
+    (c.in_ok-token.field-0, c.in_ok-token.ensures.found honest, subst (IfNamed (IsReadableDescent rows)) (sym c.in_default.is) tt)
+
+pub returns-clause-undamaged : goal.returns-clause-undamaged
+returns-clause-undamaged g c honest command meant =
+    let seen = g.T.RecordsTx.seen in
+    let rows = (seen c.args.tx.now).rows in
+    let mid = honest_before (seen c.find_accessor.new.tx) (seen c.end.new.tx) _ c.end.ensures.goes_on honest in
+    let is = c.in-Some.is ∙ ap Some (sym c.as_str-2.ensures) in
+    subst (λ x. OnAnswer c.end.result (AreReadableTokens rows c.args.context.now.caller x))
+    (meant_as reader.accessor revoke_accessor c.args.body.now (members_of c.in_ok-members.members) c.as_str.result.now command c.in_ok-members.ensures
+    (c.in_ok-accessor.ensures ∙ ap Ok (sym c.as_str.ensures)) meant)
+    (on_answer_weaker c.end.result
+    (λ readable. (
+      c.in_ok-token.field-0,
+      c.in_ok-token.ensures.found mid,
+      subst (IfNamed (IsReadableDescent rows)) (sym is)
+          (subst (λ (z : Rows). IsReadableDescent z c.as_str-2.result.now) (c.in_ok-token.ensures.same mid) readable),
+    ))
+    (c.end.ensures.undamaged honest))

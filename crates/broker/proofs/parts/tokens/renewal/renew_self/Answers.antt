@@ -1,0 +1,18 @@
+use Rattle.std.proofs.Common.{Ok, sym, ap, ◌∙◌, subst}
+use Rattle.api_json.specs.Parsed.{members_of}
+use Rattle.api_json.specs.Readers as reader
+use Rattle.mounts.specs.Calls.{OnAnswer}
+use Rattle.broker.specs.Context.{Context}
+use Rattle.broker.specs.ReadableRow.{IsReadableToken}
+use Rattle.broker.specs.Reads.{AreReadableTokens}
+use Rattle.broker.specs.parts.TokenCommands.{renew_self}
+use Rattle.broker.proofs.StillReadable.{meant_as}
+use Rattle.broker.proofs.parts.tokens.renewal.renew_self.Goals as goal
+
+pub returns-clause-undamaged : goal.returns-clause-undamaged
+returns-clause-undamaged g c honest command meant =
+    subst (λ x. OnAnswer c.renew_to.result (AreReadableTokens (g.T.RecordsTx.seen c.args.tx.now).rows c.args.context.now.caller x))
+    (meant_as reader.increment renew_self c.args.body.now (members_of c.in_ok-members.members) c.in_ok-asked.asked command c.in_ok-members.ensures
+    c.in_ok-asked.ensures meant)
+    (subst (λ t. OnAnswer c.renew_to.result (IsReadableToken (g.T.RecordsTx.seen c.args.tx.now).rows t))
+    (ap (λ (x : Context). x.caller) c.context.view_is) (c.renew_to.ensures.undamaged honest))
