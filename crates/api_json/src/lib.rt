@@ -17,8 +17,6 @@ mod reading;
 mod reply;
 mod secret_bodies;
 mod secret_objects;
-#[cfg(test)]
-mod tests;
 mod token_bodies;
 mod token_objects;
 mod version_list;

@@ -14,8 +14,6 @@ mod reply;
 mod request_error;
 mod seconds;
 mod status;
-#[cfg(test)]
-mod tests;
 mod text;
 mod time;
 mod token;

@@ -24,5 +24,3 @@ pub use laws::{front_laws, refusal_laws, reply_laws};
 pub use refusal::{AskError, HttpRefusal, front_refusal};
 pub use reply::{ReplyBytes, reply_bytes};
 
-#[cfg(test)]
-mod tests;

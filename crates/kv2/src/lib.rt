@@ -31,5 +31,3 @@ pub use secret_version::SecretVersion;
 pub use settings::{config, set_config};
 pub use writing::write;
 
-#[cfg(test)]
-mod tests;

@@ -21,5 +21,3 @@ pub use naming::is_name;
 pub use operation::{Cubbyhole, Operation, Route, SecretOperation, TokenOperation};
 pub use routing::route;
 
-#[cfg(test)]
-mod tests;

@@ -24,5 +24,3 @@ pub use listing::list;
 pub use pattern::Pattern;
 pub use rule::{Policy, Rule, Rules};
 
-#[cfg(test)]
-mod tests;

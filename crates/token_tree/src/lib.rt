@@ -22,5 +22,3 @@ pub use revoking::revoke;
 pub use single::{create, find, renew, spend};
 pub use sweeping::sweep_tokens;
 
-#[cfg(test)]
-mod tests;

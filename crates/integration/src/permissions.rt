@@ -1,4 +1,4 @@
-use crate::{Capability, Policy, allows, delete, get, list, rules_of, set};
+use policies::{Capability, Policy, allows, delete, get, list, rules_of, set};
 use broker_types::{Reason, Refusal, RequestError, TextBuf, Verb};
 use records::{ListRecords, ListTx};
 use std::test::Fail;

@@ -3,7 +3,7 @@
 use super::{
     NOT_FOUND, PERMISSION_DENIED, asked, counted, expect, expect_only, first_rows, moment, words,
 };
-use crate::handle;
+use broker::handle;
 use broker_types::{Answer, Bytes, Status, TextBuf, TokenText, Verb, id_text};
 use records::{Due, Holder, Kind, ListTx, RecordsTx, Row, write_accessor};
 use std::alloc::Global;

@@ -1,5 +1,6 @@
-use crate::operation::{Cubbyhole, Operation, SecretOperation, TokenOperation};
-use crate::{MountType, disable, enable, list, route};
+use mounts::{
+    Cubbyhole, MountType, Operation, SecretOperation, TokenOperation, disable, enable, list, route,
+};
 use broker_types::Verb::{self, Delete, Get, List, Write};
 use broker_types::{Methods, Reason, Refusal, RequestError};
 use records::{ListRecords, ListTx};

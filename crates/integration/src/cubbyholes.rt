@@ -1,4 +1,4 @@
-use crate::{delete, drop_owner, list, read, write};
+use cubbyhole::{delete, drop_owner, list, read, write};
 use broker_types::{Bytes, Fault, TextBuf};
 use records::{Kind, ListRecords, ListTx, RecordsTx, Row};
 use std::test::Fail;

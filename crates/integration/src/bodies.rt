@@ -1,7 +1,7 @@
 //! What bodies are read as, and what replies print as. The outcomes of the readers are those of a reference broker that
 //! was written apart from this one; the printed objects are those of its replies.
 
-use crate::{
+use api_json::{
     AuthObject, Body, EndTime, KeyObject, Pairs, Texts, TokenObject, Tree, VersionObject, Versions,
     accessor, auth_object, increment, key_object, keys_object, mount_settings, plain_reply,
     policy_object, policy_text, read_body, read_object, reply_text, secret_write, settings_object,

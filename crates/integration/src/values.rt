@@ -1,4 +1,4 @@
-use super::*;
+use broker_types::*;
 use std::alloc::{AllocError, AllocFailed, Global};
 use std::borrow::CowStr;
 use std::process::Abort;

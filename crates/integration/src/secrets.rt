@@ -1,7 +1,7 @@
 //! Secrets over a transaction in memory: each call, run once with enough memory, and check-and-set, pruning and
 //! changes of versions on small examples.
 
-use crate::{
+use kv2::{
     SecretVersion, config, delete, delete_versions, destroy, drop_mount, list, metadata, read,
     remove_key, set_config, undelete, write,
 };

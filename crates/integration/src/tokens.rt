@@ -1,6 +1,6 @@
 //! Tokens over rows in memory.
 
-use crate::{
+use token_tree::{
     accessors, create, find, find_accessor, renew, revoke, revoke_one, spend, sweep_tokens,
 };
 use broker_types::{Bytes, Fault, Moment, TextBuf};

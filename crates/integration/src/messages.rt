@@ -1,7 +1,7 @@
 //! Definitions computed on small inputs, and each call that allocates, run once with enough memory.
 //! Whole requests with their replies are in `tests/rows`.
 
-use crate::{AskError, Cut, ask_of, cut, front_refusal, reply_bytes};
+use http_layer::{AskError, Cut, ask_of, cut, front_refusal, reply_bytes};
 use broker_types::{Answer, Methods, Moment, Status, TextBuf, Verb};
 use std::test::Fail;
 
