@@ -1,6 +1,6 @@
 -- The part of secrets: that the rows which a command reads are not damaged, by what its calls say.
-use Rattle.std.specs.Prelude.{◌≡◌, ◌||◌, ℕ, List, [], ◌∷◌, true, Option, Result, Ok, Err}
-use Rattle.std.proofs.Common.{refl, sym, ◌∙◌, ap, subst, inl, inr}
+use Rattle.std.specs.Prelude.{◌≡◌, ◌||◌, ℕ, List, [], ◌∷◌, true, Result, Ok, Err}
+use Rattle.std.proofs.Common.{sym, ◌∙◌, ap, inl, inr}
 use Rattle.std.proofs.lemmas.Bool.{eqb-true, false≢true, or_cases, or_right}
 use Rattle.serde_json.specs.Data.{Members}
 use Rattle.api_json.specs.Json.{body_members}

@@ -1,16 +1,16 @@
 use Rattle.std.proofs.Common.{Some, ap, sym, ◌∙◌}
 use Rattle.records.specs.Parts.{of_secrets}
 use Rattle.records.specs.Table.{table_of}
+use Rattle.kv2.specs.SecretRows.{current_of}
 use Rattle.kv2.specs.Secrets.{secret_name, delete}
 use Rattle.kv2.specs.SoundLaws.{delete_sound, is_secret_name}
+use Rattle.kv2.specs.Versions.{soft_deleted}
 use Rattle.broker.specs.Context.{Context}
 use Rattle.broker.specs.Forms.{forms}
 use Rattle.broker.proofs.SecretAnswers.{acts_changed}
+use Rattle.broker.proofs.SecretReads.{changed_readable}
 use Rattle.broker.proofs.SecretTables.{keeps_outside}
 use Rattle.broker.proofs.Serving.{tells_part}
-use Rattle.kv2.specs.SecretRows.{current_of}
-use Rattle.kv2.specs.Versions.{soft_deleted}
-use Rattle.broker.proofs.SecretReads.{changed_readable}
 use Rattle.broker.proofs.parts.secrets.changes.delete_current.Goals as goal
 
 pub returns-clause-ok : goal.returns-clause-ok

@@ -12,15 +12,15 @@ use Rattle.records.specs.Parts.{Tells, of_secrets, of_mounts}
 use Rattle.records.specs.Table.{table_of}
 use Rattle.kv2.specs.Secrets as secrets
 use Rattle.kv2.specs.Secrets.{Written}
+use Rattle.mounts.specs.Calls.{OnAnswer}
 use Rattle.broker.specs.Context.{Context}
 use Rattle.broker.specs.Forms.{forms}
-use Rattle.broker.specs.parts.SecretCommands.{at, write_version}
-use Rattle.broker.proofs.SecretAnswers.{acts_meant, acts_written, acts_not_written}
-use Rattle.broker.proofs.Serving.{tells_part}
-use Rattle.mounts.specs.Calls.{OnAnswer}
 use Rattle.broker.specs.Reads.{AreReadableSecrets}
 use Rattle.broker.specs.declared.answered.Answered.{Answered}
+use Rattle.broker.specs.parts.SecretCommands.{at, write_version}
+use Rattle.broker.proofs.SecretAnswers.{acts_meant, acts_written, acts_not_written}
 use Rattle.broker.proofs.SecretReads.{no_members_read, none_read, this_read, on_written}
+use Rattle.broker.proofs.Serving.{tells_part}
 use Rattle.broker.proofs.parts.secrets.versions.write.Goals as goal
 
 pub returns-in_err-number-clause-ok : goal.returns-in_err-number-clause-ok
@@ -67,16 +67,17 @@ returns-clause-ok g c good honest b starts =
 
 pub returns-in_err-members-clause-undamaged : goal.returns-in_err-members-clause-undamaged
 returns-in_err-members-clause-undamaged g c honest d means =
+    let readable = AreReadableSecrets (g.T.RecordsTx.seen c.args.tx.now).rows (at c.args.mount.now c.args.path.now) in
     let p = err_from_is_err_and c.from_residual.result c.from_residual.ensures.1 in
     rw (p.1 ∙ ap Err p.2)
-    (no_members_read (AreReadableSecrets (g.T.RecordsTx.seen c.args.tx.now).rows (at c.args.mount.now c.args.path.now)) reader.secret_write write_version c.args.body.now d
-    means c.in_err-members.field-0.0 c.in_err-members.ensures)
+    (no_members_read readable reader.secret_write write_version c.args.body.now d means c.in_err-members.field-0.0 c.in_err-members.ensures)
 
 pub returns-in_err-asked-clause-undamaged : goal.returns-in_err-asked-clause-undamaged
 returns-in_err-asked-clause-undamaged g c honest d means =
+    let readable = AreReadableSecrets (g.T.RecordsTx.seen c.args.tx.now).rows (at c.args.mount.now c.args.path.now) in
     let p = err_from_is_err_and c.from_residual-in_err-asked.result c.from_residual-in_err-asked.ensures.1 in
     rw (p.1 ∙ ap Err p.2)
-    (none_read (AreReadableSecrets (g.T.RecordsTx.seen c.args.tx.now).rows (at c.args.mount.now c.args.path.now)) reader.secret_write write_version c.args.body.now d means
+    (none_read readable reader.secret_write write_version c.args.body.now d means
     (members_of c.in_ok-members.members) c.in_ok-members.ensures c.in_err-asked.field-0.0 c.in_err-asked.ensures.reads)
 
 pub returns-in_err-number-clause-undamaged : goal.returns-in_err-number-clause-undamaged
