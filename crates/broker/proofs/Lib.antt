@@ -15,6 +15,7 @@ pub mod Revocations
 pub mod RoutedBy
 pub mod Routes
 pub mod SecretAnswers
+pub mod SecretReads
 pub mod SecretRoutes
 pub mod SecretTables
 pub mod Serving

@@ -1,19 +1,18 @@
 //! Requests on the secrets of a mount (Vault's documentation, "KV secrets engine - version 2 (API)").
 
-ghost use Rattle.std.specs.Prelude.{◌≡◌, ◌≤◌, ℕ, Ok, length, true};
+ghost use Rattle.std.specs.Prelude.{◌≡◌, ◌≤◌, Ok, length, true};
 ghost use Rattle.broker_types.specs.Limits.{longest_body};
 ghost use Rattle.broker_types.specs.Name.{is_mount_name};
 ghost use Rattle.broker_types.specs.Path.{is_path};
 ghost use Rattle.broker_types.specs.RequestError.{step_fails};
 ghost use Rattle.records.specs.Transaction.{IsHonest, GoesOn};
-ghost use Rattle.api_json.specs.Readers.{version_number};
 ghost use Rattle.mounts.specs.Calls.{OnAnswer, OnFault};
 ghost use Rattle.mounts.specs.Table.{takes_path};
-ghost use Rattle.mounts.specs.declared.operation.SecretOperation.TheVariants as operations;
 ghost use Rattle.broker.specs.ClockRow.{IsNotBadStart};
 ghost use Rattle.broker.specs.Command.{on_secrets};
 ghost use Rattle.broker.specs.Operating.{Operates};
-ghost use Rattle.broker.specs.ReadableRow.{IsReadableSecret};
+ghost use Rattle.broker.specs.Reads.{AreReadableSecrets};
+ghost use Rattle.broker.specs.parts.SecretCommands.{SecretCommand, secret_command};
 
 mod changes;
 mod metadata;
@@ -61,10 +60,10 @@ pub(crate) fn act<T: RecordsTx>(
         → Operates context.now (T.seen tx.old) (T.seen tx.new)
         (λ b. on_secrets operation place.now version.now body.now) result }
 
-    // Whatever the rows are: a read is neither answered nor refused if a row that it asks for is damaged.
-    ensures undamaged { IsHonest (T.seen tx.new) → operation ≡ operations.Read
-        → (n : ℕ) → version_number version.now ≡ Ok n
-        → OnAnswer result (IsReadableSecret (T.seen tx.old).rows place.now n) }
+    // Whatever the rows are: it is neither answered nor refused if a row that the command reads is damaged.
+    ensures undamaged { IsHonest (T.seen tx.new) → (c : SecretCommand)
+        → secret_command operation version.now body.now ≡ Ok c
+        → OnAnswer result (AreReadableSecrets (T.seen tx.old).rows place.now c) }
     ensures started { OnFault result IsNotBadStart }
     ensures goes_on { GoesOn (T.seen tx.old) (T.seen tx.new) (step_fails result) }
 {

@@ -5,13 +5,15 @@ ghost use Rattle.broker_types.specs.Limits.{longest_body};
 ghost use Rattle.broker_types.specs.Name.{is_mount_name};
 ghost use Rattle.broker_types.specs.Path.{is_path};
 ghost use Rattle.broker_types.specs.RequestError.{step_fails};
-ghost use Rattle.records.specs.Transaction.{GoesOn};
-ghost use Rattle.mounts.specs.Calls.{OnFault};
+ghost use Rattle.records.specs.Transaction.{IsHonest, GoesOn};
+ghost use Rattle.kv2.specs.Secrets.{secret_name};
+ghost use Rattle.mounts.specs.Calls.{OnAnswer, OnFault};
 ghost use Rattle.mounts.specs.declared.operation.SecretOperation.TheVariants as operations;
 ghost use Rattle.broker.specs.ClockRow.{IsNotBadStart};
 ghost use Rattle.broker.specs.Command.{on_secret, on_secrets};
 ghost use Rattle.broker.specs.Operating.{Operates};
-ghost use Rattle.broker.specs.parts.SecretCommands.{at, delete_current, remove_secret};
+ghost use Rattle.broker.specs.Reads.{AreReadableSecrets, IsReadableCurrent};
+ghost use Rattle.broker.specs.parts.SecretCommands.{SecretCommand, at, secret_command, delete_current, remove_secret};
 
 use crate::answered::Answered;
 use crate::context::Context;
@@ -32,6 +34,10 @@ pub(super) fn delete_current<T: RecordsTx>(
     ensures ok { is_mount_name mount.now ≡ true → is_path path.now ≡ true
         → Operates context.now (T.seen tx.old) (T.seen tx.new)
         (λ b. Ok (on_secret (at mount.now path.now) delete_current)) result }
+
+    // Whatever the rows are: a damaged row is told neither as deleted nor as absent.
+    ensures undamaged { IsHonest (T.seen tx.new)
+        → OnAnswer result (IsReadableCurrent (T.seen tx.old).rows (secret_name mount.now path.now)) }
     ensures started { OnFault result IsNotBadStart }
     ensures goes_on { GoesOn (T.seen tx.old) (T.seen tx.new) (step_fails result) }
 {
@@ -52,6 +58,11 @@ pub(super) fn delete<T: RecordsTx>(
     ensures ok { is_mount_name mount.now ≡ true → is_path path.now ≡ true
         → Operates context.now (T.seen tx.old) (T.seen tx.new)
         (λ b. on_secrets operations.Delete (at mount.now path.now) [] body.now) result }
+
+    // Whatever the rows are: a damaged row is told neither as deleted nor as absent.
+    ensures undamaged { IsHonest (T.seen tx.new) → (c : SecretCommand)
+        → secret_command operations.Delete [] body.now ≡ Ok c
+        → OnAnswer result (AreReadableSecrets (T.seen tx.old).rows (at mount.now path.now) c) }
     ensures started { OnFault result IsNotBadStart }
     ensures goes_on { GoesOn (T.seen tx.old) (T.seen tx.new) (step_fails result) }
 {
@@ -74,6 +85,11 @@ pub(super) fn undelete<T: RecordsTx>(
     ensures ok { is_mount_name mount.now ≡ true → is_path path.now ≡ true
         → Operates context.now (T.seen tx.old) (T.seen tx.new)
         (λ b. on_secrets operations.Undelete (at mount.now path.now) [] body.now) result }
+
+    // Whatever the rows are: a damaged row is told neither as restored nor as absent.
+    ensures undamaged { IsHonest (T.seen tx.new) → (c : SecretCommand)
+        → secret_command operations.Undelete [] body.now ≡ Ok c
+        → OnAnswer result (AreReadableSecrets (T.seen tx.old).rows (at mount.now path.now) c) }
     ensures started { OnFault result IsNotBadStart }
     ensures goes_on { GoesOn (T.seen tx.old) (T.seen tx.new) (step_fails result) }
 {
@@ -96,6 +112,11 @@ pub(super) fn destroy<T: RecordsTx>(
     ensures ok { is_mount_name mount.now ≡ true → is_path path.now ≡ true
         → Operates context.now (T.seen tx.old) (T.seen tx.new)
         (λ b. on_secrets operations.Destroy (at mount.now path.now) [] body.now) result }
+
+    // Whatever the rows are: a damaged row is told neither as destroyed nor as absent.
+    ensures undamaged { IsHonest (T.seen tx.new) → (c : SecretCommand)
+        → secret_command operations.Destroy [] body.now ≡ Ok c
+        → OnAnswer result (AreReadableSecrets (T.seen tx.old).rows (at mount.now path.now) c) }
     ensures started { OnFault result IsNotBadStart }
     ensures goes_on { GoesOn (T.seen tx.old) (T.seen tx.new) (step_fails result) }
 {

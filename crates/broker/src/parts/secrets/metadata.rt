@@ -2,11 +2,13 @@
 
 ghost use Rattle.std.specs.Prelude.{Ok};
 ghost use Rattle.broker_types.specs.RequestError.{step_fails};
-ghost use Rattle.records.specs.Transaction.{GoesOn};
-ghost use Rattle.mounts.specs.Calls.{OnFault};
+ghost use Rattle.records.specs.Transaction.{IsHonest, GoesOn};
+ghost use Rattle.kv2.specs.Secrets.{secret_name};
+ghost use Rattle.mounts.specs.Calls.{OnAnswer, OnFault};
 ghost use Rattle.broker.specs.ClockRow.{IsNotBadStart};
 ghost use Rattle.broker.specs.Command.{on_secret};
 ghost use Rattle.broker.specs.Operating.{Operates};
+ghost use Rattle.broker.specs.Reads.{IsReadableWhole};
 ghost use Rattle.broker.specs.parts.SecretCommands.{at, show_metadata, list_secrets};
 
 use crate::answered::Answered;
@@ -28,6 +30,10 @@ pub(super) fn show<T: RecordsTx>(
 ) -> Result<Answered, RequestError>
     ensures ok { Operates context.now (T.seen tx.old) (T.seen tx.new)
         (λ b. Ok (on_secret (at mount.now path.now) show_metadata)) result }
+
+    // Whatever the rows are: a damaged row is answered neither as metadata nor as an absent secret.
+    ensures undamaged { IsHonest (T.seen tx.new)
+        → OnAnswer result (IsReadableWhole (T.seen tx.old).rows (secret_name mount.now path.now)) }
     ensures started { OnFault result IsNotBadStart }
     ensures goes_on { GoesOn (T.seen tx.old) (T.seen tx.new) (step_fails result) }
 {

@@ -12,7 +12,8 @@ ghost use Rattle.broker.specs.ClockRow.{IsNotBadStart};
 ghost use Rattle.broker.specs.Command.{on_secrets};
 ghost use Rattle.broker.specs.Operating.{Operates};
 ghost use Rattle.broker.specs.ReadableRow.{IsReadableSecret};
-ghost use Rattle.broker.specs.parts.SecretCommands.{at};
+ghost use Rattle.broker.specs.Reads.{AreReadableSecrets};
+ghost use Rattle.broker.specs.parts.SecretCommands.{SecretCommand, at, secret_command};
 
 use crate::answered::Answered;
 use crate::answers::shown;
@@ -60,6 +61,11 @@ pub(super) fn write<T: RecordsTx>(
     requires { length body.now ≤ longest_body }
     ensures ok { is_path path.now ≡ true → Operates context.now (T.seen tx.old) (T.seen tx.new)
         (λ b. on_secrets operations.Write (at mount.now path.now) [] body.now) result }
+
+    // Whatever the rows are: a write over a damaged row is neither answered nor refused.
+    ensures undamaged { IsHonest (T.seen tx.new) → (c : SecretCommand)
+        → secret_command operations.Write [] body.now ≡ Ok c
+        → OnAnswer result (AreReadableSecrets (T.seen tx.old).rows (at mount.now path.now) c) }
     ensures started { OnFault result IsNotBadStart }
     ensures goes_on { GoesOn (T.seen tx.old) (T.seen tx.new) (step_fails result) }
 {

@@ -1,11 +1,14 @@
 use Rattle.std.proofs.Common.{Some, ap, sym, ◌∙◌}
 use Rattle.records.specs.Parts.{of_secrets}
 use Rattle.records.specs.Table.{table_of}
+use Rattle.kv2.specs.SecretRows.{current_of}
 use Rattle.kv2.specs.Secrets.{secret_name, delete}
 use Rattle.kv2.specs.SoundLaws.{delete_sound, is_secret_name}
+use Rattle.kv2.specs.Versions.{soft_deleted}
 use Rattle.broker.specs.Context.{Context}
 use Rattle.broker.specs.Forms.{forms}
 use Rattle.broker.proofs.SecretAnswers.{acts_changed}
+use Rattle.broker.proofs.SecretReads.{changed_readable}
 use Rattle.broker.proofs.SecretTables.{keeps_outside}
 use Rattle.broker.proofs.Serving.{tells_part}
 use Rattle.broker.proofs.parts.secrets.changes.delete_current.Goals as goal
@@ -24,3 +27,15 @@ returns-clause-ok g c named good honest b starts =
     (ap (λ (x : Context). x.clock) c.context.view_is ∙ sym starts.clock)
     (is_secret_name mount path named (record { good = good; utf8 = c.utf8.path })))
     (keeps_outside (secret_name mount path) (table_of old) (table_of new) (c.in_ok-delete.ensures.others honest))
+
+pub returns-clause-undamaged : goal.returns-clause-undamaged
+returns-clause-undamaged g c honest =
+    let seen = g.T.RecordsTx.seen in
+    let old = table_of (seen c.args.tx.now).rows in
+    let new = table_of (seen c.delete.new.tx).rows in
+    let key = c.in_ok-delete.ensures.damaged honest in (
+      key.0,
+      key.1,
+      changed_readable (soft_deleted c.context.inside.clock) (current_of key.0) (secret_name c.args.mount.now c.args.path.now) old new
+          (c.in_ok-delete.ensures.rows honest key.0 key.1),
+    )

@@ -5,13 +5,16 @@ use Rattle.api_json.specs.Readers as reader
 use Rattle.broker_types.specs.Names.{names_of}
 use Rattle.records.specs.Parts.{Tells, of_secrets}
 use Rattle.records.specs.Table.{table_of}
+use Rattle.kv2.specs.SecretRows.{AreReadableVersions}
 use Rattle.kv2.specs.Secrets.{secret_name, undelete}
 use Rattle.kv2.specs.SoundLaws.{undelete_sound, is_secret_name}
 use Rattle.kv2.specs.Versions.{restored}
 use Rattle.broker.specs.Forms.{forms}
+use Rattle.broker.specs.Reads.{AreReadableSecrets}
 use Rattle.broker.specs.declared.answered.Answered.TheVariants.{Nothing}
 use Rattle.broker.specs.parts.SecretCommands.{at, undelete_versions}
 use Rattle.broker.proofs.SecretAnswers.{acts_meant, acts_changed}
+use Rattle.broker.proofs.SecretReads.{no_members_read, none_read, this_read, changed_readable}
 use Rattle.broker.proofs.SecretTables.{changes_inside}
 use Rattle.broker.proofs.Serving.{tells_part}
 use Rattle.broker.proofs.parts.secrets.changes.undelete.Goals as goal
@@ -41,3 +44,31 @@ returns-clause-ok g c named good honest b starts =
     (c.in_ok-undelete.ensures.told honest forms b st.sound.secrets (tells_part of_secrets b old st)
     (is_secret_name mount path named (record { good = good; utf8 = c.utf8.path }))))
     (changes_inside restored c.as_slice.result.now (secret_name mount path) (table_of old) (table_of new) (c.in_ok-undelete.ensures.rows honest)))
+
+pub returns-in_err-members-clause-undamaged : goal.returns-in_err-members-clause-undamaged
+returns-in_err-members-clause-undamaged g c honest d means =
+    let readable = AreReadableSecrets (g.T.RecordsTx.seen c.args.tx.now).rows (at c.args.mount.now c.args.path.now) in
+    let p = err_from_is_err_and c.from_residual.result c.from_residual.ensures.1 in
+    rw (p.1 ∙ ap Err p.2)
+    (no_members_read readable reader.versions undelete_versions c.args.body.now d means c.in_err-members.field-0.0 c.in_err-members.ensures)
+
+pub returns-in_err-numbers-clause-undamaged : goal.returns-in_err-numbers-clause-undamaged
+returns-in_err-numbers-clause-undamaged g c honest d means =
+    let readable = AreReadableSecrets (g.T.RecordsTx.seen c.args.tx.now).rows (at c.args.mount.now c.args.path.now) in
+    let p = err_from_is_err_and c.from_residual-in_err-numbers.result c.from_residual-in_err-numbers.ensures.1 in
+    rw (p.1 ∙ ap Err p.2)
+    (none_read readable reader.versions undelete_versions c.args.body.now d means
+    (members_of c.in_ok-members.members) c.in_ok-members.ensures c.in_err-numbers.field-0.0 c.in_err-numbers.ensures)
+
+pub returns-clause-undamaged : goal.returns-clause-undamaged
+returns-clause-undamaged g c honest d means =
+    let seen = g.T.RecordsTx.seen in
+    let old = (seen c.args.tx.now).rows in
+    let new = (seen c.undelete.new.tx).rows in
+    let name = secret_name c.args.mount.now c.args.path.now in
+    let readable = AreReadableSecrets old (at c.args.mount.now c.args.path.now) in
+    subst readable
+    (this_read readable reader.versions undelete_versions c.args.body.now d means (members_of c.in_ok-members.members) c.in_ok-members.ensures
+    c.in_ok-numbers.numbers c.in_ok-numbers.ensures)
+    (subst (AreReadableVersions (table_of old) name) c.as_slice.ensures
+    (changed_readable restored c.as_slice.result.now name (table_of old) (table_of new) (c.in_ok-undelete.ensures.rows honest)))

@@ -1,4 +1,5 @@
-use Rattle.std.proofs.Common.{Some, Ok, refl}
+use Rattle.std.proofs.Common.{Some, Ok, Err, refl, ap, subst, ◌∙◌}
+use Rattle.std.proofs.lemmas.Result.{err_from_is_err_and}
 use Rattle.api_json.specs.Parsed.{members_of}
 use Rattle.api_json.specs.Readers as reader
 use Rattle.broker_types.specs.Names.{names_of}
@@ -6,9 +7,11 @@ use Rattle.records.specs.Parts.{of_mounts}
 use Rattle.kv2.specs.Secrets.{set_config}
 use Rattle.kv2.specs.SoundLaws.{set_config_sound}
 use Rattle.broker.specs.Forms.{forms}
+use Rattle.broker.specs.Reads.{AreReadableSecrets}
 use Rattle.broker.specs.declared.answered.Answered.TheVariants.{Nothing}
 use Rattle.broker.specs.parts.SecretCommands.{at, set_settings}
 use Rattle.broker.proofs.SecretAnswers.{acts_meant}
+use Rattle.broker.proofs.SecretReads.{no_members_read, none_read, this_read}
 use Rattle.broker.proofs.SecretTables.{represents-settings}
 use Rattle.broker.proofs.Serving.{tells_part}
 use Rattle.broker.proofs.parts.secrets.settings.set.Goals as goal
@@ -30,3 +33,26 @@ returns-clause-ok g c path honest b starts =
           (c.in_ok-set_config.ensures.told honest b st.sound.mounts (tells_part of_mounts b old st))
           (c.in_ok-set_config.ensures.others honest),
     )
+
+pub returns-in_err-members-clause-undamaged : goal.returns-in_err-members-clause-undamaged
+returns-in_err-members-clause-undamaged g c honest path d means =
+    let readable = AreReadableSecrets (g.T.RecordsTx.seen c.args.tx.now).rows (at c.args.mount.now path) in
+    let p = err_from_is_err_and c.from_residual.result c.from_residual.ensures.1 in
+    rw (p.1 ∙ ap Err p.2)
+    (no_members_read readable reader.mount_settings set_settings c.args.body.now d means c.in_err-members.field-0.0 c.in_err-members.ensures)
+
+pub returns-in_err-asked-clause-undamaged : goal.returns-in_err-asked-clause-undamaged
+returns-in_err-asked-clause-undamaged g c honest path d means =
+    let readable = AreReadableSecrets (g.T.RecordsTx.seen c.args.tx.now).rows (at c.args.mount.now path) in
+    let p = err_from_is_err_and c.from_residual-in_err-asked.result c.from_residual-in_err-asked.ensures.1 in
+    rw (p.1 ∙ ap Err p.2)
+    (none_read readable reader.mount_settings set_settings c.args.body.now d means
+    (members_of c.in_ok-members.members) c.in_ok-members.ensures c.in_err-asked.field-0.0 c.in_err-asked.ensures)
+
+pub returns-clause-undamaged : goal.returns-clause-undamaged
+returns-clause-undamaged g c honest path d means =
+    let readable = AreReadableSecrets (g.T.RecordsTx.seen c.args.tx.now).rows (at c.args.mount.now path) in
+    subst readable
+    (this_read readable reader.mount_settings set_settings c.args.body.now d means (members_of c.in_ok-members.members) c.in_ok-members.ensures
+    c.in_ok-asked.asked c.in_ok-asked.ensures)
+    (c.in_ok-set_config.ensures.damaged honest)

@@ -12,10 +12,14 @@ use Rattle.records.specs.Parts.{Tells, of_secrets, of_mounts}
 use Rattle.records.specs.Table.{table_of}
 use Rattle.kv2.specs.Secrets as secrets
 use Rattle.kv2.specs.Secrets.{Written}
+use Rattle.mounts.specs.Calls.{OnAnswer}
 use Rattle.broker.specs.Context.{Context}
 use Rattle.broker.specs.Forms.{forms}
+use Rattle.broker.specs.Reads.{AreReadableSecrets}
+use Rattle.broker.specs.declared.answered.Answered.{Answered}
 use Rattle.broker.specs.parts.SecretCommands.{at, write_version}
 use Rattle.broker.proofs.SecretAnswers.{acts_meant, acts_written, acts_not_written}
+use Rattle.broker.proofs.SecretReads.{no_members_read, none_read, this_read, on_written}
 use Rattle.broker.proofs.Serving.{tells_part}
 use Rattle.broker.proofs.parts.secrets.versions.write.Goals as goal
 
@@ -60,3 +64,36 @@ returns-clause-ok g c good honest b starts =
     (subst (λ object. EndsOk (λ (v : ℕ) (w : Written). (v ≡ w.number) × Tells of_secrets (table_of new) w.next) c.in_ok-number.number
     (secrets.write b c.args.mount.now c.args.path.now asked.cas object)) text ends)
     (c.in_ok-shown.ensures ∙ ap (λ o. reply (plain_reply (names_of known.words).request o) None) c.in_ok-object.ensures))
+
+pub returns-in_err-members-clause-undamaged : goal.returns-in_err-members-clause-undamaged
+returns-in_err-members-clause-undamaged g c honest d means =
+    let readable = AreReadableSecrets (g.T.RecordsTx.seen c.args.tx.now).rows (at c.args.mount.now c.args.path.now) in
+    let p = err_from_is_err_and c.from_residual.result c.from_residual.ensures.1 in
+    rw (p.1 ∙ ap Err p.2)
+    (no_members_read readable reader.secret_write write_version c.args.body.now d means c.in_err-members.field-0.0 c.in_err-members.ensures)
+
+pub returns-in_err-asked-clause-undamaged : goal.returns-in_err-asked-clause-undamaged
+returns-in_err-asked-clause-undamaged g c honest d means =
+    let readable = AreReadableSecrets (g.T.RecordsTx.seen c.args.tx.now).rows (at c.args.mount.now c.args.path.now) in
+    let p = err_from_is_err_and c.from_residual-in_err-asked.result c.from_residual-in_err-asked.ensures.1 in
+    rw (p.1 ∙ ap Err p.2)
+    (none_read readable reader.secret_write write_version c.args.body.now d means
+    (members_of c.in_ok-members.members) c.in_ok-members.ensures c.in_err-asked.field-0.0 c.in_err-asked.ensures.reads)
+
+pub returns-in_err-number-clause-undamaged : goal.returns-in_err-number-clause-undamaged
+returns-in_err-number-clause-undamaged g c honest d means =
+    let readable = AreReadableSecrets (g.T.RecordsTx.seen c.args.tx.now).rows (at c.args.mount.now c.args.path.now) in
+    let p = err_from_is_err_and c.from_residual-in_err-number.result c.from_residual-in_err-number.ensures.1 in
+    rw (p.1 ∙ ap Err p.2)
+    (subst (λ d. OnAnswer {A = Answered} (Err c.in_err-number.field-0.0) (readable d))
+    (this_read readable reader.secret_write write_version c.args.body.now d means (members_of c.in_ok-members.members) c.in_ok-members.ensures
+    c.in_ok-asked.asked c.in_ok-asked.ensures.reads)
+    (on_written (readable (write_version c.in_ok-asked.asked)) c.in_err-number.field-0.0 (c.in_err-number.ensures.damaged honest)))
+
+pub returns-clause-undamaged : goal.returns-clause-undamaged
+returns-clause-undamaged g c honest d means =
+    let readable = AreReadableSecrets (g.T.RecordsTx.seen c.args.tx.now).rows (at c.args.mount.now c.args.path.now) in
+    subst readable
+    (this_read readable reader.secret_write write_version c.args.body.now d means (members_of c.in_ok-members.members) c.in_ok-members.ensures
+    c.in_ok-asked.asked c.in_ok-asked.ensures.reads)
+    (c.in_ok-number.ensures.damaged honest)
