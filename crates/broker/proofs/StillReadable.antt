@@ -16,7 +16,7 @@ use Rattle.broker_types.specs.Secret.{Version}
 use Rattle.broker_types.specs.Answer.{response_of, refused}
 use Rattle.broker_types.specs.Broker.{Mount}
 use Rattle.broker_types.specs.Refuse.{◌>>=◌}
-use Rattle.broker_types.specs.RequestError.{EndsOk}
+use Rattle.broker_types.specs.RequestError.{EndsErr, EndsOk, EndsRefused}
 use Rattle.broker_types.specs.declared.answer.Answer.{Answer}
 use Rattle.broker_types.specs.declared.ask.Ask.{Ask}
 use Rattle.broker_types.specs.declared.fault.Fault.{Fault}
@@ -101,6 +101,13 @@ pub meant_by_route : (rows : Rows) (a : Ask) (c : Command) (path : Text) (r : Ro
     → EndsOk (λ (found known : Route). found ≡ known) r (route_at asks.mount a.verb path) → command_for r a ≡ Ok c
 meant_by_route rows a c path r at asks ends =
     ap (λ z. command_for z a) (ok_inj (sym (found_is _ r ends) ∙ ap (route_at asks.mount a.verb) at ∙ asks.found)) ∙ asks.meant
+
+-- an ask that means a command has a route
+pub no_route : (A : Type 0) (rows : Rows) (a : Ask) (c : Command) (path : Text) (e : RequestError) (P : Type 0) → path ≡ a.path
+    → (asks : Asks rows a c) → EndsErr ⊤ e (route_at asks.mount a.verb path) → OnAnswer {A = A} (Err e) P
+no_route A rows a c path (Refused x) P at asks ends =
+    absurd (subst (EndsRefused ⊤ x) (ap (route_at asks.mount a.verb) at ∙ asks.found) ends)
+no_route A rows a c path (Given f) P at asks ends = tt
 
 -- what is known at the first segment of a path is known there
 pub known_by : (rows : Rows) (a : Ask) (c : Command) (path : Text) → path ≡ a.path → (asks : Asks rows a c)

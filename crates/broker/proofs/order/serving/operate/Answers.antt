@@ -17,7 +17,7 @@ use Rattle.broker.specs.Serving.{acted}
 use Rattle.broker.specs.declared.answered.Answered.{Answered}
 use Rattle.broker.specs.parts.SecretCommands.{Place, at}
 use Rattle.broker.proofs.CubbyholeAnswers.{ActsAs, meant_there}
-use Rattle.broker.proofs.StillReadable.{cubbyholes_read, tokens_read, secrets_read, known_by, meant_by_route}
+use Rattle.broker.proofs.StillReadable.{cubbyholes_read, tokens_read, secrets_read, known_by, meant_by_route, no_route}
 use Rattle.broker.proofs.Routes.{found_is, meant_on_tokens, mounts_there, operated_by, operated_nowhere, on_answer, on_error}
 use Rattle.broker.proofs.SecretRoutes.{mount_named, meant_on_secrets}
 use Rattle.broker.proofs.Serving.{still_represented}
@@ -164,6 +164,16 @@ returns-in-Secrets-clause-undamaged g c honest command asks =
     (secrets_read found caller ask c.in_ok-found.found c.act-in-Secrets.result c.in-Secrets.operation
     (at c.found.inside.mount.now c.found.inside.parameter.now) c.as_slice-version.result.now c.as_slice-body.result.now
     (is ∙ c.in-Secrets.is) place c.as_slice-version.ensures c.as_slice-body.ensures.bytes (c.act-in-Secrets.ensures.undamaged honest) command meant)
+
+pub returns-in_err-found-clause-undamaged : goal.returns-in_err-found-clause-undamaged
+returns-in_err-found-clause-undamaged g c honest command asks =
+    let rows = (g.T.RecordsTx.seen c.args.tx.now).rows in
+    let ask = c.args.ask.now in
+    let path = c.as_str.ensures.text in
+    let p = err_from_is_err_and c.from_residual.result c.from_residual.ensures.1 in
+    rw (p.1 ∙ ap Err p.2)
+    (no_route Answered rows ask command c.as_str.result.now c.in_err-found.field-0.0 (AreReadable rows c.args.context.now.caller command) path asks
+    (c.in_err-found.ensures.found honest asks.mount (known_by rows ask command c.as_str.result.now path asks)))
 
 pub returns-in-Secrets-clause-mount : goal.returns-in-Secrets-clause-mount
 returns-in-Secrets-clause-mount g c honest =
