@@ -1,5 +1,5 @@
-use cubbyhole::{delete, drop_owner, list, read, write};
 use broker_types::{Bytes, Fault, TextBuf};
+use cubbyhole::{delete, drop_owner, list, read, write};
 use records::{Kind, ListRecords, ListTx, RecordsTx, Row};
 use std::test::Fail;
 

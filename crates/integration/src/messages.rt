@@ -1,8 +1,8 @@
 //! Definitions computed on small inputs, and each call that allocates, run once with enough memory.
 //! Whole requests with their replies are in `tests/rows`.
 
-use http_layer::{AskError, Cut, ask_of, cut, front_refusal, reply_bytes};
 use broker_types::{Answer, Methods, Moment, Status, TextBuf, Verb};
+use http_layer::{AskError, Cut, ask_of, cut, front_refusal, reply_bytes};
 use std::test::Fail;
 
 /// Bytes, with the length and the body of the whole request that they begin with, if they do (`IsFront`).

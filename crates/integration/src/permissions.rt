@@ -1,5 +1,5 @@
-use policies::{Capability, Policy, allows, delete, get, list, rules_of, set};
 use broker_types::{Reason, Refusal, RequestError, TextBuf, Verb};
+use policies::{Capability, Policy, allows, delete, get, list, rules_of, set};
 use records::{ListRecords, ListTx};
 use std::test::Fail;
 

@@ -1,8 +1,8 @@
+use broker_types::Verb::{self, Delete, Get, List, Write};
+use broker_types::{Methods, Reason, Refusal, RequestError};
 use mounts::{
     Cubbyhole, MountType, Operation, SecretOperation, TokenOperation, disable, enable, list, route,
 };
-use broker_types::Verb::{self, Delete, Get, List, Write};
-use broker_types::{Methods, Reason, Refusal, RequestError};
 use records::{ListRecords, ListTx};
 use std::process::Abort;
 use std::test::Fail;

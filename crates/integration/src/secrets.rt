@@ -1,11 +1,11 @@
 //! Secrets over a transaction in memory: each call, run once with enough memory, and check-and-set, pruning and
 //! changes of versions on small examples.
 
+use broker_types::{Bytes, Fault, Moment, Reason, Refusal, RequestError, TextBuf};
 use kv2::{
     SecretVersion, config, delete, delete_versions, destroy, drop_mount, list, metadata, read,
     remove_key, set_config, undelete, write,
 };
-use broker_types::{Bytes, Fault, Moment, Reason, Refusal, RequestError, TextBuf};
 use records::{Engine, Kind, ListRecords, ListTx, MountRecord, RecordsTx, Row, write_mount};
 use std::test::Fail;
 

@@ -1,12 +1,12 @@
 //! Tokens over rows in memory.
 
-use token_tree::{
-    accessors, create, find, find_accessor, renew, revoke, revoke_one, spend, sweep_tokens,
-};
 use broker_types::{Bytes, Fault, Moment, TextBuf};
 use records::{Due, Kind, ListRecords, ListTx, RecordsTx, Row, read_token};
 use std::alloc::Global;
 use std::test::Fail;
+use token_tree::{
+    accessors, create, find, find_accessor, renew, revoke, revoke_one, spend, sweep_tokens,
+};
 
 /// Makes a token of three bytes with two uses, whose accessor is its own text.
 fn put(alloc: Global, tx: &mut ListTx, token: &str, parent: &str, ends: u64) -> Result<(), Fault> {
