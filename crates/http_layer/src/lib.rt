@@ -23,4 +23,3 @@ pub use head::Head;
 pub use laws::{front_laws, refusal_laws, reply_laws};
 pub use refusal::{AskError, HttpRefusal, front_refusal};
 pub use reply::{ReplyBytes, reply_bytes};
-

@@ -30,4 +30,3 @@ pub use secret_metadata::{SecretMetadata, VersionMetadata};
 pub use secret_version::SecretVersion;
 pub use settings::{config, set_config};
 pub use writing::write;
-

@@ -20,4 +20,3 @@ pub use mounting::{disable, enable};
 pub use naming::is_name;
 pub use operation::{Cubbyhole, Operation, Route, SecretOperation, TokenOperation};
 pub use routing::route;
-

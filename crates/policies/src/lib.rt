@@ -23,4 +23,3 @@ pub use laws::{
 pub use listing::list;
 pub use pattern::Pattern;
 pub use rule::{Policy, Rule, Rules};
-

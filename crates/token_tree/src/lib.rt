@@ -21,4 +21,3 @@ pub use orphaning::revoke_one;
 pub use revoking::revoke;
 pub use single::{create, find, renew, spend};
 pub use sweeping::sweep_tokens;
-
