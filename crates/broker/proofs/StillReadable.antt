@@ -57,20 +57,19 @@ use Rattle.mounts.specs.declared.operation.Operation.TheVariants.{Cubbyholes, To
 use Rattle.mounts.specs.declared.operation.SecretOperation.{SecretOperation}
 use Rattle.mounts.specs.declared.operation.TokenOperation.{TokenOperation}
 use Rattle.broker.specs.Command.{Command, on_cubbyhole, on_token, on_secret, command_for, place_of}
-use Rattle.broker.specs.Ending.{of_expired, KeepsCubbyholes}
+use Rattle.broker.specs.Ending.{of_expired}
 use Rattle.broker.specs.Order.{permission_denied}
 use Rattle.broker.specs.ReadableRow.{IsReadable, IsReadableSecret, IsReadableToken, IsReadableDescent, KeepsDamaged}
 use Rattle.broker.specs.Reads as reads
 use Rattle.broker.specs.Reads.{AreReadable, AreReadableBefore, AreReadableObjects, AreReadableTokens, AreReadableSecrets, Asks, IfNamed, named_token}
-use Rattle.broker.specs.Reads.{LacksSudo, IsNotPermitted}
+use Rattle.broker.specs.Reads.{IfOnCubbyhole, LacksSudo, IsNotPermitted}
 use Rattle.broker.specs.parts.Cubbyholes.{CubbyholeCommand, cubbyhole_command, read_object, write_object}
 use Rattle.broker.specs.parts.SecretCommands.{Place, SecretCommand, secret_command, show_settings, set_settings, read_version}
 use Rattle.broker.specs.parts.SecretCommands.{write_version, delete_current, delete_versions, undelete_versions, destroy_versions}
 use Rattle.broker.specs.parts.SecretCommands.{show_metadata, remove_secret, list_secrets}
 use Rattle.broker.specs.parts.TokenCommands.{TokenCommand, token_command, lookup_token, renew_token, revoke_token, revoke_orphan, read_as, read_none}
 use Rattle.broker.proofs.CubbyholeAnswers.{meant_there}
-use Rattle.broker.proofs.Expired.{readable_before, readable_gone}
-use Rattle.broker.proofs.Finishing.{readable_unspent}
+use Rattle.broker.proofs.Expired.{readable_gone}
 use Rattle.broker.proofs.Routes.{found_is, known_still, meant_on_tokens}
 use Rattle.broker.proofs.SecretRoutes.{meant_on_secrets}
 use Rattle.broker.proofs.SecretTables.{of_no_token, of_none_expired}
@@ -290,20 +289,32 @@ damaged_spent old new t spent u readable =
 
 -- ---- from one step to the step before
 
--- what could be read of cubbyholes, of tokens and of secrets at one step could be read before it
-pub record ReadsStill (caller before : Text) (old new : Rows) : Type 0 where
-  pub objects : (path : Text) → IsReadable new caller path → IsReadable old before path
+-- what could be read of tokens and of secrets at one step could be read before it
+pub record ReadsStill (old new : Rows) : Type 0 where
   pub tokens : KeepsDamaged old new
   pub secrets : (k : Kind) (q : Text) → of_secrets k ≡ true → table_of new k q ≡ table_of old k q
   pub mounts : (q : Text) → table_of new kind.Mount q ≡ table_of old kind.Mount q
 
-pub before_step : (caller before : Text) (old new : Rows) → ReadsStill caller before old new → (c : Command) → AreReadableBefore new caller c
-    → AreReadableBefore old before c
-before_step caller before old new still (on_cubbyhole (read_object path)) r = still.objects path r
-before_step caller before old new still (on_cubbyhole (write_object path _)) r = r
-before_step caller before old new still (on_token c) r =
-    named_weaker (IsReadableToken new) (IsReadableToken old) (named_token c) still.tokens r
-before_step caller before old new still (on_secret p c) r = secrets_still old new still.secrets still.mounts p c r
+-- and so could what is read of the cubbyhole of the caller, whom the step before calls by another name
+abbrev pub ObjectsStill : Text → Text → Rows → Rows → Type 0
+ObjectsStill caller before old new = (path : Text) → IsReadable new caller path → IsReadable old before path
+
+pub before_step : (caller before : Text) (old new : Rows) → ReadsStill old new → (c : Command)
+    → IfOnCubbyhole c (ObjectsStill caller before old new) → AreReadableBefore new caller c → AreReadableBefore old before c
+before_step caller before old new still (on_cubbyhole (read_object path)) objects r = objects path r
+before_step caller before old new still (on_cubbyhole (write_object path _)) objects r = r
+before_step caller before old new still (on_token c) objects r = named_weaker (IsReadableToken new) (IsReadableToken old) (named_token c) still.tokens r
+before_step caller before old new still (on_secret p c) objects r = secrets_still old new still.secrets still.mounts p c r
+
+pub if_on_cubbyhole : {P Q : Type 0} (c : Command) → (P → Q) → IfOnCubbyhole c P → IfOnCubbyhole c Q
+if_on_cubbyhole (on_cubbyhole c) f p = f p
+if_on_cubbyhole (on_token c) f p = tt
+if_on_cubbyhole (on_secret p c) f q = tt
+
+pub on_any : {P : Type 0} (c : Command) → P → IfOnCubbyhole c P
+on_any (on_cubbyhole c) p = p
+on_any (on_token c) p = tt
+on_any (on_secret q c) p = tt
 
 -- what a command reads was the same when the request came, but for rows of tokens that it does not name
 pub as_before : (rows : Rows) (caller : Text) (c : Command) → AreReadable rows caller c → AreReadableBefore rows caller c
@@ -332,10 +343,8 @@ module _ (P : Type 0) (ask : Ask) where
   reads_refused r a (inr lacks) is = inr (is ∙ ap refused (ap refusal_in lacks.0), lacks.1)
 
 -- a use is spent, and what is read stays
-pub spent_still : (t : Text) (old new : Rows) → KeepsOthers of_tokens (table_of old) (table_of new) → KeepsDamaged old new
-    → ReadsStill t t old new
-spent_still t old new others damaged = record {
-  objects = λ path r. readable_unspent old new t path others r;
+pub spent_still : (old new : Rows) → KeepsOthers of_tokens (table_of old) (table_of new) → KeepsDamaged old new → ReadsStill old new
+spent_still old new others damaged = record {
   tokens = damaged;
   secrets = λ k q inside. others k q (of_no_token k inside);
   mounts = λ q. others kind.Mount q refl;
@@ -358,10 +367,9 @@ pub caller_here : (rows : Rows) (t u : Text) → t ≡ u → is_some (table_of r
 caller_here rows t u caller some none = false≢true (ap is_some (sym none) ∙ ap (λ v. is_some (table_of rows kind.Token v)) caller ∙ some)
 
 -- what is read stays
-pub expired_still : (old expired new : Rows) (t u : Text) → t ≡ u → table_of expired kind.Token t ≢ None → KeepsCubbyholes old expired
-    → KeepsDamaged old expired → KeepsOthers of_expired (table_of old) (table_of expired) → new ≡ expired → ReadsStill u t old new
-expired_still old expired new t u caller here left damaged others same = record {
-  objects = λ path r. readable_before old expired new t u path left here same caller r;
+pub expired_still : (old expired new : Rows) → KeepsDamaged old expired → KeepsOthers of_expired (table_of old) (table_of expired) → new ≡ expired
+    → ReadsStill old new
+expired_still old expired new damaged others same = record {
   tokens = λ v r. damaged v (subst (λ rows. IsReadableToken rows v) same r);
   secrets = λ k q inside. ap (λ rows. table_of rows k q) same ∙ others k q (of_none_expired k inside);
   mounts = λ q. ap (λ rows. table_of rows kind.Mount q) same ∙ others kind.Mount q refl;

@@ -113,6 +113,11 @@ AreReadableBefore rows caller (on_cubbyhole command) = AreReadableObjects rows c
 AreReadableBefore rows caller (on_token command) = IfNamed (IsReadableToken rows) (named_token command)
 AreReadableBefore rows caller (on_secret place command) = AreReadableSecrets rows place command
 
+-- it is so, if the command is one on a cubbyhole
+abbrev pub IfOnCubbyhole : Command → Type 0 → Type 0
+IfOnCubbyhole (on_cubbyhole command) P = P
+IfOnCubbyhole _ P = ⊤
+
 -- The ask means this command: what is at the first segment of its path is known, and by that the route and the command
 -- are found.
 pub record Asks (rows : Rows) (a : Ask) (command : Command) : Type 0 where

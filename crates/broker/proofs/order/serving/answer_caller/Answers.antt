@@ -12,14 +12,14 @@ use Rattle.broker.specs.Context.{Context}
 use Rattle.broker.specs.Operating.{Starts}
 use Rattle.broker.specs.Order.{Wrapped, finish}
 use Rattle.broker.specs.ReadableRow.{IsReadableToken}
-use Rattle.broker.specs.Reads.{AreReadable, LacksSudo}
+use Rattle.broker.specs.Reads.{AreReadable, IfOnCubbyhole, LacksSudo}
 use Rattle.broker.specs.Representing.{Represents, Gives}
 use Rattle.broker.specs.Serving.{served}
 use Rattle.broker.specs.Stages.{HasServed}
 use Rattle.broker.specs.declared.answered.Answered.{Answered}
 use Rattle.broker.proofs.Callers.{spent_here}
-use Rattle.broker.proofs.Finishing.{if_ok, on_ok}
-use Rattle.broker.proofs.StillReadable.{asks_still, as_before, before_step, spent_still, reads_served, reads_refused, earlier}
+use Rattle.broker.proofs.Finishing.{on_ok, readable_unspent}
+use Rattle.broker.proofs.StillReadable.{ObjectsStill, asks_still, as_before, before_step, on_any, spent_still, reads_served, reads_refused, earlier}
 use Rattle.broker.proofs.Routes.{fault_goes_on}
 use Rattle.broker.proofs.order.serving.answer_caller.Goals as goal
 
@@ -128,11 +128,13 @@ returns-in-Ok-clause-undamaged g c honest command asks =
     let left = honest_before (seen c.serve.new.tx) (seen c.finish.new.tx) _ c.finish.ensures.goes_on honest in
     let mid = honest_before (seen c.spend.new.tx) (seen c.serve.new.tx) _ c.serve.ensures.goes_on left in
     let others = c.in_ok-spend.ensures.others mid in
-    let still = spent_still caller old new others (c.in_ok-spend.ensures.damaged mid) in
+    let still = spent_still old new others (c.in_ok-spend.ensures.damaged mid) in
+    let objects : IfOnCubbyhole command (ObjectsStill caller caller old new) =
+    on_any command (λ path r. readable_unspent old new caller path others r) in
     let asked = asks_still old new c.args.ask.now command (others kind.Mount (cut c.args.ask.now.path).0 refl) asks in
     let readable = reads_served (AreReadable new caller command) c.args.ask.now c.in-Ok.answered (c.in-Ok.ensures.undamaged left command asked) in
-    IfOk-weaker c.finish.result _ _ (λ a room. inl (before_step caller caller old new still command (as_before new caller command readable)))
-    c.finish.ensures.room
+    let before = before_step caller caller old new still command objects (as_before new caller command readable) in
+    IfOk-weaker c.finish.result _ _ (λ a room. inl before) c.finish.ensures.room
 
 pub returns-in-Err-Refused-clause-undamaged : goal.returns-in-Err-Refused-clause-undamaged
 returns-in-Err-Refused-clause-undamaged g c honest command asks =
@@ -143,12 +145,14 @@ returns-in-Err-Refused-clause-undamaged g c honest command asks =
     let left = honest_before (seen c.serve.new.tx) (seen c.finish-in-Err-Refused.new.tx) _ c.finish-in-Err-Refused.ensures.goes_on honest in
     let mid = honest_before (seen c.spend.new.tx) (seen c.serve.new.tx) _ c.serve.ensures.goes_on left in
     let others = c.in_ok-spend.ensures.others mid in
-    let still = spent_still caller old new others (c.in_ok-spend.ensures.damaged mid) in
+    let still = spent_still old new others (c.in_ok-spend.ensures.damaged mid) in
+    let objects : IfOnCubbyhole command (ObjectsStill caller caller old new) =
+    on_any command (λ path r. readable_unspent old new caller path others r) in
     let asked = asks_still old new c.args.ask.now command (others kind.Mount (cut c.args.ask.now.path).0 refl) asks in
     let found : AreReadable new caller command ⊎ LacksSudo {A = Answered} c.args.ask.now (Err (Refused c.in-Err-Refused.refusal)) =
     rw c.in-Err-Refused.field-0-is at (c.in-Err-Refused.ensures.undamaged left command asked) in
     IfOk-weaker c.finish-in-Err-Refused.result _ _
-    (λ a response. earlier (λ readable. before_step caller caller old new still command (as_before new caller command readable))
+    (λ a response. earlier (λ readable. before_step caller caller old new still command objects (as_before new caller command readable))
     (reads_refused (AreReadable new caller command) c.args.ask.now c.in-Err-Refused.refusal a found response))
     c.finish-in-Err-Refused.ensures.refused
 
