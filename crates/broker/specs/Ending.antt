@@ -70,8 +70,8 @@ IsSpentAt rows t spent =
 -- row has changed but those of their accessors.
 abbrev pub HasEnded : Text → Rows → Rows → Type 0
 HasEnded t old new =
-    (ended : List Text) × IsDescent (is_named t) (rows_under old kind.Token []) ended × AreTokenRows ended (table_of old)
-    × (table_of new ≡ without_owners (without_tokens ended (table_of old)) ended)
+    (ended : List Text) × IsDescent (is_named t) (rows_under old kind.Token []) ended
+    × AreTokenRows ended (table_of old) × (table_of new ≡ without_owners (without_tokens ended (table_of old)) ended)
 
 -- if the token t has no uses left, then it has ended; else no row has changed
 pub record EndsCaller (t : Text) (old new : Rows) : Type 0 where

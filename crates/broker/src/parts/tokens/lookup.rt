@@ -37,7 +37,8 @@ pub(super) fn look_up<T: RecordsTx>(
         (λ b. on_tokens operations.LookUp body.now) result }
 
     // Whatever the rows are: it is neither answered nor refused if a row that the command reads is damaged.
-    ensures undamaged { IsHonest (T.seen tx.new) → (c : TokenCommand) → token_command operations.LookUp body.now ≡ Ok c
+    ensures undamaged { IsHonest (T.seen tx.new)
+        → (c : TokenCommand) → token_command operations.LookUp body.now ≡ Ok c
         → OnAnswer result (AreReadableTokens (T.seen tx.old).rows context.now.caller c) }
     ensures started { OnFault result IsNotBadStart }
     ensures goes_on { GoesOn (T.seen tx.old) (T.seen tx.new) (step_fails result) }
@@ -77,7 +78,8 @@ pub(super) fn look_up_accessor<T: RecordsTx>(
         (λ b. on_tokens operations.LookUpAccessor body.now) result }
 
     // Whatever the rows are: it is neither answered nor refused if a row that the command reads is damaged.
-    ensures undamaged { IsHonest (T.seen tx.new) → (c : TokenCommand) → token_command operations.LookUpAccessor body.now ≡ Ok c
+    ensures undamaged { IsHonest (T.seen tx.new)
+        → (c : TokenCommand) → token_command operations.LookUpAccessor body.now ≡ Ok c
         → OnAnswer result (AreReadableTokens (T.seen tx.old).rows context.now.caller c) }
     ensures started { OnFault result IsNotBadStart }
     ensures goes_on { GoesOn (T.seen tx.old) (T.seen tx.new) (step_fails result) }

@@ -38,7 +38,8 @@ pub(super) fn renew<T: RecordsTx>(
         (λ b. on_tokens operations.Renew body.now) result }
 
     // Whatever the rows are: it is neither answered nor refused if a row that the command reads is damaged.
-    ensures undamaged { IsHonest (T.seen tx.new) → (c : TokenCommand) → token_command operations.Renew body.now ≡ Ok c
+    ensures undamaged { IsHonest (T.seen tx.new)
+        → (c : TokenCommand) → token_command operations.Renew body.now ≡ Ok c
         → OnAnswer result (AreReadableTokens (T.seen tx.old).rows context.now.caller c) }
     ensures started { OnFault result IsNotBadStart }
     ensures goes_on { GoesOn (T.seen tx.old) (T.seen tx.new) (step_fails result) }
@@ -60,7 +61,8 @@ pub(super) fn renew_self<T: RecordsTx>(
         (λ b. on_tokens operations.RenewSelf body.now) result }
 
     // Whatever the rows are: it is neither answered nor refused if a row that the command reads is damaged.
-    ensures undamaged { IsHonest (T.seen tx.new) → (c : TokenCommand) → token_command operations.RenewSelf body.now ≡ Ok c
+    ensures undamaged { IsHonest (T.seen tx.new)
+        → (c : TokenCommand) → token_command operations.RenewSelf body.now ≡ Ok c
         → OnAnswer result (AreReadableTokens (T.seen tx.old).rows context.now.caller c) }
     ensures started { OnFault result IsNotBadStart }
     ensures goes_on { GoesOn (T.seen tx.old) (T.seen tx.new) (step_fails result) }

@@ -35,7 +35,8 @@ pub(super) fn revoke<T: RecordsTx>(
         (λ b. on_tokens operations.Revoke body.now) result }
 
     // Whatever the rows are: it is neither answered nor refused if a row that the command reads is damaged.
-    ensures undamaged { IsHonest (T.seen tx.new) → (c : TokenCommand) → token_command operations.Revoke body.now ≡ Ok c
+    ensures undamaged { IsHonest (T.seen tx.new)
+        → (c : TokenCommand) → token_command operations.Revoke body.now ≡ Ok c
         → OnAnswer result (AreReadableTokens (T.seen tx.old).rows context.now.caller c) }
     ensures started { OnFault result IsNotBadStart }
     ensures goes_on { GoesOn (T.seen tx.old) (T.seen tx.new) (step_fails result) }
@@ -57,7 +58,8 @@ pub(super) fn revoke_orphan<T: RecordsTx>(
         (λ b. on_tokens operations.RevokeOrphan body.now) result }
 
     // Whatever the rows are: it is neither answered nor refused if a row that the command reads is damaged.
-    ensures undamaged { IsHonest (T.seen tx.new) → (c : TokenCommand) → token_command operations.RevokeOrphan body.now ≡ Ok c
+    ensures undamaged { IsHonest (T.seen tx.new)
+        → (c : TokenCommand) → token_command operations.RevokeOrphan body.now ≡ Ok c
         → OnAnswer result (AreReadableTokens (T.seen tx.old).rows context.now.caller c) }
     ensures started { OnFault result IsNotBadStart }
     ensures goes_on { GoesOn (T.seen tx.old) (T.seen tx.new) (step_fails result) }
@@ -79,7 +81,8 @@ pub(super) fn revoke_self<T: RecordsTx>(
         (λ b. on_tokens operations.RevokeSelf body.now) result }
 
     // Whatever the rows are: it is neither answered nor refused if a row that the command reads is damaged.
-    ensures undamaged { IsHonest (T.seen tx.new) → (c : TokenCommand) → token_command operations.RevokeSelf body.now ≡ Ok c
+    ensures undamaged { IsHonest (T.seen tx.new)
+        → (c : TokenCommand) → token_command operations.RevokeSelf body.now ≡ Ok c
         → OnAnswer result (AreReadableTokens (T.seen tx.old).rows context.now.caller c) }
     ensures started { OnFault result IsNotBadStart }
     ensures goes_on { GoesOn (T.seen tx.old) (T.seen tx.new) (step_fails result) }
@@ -101,7 +104,8 @@ pub(super) fn revoke_accessor<T: RecordsTx>(
         (λ b. on_tokens operations.RevokeAccessor body.now) result }
 
     // Whatever the rows are: it is neither answered nor refused if a row that the command reads is damaged.
-    ensures undamaged { IsHonest (T.seen tx.new) → (c : TokenCommand) → token_command operations.RevokeAccessor body.now ≡ Ok c
+    ensures undamaged { IsHonest (T.seen tx.new)
+        → (c : TokenCommand) → token_command operations.RevokeAccessor body.now ≡ Ok c
         → OnAnswer result (AreReadableTokens (T.seen tx.old).rows context.now.caller c) }
     ensures started { OnFault result IsNotBadStart }
     ensures goes_on { GoesOn (T.seen tx.old) (T.seen tx.new) (step_fails result) }
