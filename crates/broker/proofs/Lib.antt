@@ -1,6 +1,7 @@
 pub mod Callers
 pub mod ClockCalls
 pub mod Clocks
+pub mod CommandReads
 pub mod CubbyholeAnswers
 pub mod CubbyholeRoutes
 pub mod Ended
@@ -19,7 +20,6 @@ pub mod SecretReads
 pub mod SecretRoutes
 pub mod SecretTables
 pub mod Serving
-pub mod StillReadable
 pub mod SudoPaths
 pub mod TokenAnswers
 pub mod TokenChecks

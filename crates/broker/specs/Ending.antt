@@ -1,6 +1,6 @@
 -- What goes when tokens end within a request (this project's definition).
-use Rattle.std.specs.Prelude.{◌≡◌, ◌≢◌, ◌||◌, ◌==◌, Bool, true, false, List, [], length, Option, Some, None}
-use Rattle.std.specs.Prelude.{if◌then◌else◌}
+use Rattle.std.specs.Prelude.{◌≡◌, ◌≢◌, ◌||◌, ◌==◌, ℕ, max, Bool, true, false, List, [], length}
+use Rattle.std.specs.Prelude.{Option, Some, None, if◌then◌else◌}
 use Rattle.std.specs.FinMap as map
 use Rattle.std.specs.Option.{option_map_or}
 use Rattle.broker_types.specs.Text.{Text}
@@ -13,11 +13,12 @@ use Rattle.records.specs.Parts.{Part, of_clock, of_tokens, of_cubbyholes}
 use Rattle.records.specs.Ranges.{IsTokenInRange}
 use Rattle.records.specs.Reading.{IsSomeIn}
 use Rattle.records.specs.Rows.{token_len}
-use Rattle.records.specs.Table.{table_of}
+use Rattle.records.specs.RowForms.{clock_row}
+use Rattle.records.specs.Table.{table_of, with_row}
 use Rattle.records.specs.TokenEntry.{TokenEntry}
 use Rattle.records.specs.Transaction.{Rows, rows_under}
-use Rattle.token_tree.specs.Ended.{IsDescent, is_named}
-use Rattle.token_tree.specs.Endings.{AreTokenRows, without_tokens}
+use Rattle.token_tree.specs.Ended.{IsDescent, has_come, is_named}
+use Rattle.token_tree.specs.Endings.{AreTokenRows, EndsDescent, without_tokens}
 use Rattle.token_tree.specs.TokenRows.{IsTokenAt}
 use Rattle.cubbyhole.specs.Cubbyhole.{object_at}
 use Rattle.cubbyhole.specs.Laws.{without_owners}
@@ -54,9 +55,28 @@ KeepsCubbyholes old new =
 abbrev pub HaveNoLeases : Tokens → Type 0
 HaveNoLeases ts = (t : Text) (x : Token) → get ts t ≡ Some x → x.leases ≡ empty
 
+-- ---- the clock and what ends by it, whatever the rows are
+
+-- the clock's row was that of a moment, and is that of the later of this and the moment that is given
+pub record Advances (moment now : ℕ) (old new : Rows) : Type 0 where
+  pub clock : ℕ
+  pub was : table_of old kind.Clock [] ≡ Some (clock_row clock)
+  pub later : now ≡ max clock moment
+  pub is : table_of new ≡ with_row (table_of old) kind.Clock [] (clock_row now)
+
+-- The clock has moved on, and what has come to its end by then has ended with all below it: the rows of these tokens
+-- were read, and are gone with those of their accessors and their cubbyholes. No other row has changed.
+pub record Expires (moment now : ℕ) (old new : Rows) : Type 0 where
+  pub timed : Rows
+  pub swept : Rows
+  pub ended : List Text
+  pub advances : Advances moment now old timed
+  pub ends : EndsDescent (has_come now) timed ended swept
+  pub rows : table_of new ≡ without_owners (table_of swept) ended
+
 -- ---- a caller that has spent its last use, whatever the rows are
 
--- a token with limited uses has none left
+-- whether the uses of a token are limited and none is left
 abbrev pub has_no_uses : TokenEntry → Bool
 has_no_uses x = option_map_or (λ n. n == 0) x.uses_left false
 
@@ -66,8 +86,8 @@ IsSpentAt rows t spent =
     (entry : Option TokenEntry) × IsSomeIn IsTokenInRange entry × IsTokenAt (table_of rows) t entry
     × (spent ≡ option_map_or has_no_uses entry false)
 
--- The token t has ended with all below it and with their cubbyholes. The rows of these tokens were read, and no other
--- row has changed but those of their accessors.
+-- The rows of t and of all below it were read. They are gone, with those of their accessors and their cubbyholes. No
+-- other row has changed.
 abbrev pub HasEnded : Text → Rows → Rows → Type 0
 HasEnded t old new =
     (ended : List Text) × IsDescent (is_named t) (rows_under old kind.Token []) ended

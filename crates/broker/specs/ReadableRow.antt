@@ -18,6 +18,7 @@ use Rattle.broker_types.specs.Secret.{Version}
 use Rattle.kv2.specs.SecretRows.{IsReading}
 use Rattle.kv2.specs.Secrets.{secret_name}
 use Rattle.broker.specs.parts.SecretCommands.{Place}
+use Rattle.broker.specs.Ending.{Expires}
 use Rattle.broker.specs.Order.{permission_denied}
 
 -- the row at the path of t's cubbyhole is that of some object, or there is none
@@ -35,7 +36,7 @@ abbrev pub IsReadableToken : Rows → Text → Type 0
 IsReadableToken rows t =
     (entry : Option TokenEntry) × IsSomeIn IsTokenInRange entry × IsTokenAt (table_of rows) t entry
 
--- the rows of the token t and of all below it are those of tokens; none, if t has no row
+-- the rows of the token t and of all below it are those of tokens; if t has no row, there are none
 abbrev pub IsReadableDescent : Rows → Text → Type 0
 IsReadableDescent rows t =
     (ended : List Text) × IsDescent (is_named t) (rows_under rows kind.Token []) ended
@@ -45,6 +46,8 @@ IsReadableDescent rows t =
 abbrev pub KeepsDamaged : Rows → Rows → Type 0
 KeepsDamaged old new = (t : Text) → IsReadableToken new t → IsReadableToken old t
 
--- the answer is 403 `permission denied`, and there is no token t
-abbrev pub IsDenied : Answer → Rows → Text → Type 0
-IsDenied a rows t = (response_of a ≡ refused permission_denied) × (map.get rows (kind.Token, t) ≡ None)
+-- the answer is 403 `permission denied`: once tokens have expired there is no token t, and nothing else was done
+abbrev pub IsDenied : ℕ → Answer → Rows → Rows → Text → Type 0
+IsDenied moment a old new t =
+    (response_of a ≡ refused permission_denied) × (map.get new (kind.Token, t) ≡ None)
+    × (now : ℕ) × Expires moment now old new

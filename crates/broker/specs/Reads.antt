@@ -1,6 +1,8 @@
--- Which rows a command reads, and that none of them is damaged (this project's definition). What a command only writes,
--- lists by its key or takes away is not read.
-use Rattle.std.specs.Prelude.{◌≡◌, true, Option, Some, None, Result, Ok, Err, ⊤}
+-- Which rows a command reads, and that none of them is damaged (this project's definition). What a command only writes or
+-- takes away is not read, nor is a row of which only the key, the owner or the end is looked at. The row of the mount is
+-- read before, by the route.
+use Rattle.std.specs.Prelude.{◌≡◌, ◌⊎◌, ◌||◌, not, codes, ℕ, Bool, true, false, Option, Some, None, Result, Ok, Err, ⊤}
+use Rattle.std.specs.Option.{option_map_or}
 use Rattle.broker_types.specs.Answer.{response_of, refused}
 use Rattle.broker_types.specs.Broker.{Mount}
 use Rattle.broker_types.specs.Text.{Text}
@@ -8,16 +10,22 @@ use Rattle.broker_types.specs.declared.answer.Answer.{Answer}
 use Rattle.broker_types.specs.declared.ask.Ask.{Ask}
 use Rattle.broker_types.specs.declared.request_error.RequestError.{RequestError}
 use Rattle.broker_types.specs.declared.request_error.RequestError.TheVariants.{Refused}
+use Rattle.records.specs.Children.{has}
 use Rattle.records.specs.KeyEntry.{KeyEntry}
+use Rattle.records.specs.Ranges.{IsTokenInRange}
+use Rattle.records.specs.Reading.{IsSomeIn}
 use Rattle.records.specs.Table.{table_of}
+use Rattle.records.specs.TokenEntry.{TokenEntry}
 use Rattle.records.specs.Transaction.{Rows}
 use Rattle.kv2.specs.Metadata.{Metadata}
 use Rattle.kv2.specs.SecretRows as kv2
 use Rattle.kv2.specs.Secrets.{secret_name}
 use Rattle.token_tree.specs.Accessors.{AreAccessorRows, IsFoundAt}
+use Rattle.token_tree.specs.TokenRows.{ChangesToken, IsTokenAt, spent_entry}
 use Rattle.mounts.specs.MountRows.{IsKnownAt}
 use Rattle.mounts.specs.Route.{Route, cut, route_at}
 use Rattle.broker.specs.Command.{Command, on_cubbyhole, on_token, on_secret, command_for}
+use Rattle.broker.specs.Ending.{Expires}
 use Rattle.broker.specs.Order.{permission_denied}
 use Rattle.broker.specs.Permission.{needs_sudo}
 use Rattle.broker.specs.ReadableRow.{IsReadable, IsReadableSecret, IsReadableToken, IsReadableDescent}
@@ -37,16 +45,16 @@ AreReadableObjects rows caller (write_object path _) = ⊤
 
 -- ---- tokens
 
--- it is so of the token that is named, if there is one
+-- this holds of the token, if one is named
 abbrev pub IfNamed : (Text → Type 0) → Option Text → Type 0
 IfNamed P None = ⊤
 IfNamed P (Some t) = P t
 
--- the row of the accessor is that of what it names, or there is none; and it is so of the token that it names
+-- the row of the accessor can be read, or there is none; and if it names a token, this holds of the token
 abbrev pub IsReadableName : Rows → (Text → Type 0) → Text → Type 0
 IsReadableName rows P accessor = (found : Option Text) × IsFoundAt (table_of rows) accessor found × IfNamed P found
 
--- The row of the caller is not among them where a token is made: each request reads it before its command.
+-- a creation reads the row of the caller alone, which has been read and written before: its use was spent
 abbrev pub AreReadableTokens : Rows → Text → TokenCommand → Type 0
 AreReadableTokens rows caller (create_token asked) = ⊤
 AreReadableTokens rows caller (create_orphan asked) = ⊤
@@ -98,26 +106,6 @@ AreReadable rows caller (on_cubbyhole command) = AreReadableObjects rows caller 
 AreReadable rows caller (on_token command) = AreReadableTokens rows caller command
 AreReadable rows caller (on_secret place command) = AreReadableSecrets rows place command
 
--- the token that a command names in its body
-abbrev pub named_token : TokenCommand → Option Text
-named_token (lookup_token t) = Some t
-named_token (renew_token asked) = Some asked.token
-named_token (revoke_token t) = Some t
-named_token (revoke_orphan t) = Some t
-named_token _ = None
-
--- The same of the rows as they were before tokens expired and a use was spent. What a command reads of cubbyholes and
--- secrets was the same then; of tokens this is said of the one that the command names.
-abbrev pub AreReadableBefore : Rows → Text → Command → Type 0
-AreReadableBefore rows caller (on_cubbyhole command) = AreReadableObjects rows caller command
-AreReadableBefore rows caller (on_token command) = IfNamed (IsReadableToken rows) (named_token command)
-AreReadableBefore rows caller (on_secret place command) = AreReadableSecrets rows place command
-
--- it is so, if the command is one on a cubbyhole
-abbrev pub IfOnCubbyhole : Command → Type 0 → Type 0
-IfOnCubbyhole (on_cubbyhole command) P = P
-IfOnCubbyhole _ P = ⊤
-
 -- The ask means this command: what is at the first segment of its path is known, and by that the route and the command
 -- are found.
 pub record Asks (rows : Rows) (a : Ask) (command : Command) : Type 0 where
@@ -127,12 +115,40 @@ pub record Asks (rows : Rows) (a : Ask) (command : Command) : Type 0 where
   pub found : route_at mount a.verb a.path ≡ Ok route
   pub meant : command_for route a ≡ Ok command
 
+-- ---- when it is read
+
+-- the rows when a command of the token t is carried out: tokens have expired, and t has spent a use
+pub record AreAtCommand (moment : ℕ) (t : Text) (old rows : Rows) : Type 0 where
+  pub now : ℕ
+  pub expired : Rows
+  pub expires : Expires moment now old expired
+  pub spends : ChangesToken t spent_entry (table_of expired) (table_of rows)
+
 -- ---- a caller without `sudo`
 
--- the ask is refused as not permitted, and its path asks for `sudo`
-abbrev pub LacksSudo : {A : Type 0} → Ask → Result A RequestError → Type 0
-LacksSudo a result = (result ≡ Err (Refused permission_denied)) × (needs_sudo a.path ≡ true)
+-- by its row the token has the policy `root` or not; a token that is not there has none
+abbrev pub IsRootAt : Rows → Text → Bool → Type 0
+IsRootAt rows t root =
+    (entry : Option TokenEntry) × IsSomeIn IsTokenInRange entry × IsTokenAt (table_of rows) t entry
+    × (root ≡ option_map_or (λ e. has e.policies (codes "root")) entry false)
+
+-- by its row the token may ask at the path, or not
+abbrev pub IsPermittedAt : Rows → Text → Text → Bool → Type 0
+IsPermittedAt rows t path permitted =
+    (root : Bool) × (needs_sudo path ≡ true → IsRootAt rows t root) × (permitted ≡ (not (needs_sudo path) || root))
+
+-- the path asks for `sudo`, and the token does not have it
+abbrev pub LacksSudo : Rows → Text → Ask → Type 0
+LacksSudo rows t ask = (needs_sudo ask.path ≡ true) × IsRootAt rows t false
+
+-- it is refused for that
+abbrev pub IsNotPermitted : {A : Type 0} → Rows → Text → Ask → Result A RequestError → Type 0
+IsNotPermitted rows t ask result = (result ≡ Err (Refused permission_denied)) × LacksSudo rows t ask
 
 -- it is answered so
-abbrev pub IsNotPermitted : Ask → Answer → Type 0
-IsNotPermitted ask a = (response_of a ≡ refused permission_denied) × (needs_sudo ask.path ≡ true)
+abbrev pub IsToldNotPermitted : Rows → Text → Ask → Answer → Type 0
+IsToldNotPermitted rows t ask a = (response_of a ≡ refused permission_denied) × LacksSudo rows t ask
+
+-- none of the rows that the command of the token t reads is damaged, or t may not ask for it
+abbrev pub IsReadOrNotPermitted : Rows → Text → Command → Ask → Answer → Type 0
+IsReadOrNotPermitted rows t command ask a = AreReadable rows t command ⊎ IsToldNotPermitted rows t ask a

@@ -10,8 +10,9 @@ ghost use Rattle.records.specs.declared.kind.Kind.TheVariants as kind;
 ghost use Rattle.records.specs.Parts.{KeepsOthers, of_tokens};
 ghost use Rattle.records.specs.Table.{table_of};
 ghost use Rattle.records.specs.Transaction.{IsHonest, IsCall, GoesOn, is_storage};
+ghost use Rattle.token_tree.specs.TokenRows.{ChangesToken, spent_entry};
 ghost use Rattle.broker.specs.ClockRow.{IsNotBadStart};
-ghost use Rattle.broker.specs.ReadableRow.{IsReadableToken, KeepsDamaged};
+ghost use Rattle.broker.specs.ReadableRow.{IsReadableToken};
 ghost use Rattle.broker.specs.Representing.{Represents};
 ghost use Rattle.broker.specs.Stages.{IsFound};
 
@@ -43,11 +44,11 @@ pub(crate) fn spend<T: RecordsTx>(alloc: Global, tx: &mut T, caller: &str) -> Re
     // Whatever the rows are: nobody has spent a use whose row is damaged.
     ensures readable { IsHonest (T.seen tx.new) → OnOk result (IsReadableToken (T.seen tx.old).rows caller.now) }
 
-    // Nor is a damaged row of any token mended.
-    ensures damaged { IsHonest (T.seen tx.new)
-        → OnOk result (KeepsDamaged (T.seen tx.old).rows (T.seen tx.new).rows) }
+    // Nor does any row change but this one, by one use less.
+    ensures rows { IsHonest (T.seen tx.new) → OnOk result
+        (ChangesToken caller.now spent_entry (table_of (T.seen tx.old).rows) (table_of (T.seen tx.new).rows)) }
 
-    // Nor does any row change but those of tokens.
+    // So no row changes but those of tokens.
     ensures others { IsHonest (T.seen tx.new)
         → OnOk result (KeepsOthers of_tokens (table_of (T.seen tx.old).rows) (table_of (T.seen tx.new).rows)) }
     ensures started { IfErr result IsNotBadStart }

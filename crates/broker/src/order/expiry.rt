@@ -9,7 +9,7 @@ ghost use Rattle.records.specs.Parts.{KeepsOthers, of_clock};
 ghost use Rattle.records.specs.Table.{table_of};
 ghost use Rattle.records.specs.Transaction.{IsHonest, GoesOn, is_storage};
 ghost use Rattle.broker.specs.ClockRow.{NeedsClock};
-ghost use Rattle.broker.specs.Ending.{of_expired, HasTokenKeys, KeepsCubbyholes};
+ghost use Rattle.broker.specs.Ending.{of_expired, Advances, Expires, HasTokenKeys, KeepsCubbyholes};
 ghost use Rattle.broker.specs.ReadableRow.{KeepsDamaged};
 ghost use Rattle.broker.specs.Representing.{Represents};
 
@@ -33,7 +33,11 @@ pub(crate) fn expire<T: RecordsTx>(
         → IfErr result IsMemoryOrStorage }
     ensures clock { IsHonest (T.seen tx.new) → NeedsClock (T.seen tx.old).rows result }
 
-    // Whatever the rows are: no row changes but those of the clock, of tokens and of cubbyholes.
+    // Whatever the rows are: the clock moves on, and what has come to its end ends.
+    ensures rows { IsHonest (T.seen tx.new)
+        → IfOk result (λ now. Expires moment now (T.seen tx.old).rows (T.seen tx.new).rows) }
+
+    // Nor does any row change but those of the clock, of tokens and of cubbyholes.
     ensures others { IsHonest (T.seen tx.new)
         → OnOk result (KeepsOthers of_expired (table_of (T.seen tx.old).rows) (table_of (T.seen tx.new).rows)) }
 
@@ -60,7 +64,11 @@ fn advance_clock<T: RecordsTx>(alloc: Global, tx: &mut T, moment: Moment) -> Res
         → IfErr result IsMemoryOrStorage }
     ensures clock { IsHonest (T.seen tx.new) → NeedsClock (T.seen tx.old).rows result }
 
-    // Whatever the rows are: no row but the clock's changes.
+    // Whatever the rows are: the clock's row is read and written.
+    ensures rows { IsHonest (T.seen tx.new)
+        → IfOk result (λ now. Advances moment now (T.seen tx.old).rows (T.seen tx.new).rows) }
+
+    // Nor does any other row change.
     ensures others { IsHonest (T.seen tx.new)
         → OnOk result (KeepsOthers of_clock (table_of (T.seen tx.old).rows) (table_of (T.seen tx.new).rows)) }
     ensures goes_on { GoesOn (T.seen tx.old) (T.seen tx.new) (is_storage result) }

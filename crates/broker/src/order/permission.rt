@@ -7,7 +7,7 @@ ghost use Rattle.broker_types.specs.declared.ask.Verb.{Verb};
 ghost use Rattle.records.specs.Transaction.{IsHonest, GoesOn, is_storage};
 ghost use Rattle.broker.specs.ClockRow.{IsNotBadStart};
 ghost use Rattle.broker.specs.Permission as permission;
-ghost use Rattle.broker.specs.ReadableRow.{IsReadableToken};
+ghost use Rattle.broker.specs.Reads.{IsPermittedAt};
 ghost use Rattle.broker.specs.Representing.{Represents};
 
 use broker_types::{Denial, Fault, Refusal};
@@ -34,9 +34,9 @@ pub(crate) fn is_permitted<T: RecordsTx>(
 
     // Whatever the rows are: nobody is denied a path that does not ask for `sudo`.
     ensures denied { IfOk result (λ v. v ≡ false → permission.needs_sudo path.now ≡ true) }
-    // Nor is it said of a caller whose row is damaged whether it may ask at one that does.
-    ensures undamaged { IsHonest (T.seen tx.new) → permission.needs_sudo path.now ≡ true
-        → OnOk result (IsReadableToken (T.seen tx.old).rows caller.now) }
+    // Nor one that does, but by the row of the caller.
+    ensures found { IsHonest (T.seen tx.new)
+        → IfOk result (IsPermittedAt (T.seen tx.old).rows caller.now path.now) }
     ensures same { IsHonest (T.seen tx.new) → OnOk result ((T.seen tx.new).rows ≡ (T.seen tx.old).rows) }
     ensures started { IfErr result IsNotBadStart }
     ensures goes_on { GoesOn (T.seen tx.old) (T.seen tx.new) (is_storage result) }

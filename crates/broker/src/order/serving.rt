@@ -1,20 +1,22 @@
 //! A caller is served.
 
-ghost use Rattle.std.specs.Prelude.{◌≡◌, ◌≢◌, ◌⊎◌, None, Some, IfOk, IfErr, OnOk};
+ghost use Rattle.std.specs.Prelude.{◌≡◌, ◌≢◌, ◌⊎◌, false, None, Some, IfOk, IfErr, OnOk};
 ghost use Rattle.broker_types.specs.Broker.{Broker};
 ghost use Rattle.broker_types.specs.Map.{get};
 ghost use Rattle.broker_types.specs.Names.{names_of};
 ghost use Rattle.broker_types.specs.RequestError.{Ends, step_fails};
 ghost use Rattle.records.specs.Table.{table_of};
-ghost use Rattle.records.specs.Transaction.{IsHonest, GoesOn};
+ghost use Rattle.records.specs.Transaction.{IsHonest, GoesOn, Rows};
+ghost use Rattle.token_tree.specs.TokenRows.{ChangesToken, spent_entry};
 ghost use Rattle.mounts.specs.Calls.{OnAnswer, OnFault};
 ghost use Rattle.mounts.specs.MountRows.{IsReadableAt};
 ghost use Rattle.mounts.specs.Route.{cut};
 ghost use Rattle.broker.specs.ClockRow.{IsNotBadStart};
 ghost use Rattle.broker.specs.Command.{Command, command_of};
+ghost use Rattle.broker.specs.Ending.{IsSpentAt};
 ghost use Rattle.broker.specs.Operating.{Starts, Operates};
 ghost use Rattle.broker.specs.ReadableRow.{IsReadableToken};
-ghost use Rattle.broker.specs.Reads.{AreReadable, AreReadableBefore, Asks, LacksSudo, IsNotPermitted};
+ghost use Rattle.broker.specs.Reads.{AreReadable, Asks, IsNotPermitted, IsReadOrNotPermitted};
 ghost use Rattle.broker.specs.Representing.{Represents, Gives};
 ghost use Rattle.broker.specs.Safely.{AnswersSafely};
 ghost use Rattle.broker.specs.Serving.{called, served};
@@ -44,10 +46,16 @@ pub(crate) fn answer_caller<T: RecordsTx>(
         → IfOk result (λ a. Gives a (T.seen tx.new).rows
         (called b context.now.caller (names_of context.now.words) ask.now)) }
 
-    // Whatever the rows are: it is not answered if a row that the command reads is damaged, unless it is denied for
-    // want of `sudo`.
+    // Whatever the rows are: once the caller has spent its use, it is not answered if a row that the command reads is
+    // damaged, unless it is denied for want of `sudo`.
     ensures undamaged { IsHonest (T.seen tx.new) → (c : Command) → Asks (T.seen tx.old).rows ask.now c
-        → IfOk result (λ a. AreReadableBefore (T.seen tx.old).rows context.now.caller c ⊎ IsNotPermitted ask.now a) }
+        → IfOk result (λ a. (rows : Rows)
+        × ChangesToken context.now.caller spent_entry (table_of (T.seen tx.old).rows) (table_of rows)
+        × IsReadOrNotPermitted rows context.now.caller c ask.now a) }
+
+    // And afterwards there is no caller without uses left.
+    ensures ends { IsHonest (T.seen tx.new)
+        → OnOk result (IsSpentAt (T.seen tx.new).rows context.now.caller false) }
 
     // Nor is anything if the row of the mount that the path names is damaged.
     ensures mount { IsHonest (T.seen tx.new)
@@ -84,7 +92,8 @@ fn serve<T: RecordsTx>(
     // Whatever the rows are: it is neither answered nor refused if a row that the command reads is damaged, unless it
     // is refused for want of `sudo`.
     ensures undamaged { IsHonest (T.seen tx.new) → (c : Command) → Asks (T.seen tx.old).rows ask.now c
-        → OnAnswer result (AreReadable (T.seen tx.old).rows context.now.caller c ⊎ LacksSudo ask.now result) }
+        → OnAnswer result (AreReadable (T.seen tx.old).rows context.now.caller c
+        ⊎ IsNotPermitted (T.seen tx.old).rows context.now.caller ask.now result) }
 
     // Nor is anything if the row of the mount that the path names is damaged.
     ensures mount { IsHonest (T.seen tx.new)

@@ -2,7 +2,6 @@ use Rattle.std.proofs.lemmas.Result.{on_ok_weaker}
 use Rattle.broker.specs.Forms.{forms}
 use Rattle.broker.proofs.Callers.{represents-spend, on_both}
 use Rattle.broker.proofs.Expired.{represents_tokens}
-use Rattle.broker.proofs.StillReadable.{damaged_spent}
 use Rattle.broker.proofs.order.caller.spend.Goals as goal
 
 pub returns-clause-ok : goal.returns-clause-ok
@@ -19,8 +18,3 @@ returns-clause-wants g c honest b st =
 pub returns-clause-readable : goal.returns-clause-readable
 returns-clause-readable g c honest =
     on_ok_weaker c.spend.result (λ spent. (spent.entry, spent.in_range, spent.was)) (c.spend.ensures.rows honest)
-
-pub returns-clause-damaged : goal.returns-clause-damaged
-returns-clause-damaged g c honest =
-    let seen = g.T.RecordsTx.seen in
-    on_ok_weaker c.spend.result (damaged_spent (seen c.args.tx.now).rows (seen c.spend.new.tx).rows c.args.caller.now) (c.spend.ensures.rows honest)

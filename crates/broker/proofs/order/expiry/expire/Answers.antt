@@ -75,3 +75,17 @@ returns-clause-damaged g c honest =
     damaged_still (seen c.args.tx.now).rows (seen c.advance_clock.new.tx).rows mid (seen c.drop_cubbyholes.new.tx).rows (has_come c.in_ok-now.now)
     c.in_ok-ended.ended.items (c.in_ok-now.ensures.others ticked) (c.in_ok-ended.ensures.rows swept)
     (c.in_ok-drop_cubbyholes.ensures.rows honest ∙ ap (without_owners (table_of mid)) c.deref.ensures.value)
+
+pub returns-clause-rows : goal.returns-clause-rows
+returns-clause-rows g c honest =
+    let seen = g.T.RecordsTx.seen in
+    let swept = honest_before (seen c.sweep_tokens.new.tx) (seen c.drop_cubbyholes.new.tx) _ c.drop_cubbyholes.ensures.call.goes_on honest in
+    let ticked = honest_before (seen c.advance_clock.new.tx) (seen c.sweep_tokens.new.tx) _ c.sweep_tokens.ensures.goes_on swept in
+    record {
+      timed = (seen c.advance_clock.new.tx).rows;
+      swept = (seen c.sweep_tokens.new.tx).rows;
+      ended = c.in_ok-ended.ended.items;
+      advances = c.in_ok-now.ensures.rows ticked;
+      ends = c.in_ok-ended.ensures.rows swept;
+      rows = c.in_ok-drop_cubbyholes.ensures.rows honest ∙ ap (without_owners (table_of (seen c.sweep_tokens.new.tx).rows)) c.deref.ensures.value;
+    }

@@ -1,4 +1,5 @@
-use Rattle.std.specs.Prelude.{List, codes}
+use Rattle.std.specs.Prelude.{List, codes, not, ◌||◌, false}
+use Rattle.std.specs.Option.{option_map_or}
 use Rattle.std.proofs.Common.{sym, ap, ◌∙◌}
 use Rattle.std.proofs.lemmas.Result.{err_from_is_err_and}
 use Rattle.records.specs.ValueLaws.{none_of}
@@ -32,9 +33,19 @@ returns-clause-ok g c honest b verb st =
     (c.is_among.ensures
     ∙ ap (λ (policies : List Text). has policies (codes "root")) (c.deref.ensures.value ∙ ap (λ (e : TokenEntry). e.policies) c.token.view_is)))
 
-pub returns-in_default-clause-undamaged : goal.returns-in_default-clause-undamaged
-returns-in_default-clause-undamaged g c honest sudo =
-    (c.in_ok-token.field-0, c.in_ok-token.ensures.in_range, c.in_ok-token.ensures.found honest)
+pub returns-in_default-clause-found : goal.returns-in_default-clause-found
+returns-in_default-clause-found g c honest =
+    let needs = sym c.needs_sudo.ensures ∙ c.if-not-needs_sudo.false in
+    let none = sym (ap (λ o. option_map_or (λ (e : TokenEntry). has e.policies (codes "root")) o false) (none_of _ c.in_default.not-Some)) in
+    (false, (λ _. (c.in_ok-token.field-0, c.in_ok-token.ensures.in_range, c.in_ok-token.ensures.found honest, none)), ap (λ v. not v || false) (sym needs))
 
-pub returns-clause-undamaged : goal.returns-clause-undamaged
-returns-clause-undamaged g c honest sudo = (c.in_ok-token.field-0, c.in_ok-token.ensures.in_range, c.in_ok-token.ensures.found honest)
+pub returns-clause-found : goal.returns-clause-found
+returns-clause-found g c honest =
+    let needs = sym c.needs_sudo.ensures ∙ c.if-not-needs_sudo.false in
+    let root = c.is_among.ensures
+    ∙ ap (λ (policies : List Text). has policies (codes "root")) (c.deref.ensures.value ∙ ap (λ (e : TokenEntry). e.policies) c.token.view_is)
+    ∙ sym (ap (λ o. option_map_or (λ (e : TokenEntry). has e.policies (codes "root")) o false) c.in-Some.is) in (
+      c.is_among.result,
+      (λ _. (c.in_ok-token.field-0, c.in_ok-token.ensures.in_range, c.in_ok-token.ensures.found honest, root)),
+      ap (λ v. not v || c.is_among.result) (sym needs),
+    )

@@ -1,6 +1,6 @@
-use Rattle.std.specs.Prelude.{◌⊎◌}
+use Rattle.std.specs.Prelude.{◌⊎◌, false}
 use Rattle.std.proofs.Common.{◌≡◌, Some, Ok, Err, Result, IfOk, sym, ap, subst, rules, refl, inl}
-use Rattle.std.proofs.lemmas.Result.{IfOk-weaker}
+use Rattle.std.proofs.lemmas.Result.{IfOk-weaker, on_ok_weaker}
 use Rattle.broker_types.specs.Names.{names_of}
 use Rattle.broker_types.specs.Spending.{spend}
 use Rattle.broker_types.specs.declared.refusal.Refusal.{Refusal}
@@ -8,18 +8,21 @@ use Rattle.broker_types.specs.declared.request_error.RequestError.TheVariants.{R
 use Rattle.mounts.specs.Route.{cut}
 use Rattle.records.specs.CallLaws.{honest_before, goes_further}
 use Rattle.records.specs.declared.kind.Kind.TheVariants as kind
+use Rattle.records.specs.Table.{table_of}
+use Rattle.token_tree.specs.TokenRows.{ChangesToken, spent_entry}
 use Rattle.broker.specs.Context.{Context}
 use Rattle.broker.specs.Operating.{Starts}
 use Rattle.broker.specs.Order.{Wrapped, finish}
 use Rattle.broker.specs.ReadableRow.{IsReadableToken}
-use Rattle.broker.specs.Reads.{AreReadable, IfOnCubbyhole, LacksSudo}
+use Rattle.broker.specs.Ending.{IsSpentAt}
+use Rattle.broker.specs.Reads.{AreReadable, IsNotPermitted}
 use Rattle.broker.specs.Representing.{Represents, Gives}
 use Rattle.broker.specs.Serving.{served}
 use Rattle.broker.specs.Stages.{HasServed}
 use Rattle.broker.specs.declared.answered.Answered.{Answered}
 use Rattle.broker.proofs.Callers.{spent_here}
-use Rattle.broker.proofs.Finishing.{on_ok, readable_unspent}
-use Rattle.broker.proofs.StillReadable.{ObjectsStill, asks_still, as_before, before_step, on_any, spent_still, reads_served, reads_refused, earlier}
+use Rattle.broker.proofs.Finishing.{on_ok}
+use Rattle.broker.proofs.CommandReads.{asks_still, ended_or_unspent, reads_served, reads_refused}
 use Rattle.broker.proofs.Routes.{fault_goes_on}
 use Rattle.broker.proofs.order.serving.answer_caller.Goals as goal
 
@@ -127,14 +130,12 @@ returns-in-Ok-clause-undamaged g c honest command asks =
     let new = (seen c.spend.new.tx).rows in
     let left = honest_before (seen c.serve.new.tx) (seen c.finish.new.tx) _ c.finish.ensures.goes_on honest in
     let mid = honest_before (seen c.spend.new.tx) (seen c.serve.new.tx) _ c.serve.ensures.goes_on left in
-    let others = c.in_ok-spend.ensures.others mid in
-    let still = spent_still old new others (c.in_ok-spend.ensures.damaged mid) in
-    let objects : IfOnCubbyhole command (ObjectsStill caller caller old new) =
-    on_any command (λ path r. readable_unspent old new caller path others r) in
-    let asked = asks_still old new c.args.ask.now command (others kind.Mount (cut c.args.ask.now.path).0 refl) asks in
-    let readable = reads_served (AreReadable new caller command) c.args.ask.now c.in-Ok.answered (c.in-Ok.ensures.undamaged left command asked) in
-    let before = before_step caller caller old new still command objects (as_before new caller command readable) in
-    IfOk-weaker c.finish.result _ _ (λ a room. inl before) c.finish.ensures.room
+    let at : c.context.inside.caller.now ≡ caller = ap (λ (x : Context). x.caller) c.context.view_is in
+    let spends = subst (λ t. ChangesToken t spent_entry (table_of old) (table_of new)) at (c.in_ok-spend.ensures.rows mid) in
+    let asked = asks_still old new c.args.ask.now command (c.in_ok-spend.ensures.others mid kind.Mount (cut c.args.ask.now.path).0 refl) asks in
+    let readable = reads_served (AreReadable new caller command) new caller c.args.ask.now c.in-Ok.answered
+    (c.in-Ok.ensures.undamaged left command asked) in
+    IfOk-weaker c.finish.result _ _ (λ a room. (new, spends, inl readable)) c.finish.ensures.room
 
 pub returns-in-Err-Refused-clause-undamaged : goal.returns-in-Err-Refused-clause-undamaged
 returns-in-Err-Refused-clause-undamaged g c honest command asks =
@@ -144,17 +145,32 @@ returns-in-Err-Refused-clause-undamaged g c honest command asks =
     let new = (seen c.spend.new.tx).rows in
     let left = honest_before (seen c.serve.new.tx) (seen c.finish-in-Err-Refused.new.tx) _ c.finish-in-Err-Refused.ensures.goes_on honest in
     let mid = honest_before (seen c.spend.new.tx) (seen c.serve.new.tx) _ c.serve.ensures.goes_on left in
-    let others = c.in_ok-spend.ensures.others mid in
-    let still = spent_still old new others (c.in_ok-spend.ensures.damaged mid) in
-    let objects : IfOnCubbyhole command (ObjectsStill caller caller old new) =
-    on_any command (λ path r. readable_unspent old new caller path others r) in
-    let asked = asks_still old new c.args.ask.now command (others kind.Mount (cut c.args.ask.now.path).0 refl) asks in
-    let found : AreReadable new caller command ⊎ LacksSudo {A = Answered} c.args.ask.now (Err (Refused c.in-Err-Refused.refusal)) =
+    let here : c.context.inside.caller.now ≡ caller = ap (λ (x : Context). x.caller) c.context.view_is in
+    let spends = subst (λ t. ChangesToken t spent_entry (table_of old) (table_of new)) here (c.in_ok-spend.ensures.rows mid) in
+    let asked = asks_still old new c.args.ask.now command (c.in_ok-spend.ensures.others mid kind.Mount (cut c.args.ask.now.path).0 refl) asks in
+    let found : AreReadable new caller command ⊎ IsNotPermitted {A = Answered} new caller c.args.ask.now (Err (Refused c.in-Err-Refused.refusal)) =
     rw c.in-Err-Refused.field-0-is at (c.in-Err-Refused.ensures.undamaged left command asked) in
     IfOk-weaker c.finish-in-Err-Refused.result _ _
-    (λ a response. earlier (λ readable. before_step caller caller old new still command objects (as_before new caller command readable))
-    (reads_refused (AreReadable new caller command) c.args.ask.now c.in-Err-Refused.refusal a found response))
+    (λ a response. (new, spends, reads_refused (AreReadable new caller command) new caller c.args.ask.now c.in-Err-Refused.refusal a found response))
     c.finish-in-Err-Refused.ensures.refused
+
+pub returns-in-Ok-clause-ends : goal.returns-in-Ok-clause-ends
+returns-in-Ok-clause-ends g c honest =
+    let seen = g.T.RecordsTx.seen in
+    let new = (seen c.finish.new.tx).rows in
+    let at : c.context.inside.caller.now ≡ c.args.context.now.caller = ap (λ (x : Context). x.caller) c.context.view_is in
+    on_ok_weaker c.finish.result
+    (λ ends. subst (λ t. IsSpentAt new t false) at (ended_or_unspent c.context.inside.caller.now (seen c.serve.new.tx).rows new ends))
+    (c.finish.ensures.rows honest)
+
+pub returns-in-Err-Refused-clause-ends : goal.returns-in-Err-Refused-clause-ends
+returns-in-Err-Refused-clause-ends g c honest =
+    let seen = g.T.RecordsTx.seen in
+    let new = (seen c.finish-in-Err-Refused.new.tx).rows in
+    let at : c.context.inside.caller.now ≡ c.args.context.now.caller = ap (λ (x : Context). x.caller) c.context.view_is in
+    on_ok_weaker c.finish-in-Err-Refused.result
+    (λ ends. subst (λ t. IsSpentAt new t false) at (ended_or_unspent c.context.inside.caller.now (seen c.serve.new.tx).rows new ends))
+    (c.finish-in-Err-Refused.ensures.rows honest)
 
 pub returns-in-Ok-clause-caller : goal.returns-in-Ok-clause-caller
 returns-in-Ok-clause-caller g c honest =

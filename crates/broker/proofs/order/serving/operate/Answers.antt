@@ -17,7 +17,7 @@ use Rattle.broker.specs.Serving.{acted}
 use Rattle.broker.specs.declared.answered.Answered.{Answered}
 use Rattle.broker.specs.parts.SecretCommands.{Place, at}
 use Rattle.broker.proofs.CubbyholeAnswers.{ActsAs, meant_there}
-use Rattle.broker.proofs.StillReadable.{cubbyholes_read, tokens_read, secrets_read, known_by, meant_by_route, no_route}
+use Rattle.broker.proofs.CommandReads.{cubbyholes_read, tokens_read, secrets_read, known_by, meant_by_route, no_route}
 use Rattle.broker.proofs.Routes.{found_is, meant_on_tokens, mounts_there, operated_by, operated_nowhere, on_answer, on_error}
 use Rattle.broker.proofs.SecretRoutes.{mount_named, meant_on_secrets}
 use Rattle.broker.proofs.Serving.{still_represented}

@@ -1,4 +1,4 @@
-use Rattle.std.proofs.Common.{◌≡◌, Some, true, refl, sym, ap, ◌∙◌, subst, inl, inr}
+use Rattle.std.proofs.Common.{◌≡◌, Some, true, false, refl, sym, ap, ◌∙◌, subst, inl, inr}
 use Rattle.records.specs.CallLaws.{honest_before}
 use Rattle.records.specs.Table.{table_of}
 use Rattle.records.specs.Transaction.{Rows}
@@ -6,9 +6,9 @@ use Rattle.broker_types.specs.Names.{names_of}
 use Rattle.mounts.specs.Calls.{OnAnswer}
 use Rattle.broker.specs.Context.{Context}
 use Rattle.broker.specs.Permission.{needs_sudo, permits}
-use Rattle.broker.specs.Reads.{AreReadable, Asks}
+use Rattle.broker.specs.Reads.{AreReadable, Asks, IsRootAt}
 use Rattle.broker.specs.Representing.{Represents}
-use Rattle.broker.proofs.StillReadable.{on_answer_weaker}
+use Rattle.broker.proofs.CommandReads.{lacks, on_answer_weaker}
 use Rattle.broker.proofs.Routes.{served_permitted}
 use Rattle.broker.proofs.Serving.{still_represented}
 use Rattle.broker.proofs.SudoPaths.{sudo_readable}
@@ -41,7 +41,12 @@ returns-clause-undamaged g c honest command asks =
 
 pub returns-then-not-branch-clause-undamaged : goal.returns-then-not-branch-clause-undamaged
 returns-then-not-branch-clause-undamaged g c honest command asks =
-    inr (refl, subst (λ path. needs_sudo path ≡ true) c.as_str.ensures.text (c.in_ok-is_permitted.ensures.denied c.if-not-branch.true))
+    let rows = (g.T.RecordsTx.seen c.args.tx.now).rows in
+    let at : c.context.inside.caller.now ≡ c.args.context.now.caller = ap (λ (x : Context). x.caller) c.context.view_is in
+    let path = c.as_str.ensures.text in
+    let lacking = lacks rows c.context.inside.caller.now c.as_str.result.now c.in_ok-is_permitted.field-0 (c.in_ok-is_permitted.ensures.found honest)
+    c.if-not-branch.true in
+    inr (refl, (subst (λ q. needs_sudo q ≡ true) path lacking.0, subst (λ t. IsRootAt rows t false) at lacking.1))
 
 pub returns-then-not-branch-clause-mount : goal.returns-then-not-branch-clause-mount
 returns-then-not-branch-clause-mount g c honest =

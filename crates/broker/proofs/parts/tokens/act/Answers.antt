@@ -1,6 +1,6 @@
 use Rattle.std.proofs.Common.{sym, ap, ◌∙◌}
 use Rattle.broker.specs.parts.TokenCommands.{create_token, create_orphan, token_command}
-use Rattle.broker.proofs.StillReadable.{creation_reads}
+use Rattle.broker.proofs.CommandReads.{creation_reads}
 use Rattle.broker.proofs.Routes.{on_answer}
 use Rattle.broker.proofs.parts.tokens.act.Goals as goal
 

@@ -1,7 +1,7 @@
 use Rattle.broker.specs.Forms.{forms}
 use Rattle.broker.proofs.Expired.{represents_tokens}
 use Rattle.broker.proofs.TokenMade.{no_empty_token}
-use Rattle.broker.proofs.StillReadable.{readable_found}
+use Rattle.broker.proofs.CommandReads.{readable_found}
 use Rattle.broker.proofs.parts.tokens.creation.find_caller.Goals as goal
 
 pub returns-then-is_empty-clause-told : goal.returns-then-is_empty-clause-told

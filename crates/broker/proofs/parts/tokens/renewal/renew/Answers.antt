@@ -5,7 +5,7 @@ use Rattle.mounts.specs.Calls.{OnAnswer}
 use Rattle.broker.specs.ReadableRow.{IsReadableToken}
 use Rattle.broker.specs.Reads.{AreReadableTokens}
 use Rattle.broker.specs.parts.TokenCommands.{renew_token}
-use Rattle.broker.proofs.StillReadable.{meant_as}
+use Rattle.broker.proofs.CommandReads.{meant_as}
 use Rattle.broker.proofs.parts.tokens.renewal.renew.Goals as goal
 
 pub returns-clause-undamaged : goal.returns-clause-undamaged

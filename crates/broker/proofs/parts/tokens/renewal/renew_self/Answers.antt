@@ -6,7 +6,7 @@ use Rattle.broker.specs.Context.{Context}
 use Rattle.broker.specs.ReadableRow.{IsReadableToken}
 use Rattle.broker.specs.Reads.{AreReadableTokens}
 use Rattle.broker.specs.parts.TokenCommands.{renew_self}
-use Rattle.broker.proofs.StillReadable.{meant_as}
+use Rattle.broker.proofs.CommandReads.{meant_as}
 use Rattle.broker.proofs.parts.tokens.renewal.renew_self.Goals as goal
 
 pub returns-clause-undamaged : goal.returns-clause-undamaged

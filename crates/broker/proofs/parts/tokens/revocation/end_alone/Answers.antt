@@ -7,7 +7,7 @@ use Rattle.token_tree.specs.Tokens.{AreEnded}
 use Rattle.broker.specs.Forms.{forms}
 use Rattle.broker.proofs.Expired.{represents_tokens}
 use Rattle.broker.proofs.TokenTables.{orphaned_keep, gone_long, gone_lost, gone_left, represents-revoked_alone}
-use Rattle.broker.proofs.StillReadable.{readable_alone}
+use Rattle.broker.proofs.CommandReads.{readable_alone}
 use Rattle.broker.proofs.parts.tokens.revocation.end_alone.Goals as goal
 
 pub returns-in_err-ended-clause-ok : goal.returns-in_err-ended-clause-ok

@@ -4,7 +4,7 @@ use Rattle.api_json.specs.Readers as reader
 use Rattle.mounts.specs.Calls.{OnAnswer}
 use Rattle.broker.specs.Reads.{AreReadableTokens}
 use Rattle.broker.specs.parts.TokenCommands.{revoke_token}
-use Rattle.broker.proofs.StillReadable.{meant_as}
+use Rattle.broker.proofs.CommandReads.{meant_as}
 use Rattle.broker.proofs.parts.tokens.revocation.revoke.Goals as goal
 
 pub returns-clause-undamaged : goal.returns-clause-undamaged

@@ -18,7 +18,7 @@ use Rattle.records.specs.Transaction.{Rows}
 use Rattle.broker.specs.ReadableRow.{IsReadableDescent}
 use Rattle.broker.specs.Reads.{AreReadableTokens, IfNamed}
 use Rattle.broker.specs.parts.TokenCommands.{revoke_accessor}
-use Rattle.broker.proofs.StillReadable.{meant_as, on_answer_weaker}
+use Rattle.broker.proofs.CommandReads.{meant_as, on_answer_weaker}
 use Rattle.broker.proofs.parts.tokens.revocation.revoke_accessor.Goals as goal
 
 pub returns-in_err-token-clause-ok : goal.returns-in_err-token-clause-ok

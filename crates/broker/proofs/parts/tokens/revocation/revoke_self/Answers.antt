@@ -5,7 +5,7 @@ use Rattle.broker.specs.Context.{Context}
 use Rattle.broker.specs.ReadableRow.{IsReadableDescent}
 use Rattle.broker.specs.Reads.{AreReadableTokens}
 use Rattle.broker.specs.parts.TokenCommands.{revoke_self}
-use Rattle.broker.proofs.StillReadable.{meant_whole}
+use Rattle.broker.proofs.CommandReads.{meant_whole}
 use Rattle.broker.proofs.parts.tokens.revocation.revoke_self.Goals as goal
 
 pub returns-clause-undamaged : goal.returns-clause-undamaged

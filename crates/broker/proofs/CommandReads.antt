@@ -1,0 +1,284 @@
+-- What a command reads: what an ask means, whether it may be asked, and the rows when it is carried out.
+use Rattle.serde_json.specs.Data.{Members}
+use Rattle.std.specs.Prelude.{◌≡◌, ◌≢◌, ◌⊎◌, ◌&&◌, ◌||◌, not, ℕ, List, [], ◌∷◌, nat_eq, Bool, true, false, cond, T}
+use Rattle.std.specs.Prelude.{if◌then◌else◌, is_some, Option, Some, None, option_map, Result, Ok, Err, IfOk, OnOk, ⊤}
+use Rattle.std.specs.FinMap.{find}
+use Rattle.std.specs.Ordering.{is_eq}
+use Rattle.std.proofs.Common.{refl, sym, ◌∙◌, ap, subst, inl, inr}
+use Rattle.std.proofs.lemmas.Bool.{true≢false, false≢true}
+use Rattle.std.proofs.lemmas.Option.{none-some, same_Some}
+use Rattle.broker_types.specs.Text.{Text, text_cmp, same}
+use Rattle.broker_types.specs.TextLaws.{same_self, same_true, same-text_cmp}
+use Rattle.broker_types.specs.Answer.{response_of, refused}
+use Rattle.broker_types.specs.Broker.{Mount}
+use Rattle.broker_types.specs.Refuse.{◌>>=◌}
+use Rattle.broker_types.specs.RequestError.{EndsErr, EndsOk, EndsRefused}
+use Rattle.broker_types.specs.declared.answer.Answer.{Answer}
+use Rattle.broker_types.specs.declared.ask.Ask.{Ask}
+use Rattle.broker_types.specs.declared.fault.Fault.{Fault}
+use Rattle.broker_types.specs.declared.refusal.Refusal.{Refusal}
+use Rattle.broker_types.specs.declared.request_error.RequestError.{RequestError}
+use Rattle.broker_types.specs.declared.request_error.RequestError.TheVariants.{Refused, Fault as Given}
+use Rattle.records.specs.declared.kind.Kind.TheVariants as kind
+use Rattle.records.specs.declared.row.Row.{Row}
+use Rattle.records.specs.Children.{has}
+use Rattle.records.specs.Kind.{RowKey}
+use Rattle.records.specs.ListedLaws.{named, listed-sorted, find-listed}
+use Rattle.records.specs.Ranges.{IsTokenInRange}
+use Rattle.records.specs.Reading.{IsSomeIn}
+use Rattle.records.specs.RowForms.{entry_row}
+use Rattle.records.specs.Table.{Table, table_of}
+use Rattle.records.specs.TokenEntry.{TokenEntry}
+use Rattle.records.specs.Transaction.{Rows, rows_under}
+use Rattle.records.specs.ValueLaws.{ok_inj}
+use Rattle.token_tree.specs.Ended.{AllStay, goes, is_named}
+use Rattle.api_json.specs.Json.{body_members}
+use Rattle.api_json.specs.Readers.{token_creation}
+use Rattle.api_json.specs.declared.token_bodies.TokenCreation.{TokenCreation}
+use Rattle.mounts.specs.Calls.{OnAnswer}
+use Rattle.mounts.specs.MountRows.{IsKnownAt}
+use Rattle.mounts.specs.Route.{Route, cut, route_at}
+use Rattle.mounts.specs.declared.operation.Cubbyhole.{Cubbyhole}
+use Rattle.mounts.specs.declared.operation.Cubbyhole.TheVariants as cubbyhole
+use Rattle.mounts.specs.declared.operation.Operation.TheVariants.{Cubbyholes, Tokens, Secrets}
+use Rattle.mounts.specs.declared.operation.SecretOperation.{SecretOperation}
+use Rattle.mounts.specs.declared.operation.TokenOperation.{TokenOperation}
+use Rattle.broker.specs.Command.{Command, on_cubbyhole, on_token, on_secret, command_for, place_of}
+use Rattle.broker.specs.Order.{permission_denied}
+use Rattle.broker.proofs.CubbyholeAnswers.{meant_there}
+use Rattle.broker.proofs.Ended.{neither, others_kept}
+use Rattle.broker.proofs.Expired.{readable_gone}
+use Rattle.broker.proofs.Routes.{found_is, known_still, meant_on_tokens}
+use Rattle.broker.proofs.SecretRoutes.{meant_on_secrets}
+use Rattle.broker.proofs.SudoPaths.{sudo_reads_none}
+use Rattle.broker.proofs.TokenAnswers.{ok_step}
+use Rattle.std.specs.FinMap as map
+use Rattle.cubbyhole.specs.Objects.{object_key}
+use Rattle.token_tree.specs.Endings.{AreTokenRows, EndsAlone, without_tokens}
+use Rattle.token_tree.specs.TokenRows.{ChangesToken, IsTokenAt, spent_entry, with_entry}
+use Rattle.broker.specs.Ending.{EndsCaller, Expires, HasEnded, IsSpentAt}
+use Rattle.broker.specs.Permission.{needs_sudo}
+use Rattle.broker.specs.ReadableRow.{IsReadable, IsReadableToken, IsDenied}
+use Rattle.broker.specs.Reads.{AreAtCommand, AreReadable, AreReadableObjects, AreReadableTokens, AreReadableSecrets, Asks}
+use Rattle.broker.specs.Reads.{IsNotPermitted, IsPermittedAt, IsRootAt, IsToldNotPermitted}
+use Rattle.broker.specs.parts.Cubbyholes.{CubbyholeCommand, cubbyhole_command}
+use Rattle.broker.specs.parts.SecretCommands.{Place, SecretCommand, secret_command}
+use Rattle.broker.specs.parts.TokenCommands.{TokenCommand, token_command, read_as, read_none}
+
+-- ---- what an ask means
+
+-- what follows from a fact holds as it does
+pub on_answer_weaker : {A P Q : Type 0} (result : Result A RequestError) → (P → Q) → OnAnswer result P → OnAnswer result Q
+on_answer_weaker (Ok x) f p = f p
+on_answer_weaker (Err (Refused r)) f p = f p
+on_answer_weaker (Err (Given f)) g p = tt
+
+-- an ask means the same as long as the row of its mount stays
+pub asks_still : (old new : Rows) (a : Ask) (c : Command) → table_of new kind.Mount (cut a.path).0 ≡ table_of old kind.Mount (cut a.path).0
+    → Asks old a c → Asks new a c
+asks_still old new a c same asks = record {
+  mount = asks.mount;
+  route = asks.route;
+  known = known_still old new (cut a.path).0 asks.mount same asks.known;
+  found = asks.found;
+  meant = asks.meant;
+}
+
+-- the command is that of the route that was found
+pub meant_by_route : (rows : Rows) (a : Ask) (c : Command) (path : Text) (r : Route) → path ≡ a.path → (asks : Asks rows a c)
+    → EndsOk (λ (found known : Route). found ≡ known) r (route_at asks.mount a.verb path) → command_for r a ≡ Ok c
+meant_by_route rows a c path r at asks ends =
+    ap (λ z. command_for z a) (ok_inj (sym (found_is _ r ends) ∙ ap (route_at asks.mount a.verb) at ∙ asks.found)) ∙ asks.meant
+
+-- an ask that means a command has a route
+pub no_route : (A : Type 0) (rows : Rows) (a : Ask) (c : Command) (path : Text) (e : RequestError) (P : Type 0) → path ≡ a.path
+    → (asks : Asks rows a c) → EndsErr ⊤ e (route_at asks.mount a.verb path) → OnAnswer {A = A} (Err e) P
+no_route A rows a c path (Refused x) P at asks ends =
+    absurd (subst (EndsRefused ⊤ x) (ap (route_at asks.mount a.verb) at ∙ asks.found) ends)
+no_route A rows a c path (Given f) P at asks ends = tt
+
+-- what is known at the first segment of a path is known there
+pub known_by : (rows : Rows) (a : Ask) (c : Command) (path : Text) → path ≡ a.path → (asks : Asks rows a c)
+    → IsKnownAt (table_of rows) (cut path).0 asks.mount
+known_by rows a c path at asks = subst (λ q. IsKnownAt (table_of rows) (cut q).0 asks.mount) (sym at) asks.known
+
+module _ {A : Type 0} (rows : Rows) (caller : Text) (a : Ask) (r : Route) (result : Result A RequestError) where
+  -- what an operation promises of each command that it can be, it promises of the one that is meant
+  pub cubbyholes_read : (op : Cubbyhole) (path : Text) (body : List ℕ) → r.operation ≡ Cubbyholes op → r.parameter ≡ path → body ≡ a.body
+      → ((c : CubbyholeCommand) → cubbyhole_command op path body ≡ Ok c → OnAnswer result (AreReadableObjects rows caller c))
+      → (c : Command) → command_for r a ≡ Ok c → OnAnswer result (AreReadable rows caller c)
+  cubbyholes_read op path body is there given promised c meant =
+      let s = ok_step (cubbyhole_command op path body) (λ x. Ok (on_cubbyhole x)) c (sym (meant_there r a op path body is there given) ∙ meant) in
+      subst (λ x. OnAnswer result (AreReadable rows caller x)) (ok_inj s.2) (promised s.0 s.1)
+
+  pub tokens_read : (op : TokenOperation) (body : List ℕ) → r.operation ≡ Tokens op → body ≡ a.body
+      → ((c : TokenCommand) → token_command op body ≡ Ok c → OnAnswer result (AreReadableTokens rows caller c))
+      → (c : Command) → command_for r a ≡ Ok c → OnAnswer result (AreReadable rows caller c)
+  tokens_read op body is given promised c meant =
+      let s = ok_step (token_command op body) (λ x. Ok (on_token x)) c (sym (meant_on_tokens r a op body is given) ∙ meant) in
+      subst (λ x. OnAnswer result (AreReadable rows caller x)) (ok_inj s.2) (promised s.0 s.1)
+
+  pub secrets_read : (op : SecretOperation) (place : Place) (version body : List ℕ) → r.operation ≡ Secrets op → place_of r ≡ place
+      → version ≡ a.version → body ≡ a.body
+      → ((c : SecretCommand) → secret_command op version body ≡ Ok c → OnAnswer result (AreReadableSecrets rows place c))
+      → (c : Command) → command_for r a ≡ Ok c → OnAnswer result (AreReadable rows caller c)
+  secrets_read op place version body is there asked given promised c meant =
+      let s = ok_step (secret_command op version body) (λ x. Ok (on_secret place x)) c
+      (sym (meant_on_secrets r a op place version body is there asked given) ∙ meant) in
+      subst (λ x. OnAnswer result (AreReadable rows caller x)) (ok_inj s.2) (promised s.0 s.1)
+
+-- ---- tokens
+
+-- a row that stays though it ends by itself is among the ended
+stays_named : (t : Text) (ended : List Text) (es : List (RowKey × Row)) → AllStay (is_named t) ended es → (row : Row)
+    → find text_cmp t (named es) ≡ Some row → has ended t ≡ true
+stays_named t ended [] all row found = absurd (none-some _ found)
+stays_named t ended (e ∷ es) all row found =
+    elim (is_eq (text_cmp t e.0.1)) as (λ v. is_eq (text_cmp t e.0.1) ≡ v → cond v (Some e.1) (find text_cmp t (named es)) ≡ Some row → has ended t ≡ true) [
+      | true ↦ λ one _.
+          let is : t ≡ e.0.1 = same_true t e.0.1 (same-text_cmp t e.0.1 ∙ one) in
+          elim (has ended e.0.1) as (λ v. has ended e.0.1 ≡ v → has ended t ≡ true) [
+            | true ↦ λ among. ap (has ended) is ∙ among
+            | false ↦ λ apart. absurd (true≢false
+                (sym ((λ i. not (apart i) && (((same-text_cmp t e.0.1 ∙ one) i) || has ended e.1.owner))) ∙ all.0))
+          ] refl
+      | false ↦ λ _ later. stays_named t ended es all.1 row later
+    ] refl found
+
+-- a row that is read where the token ends can be read
+readable_if_ended : (rows : Rows) (t : Text) (ended : List Text) → AreTokenRows ended (table_of rows)
+    → ((row : Row) → table_of rows kind.Token t ≡ Some row → has ended t ≡ true) → IsReadableToken rows t
+readable_if_ended rows t ended are among = at (table_of rows kind.Token t) refl
+  where
+    at : (o : Option Row) → table_of rows kind.Token t ≡ o → IsReadableToken rows t
+    at None none = readable_gone rows t none
+    at (Some row) some =
+        let is = are t row (among row some) some in
+        (Some is.0, (λ x e. subst IsTokenInRange (same_Some _ _ e) is.1), some ∙ ap Some is.2)
+
+-- a token that is not there has not spent its uses
+pub unspent_gone : (rows : Rows) (t : Text) → table_of rows kind.Token t ≡ None → IsSpentAt rows t false
+unspent_gone rows t none = (None, (λ x e. absurd (none-some _ e)), none, refl)
+
+-- so can that of one that has ended alone
+pub readable_alone : (t : Text) (old : Rows) (ended : List Text) (new : Rows) → EndsAlone t old ended new → IsReadableToken old t
+readable_alone t old ended new ends =
+    readable_if_ended old t ended ends.readable
+    (λ row some. ap (λ ts. has ts t) (ends.ends ∙ ap (λ o. if is_some o then t ∷ [] else []) some) ∙ ap (λ v. v || false) (same_self t))
+
+-- and that of one that was found
+pub readable_found : (rows : Rows) (t : Text) (r : Result (Option TokenEntry) Fault) → IfOk r (IsTokenAt (table_of rows) t)
+    → IfOk r (IsSomeIn IsTokenInRange) → OnOk r (IsReadableToken rows t)
+readable_found rows t (Ok o) at range = (o, range, at)
+readable_found rows t (Err f) at range = tt
+
+-- by its row a caller that ends, or stays, has uses left afterwards or is not there
+pub ended_or_unspent : (t : Text) (old new : Rows) → EndsCaller t old new → IsSpentAt new t false
+ended_or_unspent t old new e =
+    elim e.spent as (λ v. e.spent ≡ v → IsSpentAt new t false) [
+      | false ↦ λ stays. subst (λ (rows : Rows). IsSpentAt rows t false) (sym (e.stays stays)) (subst (IsSpentAt old t) stays e.told)
+      | true ↦ λ spent. gone (e.ends spent) (table_of old kind.Token t) refl
+    ] refl
+  where
+    left : (h : HasEnded t old new) → table_of new kind.Token t ≡ (if has h.0 t then None else table_of old kind.Token t)
+    left h = ap (λ (z : Table). z kind.Token t) h.3 ∙ others_kept h.0 (without_tokens h.0 (table_of old)) kind.Token t refl
+
+    none_either : (v : Bool) (o : Option Row) → o ≡ None → (if v then None else o) ≡ None
+    none_either true o is = refl
+    none_either false o is = is
+
+    gone : (h : HasEnded t old new) → (o : Option Row) → table_of old kind.Token t ≡ o → IsSpentAt new t false
+    gone h None none = unspent_gone new t (left h ∙ none_either (has h.0 t) (table_of old kind.Token t) none)
+    gone h (Some row) some =
+        let among = stays_named t h.0 (rows_under old kind.Token []) h.1.stay row (find-listed kind.Token [] old t ∙ some) in
+        unspent_gone new t (left h ∙ ap (λ v. if v then None else table_of old kind.Token t) among)
+
+-- ---- when it is read
+
+-- a use is spent, and a cubbyhole stays
+pub objects_unspent : (old new : Rows) (t path : Text) → ChangesToken t spent_entry (table_of old) (table_of new) → IsReadable new t path
+    → IsReadable old t path
+objects_unspent old new t path spent r = (r.0, sym (kept spent.entry spent.is) ∙ r.1)
+  where
+    kept : (o : Option TokenEntry) → table_of new ≡ with_entry (table_of old) t (option_map spent_entry o)
+        → table_of new kind.Cubby (object_key t path) ≡ table_of old kind.Cubby (object_key t path)
+    kept None is = ap (λ (z : Table). z kind.Cubby (object_key t path)) is
+    kept (Some x) is = ap (λ (z : Table). z kind.Cubby (object_key t path)) is
+
+module _ (moment now : ℕ) (t u : Text) (old expired new : Rows) (caller : t ≡ u) (same_rows : new ≡ expired) (expires : Expires moment now old expired) where
+  -- tokens have expired, and the caller has spent a use
+  pub at_command : (rows : Rows) → ChangesToken u spent_entry (table_of new) (table_of rows) → AreAtCommand moment t old rows
+  at_command rows spends = record {
+    now = now;
+    expired = new;
+    expires = subst (Expires moment now old) (sym same_rows) expires;
+    spends = subst (λ v. ChangesToken v spent_entry (table_of new) (table_of rows)) (sym caller) spends;
+  }
+
+  -- or there is no caller, and nothing else was done
+  pub denied_there : (a : Answer) → response_of a ≡ refused permission_denied → map.get new (kind.Token, t) ≡ None → IsDenied moment a old new t
+  denied_there a response none = (response, none, now, subst (Expires moment now old) (sym same_rows) expires)
+
+-- ---- where `sudo` is lacking
+
+-- who is not permitted has no `sudo`, which the path asks for
+pub lacks : (rows : Rows) (t path : Text) (v : Bool) → IsPermittedAt rows t path v → v ≡ false → (needs_sudo path ≡ true) × IsRootAt rows t false
+lacks rows t path v p is =
+    let parts = neither (not (needs_sudo path)) p.0 (sym p.2 ∙ is) in
+    let needs = not-false (needs_sudo path) parts.0 in
+    (needs, subst (IsRootAt rows t) parts.1 (p.1 needs))
+  where
+    not-false : (b : Bool) → not b ≡ false → b ≡ true
+    not-false true h = refl
+    not-false false h = absurd (true≢false h)
+
+module _ (P : Type 0) (rows : Rows) (t : Text) (ask : Ask) where
+  -- who is answered does not lack it
+  pub reads_served : {A : Type 0} (x : A) → (P ⊎ IsNotPermitted {A = A} rows t ask (Ok x)) → P
+  reads_served x (inl p) = p
+  reads_served x (inr denied) =
+      let e = denied.0 in
+      absurd (cc)
+
+  abbrev refusal_in : {A : Type 0} → Result A RequestError → Refusal
+  refusal_in (Err (Refused r)) = r
+  refusal_in _ = permission_denied
+
+  -- who is refused for it is told so
+  pub reads_refused : {A : Type 0} (r : Refusal) (a : Answer) → (P ⊎ IsNotPermitted {A = A} rows t ask (Err (Refused r))) → response_of a ≡ refused r
+      → P ⊎ IsToldNotPermitted rows t ask a
+  reads_refused r a (inl p) is = inl p
+  reads_refused r a (inr denied) is = inr (is ∙ ap refused (ap refusal_in denied.0), denied.1)
+
+-- a caller that was found has a row
+pub caller_here : (rows : Rows) (t u : Text) → t ≡ u → is_some (table_of rows kind.Token u) ≡ true → table_of rows kind.Token t ≢ None
+caller_here rows t u caller some none = false≢true (ap is_some (sym none) ∙ ap (λ v. is_some (table_of rows kind.Token v)) caller ∙ some)
+
+-- a read of a cubbyhole asks for no `sudo`
+pub read_there : {P Q R : Type 0} (a : Answer) (ask : Ask) (rows : Rows) (t : Text) (mount : Option Mount) (r : Route)
+    → route_at mount ask.verb ask.path ≡ Ok r → r.operation ≡ Cubbyholes cubbyhole.Read → (P → Q) → P ⊎ IsToldNotPermitted rows t ask a → Q ⊎ R
+read_there a ask rows t mount r found reads f (inl p) = inl (f p)
+read_there a ask rows t mount r found reads f (inr denied) =
+    absurd (sudo_reads_none mount ask.verb ask.path r (Cubbyholes cubbyhole.Read) refl denied.1.0 found reads)
+
+-- ---- what a body means
+
+-- the command is that of what a reader finds
+pub meant_as : {X : Type 0} (read : Members → Result X Refusal) (command : X → TokenCommand) (body : List ℕ) (ms : Members) (x : X)
+    (c : TokenCommand) → body_members body ≡ Ok ms → read ms ≡ Ok x → read_as read command body ≡ Ok c → command x ≡ c
+meant_as read command body ms x c parsed found meant =
+    ok_inj (sym (ap (λ m. m >>= (λ members. read members >>= (λ y. Ok (command y)))) parsed ∙ ap (λ m. m >>= (λ y. Ok (command y))) found) ∙ meant)
+
+-- the same of a body that is only an object
+pub meant_whole : (command : TokenCommand) (body : List ℕ) (ms : Members) (c : TokenCommand) → body_members body ≡ Ok ms → read_none command body ≡ Ok c
+    → command ≡ c
+meant_whole command body ms c parsed meant = ok_inj (sym (ap (λ m. m >>= (λ members. Ok command)) parsed) ∙ meant)
+
+-- what the command of a creation reads is not said of it
+pub creation_reads : (rows : Rows) (caller : Text) (command : TokenCreation → TokenCommand) (body : List ℕ) (c : TokenCommand)
+    → ((asked : TokenCreation) → AreReadableTokens rows caller (command asked)) → read_as token_creation command body ≡ Ok c
+    → AreReadableTokens rows caller c
+creation_reads rows caller command body c reads meant =
+    let members = ok_step (body_members body) _ c meant in
+    let asked = ok_step (token_creation members.0) _ c members.2 in
+    subst (AreReadableTokens rows caller) (ok_inj asked.2) (reads asked.0)
