@@ -57,7 +57,7 @@ HaveNoLeases ts = (t : Text) (x : Token) → get ts t ≡ Some x → x.leases �
 
 -- ---- the clock and what ends by it, whatever the rows are
 
--- the clock's row was that of a moment, and is that of the later of this and the moment that is given
+-- the clock's row was that of some moment, and now it is that of the later of this moment and the given one
 pub record Advances (moment now : ℕ) (old new : Rows) : Type 0 where
   pub clock : ℕ
   pub was : table_of old kind.Clock [] ≡ Some (clock_row clock)
@@ -80,7 +80,7 @@ pub record Expires (moment now : ℕ) (old new : Rows) : Type 0 where
 abbrev pub has_no_uses : TokenEntry → Bool
 has_no_uses x = option_map_or (λ n. n == 0) x.uses_left false
 
--- the row of t is that of a token, or there is none; and by it the token has no uses left, or it has
+-- the row of t is that of a token, or there is none; spent says whether there is one, with no uses left
 abbrev pub IsSpentAt : Rows → Text → Bool → Type 0
 IsSpentAt rows t spent =
     (entry : Option TokenEntry) × IsSomeIn IsTokenInRange entry × IsTokenAt (table_of rows) t entry

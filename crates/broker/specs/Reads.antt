@@ -1,6 +1,6 @@
--- Which rows a command reads, and that none of them is damaged (this project's definition). What a command only writes or
--- takes away is not read, nor is a row of which only the key, the owner or the end is looked at. The row of the mount is
--- read before, by the route.
+-- Which rows a command reads, and that none of them is damaged (this project's definition). A row that a command only
+-- writes or takes away is not read, nor is one of which only the key, the owner or the end is looked at. The route has
+-- read the row of the mount before; it counts here only for commands that need the settings of the mount.
 use Rattle.std.specs.Prelude.{◌≡◌, ◌⊎◌, ◌||◌, not, codes, ℕ, Bool, true, false, Option, Some, None, Result, Ok, Err, ⊤}
 use Rattle.std.specs.Option.{option_map_or}
 use Rattle.broker_types.specs.Answer.{response_of, refused}
@@ -45,16 +45,16 @@ AreReadableObjects rows caller (write_object path _) = ⊤
 
 -- ---- tokens
 
--- this holds of the token, if one is named
+-- P holds of the token, if one is named
 abbrev pub IfNamed : (Text → Type 0) → Option Text → Type 0
 IfNamed P None = ⊤
 IfNamed P (Some t) = P t
 
--- the row of the accessor can be read, or there is none; and if it names a token, this holds of the token
+-- the row of the accessor can be read, or there is none; and if it names a token, P holds of this token
 abbrev pub IsReadableName : Rows → (Text → Type 0) → Text → Type 0
 IsReadableName rows P accessor = (found : Option Text) × IsFoundAt (table_of rows) accessor found × IfNamed P found
 
--- a creation reads the row of the caller alone, which has been read and written before: its use was spent
+-- a creation reads the row of the caller alone, which was read before, when a use was spent
 abbrev pub AreReadableTokens : Rows → Text → TokenCommand → Type 0
 AreReadableTokens rows caller (create_token asked) = ⊤
 AreReadableTokens rows caller (create_orphan asked) = ⊤
@@ -71,13 +71,13 @@ AreReadableTokens rows caller list_accessors = AreAccessorRows rows
 
 -- ---- secrets
 
--- the row of the key, and that of its current version
+-- the row of the key and that of its current version can be read, where they are there
 abbrev pub IsReadableCurrent : Rows → Text → Type 0
 IsReadableCurrent rows name =
     (k : Option KeyEntry) × kv2.HasKey (table_of rows) name k
     × kv2.AreReadableVersions (table_of rows) name (kv2.current_of k)
 
--- the row of the key, and those of all its versions
+-- the row of the key and those of all its versions can be read, where they are there
 abbrev pub IsReadableWhole : Rows → Text → Type 0
 IsReadableWhole rows name = (m : Option Metadata) × kv2.IsMetadata rows name m
 
@@ -115,7 +115,7 @@ pub record Asks (rows : Rows) (a : Ask) (command : Command) : Type 0 where
   pub found : route_at mount a.verb a.path ≡ Ok route
   pub meant : command_for route a ≡ Ok command
 
--- ---- when it is read
+-- ---- when the rows are read
 
 -- the rows when a command of the token t is carried out: tokens have expired, and t has spent a use
 pub record AreAtCommand (moment : ℕ) (t : Text) (old rows : Rows) : Type 0 where
@@ -126,13 +126,13 @@ pub record AreAtCommand (moment : ℕ) (t : Text) (old rows : Rows) : Type 0 whe
 
 -- ---- a caller without `sudo`
 
--- by its row the token has the policy `root` or not; a token that is not there has none
+-- by its row the token has the policy `root` or not; a token that is not there does not
 abbrev pub IsRootAt : Rows → Text → Bool → Type 0
 IsRootAt rows t root =
     (entry : Option TokenEntry) × IsSomeIn IsTokenInRange entry × IsTokenAt (table_of rows) t entry
     × (root ≡ option_map_or (λ e. has e.policies (codes "root")) entry false)
 
--- by its row the token may ask at the path, or not
+-- whether the token may ask at the path; if the path asks for `sudo`, its row says so
 abbrev pub IsPermittedAt : Rows → Text → Text → Bool → Type 0
 IsPermittedAt rows t path permitted =
     (root : Bool) × (needs_sudo path ≡ true → IsRootAt rows t root) × (permitted ≡ (not (needs_sudo path) || root))
@@ -141,14 +141,14 @@ IsPermittedAt rows t path permitted =
 abbrev pub LacksSudo : Rows → Text → Ask → Type 0
 LacksSudo rows t ask = (needs_sudo ask.path ≡ true) × IsRootAt rows t false
 
--- it is refused for that
+-- the ask is refused since the token lacks `sudo`
 abbrev pub IsNotPermitted : {A : Type 0} → Rows → Text → Ask → Result A RequestError → Type 0
 IsNotPermitted rows t ask result = (result ≡ Err (Refused permission_denied)) × LacksSudo rows t ask
 
--- it is answered so
+-- the answer is 403 `permission denied`, and the token lacks `sudo`
 abbrev pub IsToldNotPermitted : Rows → Text → Ask → Answer → Type 0
 IsToldNotPermitted rows t ask a = (response_of a ≡ refused permission_denied) × LacksSudo rows t ask
 
--- none of the rows that the command of the token t reads is damaged, or t may not ask for it
+-- none of the rows that the command of the token t reads is damaged, or t is told that it may not ask for it
 abbrev pub IsReadOrNotPermitted : Rows → Text → Command → Ask → Answer → Type 0
 IsReadOrNotPermitted rows t command ask a = AreReadable rows t command ⊎ IsToldNotPermitted rows t ask a

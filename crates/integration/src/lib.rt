@@ -1,5 +1,5 @@
-//! Tests of the public calls of the crates below. They stand here, since a crate with tests is proved once more for
-//! them.
+//! Tests of the public calls of the crates below. They are here because a crate with tests is proved once
+//! more for them.
 #![tactic(auto)]
 
 #[cfg(test)]

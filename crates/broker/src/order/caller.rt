@@ -44,7 +44,7 @@ pub(crate) fn spend<T: RecordsTx>(alloc: Global, tx: &mut T, caller: &str) -> Re
     // Whatever the rows are: nobody has spent a use whose row is damaged.
     ensures readable { IsHonest (T.seen tx.new) → OnOk result (IsReadableToken (T.seen tx.old).rows caller.now) }
 
-    // Nor does any row change but this one, by one use less.
+    // No row changes but this one, which has one use less if its uses are limited.
     ensures rows { IsHonest (T.seen tx.new) → OnOk result
         (ChangesToken caller.now spent_entry (table_of (T.seen tx.old).rows) (table_of (T.seen tx.new).rows)) }
 

@@ -45,7 +45,7 @@ pub(crate) fn end_spent<T: RecordsTx>(alloc: Global, tx: &mut T, caller: &str) -
     ensures ok { IsHonest (T.seen tx.new) → (b : Broker) → Represents (Some caller.now) (T.seen tx.old).rows b
         → OnOk result (Represents None (T.seen tx.new).rows (spending.end_spent b (Some caller.now))) }
 
-    // Whatever the rows are: by its row the caller ends or stays, and a damaged one says neither.
+    // Whatever the rows are: the caller's row decides whether the caller ends, and the call fails if it is damaged.
     ensures rows { IsHonest (T.seen tx.new)
         → OnOk result (EndsCaller caller.now (T.seen tx.old).rows (T.seen tx.new).rows) }
     ensures wants { IsHonest (T.seen tx.new) → (b : Broker) → Represents (Some caller.now) (T.seen tx.old).rows b
@@ -65,7 +65,7 @@ fn is_spent<T: RecordsTx>(alloc: Global, tx: &mut T, caller: &str) -> Result<boo
     ensures ok { IsHonest (T.seen tx.new) → (b : Broker) → Represents (Some caller.now) (T.seen tx.old).rows b
         → IfOk result (λ v. v ≡ option_map_or spending.is_spent (get b.tokens caller.now) false) }
 
-    // Whatever the rows are: the row says so, and a damaged one says nothing.
+    // Whatever the rows are: the row decides, and the call fails if it is damaged.
     ensures found { IsHonest (T.seen tx.new) → IfOk result (IsSpentAt (T.seen tx.old).rows caller.now) }
     ensures wants { IsHonest (T.seen tx.new) → (b : Broker) → Represents (Some caller.now) (T.seen tx.old).rows b
         → IfErr result IsMemoryOrStorage }

@@ -37,7 +37,7 @@ pub(crate) fn expire<T: RecordsTx>(
     ensures rows { IsHonest (T.seen tx.new)
         → IfOk result (λ now. Expires moment now (T.seen tx.old).rows (T.seen tx.new).rows) }
 
-    // Nor does any row change but those of the clock, of tokens and of cubbyholes.
+    // No row changes but those of the clock, of tokens and of cubbyholes.
     ensures others { IsHonest (T.seen tx.new)
         → OnOk result (KeepsOthers of_expired (table_of (T.seen tx.old).rows) (table_of (T.seen tx.new).rows)) }
 
@@ -68,7 +68,7 @@ fn advance_clock<T: RecordsTx>(alloc: Global, tx: &mut T, moment: Moment) -> Res
     ensures rows { IsHonest (T.seen tx.new)
         → IfOk result (λ now. Advances moment now (T.seen tx.old).rows (T.seen tx.new).rows) }
 
-    // Nor does any other row change.
+    // No other row changes.
     ensures others { IsHonest (T.seen tx.new)
         → OnOk result (KeepsOthers of_clock (table_of (T.seen tx.old).rows) (table_of (T.seen tx.new).rows)) }
     ensures goes_on { GoesOn (T.seen tx.old) (T.seen tx.new) (is_storage result) }

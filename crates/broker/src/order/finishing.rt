@@ -36,7 +36,7 @@ pub(crate) fn finish<T: RecordsTx>(
     ensures room { IfOk result HasRoom }
     ensures listed { IfOk result (λ a. IsListed (response_of a)) }
 
-    // Whatever the rows are: by its row the caller ends or stays, and a damaged one says neither.
+    // Whatever the rows are: the caller's row decides whether the caller ends, and the call fails if it is damaged.
     ensures rows { IsHonest (T.seen tx.new)
         → OnOk result (EndsCaller caller.now (T.seen tx.old).rows (T.seen tx.new).rows) }
     ensures refused { IfErr served (λ r. IfOk result (λ a. response_of a ≡ refused r)) }

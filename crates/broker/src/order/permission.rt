@@ -34,7 +34,8 @@ pub(crate) fn is_permitted<T: RecordsTx>(
 
     // Whatever the rows are: nobody is denied a path that does not ask for `sudo`.
     ensures denied { IfOk result (λ v. v ≡ false → permission.needs_sudo path.now ≡ true) }
-    // Nor one that does, but by the row of the caller.
+
+    // For one that does, the row of the caller decides.
     ensures found { IsHonest (T.seen tx.new)
         → IfOk result (IsPermittedAt (T.seen tx.old).rows caller.now path.now) }
     ensures same { IsHonest (T.seen tx.new) → OnOk result ((T.seen tx.new).rows ≡ (T.seen tx.old).rows) }

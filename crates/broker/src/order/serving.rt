@@ -53,11 +53,11 @@ pub(crate) fn answer_caller<T: RecordsTx>(
         × ChangesToken context.now.caller spent_entry (table_of (T.seen tx.old).rows) (table_of rows)
         × IsReadOrNotPermitted rows context.now.caller c ask.now a) }
 
-    // And afterwards there is no caller without uses left.
+    // After an answer the caller is not there, or its uses are not all spent.
     ensures ends { IsHonest (T.seen tx.new)
         → OnOk result (IsSpentAt (T.seen tx.new).rows context.now.caller false) }
 
-    // Nor is anything if the row of the mount that the path names is damaged.
+    // Nothing is answered if the row of the mount that the path names is damaged.
     ensures mount { IsHonest (T.seen tx.new)
         → IfOk result (λ a. IsReadableAt (table_of (T.seen tx.old).rows) (cut ask.now.path).0) }
 

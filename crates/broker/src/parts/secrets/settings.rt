@@ -59,7 +59,7 @@ pub(super) fn set<T: RecordsTx>(
     ensures ok { (path : Text) → Operates context.now (T.seen tx.old) (T.seen tx.new)
         (λ b. on_secrets operations.SetSettings (at mount.now path) [] body.now) result }
 
-    // Whatever the rows are: settings over a damaged row are neither answered nor refused.
+    // Whatever the rows are: a change of settings over a damaged row is neither answered nor refused.
     ensures undamaged { IsHonest (T.seen tx.new) → (path : Text) (c : SecretCommand)
         → secret_command operations.SetSettings [] body.now ≡ Ok c
         → OnAnswer result (AreReadableSecrets (T.seen tx.old).rows (at mount.now path) c) }

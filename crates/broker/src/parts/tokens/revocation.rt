@@ -127,7 +127,8 @@ fn end<T: RecordsTx>(
 ) -> Result<Answered, RequestError>
     ensures ok { Performs context.now (T.seen tx.old) (T.seen tx.new) (λ b. Ok (part.revoke b token.now)) result }
 
-    // Whatever the rows are: it is not answered if the row of the token, or of one below it, is damaged.
+    // Whatever the rows are: it is neither answered nor refused if the row of the token, or of one below it, is
+    // damaged.
     ensures undamaged { IsHonest (T.seen tx.new)
         → OnAnswer result (IsReadableDescent (T.seen tx.old).rows token.now) }
     ensures started { OnFault result IsNotBadStart }
@@ -147,7 +148,7 @@ fn end_alone<T: RecordsTx>(
 ) -> Result<Answered, RequestError>
     ensures ok { Performs context.now (T.seen tx.old) (T.seen tx.new) (λ b. Ok (part.revoke_alone b token.now)) result }
 
-    // Whatever the rows are: it is not answered if the row of the token is damaged.
+    // Whatever the rows are: it is neither answered nor refused if the row of the token is damaged.
     ensures undamaged { IsHonest (T.seen tx.new)
         → OnAnswer result (IsReadableToken (T.seen tx.old).rows token.now) }
     ensures started { OnFault result IsNotBadStart }
