@@ -1,5 +1,5 @@
 -- Objects that rows tell.
-use Rattle.std.specs.Prelude.{◌≡◌, length, drop, Option, Some, None, option_map, option_and_then}
+use Rattle.std.specs.Prelude.{◌≡◌, length, drop, Option, Some, None, is_some, option_map, option_and_then}
 use Rattle.std.proofs.Common.{refl, sym, ◌∙◌, ap, inl, inr}
 use Rattle.std.proofs.lemmas.Option.{none-some, same_Some}
 use Rattle.broker_types.specs.Text.{Text}
@@ -37,6 +37,15 @@ object_told rows b t path object told len is = same_option object (object_at b t
     same_option None (Some y) e = absurd (none-some _ e)
     same_option (Some x) None e = absurd (none-some _ (sym e))
     same_option (Some x) (Some y) e = ap Some (same_object t x y (same_Some _ _ e))
+
+-- there is a row where the broker has an object
+pub object_there : (rows : Table) (b : Broker) (t path : Text) → Tells of_cubbyholes rows b → length t ≡ token_len
+    → is_some (rows kind.Cubby (object_key t path)) ≡ is_some (object_at b t path)
+object_there rows b t path told len = ap is_some (told kind.Cubby (object_key t path) refl ∙ row_at b t path len) ∙ of_object (object_at b t path)
+  where
+    of_object : (o : Option Text) → is_some (option_map (cubby_row t) o) ≡ is_some o
+    of_object None = refl
+    of_object (Some object) = refl
 
 -- and where the broker is sound, a row that is there can be read
 pub object_kept : (forms : Forms) (rows : Table) (b : Broker) (t path : Text) (row : Row) → SoundTokens forms b.tokens → Tells of_cubbyholes rows b

@@ -7,5 +7,5 @@ mod reading;
 mod writing;
 
 pub use laws::{edits_evolve, edits_keep_soundness, ended_tokens_leave_nothing};
-pub use reading::{list, read};
+pub use reading::{is_there, list, read};
 pub use writing::{delete, drop_owner, write};

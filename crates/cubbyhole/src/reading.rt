@@ -1,15 +1,17 @@
 //! Cubbyholes, read.
 
-ghost use Rattle.std.specs.Prelude.{◌≡◌, length, IfOk, IfErr, OnOk};
+ghost use Rattle.std.specs.Prelude.{◌≡◌, length, is_some, IfOk, IfErr, OnOk};
 ghost use Rattle.broker_types.specs.Broker.{Broker};
 ghost use Rattle.broker_types.specs.Fault.{IsMemoryOrStorage};
 ghost use Rattle.broker_types.specs.Sound.{Forms, SoundTokens, IsShortText};
+ghost use Rattle.records.specs.declared.kind.Kind.TheVariants as kind;
 ghost use Rattle.records.specs.Parts.{of_cubbyholes, Tells};
 ghost use Rattle.records.specs.Reading.{Reads, shown};
 ghost use Rattle.records.specs.RowForms.{cubby_row};
 ghost use Rattle.records.specs.Rows.{token_len};
 ghost use Rattle.records.specs.Transaction.{IsHonest, GoesOn, IsCall, is_storage};
 ghost use Rattle.cubbyhole.specs.Cubbyhole as cubbyhole;
+ghost use Rattle.cubbyhole.specs.Objects as objects;
 ghost use Rattle.cubbyhole.specs.Objects.{table, children_in, IsObjectAt, IsDamagedAt, IsReadFault};
 
 use crate::keys::{folder_key, object_key};
@@ -55,6 +57,26 @@ pub fn read<T: RecordsTx>(
     };
     let object = object_of(&kept, token)?;
     Ok(Some(TextBuf::copied(alloc, object)?))
+}
+
+/// Whether something is at a path of a token's cubbyhole. The row at the path tells it by being there: it is not
+/// read, so a damaged one counts too. It fails only if memory runs out or the storage fails (Vault's documentation,
+/// "Policies", capabilities: a write to a path where nothing is needs `create`, and any other `update`).
+pub fn is_there<T: RecordsTx>(
+    alloc: Global,
+    tx: &mut T,
+    token: &str,
+    path: &str,
+) -> Result<bool, Fault>
+    ensures found { IsHonest (T.seen tx.new) → IfOk result
+        (λ v. v ≡ is_some (table (T.seen tx.old) kind.Cubby (objects.object_key token.now path.now))) }
+    ensures told { IsHonest (T.seen tx.new) → (b : Broker) → Tells of_cubbyholes (table (T.seen tx.old)) b
+        → length token.now ≡ token_len → IfOk result (λ v. v ≡ is_some (cubbyhole.object_at b token.now path.now)) }
+    ensures same { IsHonest (T.seen tx.new) → OnOk result ((T.seen tx.new).rows ≡ (T.seen tx.old).rows) }
+    ensures call { IsCall (T.seen tx.old) (T.seen tx.new) result }
+{
+    let place = object_key(alloc, token, path)?;
+    Ok(tx.get(Kind::Cubby, place.as_str())?.is_some())
 }
 
 /// The immediate children of a folder of a token's cubbyhole, in the order of their bytes, each once: names, and

@@ -1,5 +1,5 @@
 -- What the rows of a sound broker's secrets and mounts say.
-use Rattle.std.specs.Prelude.{◌≡◌, ◌≤◌, ◌<◌, ◌^◌, ℕ, Option, Some, None, option_map, option_and_then}
+use Rattle.std.specs.Prelude.{◌≡◌, ◌≤◌, ◌<◌, ◌^◌, ℕ, Option, Some, None, is_some, option_map, option_and_then}
 use Rattle.std.specs.FinMap as fin
 use Rattle.std.proofs.Common.{refl, sym, ◌∙◌, ap, subst, arith, inl, inr}
 use Rattle.std.proofs.lemmas.Bool.{cases_lt}
@@ -42,6 +42,14 @@ mount_rows b q = refl
 pub version_row_of-some : (o : Option Key) (n : ℕ) → version_row_of o (Some n) ≡ option_map version_row (version_of o n)
 version_row_of-some None n = refl
 version_row_of-some (Some k) n = refl
+
+-- there is a row where the broker has a key
+pub key_there : (t : Table) (b : Broker) (name : Text) → Tells of_secrets t b → is_some (t kind.KvKey name) ≡ is_some (get b.secrets name)
+key_there t b name told = ap is_some (told kind.KvKey name refl ∙ key_rows b name) ∙ of_key (get b.secrets name)
+  where
+    of_key : (o : Option Key) → is_some (option_map key_row o) ≡ is_some o
+    of_key None = refl
+    of_key (Some k) = refl
 
 -- each row of a version of a name, where no version is above the greatest
 pub version_row_at : (laws : KeyLaws) (s : Map Key) (name : Text) → IsSecretName name

@@ -24,7 +24,7 @@ pub use laws::{
     operations_evolve, operations_keep_soundness, other_keys_stay,
 };
 pub use listing::list;
-pub use reading::read;
+pub use reading::{is_there, read};
 pub use removing::{drop_mount, remove_key};
 pub use secret_metadata::{SecretMetadata, VersionMetadata};
 pub use secret_version::SecretVersion;

@@ -1,15 +1,16 @@
 //! Versions of secrets, read.
 
-ghost use Rattle.std.specs.Prelude.{◌≡◌, ◌≢◌, ℕ, Option, option_map, IfOk, IfErr, OnOk};
+ghost use Rattle.std.specs.Prelude.{◌≡◌, ◌≢◌, ℕ, Option, option_map, is_some, IfOk, IfErr, OnOk};
 ghost use Rattle.broker_types.specs.Broker.{Broker};
 ghost use Rattle.broker_types.specs.Fault.{IsMemoryOrStorage};
 ghost use Rattle.broker_types.specs.Secret.{Version};
 ghost use Rattle.broker_types.specs.Sound.{Forms, SoundSecrets};
+ghost use Rattle.records.specs.declared.kind.Kind.TheVariants as kind;
 ghost use Rattle.records.specs.Parts.{of_secrets, Tells};
 ghost use Rattle.records.specs.Ranges.{IsVersionInRange};
 ghost use Rattle.records.specs.Reading.{IsSomeIn};
 ghost use Rattle.records.specs.Table.{table_of};
-ghost use Rattle.records.specs.Transaction.{IsHonest, GoesOn, is_storage};
+ghost use Rattle.records.specs.Transaction.{IsHonest, IsCall, GoesOn, is_storage};
 ghost use Rattle.kv2.specs.SecretRows.{HasVersion, IsReading};
 ghost use Rattle.kv2.specs.Secrets as secrets;
 ghost use Rattle.kv2.specs.Versions as versions;
@@ -90,4 +91,25 @@ pub fn read<T: RecordsTx>(
     };
     let asked = asked_number(key.current, number);
     find_version(alloc, tx, name.as_str(), asked)
+}
+
+/// Whether a secret is at a path of a mount, also if its versions are deleted or destroyed. The row of its key tells
+/// it by being there: it is not read, so a damaged one counts too. It fails only if memory runs out or the storage
+/// fails (Vault's documentation, "Policies", capabilities: a write to a path where nothing is needs `create`, and any
+/// other `update`).
+pub fn is_there<T: RecordsTx>(
+    alloc: Global,
+    tx: &mut T,
+    mount: &str,
+    path: &str,
+) -> Result<bool, Fault>
+    ensures found { IsHonest (T.seen tx.new) → IfOk result (λ v. v
+        ≡ is_some (table_of (T.seen tx.old).rows kind.KvKey (secrets.secret_name mount.now path.now))) }
+    ensures told { IsHonest (T.seen tx.new) → (b : Broker) → Tells of_secrets (table_of (T.seen tx.old).rows) b
+        → IfOk result (λ v. v ≡ is_some (secrets.key_at b mount.now path.now)) }
+    ensures same { IsHonest (T.seen tx.new) → OnOk result ((T.seen tx.new).rows ≡ (T.seen tx.old).rows) }
+    ensures call { IsCall (T.seen tx.old) (T.seen tx.new) result }
+{
+    let name = secret_name(alloc, mount, path)?;
+    Ok(tx.get(Kind::KvKey, name.as_str())?.is_some())
 }
