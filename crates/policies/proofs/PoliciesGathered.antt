@@ -1,20 +1,20 @@
 -- Rules gathered policy by policy.
-use Rattle.std.specs.Prelude.{◌≡◌, ◌<◌, ◌+◌, ℕ, suc, ◌++◌, List, [], ◌∷◌, length, take, drop, get_or, flat_map, All, Option, Some, None}
+use Rattle.std.specs.Prelude.{◌≡◌, ◌<◌, ◌+◌, ℕ, suc, ◌++◌, List, [], ◌∷◌, length, take, drop, get_or, flat_map, All, Any, Option, Some, None}
 use Rattle.std.specs.Prelude.{unwrap_or, option_and_then}
 use Rattle.std.proofs.Common.{sym, ◌∙◌, ap, subst, arith, append_assoc}
 use Rattle.std.proofs.Math.Seq.{drop-cons}
-use Rattle.std.proofs.lemmas.List.{take_more}
+use Rattle.std.proofs.lemmas.List.{take_more, get_or_default}
 use Rattle.std.proofs.lemmas.List.Elements.{All-push, All-same}
-use Rattle.std.proofs.lemmas.Option.{same_Some}
+use Rattle.std.proofs.lemmas.Option.{none-some, same_Some}
 use Rattle.broker_types.specs.Map.{Map, get}
 use Rattle.broker_types.specs.Text.{Text}
 use Rattle.records.specs.Table.{Table, table_of}
 use Rattle.records.specs.Transaction.{Rows}
 use Rattle.policies.specs.Grants.{rules_named}
-use Rattle.policies.specs.PolicyRows.{IsPolicyAt, ArePoliciesAt, GivesRules, IsReadable, kept_rules}
+use Rattle.policies.specs.PolicyLaws.{one_policy}
+use Rattle.policies.specs.PolicyRows.{IsPolicyAt, ArePoliciesAt, GivesRules, IsReadable, IsUnreadable, kept_rules}
 use Rattle.policies.specs.Reading.{policy_of}
 use Rattle.policies.specs.Rules.{Rule}
-use Rattle.policies.proofs.PolicyTold.{one_policy}
 
 kept_named : (o : Option Text) (rules : List Rule) → kept_rules o ≡ Some rules → unwrap_or (option_and_then policy_of o) [] ≡ rules
 kept_named None rules e = same_Some _ _ e
@@ -27,6 +27,12 @@ unfolding rules_named
 rules_told rows policies name rules at gives =
     sym (kept_named gives.text rules gives.read)
     ∙ ap (λ o. unwrap_or (option_and_then policy_of o) []) (one_policy rows name gives.text (get policies name) gives.row at)
+
+-- a row whose text is no policy gives no rules
+pub unread_named : (rows : Table) (name : Text) (o : Option Text) (text : Text) → IsPolicyAt rows name o → o ≡ Some text → policy_of text ≡ None
+    → IsUnreadable rows name
+unread_named rows name o text at is none rules gives =
+    none-some _ (sym none ∙ ap kept_rules (sym is ∙ one_policy rows name o gives.text at gives.row) ∙ gives.read)
 
 -- ---- name by name
 
@@ -43,6 +49,11 @@ module _ (now old : Rows) (names : List Text) (i : ℕ) (d name : Text) (same : 
       All-same (IsReadable (table_of old)) _ _ (take_more names i d within)
       (All-push (IsReadable (table_of old)) (take i names) (get_or names i d) so_far
       (subst (IsReadable (table_of old)) is (subst (λ rows. IsReadable (table_of rows) name) same one)))
+
+  -- the row of the one at the place gives no rules
+  pub one_unread : IsUnreadable (table_of now) name → Any (IsUnreadable (table_of old)) names
+  one_unread none =
+      (i, name, within, get_or_default names i name d within ∙ sym is, subst (λ rows. IsUnreadable (table_of rows) name) same none)
 
   -- the rules of one name more
   pub one_more : (f : Text → List Rule) (rules more all : List Rule) → rules ++ flat_map f (drop i names) ≡ all → more ≡ rules ++ f name

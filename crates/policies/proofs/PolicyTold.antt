@@ -1,39 +1,18 @@
 -- Policies that rows tell.
-use Rattle.std.specs.Prelude.{◌≡◌, drop, Bool, true, false, if◌then◌else◌, Option, Some, None, option_map, [], Result, Ok, Err, IfErr, IfOk}
-use Rattle.std.proofs.Common.{refl, sym, ◌∙◌, ap}
-use Rattle.std.proofs.lemmas.Option.{none-some, same_Some}
+use Rattle.std.specs.Prelude.{◌≡◌, Bool, true, false, if◌then◌else◌, Option, Some, [], Result, Ok, Err, IfErr, IfOk}
+use Rattle.std.proofs.Common.{sym, ◌∙◌, ap}
 use Rattle.broker_types.specs.Fault.{IsMemoryOrStorage}
 use Rattle.broker_types.specs.Map.{Map, get}
 use Rattle.broker_types.specs.Sound.{SoundPolicies, IsShortText}
 use Rattle.broker_types.specs.Text.{Text}
 use Rattle.broker_types.specs.declared.fault.Fault.{Fault}
 use Rattle.broker_types.specs.declared.fault.Fault.TheVariants.{Memory, Storage, Damaged, BadStart}
-use Rattle.records.specs.declared.row.Row.{Row}
 use Rattle.records.specs.Reading.{IsSomeIn}
-use Rattle.records.specs.RowForms.{policy_row}
-use Rattle.records.specs.Spelling.{count}
 use Rattle.records.specs.Table.{Table}
 use Rattle.policies.specs.Policies.{is_root, text_of}
+use Rattle.policies.specs.PolicyLaws.{one_policy}
 use Rattle.policies.specs.PolicyRows.{IsPolicyAt, ArePolicies, IsReadFault}
 use Rattle.policies.specs.Reading.{policy_forms}
-
--- the text after its length, and equal rows have equal texts
-after_length : (x : Text) → drop 5 (policy_row x).body ≡ x
-unfolding count
-after_length x = refl
-
-same_text : (x y : Text) → policy_row x ≡ policy_row y → x ≡ y
-same_text x y e = sym (after_length x) ∙ ap (λ (r : Row). drop 5 r.body) e ∙ after_length y
-
-pub same_policy : (o p : Option Text) → option_map policy_row o ≡ option_map policy_row p → o ≡ p
-same_policy None None e = refl
-same_policy None (Some y) e = absurd (none-some _ e)
-same_policy (Some x) None e = absurd (none-some _ (sym e))
-same_policy (Some x) (Some y) e = ap Some (same_text x y (same_Some _ _ e))
-
--- what rows tell of one name is one thing
-pub one_policy : (rows : Table) (name : Text) (o p : Option Text) → IsPolicyAt rows name o → IsPolicyAt rows name p → o ≡ p
-one_policy rows name o p h k = same_policy o p (sym h ∙ k)
 
 -- the text that is told is that of the policy
 pub text_told : (rows : Table) (policies : Map Text) (name : Text) (o : Option Text) → is_root name ≡ false → ArePolicies rows policies → IsPolicyAt rows name o

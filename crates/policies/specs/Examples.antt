@@ -60,6 +60,44 @@ pub record ListsFolders : Type 0 where
   pub beside : may_do teams verb.List (codes "secret/metadata") may.List ≡ true
   pub named : may_do named_team verb.List (codes "secret/metadata/team") may.List ≡ true
 
+-- a rule that says one word
+abbrev one : Text → Word → Rule
+one pattern word = on pattern (word ∷ [])
+
+-- LIST of `a` tries `a/`, then `a`, then the prefixes of `a/`; any other request is about the path alone
+pub record ListsInOrder : Type 0 where
+  pub folder :
+      may_do (one (codes "a/*") Deny ∷ one (codes "a") Deny ∷ one (codes "a/") (Grant may.List) ∷ []) verb.List
+      (codes "a") may.List ≡ true
+  pub path :
+      may_do (one (codes "a/*") Deny ∷ one (codes "a") (Grant may.List) ∷ []) verb.List
+      (codes "a") may.List ≡ true
+  pub prefix : may_do (one (codes "a/*") (Grant may.List) ∷ []) verb.List (codes "a") may.List ≡ true
+  pub denied :
+      may_do (one (codes "a") (Grant may.List) ∷ one (codes "a/") Deny ∷ []) verb.List
+      (codes "a") may.List ≡ false
+  pub no_read : may_do (one (codes "a/") (Grant may.Read) ∷ []) verb.Get (codes "a") may.Read ≡ false
+
+-- ---- prefixes
+
+-- every path
+abbrev everything : List Rule
+everything = one (codes "*") (Grant may.Read) ∷ []
+
+-- what is in a folder, but for one path
+abbrev folder_but_one : List Rule
+folder_but_one = one (codes "a/*") (Grant may.Read) ∷ one (codes "a/b") Deny ∷ []
+
+-- A `*` alone is about every path, also the empty one. A prefix is about what is in a folder, and not about the folder.
+-- An exact pattern is about its path alone, so that the prefix decides on what is below a path that is denied.
+pub record AllowsPrefixes : Type 0 where
+  pub any : may_do everything verb.Get (codes "a/b") may.Read ≡ true
+  pub empty : may_do everything verb.Get [] may.Read ≡ true
+  pub folder : may_do folder_but_one verb.Get (codes "a") may.Read ≡ false
+  pub beside : may_do folder_but_one verb.Get (codes "a/c") may.Read ≡ true
+  pub denied : may_do folder_but_one verb.Get (codes "a/b") may.Read ≡ false
+  pub below : may_do folder_but_one verb.Get (codes "a/b/c") may.Read ≡ true
+
 -- ---- others
 
 -- secrets may be made, and not changed

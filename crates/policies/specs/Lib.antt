@@ -6,6 +6,7 @@ pub mod Laws
 pub mod Patterns
 pub mod Places
 pub mod Policies
+pub mod PolicyLaws
 pub mod PolicyRows
 pub mod Reading
 pub mod Rules

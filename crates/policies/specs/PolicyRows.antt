@@ -74,12 +74,17 @@ kept_rules (Some text) = policy_of text
 -- the row at a name gives these rules: those of its text, or none if there is no row
 pub record GivesRules (rows : Table) (name : Text) (rules : List Rule) : Type 0 where
   pub text : Option Text
+  pub short : IsSomeIn IsShortText text
   pub row : IsPolicyAt rows name text
   pub read : kept_rules text ≡ Some rules
 
 -- the row at a name can be read, and its text is a policy; or there is no row
 abbrev pub IsReadable : Table → Text → Type 0
 IsReadable rows name = (rules : List Rule) × GivesRules rows name rules
+
+-- the row at a name gives no rules: it is there, and is not that of a policy
+abbrev pub IsUnreadable : Table → Text → Type 0
+IsUnreadable rows name = (rules : List Rule) → GivesRules rows name rules → ⊥
 
 -- a name put in its place among names in the order of their bytes, if it is not there
 abbrev pub with_name : Text → List Text → List Text

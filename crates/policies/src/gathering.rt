@@ -1,6 +1,6 @@
 //! What a caller's policies say, from their rows.
 
-ghost use Rattle.std.specs.Prelude.{◌≡◌, ◌≢◌, ◌++◌, Bool, Some, true, false, IfOk, IfErr, OnOk, All};
+ghost use Rattle.std.specs.Prelude.{◌≡◌, ◌≢◌, ◌++◌, Bool, Some, None, true, false, IfOk, IfErr, OnOk, All, Any};
 ghost use Rattle.std.specs.List.{list_any};
 ghost use Rattle.broker_types.specs.Text.{Text};
 ghost use Rattle.broker_types.specs.Fault.{IsMemoryOrStorage};
@@ -9,7 +9,8 @@ ghost use Rattle.broker_types.specs.Sound.{SoundPolicies};
 ghost use Rattle.records.specs.Transaction.{IsHonest, GoesOn, is_storage};
 ghost use Rattle.policies.specs.Grants as spec;
 ghost use Rattle.policies.specs.Policies as policies;
-ghost use Rattle.policies.specs.PolicyRows.{table, IsPolicyAt, ArePoliciesAt, GivesRules, IsReadable};
+ghost use Rattle.policies.specs.PolicyRows.{table, IsPolicyAt, ArePoliciesAt, GivesRules};
+ghost use Rattle.policies.specs.PolicyRows.{IsReadable, IsUnreadable, IsReadFault};
 ghost use Rattle.policies.specs.Reading.{policy_of, is_policy, policy_forms};
 
 use crate::keeping::kept_text;
@@ -33,9 +34,11 @@ pub fn rules_of<T: RecordsTx>(
         → ArePoliciesAt (table (T.seen tx.old)) names.now policies
         → IfOk result (λ rules. rules ≡ spec.rules_of policies names.now verb) }
 
-    // Whatever the rows are: no damaged row is passed over.
+    // Whatever the rows are: no damaged row is passed over, and no other row is told as damaged.
     ensures readable { IsHonest (T.seen tx.new)
         → IfOk result (λ rules. All (IsReadable (table (T.seen tx.old))) names.now) }
+    ensures damaged { IfErr result
+        (IsReadFault (IsHonest (T.seen tx.new) → Any (IsUnreadable (table (T.seen tx.old))) names.now)) }
     ensures same { IsHonest (T.seen tx.new) → OnOk result ((T.seen tx.new).rows ≡ (T.seen tx.old).rows) }
     ensures undamaged { IsHonest (T.seen tx.new) → (is_object : Text → Bool) (policies : Map Text)
         → SoundPolicies (policy_forms is_object) policies
@@ -72,6 +75,8 @@ fn with_named<T: RecordsTx>(
         → IsPolicyAt (table (T.seen tx.old)) name.now (get policies name.now)
         → IfOk result (λ rs. rs.items ≡ rules.items ++ spec.rules_named policies name.now) }
     ensures readable { IsHonest (T.seen tx.new) → OnOk result (IsReadable (table (T.seen tx.old)) name.now) }
+    ensures damaged { IfErr result
+        (IsReadFault (IsHonest (T.seen tx.new) → IsUnreadable (table (T.seen tx.old)) name.now)) }
     ensures same { IsHonest (T.seen tx.new) → OnOk result ((T.seen tx.new).rows ≡ (T.seen tx.old).rows) }
     ensures undamaged { IsHonest (T.seen tx.new) → (is_object : Text → Bool) (policies : Map Text)
         → SoundPolicies (policy_forms is_object) policies
@@ -87,6 +92,8 @@ fn with_named<T: RecordsTx>(
 /// The rules of a policy, none if it is not there.
 fn rules_named<T: RecordsTx>(alloc: Global, tx: &mut T, name: &str) -> Result<Policy, Fault>
     ensures found { IsHonest (T.seen tx.new) → IfOk result (λ p. GivesRules (table (T.seen tx.old)) name.now p) }
+    ensures damaged { IfErr result
+        (IsReadFault (IsHonest (T.seen tx.new) → IsUnreadable (table (T.seen tx.old)) name.now)) }
     ensures same { IsHonest (T.seen tx.new) → OnOk result ((T.seen tx.new).rows ≡ (T.seen tx.old).rows) }
     ensures undamaged { IsHonest (T.seen tx.new) → (is_object : Text → Bool) (policies : Map Text)
         → SoundPolicies (policy_forms is_object) policies
@@ -105,6 +112,7 @@ fn rules_named<T: RecordsTx>(alloc: Global, tx: &mut T, name: &str) -> Result<Po
 /// The policy of a text that was kept. It fails as `Damaged` if the text is none.
 fn policy_kept(alloc: Global, text: &str) -> Result<Policy, Fault>
     ensures exact { IfOk result (λ p. policy_of text.now ≡ Some p) }
+    ensures damaged { IfErr result (IsReadFault (policy_of text.now ≡ None)) }
     ensures undamaged { is_policy text.now ≡ true → IfErr result IsMemoryOrStorage }
     ensures faults { is_storage result ≡ false }
     ensures started { IfErr result (λ fault. fault ≢ Fault.BadStart) }

@@ -114,6 +114,7 @@ pub(crate) fn kept_text<T: RecordsTx>(
     name: &str,
 ) -> Result<Option<TextBuf>, Fault>
     ensures found { IsHonest (T.seen tx.new) → IfOk result (IsPolicyAt (table (T.seen tx.old)) name.now) }
+    ensures short { IfOk result (IsSomeIn IsShortText) }
     ensures same { IsHonest (T.seen tx.new) → OnOk result ((T.seen tx.new).rows ≡ (T.seen tx.old).rows) }
     ensures faults { IfErr result (IsReadFault (IsHonest (T.seen tx.new)
         → (text : Option Text) → IsSomeIn IsShortText text → IsPolicyAt (table (T.seen tx.old)) name.now text → ⊥)) }

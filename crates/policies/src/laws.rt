@@ -1,6 +1,6 @@
 //! Laws of the definitions, each the contract of a function that does nothing.
 
-ghost use Rattle.policies.specs.Examples.{DeniesOne, ListsFolders, Allow, Refuses};
+ghost use Rattle.policies.specs.Examples.{DeniesOne, ListsFolders, ListsInOrder, AllowsPrefixes, Allow, Refuses};
 ghost use Rattle.policies.specs.Laws.{OnlyWhatIsGranted, AllThatIsGranted, RootMayDoAll};
 ghost use Rattle.policies.specs.Laws.{NothingWithoutPolicies, OrderDoesNotMatter, OthersDoNotMatter};
 ghost use Rattle.policies.specs.Laws.{ExactComesFirst, FolderComesFirst, ThenThePath, PrefixIsLongest};
@@ -58,6 +58,8 @@ pub fn policies_are_told()
 pub fn examples()
     ensures denies_one { DeniesOne }
     ensures lists_folders { ListsFolders }
+    ensures lists_in_order { ListsInOrder }
+    ensures allows_prefixes { AllowsPrefixes }
     ensures allow { Allow }
     ensures refuses { Refuses }
 {}

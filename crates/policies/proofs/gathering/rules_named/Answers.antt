@@ -1,9 +1,11 @@
 use Rattle.std.proofs.Common.{◌≡◌, ap, sym, ◌∙◌, Err, Some}
 use Rattle.std.proofs.lemmas.Result.{err_from_is_err_and}
 use Rattle.broker_types.specs.Map.{get}
+use Rattle.policies.specs.PolicyLaws.{one_policy}
 use Rattle.policies.specs.PolicyRows.{table}
-use Rattle.policies.specs.Reading.{is_policy}
-use Rattle.policies.proofs.PolicyTold.{one_policy, short_texts, not_damaged}
+use Rattle.policies.specs.Reading.{is_policy, policy_of}
+use Rattle.policies.proofs.PoliciesGathered.{unread_named}
+use Rattle.policies.proofs.PolicyTold.{short_texts, not_damaged, each_fault, fault_then}
 use Rattle.policies.proofs.gathering.rules_named.Goals as goal
 
 pub returns-in_err-text-clause-undamaged : goal.returns-in_err-text-clause-undamaged
@@ -20,3 +22,10 @@ returns-in-Some-clause-undamaged g c honest is_object policies sound at =
     sym (one_policy (table (g.T.RecordsTx.seen c.args.tx.now)) name c.in_ok-text.field-0 (get policies name) (c.in_ok-text.ensures.found honest) at)
     ∙ c.in-Some.is in
     c.policy_kept.ensures.undamaged (ap is_policy c.as_str.ensures ∙ (sound name c.in-Some.text stands).policy)
+
+pub returns-in-Some-clause-damaged : goal.returns-in-Some-clause-damaged
+returns-in-Some-clause-damaged g c =
+    let rows = table (g.T.RecordsTx.seen c.args.tx.now) in
+    each_fault (fault_then (λ none honest.
+    unread_named rows c.args.name.now c.in_ok-text.field-0 c.in-Some.text (c.in_ok-text.ensures.found honest) c.in-Some.is
+    (ap policy_of (sym c.as_str.ensures) ∙ none))) c.policy_kept.result c.policy_kept.ensures.damaged

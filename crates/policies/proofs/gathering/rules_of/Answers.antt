@@ -7,7 +7,8 @@ use Rattle.records.specs.CallLaws.{honest_before, goes_further}
 use Rattle.records.specs.Transaction.{IsHonest}
 use Rattle.policies.specs.Grants.{rules_named}
 use Rattle.policies.specs.PolicyRows.{table, IsReadable}
-use Rattle.policies.proofs.PoliciesGathered.{told_at, one_more_read, one_more}
+use Rattle.policies.proofs.PoliciesGathered.{told_at, one_more_read, one_more, one_unread}
+use Rattle.policies.proofs.PolicyTold.{fault_then}
 use Rattle.policies.proofs.gathering.rules_of.Goals as goal
 
 pub returns-in_err-rules-clause-undamaged : goal.returns-in_err-rules-clause-undamaged
@@ -20,6 +21,17 @@ returns-in_err-rules-clause-undamaged g c honest is_object policies sound are =
     (c.loop-name.invariant.same before) is c.loop-name-test.true policies are in
     let p = err_from_is_err_and c.from_residual.result c.from_residual.ensures.1 in
     rw (p.1 ∙ ap Err p.2) (c.in_err-rules.ensures.undamaged honest is_object policies sound at)
+
+pub returns-in_err-rules-clause-damaged : goal.returns-in_err-rules-clause-damaged
+returns-in_err-rules-clause-damaged g c =
+    let seen = g.T.RecordsTx.seen in
+    let name : Text = c.as_str.result.now in
+    let is : name ≡ get_or c.args.names.now c.loop-name.name-index c.name-item.result = c.as_str.ensures ∙ c.name-item.is in
+    let p = err_from_is_err_and c.from_residual.result c.from_residual.ensures.1 in
+    rw (p.1 ∙ ap Err p.2) (fault_then (λ unread honest.
+    let before = honest_before (seen c.loop-name.tx) (seen c.with_named.new.tx) _ c.in_err-rules.ensures.goes_on honest in
+    one_unread (seen c.loop-name.tx).rows (seen c.args.tx.now).rows c.args.names.now c.loop-name.name-index c.name-item.result name
+    (c.loop-name.invariant.same before) is c.loop-name-test.true (unread honest)) c.in_err-rules.field-0.0 c.in_err-rules.ensures.damaged)
 
 pub loop-name-preserved : goal.loop-name-preserved
 loop-name-preserved g c =

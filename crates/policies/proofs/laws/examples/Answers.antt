@@ -17,6 +17,14 @@ pub returns-clause-lists_folders : goal.returns-clause-lists_folders
 unfolding same allows pattern_of
 returns-clause-lists_folders c = record { denied = refl; beside = refl; named = refl }
 
+pub returns-clause-lists_in_order : goal.returns-clause-lists_in_order
+unfolding same allows pattern_of
+returns-clause-lists_in_order c = record { folder = refl; path = refl; prefix = refl; denied = refl; no_read = refl }
+
+pub returns-clause-allows_prefixes : goal.returns-clause-allows_prefixes
+unfolding same allows pattern_of
+returns-clause-allows_prefixes c = record { any = refl; empty = refl; folder = refl; beside = refl; denied = refl; below = refl }
+
 pub returns-clause-allow : goal.returns-clause-allow
 unfolding same allows pattern_of
 returns-clause-allow c = record { create = refl; update = refl; star = refl; star_list = refl }
