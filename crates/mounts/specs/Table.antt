@@ -6,9 +6,11 @@ use Rattle.broker_types.specs.declared.ask.Verb.TheVariants as verb
 use Rattle.mounts.specs.declared.mount_type.MountType.{MountType}
 use Rattle.mounts.specs.declared.mount_type.MountType.TheVariants as mount
 use Rattle.mounts.specs.declared.operation.Operation.{Operation}
-use Rattle.mounts.specs.declared.operation.Operation.TheVariants.{Cubbyholes, Tokens, Secrets}
+use Rattle.mounts.specs.declared.operation.Operation.TheVariants.{Cubbyholes, Tokens, Secrets, Policies}
 use Rattle.mounts.specs.declared.operation.Cubbyhole.TheVariants as cubbyhole
 use Rattle.mounts.specs.declared.operation.TokenOperation.TheVariants as token
+use Rattle.mounts.specs.declared.operation.PolicyOperation.{PolicyOperation}
+use Rattle.mounts.specs.declared.operation.PolicyOperation.TheVariants as policy
 use Rattle.mounts.specs.declared.operation.SecretOperation.{SecretOperation}
 use Rattle.mounts.specs.declared.operation.SecretOperation.TheVariants as secret
 use Rattle.mounts.specs.Row.{Row, on}
@@ -29,7 +31,12 @@ rows_of mount.Token =
     ∷ on verb.Write (codes "token/revoke-accessor") (Tokens token.RevokeAccessor)
     ∷ on verb.List (codes "token/accessors") (Tokens token.ListAccessors)
     ∷ []
-rows_of mount.System = []
+rows_of mount.System =
+    on verb.List (codes "policies/acl") (Policies policy.List)
+    ∷ on verb.Get (codes "policies/acl/{name}") (Policies policy.Show)
+    ∷ on verb.Write (codes "policies/acl/{name}") (Policies policy.Set)
+    ∷ on verb.Delete (codes "policies/acl/{name}") (Policies policy.Remove)
+    ∷ []
 rows_of mount.Cubbyhole =
     on verb.Get (codes "{*path}") (Cubbyholes cubbyhole.Read)
     ∷ on verb.Write (codes "{*path}") (Cubbyholes cubbyhole.Write)
@@ -57,9 +64,17 @@ takes_path secret.SetSettings = false
 takes_path secret.List = false
 takes_path _ = true
 
+-- whether the operation needs the name of a policy
+abbrev pub takes_name : PolicyOperation → Bool
+takes_name policy.List = false
+takes_name policy.Show = true
+takes_name policy.Set = true
+takes_name policy.Remove = true
+
 -- whether the operation needs what a path has in place of the parameter; a list of the whole mount has none
 abbrev pub takes_parameter : Operation → Bool
 takes_parameter (Cubbyholes cubbyhole.Read) = true
 takes_parameter (Cubbyholes cubbyhole.Write) = true
 takes_parameter (Tokens operation) = false
 takes_parameter (Secrets operation) = takes_path operation
+takes_parameter (Policies operation) = takes_name operation

@@ -18,5 +18,7 @@ pub use listing::{NamedMount, list};
 pub use mount_type::MountType;
 pub use mounting::{disable, enable};
 pub use naming::is_name;
-pub use operation::{Cubbyhole, Operation, Route, SecretOperation, TokenOperation};
+pub use operation::{
+    Cubbyhole, Operation, PolicyOperation, Route, SecretOperation, TokenOperation,
+};
 pub use routing::route;

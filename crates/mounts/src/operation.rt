@@ -11,6 +11,8 @@ pub enum Operation {
     Tokens(TokenOperation),
     /// On the secrets of a mount.
     Secrets(SecretOperation),
+    /// On policies.
+    Policies(PolicyOperation),
 }
 
 /// What is done with a path of the caller's cubbyhole (Vault's documentation, "Cubbyhole secrets engine
@@ -77,6 +79,19 @@ pub enum SecretOperation {
     Remove,
     /// The secrets and folders of a folder are listed.
     List,
+}
+
+/// What is done with policies (Vault's documentation, "/sys/policies").
+#[derive(Clone, Copy, Debug, PartialEq, Eq)]
+pub enum PolicyOperation {
+    /// The names of all policies are listed.
+    List,
+    /// A policy is shown.
+    Show,
+    /// A policy is set, in place of the one of its name.
+    Set,
+    /// A policy is deleted.
+    Remove,
 }
 
 /// Where a request goes.

@@ -6,8 +6,8 @@ ghost use Rattle.mounts.specs.Row.{rows_in};
 ghost use Rattle.mounts.specs.Table as table;
 
 use crate::mount_type::MountType;
-use crate::operation::Operation::{Cubbyholes, Secrets, Tokens};
-use crate::operation::{Cubbyhole, Operation, SecretOperation, TokenOperation};
+use crate::operation::Operation::{Cubbyholes, Policies, Secrets, Tokens};
+use crate::operation::{Cubbyhole, Operation, PolicyOperation, SecretOperation, TokenOperation};
 use broker_types::Verb::{self, Delete, Get, List, Write};
 
 /// A row of the table: the verb, the pattern and the operation.
@@ -57,7 +57,16 @@ const TOKEN: &[Row] = &[
     ),
 ];
 
-const SYSTEM: &[Row] = &[];
+const SYSTEM: &[Row] = &[
+    Row(List, "policies/acl", Policies(PolicyOperation::List)),
+    Row(Get, "policies/acl/{name}", Policies(PolicyOperation::Show)),
+    Row(Write, "policies/acl/{name}", Policies(PolicyOperation::Set)),
+    Row(
+        Delete,
+        "policies/acl/{name}",
+        Policies(PolicyOperation::Remove),
+    ),
+];
 
 const CUBBYHOLE: &[Row] = &[
     Row(Get, "{*path}", Cubbyholes(Cubbyhole::Read)),
