@@ -72,7 +72,6 @@ module _ (b : Broker) (c : Text) where
     no_leases = spent_no_leases s.no_leases;
     none_waits = s.none_waits;
     no_roles = s.no_roles;
-    one_policy = s.one_policy;
   }
 
   -- rows of tokens that are those after a use was spent, where nothing else has changed
@@ -101,7 +100,6 @@ module _ (b : Broker) (c : Text) (old : Rows) (st : Represents (Some c) old b) w
     no_leases = left_no_leases;
     none_waits = st.served.none_waits;
     no_roles = st.served.no_roles;
-    one_policy = st.served.one_policy;
   }
 
   abbrev IsSpent : Bool → Type 0

@@ -15,6 +15,7 @@ use Rattle.broker_types.specs.Refuse.{◌>>=◌}
 use Rattle.broker_types.specs.RequestError.{EndsErr, EndsOk, EndsRefused}
 use Rattle.broker_types.specs.declared.answer.Answer.{Answer}
 use Rattle.broker_types.specs.declared.ask.Ask.{Ask}
+use Rattle.broker_types.specs.declared.ask.Verb.{Verb}
 use Rattle.broker_types.specs.declared.fault.Fault.{Fault}
 use Rattle.broker_types.specs.declared.refusal.Refusal.{Refusal}
 use Rattle.broker_types.specs.declared.request_error.RequestError.{RequestError}
@@ -40,28 +41,29 @@ use Rattle.mounts.specs.MountRows.{IsKnownAt}
 use Rattle.mounts.specs.Route.{Route, cut, route_at}
 use Rattle.mounts.specs.declared.operation.Cubbyhole.{Cubbyhole}
 use Rattle.mounts.specs.declared.operation.Cubbyhole.TheVariants as cubbyhole
-use Rattle.mounts.specs.declared.operation.Operation.TheVariants.{Cubbyholes, Tokens, Secrets}
+use Rattle.mounts.specs.declared.operation.Operation.TheVariants.{Cubbyholes, Tokens, Secrets, Policies}
+use Rattle.mounts.specs.declared.operation.PolicyOperation.{PolicyOperation}
 use Rattle.mounts.specs.declared.operation.SecretOperation.{SecretOperation}
 use Rattle.mounts.specs.declared.operation.TokenOperation.{TokenOperation}
-use Rattle.broker.specs.Command.{Command, on_cubbyhole, on_token, on_secret, command_for, place_of}
+use Rattle.broker.specs.Command.{Command, on_cubbyhole, on_token, on_secret, on_policy, command_for, place_of}
 use Rattle.broker.specs.Order.{permission_denied}
 use Rattle.broker.proofs.CubbyholeAnswers.{meant_there}
 use Rattle.broker.proofs.Ended.{neither, others_kept}
 use Rattle.broker.proofs.Expired.{readable_gone}
-use Rattle.broker.proofs.Routes.{found_is, known_still, meant_on_tokens}
+use Rattle.broker.proofs.Routes.{found_is, known_still, meant_on_tokens, meant_on_policies}
 use Rattle.broker.proofs.SecretRoutes.{meant_on_secrets}
-use Rattle.broker.proofs.SudoPaths.{sudo_reads_none}
 use Rattle.broker.proofs.TokenAnswers.{ok_step}
 use Rattle.std.specs.FinMap as map
 use Rattle.cubbyhole.specs.Objects.{object_key}
 use Rattle.token_tree.specs.Endings.{AreTokenRows, EndsAlone, without_tokens}
 use Rattle.token_tree.specs.TokenRows.{ChangesToken, IsTokenAt, spent_entry, with_entry}
 use Rattle.broker.specs.Ending.{EndsCaller, Expires, HasEnded, IsSpentAt}
-use Rattle.broker.specs.Permission.{needs_sudo}
 use Rattle.broker.specs.ReadableRow.{IsReadable, IsReadableToken, IsDenied}
-use Rattle.broker.specs.Reads.{AreAtCommand, AreReadable, AreReadableObjects, AreReadableTokens, AreReadableSecrets, Asks}
-use Rattle.broker.specs.Reads.{IsNotPermitted, IsPermittedAt, IsRootAt, IsToldNotPermitted}
+use Rattle.broker.specs.PermittedRows.{IsPermittedAt, IsToldForbidden}
+use Rattle.broker.specs.Reads.{AreAtCommand, AreReadable, AreReadableObjects, AreReadablePolicies, AreReadableTokens, AreReadableSecrets, Asks}
+use Rattle.broker.specs.Reads.{IsForbidden}
 use Rattle.broker.specs.parts.Cubbyholes.{CubbyholeCommand, cubbyhole_command}
+use Rattle.broker.specs.parts.PolicyCommands.{PolicyCommand, policy_command}
 use Rattle.broker.specs.parts.SecretCommands.{Place, SecretCommand, secret_command}
 use Rattle.broker.specs.parts.TokenCommands.{TokenCommand, token_command, read_as, read_none}
 
@@ -127,6 +129,13 @@ module _ {A : Type 0} (rows : Rows) (caller : Text) (a : Ask) (r : Route) (resul
       (sym (meant_on_secrets r a op place version body is there asked given) ∙ meant) in
       subst (λ x. OnAnswer result (AreReadable rows caller x)) (ok_inj s.2) (promised s.0 s.1)
 
+  pub policies_read : (op : PolicyOperation) (name : Text) (body : List ℕ) → r.operation ≡ Policies op → r.parameter ≡ name → body ≡ a.body
+      → ((c : PolicyCommand) → policy_command op name body ≡ Ok c → OnAnswer result (AreReadablePolicies rows c))
+      → (c : Command) → command_for r a ≡ Ok c → OnAnswer result (AreReadable rows caller c)
+  policies_read op name body is there given promised c meant =
+      let s = ok_step (policy_command op name body) (λ x. Ok (on_policy x)) c (sym (meant_on_policies r a op name body is there given) ∙ meant) in
+      subst (λ x. OnAnswer result (AreReadable rows caller x)) (ok_inj s.2) (promised s.0 s.1)
+
 -- ---- tokens
 
 -- a row that stays though it ends by itself is among the ended
@@ -165,12 +174,6 @@ pub readable_alone : (t : Text) (old : Rows) (ended : List Text) (new : Rows) �
 readable_alone t old ended new ends =
     readable_if_ended old t ended ends.readable
     (λ row some. ap (λ ts. has ts t) (ends.ends ∙ ap (λ o. if is_some o then t ∷ [] else []) some) ∙ ap (λ v. v || false) (same_self t))
-
--- and that of one that was found
-pub readable_found : (rows : Rows) (t : Text) (r : Result (Option TokenEntry) Fault) → IfOk r (IsTokenAt (table_of rows) t)
-    → IfOk r (IsSomeIn IsTokenInRange) → OnOk r (IsReadableToken rows t)
-readable_found rows t (Ok o) at range = (o, range, at)
-readable_found rows t (Err f) at range = tt
 
 -- by its row a caller that ends, or stays, has uses left afterwards or is not there
 pub ended_or_unspent : (t : Text) (old new : Rows) → EndsCaller t old new → IsSpentAt new t false
@@ -219,47 +222,75 @@ module _ (moment now : ℕ) (t u : Text) (old expired new : Rows) (caller : t �
   pub denied_there : (a : Answer) → response_of a ≡ refused permission_denied → map.get new (kind.Token, t) ≡ None → IsDenied moment a old new t
   denied_there a response none = (response, none, now, subst (Expires moment now old) (sym same_rows) expires)
 
--- ---- where `sudo` is lacking
+-- ---- whether it may be asked
 
--- who is not permitted has no `sudo`, which the path asks for
-pub lacks : (rows : Rows) (t path : Text) (v : Bool) → IsPermittedAt rows t path v → v ≡ false → (needs_sudo path ≡ true) × IsRootAt rows t false
-lacks rows t path v p is =
-    let parts = neither (not (needs_sudo path)) p.0 (sym p.2 ∙ is) in
-    let needs = not-false (needs_sudo path) parts.0 in
-    (needs, subst (IsRootAt rows t) parts.1 (p.1 needs))
-  where
-    not-false : (b : Bool) → not b ≡ false → b ≡ true
-    not-false true h = refl
-    not-false false h = absurd (true≢false h)
+-- what holds of each x if the call answered or was refused, holds of all
+pub on_answer_all : {A X : Type 0} (P : X → Type 0) (result : Result A RequestError) → ((x : X) → OnAnswer result (P x))
+    → OnAnswer result ((x : X) → P x)
+on_answer_all P (Ok x) all = all
+on_answer_all P (Err (Refused r)) all = all
+on_answer_all P (Err (Given f)) all = tt
 
-module _ (P : Type 0) (rows : Rows) (t : Text) (ask : Ask) where
-  -- who is answered does not lack it
-  pub reads_served : {A : Type 0} (x : A) → (P ⊎ IsNotPermitted {A = A} rows t ask (Ok x)) → P
-  reads_served x (inl p) = p
-  reads_served x (inr denied) =
-      let e = denied.0 in
+-- what follows from a fact, if the call answered or was refused
+pub on_answer_if : {A Q : Type 0} (P : Type 0) (result : Result A RequestError) → (Q → OnAnswer result P) → OnAnswer result (Q → P)
+on_answer_if P (Ok x) f = f
+on_answer_if P (Err (Refused r)) f = f
+on_answer_if P (Err (Given e)) f = tt
+
+module _ (old new : Rows) (t : Text) (ask : Ask) where
+  -- who is answered was not forbidden to ask
+  pub may_served : {P A : Type 0} (x : A) → (P ⊎ IsForbidden {A = A} old new t ask (Ok x)) → P
+  may_served x (inl p) = p
+  may_served x (inr forbidden) =
+      let e = forbidden.refused in
       absurd (cc)
 
   abbrev refusal_in : {A : Type 0} → Result A RequestError → Refusal
   refusal_in (Err (Refused r)) = r
   refusal_in _ = permission_denied
 
-  -- who is refused for it is told so
-  pub reads_refused : {A : Type 0} (r : Refusal) (a : Answer) → (P ⊎ IsNotPermitted {A = A} rows t ask (Err (Refused r))) → response_of a ≡ refused r
-      → P ⊎ IsToldNotPermitted rows t ask a
-  reads_refused r a (inl p) is = inl p
-  reads_refused r a (inr denied) is = inr (is ∙ ap refused (ap refusal_in denied.0), denied.1)
+  -- who is refused for that is told so, and ends then if it has no uses left
+  pub may_refused : {P A : Type 0} (final : Rows) (r : Refusal) (a : Answer) → (P ⊎ IsForbidden {A = A} old new t ask (Err (Refused r)))
+      → response_of a ≡ refused r → EndsCaller t new final → P ⊎ IsToldForbidden old final t ask a
+  may_refused final r a (inl p) is ends = inl p
+  may_refused final r a (inr forbidden) is ends = inr (record {
+    response = is ∙ ap refused (ap refusal_in forbidden.refused);
+    forbidden = forbidden.forbidden;
+    ends = subst (λ rows. EndsCaller t rows final) forbidden.same ends;
+  })
+
+-- what may be done holds as it does, and who is told that it may not ask is told so
+pub forbidden_or : {P Q R S W : Type 0} → (P → Q) → (R → S) → P ⊎ R → Q ⊎ (S ⊎ W)
+forbidden_or f g (inl p) = inl (f p)
+forbidden_or f g (inr r) = inr (inl (g r))
+
+-- two facts of a call that answered
+pub ok_with : {A E : Type 0} (Q : Type 0) (P : A → Type 0) (r : Result A E) → OnOk r Q → IfOk r P → IfOk r (λ a. Q × P a)
+ok_with Q P (Ok a) q p = (q, p)
+ok_with Q P (Err e) q p = tt
+
+-- what is permitted by one path and text is so by the same
+pub permitted_same : (rows : Rows) (t u path q : Text) (verb : Verb) (v w : Bool) → t ≡ u → path ≡ q → v ≡ w → IsPermittedAt rows t verb path v
+    → IsPermittedAt rows u verb q w
+permitted_same rows t u path q verb v w at same_path is permitted =
+    subst (IsPermittedAt rows u verb q) is (subst (λ z. IsPermittedAt rows u verb z v) same_path (subst (λ z. IsPermittedAt rows z verb path v) at permitted))
+
+-- a use is spent, and an ask means the same
+pub asks_spent : (old new : Rows) (t : Text) (a : Ask) (c : Command) → ChangesToken t spent_entry (table_of old) (table_of new) → Asks old a c
+    → Asks new a c
+asks_spent old new t a c spent asks = asks_still old new a c (kept spent.entry spent.is) asks
+  where
+    name : Text
+    name = (cut a.path).0
+
+    kept : (o : Option TokenEntry) → table_of new ≡ with_entry (table_of old) t (option_map spent_entry o)
+        → table_of new kind.Mount name ≡ table_of old kind.Mount name
+    kept None is = ap (λ (z : Table). z kind.Mount name) is
+    kept (Some x) is = ap (λ (z : Table). z kind.Mount name) is
 
 -- a caller that was found has a row
 pub caller_here : (rows : Rows) (t u : Text) → t ≡ u → is_some (table_of rows kind.Token u) ≡ true → table_of rows kind.Token t ≢ None
 caller_here rows t u caller some none = false≢true (ap is_some (sym none) ∙ ap (λ v. is_some (table_of rows kind.Token v)) caller ∙ some)
-
--- a read of a cubbyhole asks for no `sudo`
-pub read_there : {P Q R : Type 0} (a : Answer) (ask : Ask) (rows : Rows) (t : Text) (mount : Option Mount) (r : Route)
-    → route_at mount ask.verb ask.path ≡ Ok r → r.operation ≡ Cubbyholes cubbyhole.Read → (P → Q) → P ⊎ IsToldNotPermitted rows t ask a → Q ⊎ R
-read_there a ask rows t mount r found reads f (inl p) = inl (f p)
-read_there a ask rows t mount r found reads f (inr denied) =
-    absurd (sudo_reads_none mount ask.verb ask.path r (Cubbyholes cubbyhole.Read) refl denied.1.0 found reads)
 
 -- ---- what a body means
 

@@ -66,7 +66,6 @@ served-write b t path object s =
           ap (λ (z : Token). z.leases) x.2 ∙ written_leases (same q t) path object x.0 ∙ s.no_leases q x.0 x.1;
       none_waits = s.none_waits;
       no_roles = s.no_roles;
-      one_policy = s.one_policy;
     }
 
 -- ---- from the rows of a broker, and back

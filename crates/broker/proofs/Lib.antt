@@ -12,6 +12,7 @@ pub mod FirstRows
 pub mod Identifiers
 pub mod Operations
 pub mod Permitted
+pub mod PolicyAnswers
 pub mod Revocations
 pub mod RoutedBy
 pub mod Routes
@@ -20,7 +21,6 @@ pub mod SecretReads
 pub mod SecretRoutes
 pub mod SecretTables
 pub mod Serving
-pub mod SudoPaths
 pub mod TokenAnswers
 pub mod TokenChecks
 pub mod TokenCreations

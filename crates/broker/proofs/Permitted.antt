@@ -1,21 +1,63 @@
--- From the row of the caller to what it is permitted.
-use Rattle.std.specs.Prelude.{◌≡◌, Bool, false, Option, Some, None, option_map, codes}
+-- From the rows of the caller and of its policies to what it may ask.
+use Rattle.std.specs.Prelude.{◌≡◌, Bool, false, List, All, Option, Some, None, option_map}
 use Rattle.std.specs.Option.{option_map_or}
-use Rattle.std.proofs.Common.{refl, sym, ◌∙◌, ap}
+use Rattle.std.proofs.Common.{refl, sym, ◌∙◌, ap, subst}
 use Rattle.std.proofs.lemmas.Option.{none-some, same_Some}
+use Rattle.broker_types.specs.Broker.{Broker}
+use Rattle.broker_types.specs.Map.{Map}
+use Rattle.broker_types.specs.Text.{Text}
 use Rattle.broker_types.specs.Token.{Token}
-use Rattle.records.specs.Children.{has}
+use Rattle.broker_types.specs.declared.ask.Verb.{Verb}
+use Rattle.records.specs.Parts.{of_policies}
+use Rattle.records.specs.Table.{table_of}
 use Rattle.records.specs.TokenEntry.{TokenEntry, token_entry}
-use Rattle.broker.specs.Permission.{has_root}
+use Rattle.records.specs.Transaction.{Rows}
+use Rattle.policies.specs.Grants.{rules_of}
+use Rattle.policies.specs.PolicyLaws.{readable_policies, told_at}
+use Rattle.policies.specs.PolicyRows.{ArePoliciesAt, IsReadable}
+use Rattle.policies.specs.Rules.{Rules}
+use Rattle.policies.specs.declared.capability.Capability.{Capability}
+use Rattle.broker.specs.Permission.{may}
+use Rattle.broker.specs.PermittedRows.{IsAllowedAt}
+use Rattle.broker.specs.Representing.{Represents}
+use Rattle.broker.proofs.Serving.{tells_part}
 
--- an unknown text is no token with the policy `root`; another is, if that is among its policies
-pub unknown_root : (o : Option Token) (found : Option TokenEntry) → found ≡ option_map token_entry o → found ≡ None
-    → false ≡ option_map_or has_root o false
-unknown_root None found e none = refl
-unknown_root (Some x) found e none = absurd (none-some _ (sym none ∙ e))
+-- ---- the policies
 
-pub root_told : (o : Option Token) (found : Option TokenEntry) (entry : TokenEntry) (v : Bool) → found ≡ option_map token_entry o
-    → found ≡ Some entry → v ≡ has entry.policies (codes "root") → v ≡ option_map_or has_root o false
-root_told None found entry v e some is = absurd (none-some _ (sym e ∙ some))
-root_told (Some x) found entry v e some is =
-    is ∙ ap (λ (z : TokenEntry). has z.policies (codes "root")) (sym (same_Some _ _ (sym e ∙ some)))
+-- the rows that a broker has are those of its policies
+pub policies_there : {who : Option Text} (b : Broker) (rows : Rows) (names : List Text) → Represents who rows b
+    → ArePoliciesAt (table_of rows) names b.policies
+policies_there b rows names st = told_at (table_of rows) b names (tells_part of_policies b rows st)
+
+-- ---- what they allow
+
+module _ (verb : Verb) (path : Text) (asked : Capability) where
+  -- what the rules of these names allow, the rows say, if they have not changed
+  pub allowed_here : (old new : Rows) (names own : List Text) (rules : Rules) (v : Bool) → new ≡ old → names ≡ own
+      → All (IsReadable (table_of new)) names
+      → ((policies : Map Text) → ArePoliciesAt (table_of new) names policies → rules ≡ rules_of policies names verb)
+      → v ≡ may rules path asked → IsAllowedAt old own verb path asked v
+  allowed_here old new names own rules v same_rows same_names readable told is =
+      let policies = readable_policies (table_of new) names readable in
+      subst (λ rows. IsAllowedAt rows own verb path asked v) same_rows
+      (subst (λ ns. IsAllowedAt new ns verb path asked v) same_names
+      (record {
+        policies = policies.0;
+        known = policies.1;
+        readable = readable;
+        is = is ∙ ap (λ rs. may rs path asked) (told policies.0 policies.1);
+      }))
+
+-- ---- the caller
+
+-- an unknown text is no token, and may ask nothing
+pub unknown_denied : (P : Token → Bool) (o : Option Token) (found : Option TokenEntry) → found ≡ option_map token_entry o → found ≡ None
+    → false ≡ option_map_or P o false
+unknown_denied P None found e none = refl
+unknown_denied P (Some x) found e none = absurd (none-some _ (sym none ∙ e))
+
+-- a token may ask what the policies of its entry allow
+pub entry_told : (P : List Text → Bool) (o : Option Token) (found : Option TokenEntry) (entry : TokenEntry) → found ≡ option_map token_entry o
+    → found ≡ Some entry → P entry.policies ≡ option_map_or (λ (x : Token). P x.policies) o false
+entry_told P None found entry e some = absurd (none-some _ (sym e ∙ some))
+entry_told P (Some x) found entry e some = ap (λ (z : TokenEntry). P z.policies) (sym (same_Some _ _ (sym e ∙ some)))

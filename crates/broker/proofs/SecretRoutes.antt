@@ -19,7 +19,7 @@ use Rattle.mounts.specs.Types.{fixed_type, type_at}
 use Rattle.mounts.specs.declared.mount_type.MountType.{MountType}
 use Rattle.mounts.specs.declared.mount_type.MountType.TheVariants as mount
 use Rattle.mounts.specs.declared.operation.Operation.{Operation}
-use Rattle.mounts.specs.declared.operation.Operation.TheVariants.{Cubbyholes, Tokens, Secrets}
+use Rattle.mounts.specs.declared.operation.Operation.TheVariants.{Cubbyholes, Tokens, Secrets, Policies}
 use Rattle.mounts.specs.declared.operation.SecretOperation.{SecretOperation}
 use Rattle.broker.specs.Command.{command_by, command_for, on_secrets, place_of}
 use Rattle.broker.specs.parts.SecretCommands.{Place}
@@ -30,6 +30,7 @@ is_elsewhere : Operation → Bool
 is_elsewhere (Cubbyholes operation) = true
 is_elsewhere (Tokens operation) = true
 is_elsewhere (Secrets operation) = false
+is_elsewhere (Policies operation) = true
 
 -- only mounts of secrets have such operations
 elsewhere : (type : MountType) (r : Route) (op : SecretOperation) → r.operation ≡ Secrets op

@@ -1,9 +1,10 @@
 -- A creation beside its definition: what is refused, and what is made.
-use Rattle.std.specs.Prelude.{◌≡◌, ◌≢◌, ◌||◌, List, [], ◌∷◌, Bool, true}
+use Rattle.std.specs.Prelude.{◌≡◌, ◌≢◌, ◌||◌, List, [], ◌∷◌, Bool, true, codes}
 use Rattle.std.specs.Prelude.{false, if◌then◌else◌, Option, Some, None, option_map, Result, Ok, Err, ⊤}
 use Rattle.std.specs.Prelude.{All}
+use Rattle.std.specs.Option.{option_map_or}
 use Rattle.std.specs.List.{AllByRecursion}
-use Rattle.std.proofs.Common.{sym, ◌∙◌, ap}
+use Rattle.std.proofs.Common.{refl, sym, ◌∙◌, ap, subst}
 use Rattle.std.proofs.lemmas.List.Elements.{All-nil, All-cons}
 use Rattle.std.proofs.lemmas.Option.{none-some, same_Some}
 use Rattle.broker_types.specs.Broker.{Broker}
@@ -15,11 +16,22 @@ use Rattle.broker_types.specs.Refuse.{◌>>=◌, some_or}
 use Rattle.broker_types.specs.Text.{Text}
 use Rattle.broker_types.specs.Token.{Token}
 use Rattle.broker_types.specs.declared.refusal.Refusal.{Refusal}
+use Rattle.broker_types.specs.declared.ask.Verb.TheVariants as verb
 use Rattle.broker_types.specs.declared.refusal.Denial.TheVariants as denial
 use Rattle.broker_types.specs.declared.refusal.Refusal.TheVariants as refusal
+use Rattle.records.specs.Ranges.{IsTokenInRange}
+use Rattle.records.specs.Reading.{IsSomeIn}
+use Rattle.records.specs.Table.{table_of}
 use Rattle.records.specs.TokenEntry.{TokenEntry, token_entry}
+use Rattle.records.specs.Transaction.{Rows}
+use Rattle.token_tree.specs.TokenRows.{IsTokenAt}
 use Rattle.api_json.specs.declared.token_bodies.TokenCreation.{TokenCreation}
-use Rattle.broker.specs.parts.TokenCreation.{Making, makes_orphans, making_path, is_privileged, have_root, new_policies, may_make, new_parent, new_token}
+use Rattle.policies.specs.Grants.{grants}
+use Rattle.policies.specs.PolicyRows.{IsReadable}
+use Rattle.policies.specs.declared.capability.Capability.TheVariants.{Sudo}
+use Rattle.broker.specs.ReadableRow.{HasReadablePolicies}
+use Rattle.broker.specs.parts.TokenCreation.{Making, of_caller, without_parent, makes_orphans, making_path, is_privileged}
+use Rattle.broker.specs.parts.TokenCreation.{new_policies, may_make, new_parent, new_token}
 use Rattle.broker.specs.parts.TokenEntries.{token_told}
 use Rattle.broker.specs.parts.TokenRanges.{IsTextPair}
 use Rattle.broker.specs.parts.Tokens.{create, create_with, made}
@@ -38,6 +50,31 @@ parent_named c orphans asked parent is named empty = by (orphans || asked.no_par
     by true e = none-some _ e
     by false e = named (same_Some _ _ e)
 
+-- the rows of a token's policies that were read, where no row has changed since the token was
+pub readable_by : (old new : Rows) (t u : Text) (o : Option TokenEntry) (e : TokenEntry) (names : List Text) → u ≡ t → new ≡ old
+    → IsSomeIn IsTokenInRange o → IsTokenAt (table_of old) u o → o ≡ Some e → names ≡ e.policies → All (IsReadable (table_of new)) names
+    → HasReadablePolicies old t
+readable_by old new t u o e names at same range token some named all =
+    let own = named ∙ sym (ap (λ (p : Option TokenEntry). option_map_or (λ (x : TokenEntry). x.policies) p []) some) in
+    subst (HasReadablePolicies old) at (
+      o,
+      range,
+      token,
+      subst (All (IsReadable (table_of old))) own (subst (λ rows. All (IsReadable (table_of rows)) names) same all),
+    )
+
+-- the path of the route, by whether it makes orphans alone
+pub path_of_making : (m : Making) (v : Bool) → makes_orphans m ≡ v
+    → (if v then codes "auth/token/create-orphan" else codes "auth/token/create") ≡ making_path m
+path_of_making m v is = ap path (sym is) ∙ by m
+  where
+    path : Bool → Text
+    path w = if w then codes "auth/token/create-orphan" else codes "auth/token/create"
+
+    by : (m : Making) → path (makes_orphans m) ≡ making_path m
+    by of_caller = refl
+    by without_parent = refl
+
 module _ (b : Broker) (c : Text) (names : Names) (m : Making) (asked : TokenCreation) where
   abbrev made_by : Option Token → Result Done Refusal
   made_by o = some_or (refusal.Forbidden denial.BadToken) o >>= (λ x. create_with b c x names m (is_privileged b (making_path m) x)
@@ -48,11 +85,14 @@ module _ (b : Broker) (c : Text) (names : Names) (m : Making) (asked : TokenCrea
   create_unknown none = ap made_by (mapped_none token_entry (get b.tokens c) (sym none))
 
   module _ (x : Token) (here : get b.tokens c ≡ Some x) where
+    abbrev privileged : Bool
+    privileged = is_privileged b (making_path m) x
+
     abbrev policies : List Text
-    policies = new_policies (have_root x.policies) x asked
+    policies = new_policies privileged x asked
 
     abbrev may : Result ⊤ Refusal
-    may = may_make (have_root x.policies) (makes_orphans m) x policies asked
+    may = may_make privileged (makes_orphans m) x policies asked
 
     abbrev new : Token
     new = new_token b.clock (new_parent c (makes_orphans m) asked) names.accessor policies asked
@@ -67,17 +107,18 @@ module _ (b : Broker) (c : Text) (names : Names) (m : Making) (asked : TokenCrea
 
     -- ---- by the row of the caller
 
-    module _ (e : TokenEntry) (told : e ≡ token_entry x) (p : Bool) (root : p ≡ have_root e.policies) (ps : List Text)
+    module _ (e : TokenEntry) (told : e ≡ token_entry x) (p : Bool)
+        (sudo : p ≡ grants b.policies e.policies verb.Write (making_path m) Sudo) (ps : List Text)
         (given : ps ≡ new_policies p (token_told e) asked) where
-      same_root : p ≡ have_root x.policies
-      same_root = root ∙ ap (λ (e : TokenEntry). have_root e.policies) told
+      same_sudo : p ≡ privileged
+      same_sudo = sudo ∙ ap (λ (e : TokenEntry). grants b.policies e.policies verb.Write (making_path m) Sudo) told
 
       -- the policies are those of the definition
       pub same_policies_told : ps ≡ policies
-      same_policies_told = given ∙ (λ i. new_policies (same_root i) (token_told (told i)) asked)
+      same_policies_told = given ∙ (λ i. new_policies (same_sudo i) (token_told (told i)) asked)
 
       -- and so are the tests
       pub same_may : (orphans : Bool) → makes_orphans m ≡ orphans → (r : Result ⊤ Refusal)
           → r ≡ may_make p orphans (token_told e) ps asked → may ≡ r
       same_may orphans of r is =
-          sym (is ∙ (λ i. may_make (same_root i) (sym of i) (token_told (told i)) (same_policies_told i) asked))
+          sym (is ∙ (λ i. may_make (same_sudo i) (sym of i) (token_told (told i)) (same_policies_told i) asked))

@@ -34,6 +34,8 @@ use Rattle.api_json.specs.Objects as object
 use Rattle.api_json.specs.Printing as printing
 use Rattle.api_json.specs.Reply.{reply_text}
 use Rattle.api_json.specs.declared.token_bodies.TokenCreation.{TokenCreation}
+use Rattle.policies.specs.Allows.{allows}
+use Rattle.policies.specs.Grants.{rules_of}
 use Rattle.broker.specs.parts.TokenCreation.{new_token, new_policies, may_make}
 use Rattle.broker.specs.parts.TokenReplies.{seconds_left, looked_up, auth_reply}
 use Rattle.broker.specs.parts.TokenCommands.{create_token, renew_self, revoke_self, create_meant, revoke_meant, revoke_self_meant}
@@ -232,7 +234,7 @@ not_renewable names = rw (get-put_self empty root_text (root_token 1000 (id 2)))
 -- it makes a token without policies of its own
 makes : (names : Names) → act_on_tokens first root_text names (create_token (asked [] 100 150 false false))
     ≡ Ok (made first names (new_token 1000 (Some root_text) names.accessor (codes "root" ∷ []) (asked [] 100 150 false false)))
-unfolding asked same
+unfolding asked same allows rules_of
 makes names = rw (get-put_self empty root_text (root_token 1000 (id 2))) refl
 
 -- ---- what is unknown

@@ -128,7 +128,6 @@ served_tokens b us used s none = record {
   no_leases = none;
   none_waits = s.none_waits;
   no_roles = s.no_roles;
-  one_policy = s.one_policy;
 }
 
 -- and one more without leases

@@ -1,4 +1,5 @@
 pub mod Act
+pub mod Capabilities
 pub mod ClockRow
 pub mod Command
 pub mod Context
@@ -10,6 +11,7 @@ pub mod Listed
 pub mod Operating
 pub mod Order
 pub mod Permission
+pub mod PermittedRows
 pub mod ReadableRow
 pub mod Reads
 pub mod Representing

@@ -1,5 +1,7 @@
--- Which rows of cubbyholes, tokens and secrets can be read, and whom a request denies (this project's definition).
-use Rattle.std.specs.Prelude.{◌≡◌, ℕ, List, [], None, Option}
+-- Which rows of cubbyholes, policies, tokens and secrets can be read, and whom a request denies (this project's
+-- definition).
+use Rattle.std.specs.Prelude.{◌≡◌, ℕ, List, [], None, Option, All}
+use Rattle.std.specs.Option.{option_map_or}
 use Rattle.std.specs.FinMap as map
 use Rattle.broker_types.specs.Text.{Text}
 use Rattle.broker_types.specs.Answer.{response_of, refused}
@@ -14,6 +16,7 @@ use Rattle.token_tree.specs.Ended.{IsDescent, is_named}
 use Rattle.token_tree.specs.Endings.{AreTokenRows}
 use Rattle.token_tree.specs.TokenRows.{IsTokenAt}
 use Rattle.cubbyhole.specs.Objects.{IsObjectAt}
+use Rattle.policies.specs.PolicyRows as policies
 use Rattle.broker_types.specs.Secret.{Version}
 use Rattle.kv2.specs.SecretRows.{IsReading}
 use Rattle.kv2.specs.Secrets.{secret_name}
@@ -25,6 +28,10 @@ use Rattle.broker.specs.Order.{permission_denied}
 abbrev pub IsReadable : Rows → Text → Text → Type 0
 IsReadable rows t path = (object : Option Text) × IsObjectAt (table_of rows) t path object
 
+-- the row at the name is that of some policy, or there is none; `root` needs no row
+abbrev pub IsReadablePolicy : Rows → Text → Type 0
+IsReadablePolicy rows name = (text : Option Text) × policies.IsKnownAt (table_of rows) name text
+
 -- The rows that a read of version n of a secret asks for can be read: that of its key is one of a key, or there is
 -- none; and if there is one, so it is with that of the version.
 abbrev pub IsReadableSecret : Rows → Place → ℕ → Type 0
@@ -35,6 +42,12 @@ IsReadableSecret rows p n =
 abbrev pub IsReadableToken : Rows → Text → Type 0
 IsReadableToken rows t =
     (entry : Option TokenEntry) × IsSomeIn IsTokenInRange entry × IsTokenAt (table_of rows) t entry
+
+-- the row of t is that of some token, and the rows of its policies can be read, where they are there; or t has no row
+abbrev pub HasReadablePolicies : Rows → Text → Type 0
+HasReadablePolicies rows t =
+    (entry : Option TokenEntry) × IsSomeIn IsTokenInRange entry × IsTokenAt (table_of rows) t entry
+    × All (policies.IsReadable (table_of rows)) (option_map_or (λ e. e.policies) entry [])
 
 -- the rows of the token t and of all below it are those of tokens; if t has no row, there are none
 abbrev pub IsReadableDescent : Rows → Text → Type 0

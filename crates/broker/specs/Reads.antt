@@ -1,35 +1,30 @@
 -- Which rows a command reads, and that none of them is damaged (this project's definition). A row that a command only
 -- writes or takes away is not read, nor is one of which only the key, the owner or the end is looked at. The route has
 -- read the row of the mount before; it counts here only for commands that need the settings of the mount.
-use Rattle.std.specs.Prelude.{◌≡◌, ◌⊎◌, ◌||◌, not, codes, ℕ, Bool, true, false, Option, Some, None, Result, Ok, Err, ⊤}
-use Rattle.std.specs.Option.{option_map_or}
-use Rattle.broker_types.specs.Answer.{response_of, refused}
+use Rattle.std.specs.Prelude.{◌≡◌, ◌⊎◌, ℕ, true, false, Option, Some, None, Result, Ok, Err, ⊤}
 use Rattle.broker_types.specs.Broker.{Mount}
 use Rattle.broker_types.specs.Text.{Text}
 use Rattle.broker_types.specs.declared.answer.Answer.{Answer}
 use Rattle.broker_types.specs.declared.ask.Ask.{Ask}
 use Rattle.broker_types.specs.declared.request_error.RequestError.{RequestError}
 use Rattle.broker_types.specs.declared.request_error.RequestError.TheVariants.{Refused}
-use Rattle.records.specs.Children.{has}
 use Rattle.records.specs.KeyEntry.{KeyEntry}
-use Rattle.records.specs.Ranges.{IsTokenInRange}
-use Rattle.records.specs.Reading.{IsSomeIn}
 use Rattle.records.specs.Table.{table_of}
-use Rattle.records.specs.TokenEntry.{TokenEntry}
 use Rattle.records.specs.Transaction.{Rows}
 use Rattle.kv2.specs.Metadata.{Metadata}
 use Rattle.kv2.specs.SecretRows as kv2
 use Rattle.kv2.specs.Secrets.{secret_name}
 use Rattle.token_tree.specs.Accessors.{AreAccessorRows, IsFoundAt}
-use Rattle.token_tree.specs.TokenRows.{ChangesToken, IsTokenAt, spent_entry}
+use Rattle.token_tree.specs.TokenRows.{ChangesToken, spent_entry}
 use Rattle.mounts.specs.MountRows.{IsKnownAt}
 use Rattle.mounts.specs.Route.{Route, cut, route_at}
-use Rattle.broker.specs.Command.{Command, on_cubbyhole, on_token, on_secret, command_for}
+use Rattle.broker.specs.Command.{Command, on_cubbyhole, on_token, on_secret, on_policy, command_for}
 use Rattle.broker.specs.Ending.{Expires}
 use Rattle.broker.specs.Order.{permission_denied}
-use Rattle.broker.specs.Permission.{needs_sudo}
-use Rattle.broker.specs.ReadableRow.{IsReadable, IsReadableSecret, IsReadableToken, IsReadableDescent}
+use Rattle.broker.specs.PermittedRows.{IsPermittedAt, IsToldForbidden}
+use Rattle.broker.specs.ReadableRow.{IsReadable, IsReadablePolicy, IsReadableSecret, IsReadableToken, IsReadableDescent}
 use Rattle.broker.specs.parts.Cubbyholes.{CubbyholeCommand, read_object, write_object}
+use Rattle.broker.specs.parts.PolicyCommands.{PolicyCommand, list_policies, show_policy, set_policy, remove_policy}
 use Rattle.broker.specs.parts.SecretCommands.{Place, SecretCommand, show_settings, set_settings, read_version}
 use Rattle.broker.specs.parts.SecretCommands.{write_version, delete_current, delete_versions, undelete_versions}
 use Rattle.broker.specs.parts.SecretCommands.{destroy_versions, show_metadata, remove_secret, list_secrets}
@@ -54,7 +49,7 @@ IfNamed P (Some t) = P t
 abbrev pub IsReadableName : Rows → (Text → Type 0) → Text → Type 0
 IsReadableName rows P accessor = (found : Option Text) × IsFoundAt (table_of rows) accessor found × IfNamed P found
 
--- a creation reads the row of the caller alone, which was read before, when a use was spent
+-- A creation reads the row of the caller and those of its policies, as the permission to ask for it has done before.
 abbrev pub AreReadableTokens : Rows → Text → TokenCommand → Type 0
 AreReadableTokens rows caller (create_token asked) = ⊤
 AreReadableTokens rows caller (create_orphan asked) = ⊤
@@ -98,6 +93,15 @@ AreReadableSecrets rows p show_metadata = IsReadableWhole rows (secret_name p.mo
 AreReadableSecrets rows p remove_secret = ⊤
 AreReadableSecrets rows p list_secrets = ⊤
 
+-- ---- policies
+
+-- a list looks at the names of the rows alone, and a change reads none
+abbrev pub AreReadablePolicies : Rows → PolicyCommand → Type 0
+AreReadablePolicies rows list_policies = ⊤
+AreReadablePolicies rows (show_policy name) = IsReadablePolicy rows name
+AreReadablePolicies rows (set_policy name _) = ⊤
+AreReadablePolicies rows (remove_policy name) = ⊤
+
 -- ---- every part
 
 -- none of the rows that a command of the caller reads is damaged
@@ -105,6 +109,7 @@ abbrev pub AreReadable : Rows → Text → Command → Type 0
 AreReadable rows caller (on_cubbyhole command) = AreReadableObjects rows caller command
 AreReadable rows caller (on_token command) = AreReadableTokens rows caller command
 AreReadable rows caller (on_secret place command) = AreReadableSecrets rows place command
+AreReadable rows caller (on_policy command) = AreReadablePolicies rows command
 
 -- The ask means this command: what is at the first segment of its path is known, and by that the route and the command
 -- are found.
@@ -124,31 +129,25 @@ pub record AreAtCommand (moment : ℕ) (t : Text) (old rows : Rows) : Type 0 whe
   pub expires : Expires moment now old expired
   pub spends : ChangesToken t spent_entry (table_of expired) (table_of rows)
 
--- ---- a caller without `sudo`
+-- ---- a caller that may not ask
 
--- by its row the token has the policy `root` or not; a token that is not there does not
-abbrev pub IsRootAt : Rows → Text → Bool → Type 0
-IsRootAt rows t root =
-    (entry : Option TokenEntry) × IsSomeIn IsTokenInRange entry × IsTokenAt (table_of rows) t entry
-    × (root ≡ option_map_or (λ e. has e.policies (codes "root")) entry false)
+-- the ask is refused since the rows say that the token t may not ask; no row has changed
+pub record IsForbidden {A : Type 0} (old new : Rows) (t : Text) (ask : Ask) (result : Result A RequestError) :
+    Type 0 where
+  pub refused : result ≡ Err (Refused permission_denied)
+  pub forbidden : IsPermittedAt old t ask.verb ask.path false
+  pub same : new ≡ old
 
--- whether the token may ask at the path; if the path asks for `sudo`, its row says so
-abbrev pub IsPermittedAt : Rows → Text → Text → Bool → Type 0
-IsPermittedAt rows t path permitted =
-    (root : Bool) × (needs_sudo path ≡ true → IsRootAt rows t root) × (permitted ≡ (not (needs_sudo path) || root))
+-- the rows say that the token t may ask, and none of those that its command reads is damaged, if the ask means one
+pub record MayBeDone (rows : Rows) (t : Text) (ask : Ask) : Type 0 where
+  pub permitted : IsPermittedAt rows t ask.verb ask.path true
+  pub readable : (command : Command) → Asks rows ask command → AreReadable rows t command
 
--- the path asks for `sudo`, and the token does not have it
-abbrev pub LacksSudo : Rows → Text → Ask → Type 0
-LacksSudo rows t ask = (needs_sudo ask.path ≡ true) × IsRootAt rows t false
+-- the token t may ask, and what it asks for can be read; or it is told that it may not ask
+abbrev pub IsDoneOrForbidden : Rows → Rows → Text → Ask → Answer → Type 0
+IsDoneOrForbidden rows new t ask a = MayBeDone rows t ask ⊎ IsToldForbidden rows new t ask a
 
--- the ask is refused since the token lacks `sudo`
-abbrev pub IsNotPermitted : {A : Type 0} → Rows → Text → Ask → Result A RequestError → Type 0
-IsNotPermitted rows t ask result = (result ≡ Err (Refused permission_denied)) × LacksSudo rows t ask
-
--- the answer is 403 `permission denied`, and the token lacks `sudo`
-abbrev pub IsToldNotPermitted : Rows → Text → Ask → Answer → Type 0
-IsToldNotPermitted rows t ask a = (response_of a ≡ refused permission_denied) × LacksSudo rows t ask
-
--- none of the rows that the command of the token t reads is damaged, or t is told that it may not ask for it
-abbrev pub IsReadOrNotPermitted : Rows → Text → Command → Ask → Answer → Type 0
-IsReadOrNotPermitted rows t command ask a = AreReadable rows t command ⊎ IsToldNotPermitted rows t ask a
+-- once tokens have expired and t has spent a use, it is told that it may not ask
+abbrev pub IsForbiddenThen : ℕ → Text → Rows → Rows → Ask → Answer → Type 0
+IsForbiddenThen moment t old new ask a =
+    (rows : Rows) × AreAtCommand moment t old rows × IsToldForbidden rows new t ask a

@@ -1,5 +1,7 @@
 -- The parts of the broker: what the commands of each mean, and what they do to the maps.
 pub mod Cubbyholes
+pub mod Policies
+pub mod PolicyCommands
 pub mod SecretCommands
 pub mod SecretReplies
 pub mod Secrets

@@ -1,6 +1,7 @@
 //! The order of one request, step by step.
 
 pub(crate) mod caller;
+pub(crate) mod capability;
 pub(crate) mod ending;
 pub(crate) mod expiry;
 pub(crate) mod finishing;

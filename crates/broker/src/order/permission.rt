@@ -1,54 +1,89 @@
 //! Whether the caller may ask at all.
 
-ghost use Rattle.std.specs.Prelude.{◌≡◌, ◌≢◌, None, Some, true, false, IfOk, IfErr, OnOk};
+ghost use Rattle.std.specs.Prelude.{◌≡◌, ◌≢◌, None, Some, Option, All, IfOk, IfErr, OnOk};
 ghost use Rattle.broker_types.specs.Broker.{Broker};
 ghost use Rattle.broker_types.specs.Fault.{IsMemoryOrStorage};
-ghost use Rattle.broker_types.specs.declared.ask.Verb.{Verb};
+ghost use Rattle.broker_types.specs.Map.{get};
+ghost use Rattle.broker_types.specs.Text.{Text};
+ghost use Rattle.broker_types.specs.declared.ask.Verb.TheVariants as verb;
+ghost use Rattle.records.specs.Table.{table_of};
 ghost use Rattle.records.specs.Transaction.{IsHonest, GoesOn, is_storage};
+ghost use Rattle.policies.specs.Grants.{grants};
+ghost use Rattle.policies.specs.PolicyRows.{IsReadable};
+ghost use Rattle.policies.specs.declared.capability.Capability.TheVariants as capability;
 ghost use Rattle.broker.specs.ClockRow.{IsNotBadStart};
 ghost use Rattle.broker.specs.Permission as permission;
-ghost use Rattle.broker.specs.Reads.{IsPermittedAt};
+ghost use Rattle.broker.specs.PermittedRows.{IsPermittedAt};
 ghost use Rattle.broker.specs.Representing.{Represents};
 
-use broker_types::{Denial, Fault, Refusal};
+use crate::order::capability::capability;
+use broker_types::{Denial, Fault, Refusal, TextBuf, Verb};
+use policies::{Capability, Rules, allows, rules_of};
 use records::RecordsTx;
 use std::alloc::Global;
-use token_tree::{find, is_among};
+use token_tree::find;
 
 /// 403 `permission denied`.
 pub(crate) const PERMISSION_DENIED: Refusal = Refusal::Forbidden(Denial::PermissionDenied);
 
-/// Whether the caller may ask at this path. So far a caller may do everything but what asks for `sudo`, which the
-/// policy `root` alone grants.
+/// Whether the caller may ask with a verb at a path: its policies allow the capability that is asked for, and `sudo`
+/// too where the path asks for it (Vault's documentation, "Policies").
 pub(crate) fn is_permitted<T: RecordsTx>(
     alloc: Global,
     tx: &mut T,
     caller: &str,
+    verb: Verb,
     path: &str,
 ) -> Result<bool, Fault>
-    ensures ok { IsHonest (T.seen tx.new) → (b : Broker) (verb : Verb)
-        → Represents (Some caller.now) (T.seen tx.old).rows b
+    ensures ok { IsHonest (T.seen tx.new) → (b : Broker) → Represents (Some caller.now) (T.seen tx.old).rows b
+        → get b.tokens caller.now ≢ None
         → IfOk result (λ v. v ≡ permission.permits b (Some caller.now) verb path.now) }
     ensures wants { IsHonest (T.seen tx.new) → (b : Broker) → Represents (Some caller.now) (T.seen tx.old).rows b
         → IfErr result IsMemoryOrStorage }
 
-    // Whatever the rows are: nobody is denied a path that does not ask for `sudo`.
-    ensures denied { IfOk result (λ v. v ≡ false → permission.needs_sudo path.now ≡ true) }
-
-    // For one that does, the row of the caller decides.
+    // Whatever the rows are: those of the caller, of its policies and of the mount can be read, and they decide.
     ensures found { IsHonest (T.seen tx.new)
-        → IfOk result (IsPermittedAt (T.seen tx.old).rows caller.now path.now) }
+        → IfOk result (IsPermittedAt (T.seen tx.old).rows caller.now verb path.now) }
     ensures same { IsHonest (T.seen tx.new) → OnOk result ((T.seen tx.new).rows ≡ (T.seen tx.old).rows) }
     ensures started { IfErr result IsNotBadStart }
     ensures goes_on { GoesOn (T.seen tx.old) (T.seen tx.new) (is_storage result) }
 {
-    if !needs_sudo(path) {
-        return Ok(true);
-    }
+    let asked = capability(alloc, tx, caller, verb, path)?;
     let Some(token) = find(alloc, tx, caller)? else {
         return Ok(false);
     };
-    Ok(is_among(&token.policies, "root"))
+    let rules = rules_of(alloc, tx, &token.policies, verb)?;
+    Ok(may(&rules, path, asked))
+}
+
+/// Whether rules allow the capability at a path, and `sudo` too where the path asks for it.
+fn may(rules: &Rules, path: &str, asked: Capability) -> bool
+    ensures { result ≡ permission.may rules.now path.now asked }
+{
+    allows(rules, path, asked) && (!needs_sudo(path) || allows(rules, path, Capability::Sudo))
+}
+
+/// Whether policies grant `sudo` for a write to a path, by which a caller may give more than it has.
+pub(crate) fn grant_sudo<T: RecordsTx>(
+    alloc: Global,
+    tx: &mut T,
+    policies: &[TextBuf],
+    path: &str,
+) -> Result<bool, Fault>
+    ensures told { IsHonest (T.seen tx.new) → (who : Option Text) (b : Broker) → Represents who (T.seen tx.old).rows b
+        → IfOk result (λ v. v ≡ grants b.policies policies.now verb.Write path.now capability.Sudo) }
+
+    // Whatever the rows are: no damaged row of these policies is passed over.
+    ensures readable { IsHonest (T.seen tx.new)
+        → OnOk result (All (IsReadable (table_of (T.seen tx.old).rows)) policies.now) }
+    ensures wants { IsHonest (T.seen tx.new) → (who : Option Text) (b : Broker) → Represents who (T.seen tx.old).rows b
+        → IfErr result IsMemoryOrStorage }
+    ensures same { IsHonest (T.seen tx.new) → OnOk result ((T.seen tx.new).rows ≡ (T.seen tx.old).rows) }
+    ensures started { IfErr result IsNotBadStart }
+    ensures goes_on { GoesOn (T.seen tx.old) (T.seen tx.new) (is_storage result) }
+{
+    let rules = rules_of(alloc, tx, policies, Verb::Write)?;
+    Ok(allows(&rules, path, Capability::Sudo))
 }
 
 /// Whether a path asks for `sudo` (Vault's documentation, "Policies", root-protected API endpoints).

@@ -16,7 +16,7 @@ ghost use Rattle.broker.specs.Command.{Command, command_of};
 ghost use Rattle.broker.specs.Ending.{IsSpentAt};
 ghost use Rattle.broker.specs.Operating.{Starts, Operates};
 ghost use Rattle.broker.specs.ReadableRow.{IsReadableToken};
-ghost use Rattle.broker.specs.Reads.{AreReadable, Asks, IsNotPermitted, IsReadOrNotPermitted};
+ghost use Rattle.broker.specs.Reads.{AreReadable, Asks, IsForbidden, IsDoneOrForbidden, MayBeDone};
 ghost use Rattle.broker.specs.Representing.{Represents, Gives};
 ghost use Rattle.broker.specs.Safely.{AnswersSafely};
 ghost use Rattle.broker.specs.Serving.{called, served};
@@ -28,7 +28,7 @@ use crate::order::caller::spend;
 use crate::order::finishing::finish;
 use crate::order::permission::{PERMISSION_DENIED, is_permitted};
 use crate::parts::secrets::Place;
-use crate::parts::{cubbyholes, secrets, tokens};
+use crate::parts::{acl_policies, cubbyholes, secrets, tokens};
 use broker_types::{Answer, Ask, Fault, RequestError};
 use mounts::{Operation, route};
 use records::RecordsTx;
@@ -46,12 +46,11 @@ pub(crate) fn answer_caller<T: RecordsTx>(
         → IfOk result (λ a. Gives a (T.seen tx.new).rows
         (called b context.now.caller (names_of context.now.words) ask.now)) }
 
-    // Whatever the rows are: once the caller has spent its use, it is not answered if a row that the command reads is
-    // damaged, unless it is denied for want of `sudo`.
-    ensures undamaged { IsHonest (T.seen tx.new) → (c : Command) → Asks (T.seen tx.old).rows ask.now c
-        → IfOk result (λ a. (rows : Rows)
+    // Whatever the rows are: once the caller has spent its use, they decide whether it may ask. If it may, it is not
+    // answered if a row that its command reads is damaged; else it is told that it may not, and nothing is done.
+    ensures undamaged { IsHonest (T.seen tx.new) → IfOk result (λ a. (rows : Rows)
         × ChangesToken context.now.caller spent_entry (table_of (T.seen tx.old).rows) (table_of rows)
-        × IsReadOrNotPermitted rows context.now.caller c ask.now a) }
+        × IsDoneOrForbidden rows (T.seen tx.new).rows context.now.caller ask.now a) }
 
     // After an answer the caller is not there, or its uses are not all spent.
     ensures ends { IsHonest (T.seen tx.new)
@@ -89,11 +88,11 @@ fn serve<T: RecordsTx>(
         (Represents (Some context.now.caller) (T.seen tx.new).rows b) result
         (served b context.now.caller (names_of context.now.words) ask.now) }
 
-    // Whatever the rows are: it is neither answered nor refused if a row that the command reads is damaged, unless it
-    // is refused for want of `sudo`.
-    ensures undamaged { IsHonest (T.seen tx.new) → (c : Command) → Asks (T.seen tx.old).rows ask.now c
-        → OnAnswer result (AreReadable (T.seen tx.old).rows context.now.caller c
-        ⊎ IsNotPermitted (T.seen tx.old).rows context.now.caller ask.now result) }
+    // Whatever the rows are: they decide whether the caller may ask. If it may, it is neither answered nor refused if
+    // a row that its command reads is damaged; else it is refused, and no row changes.
+    ensures undamaged { IsHonest (T.seen tx.new)
+        → OnAnswer result (MayBeDone (T.seen tx.old).rows context.now.caller ask.now
+        ⊎ IsForbidden (T.seen tx.old).rows (T.seen tx.new).rows context.now.caller ask.now result) }
 
     // Nor is anything if the row of the mount that the path names is damaged.
     ensures mount { IsHonest (T.seen tx.new)
@@ -102,7 +101,7 @@ fn serve<T: RecordsTx>(
     ensures goes_on { GoesOn (T.seen tx.old) (T.seen tx.new) (step_fails result) }
 {
     let caller = context.caller;
-    if !is_permitted(alloc, tx, caller, ask.path.as_str())? {
+    if !is_permitted(alloc, tx, caller, ask.verb, ask.path.as_str())? {
         return Err(RequestError::Refused(PERMISSION_DENIED));
     }
     operate(alloc, tx, context, ask)
@@ -141,6 +140,9 @@ fn operate<T: RecordsTx>(
             };
             let version = ask.version.as_slice();
             secrets::act(alloc, tx, context, operation, &place, version, body)
+        }
+        Operation::Policies(operation) => {
+            acl_policies::act(alloc, tx, context, operation, found.parameter, body)
         }
     }
 }

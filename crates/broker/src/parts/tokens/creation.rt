@@ -1,6 +1,7 @@
 //! Creation of tokens.
 
-ghost use Rattle.std.specs.Prelude.{◌≡◌, ◌≢◌, ◌≤◌, [], true, None, Some, Ok, option_map, IfOk, IfErr, OnOk, length};
+ghost use Rattle.std.specs.Prelude.{◌≡◌, ◌≢◌, ◌≤◌, [], true, None, Some, Ok, Option, option_map, All};
+ghost use Rattle.std.specs.Prelude.{IfOk, IfErr, OnOk, length};
 ghost use Rattle.broker_types.specs.Broker.{Broker};
 ghost use Rattle.broker_types.specs.Fault.{IsMemoryOrStorage};
 ghost use Rattle.broker_types.specs.Identifier.{id};
@@ -9,25 +10,33 @@ ghost use Rattle.broker_types.specs.Map.{get};
 ghost use Rattle.broker_types.specs.Names.{names_of};
 ghost use Rattle.broker_types.specs.RequestError.{step_fails};
 ghost use Rattle.broker_types.specs.Sound.{IsIdentifier};
+ghost use Rattle.broker_types.specs.Text.{Text};
+ghost use Rattle.broker_types.specs.declared.ask.Verb.TheVariants as verb;
 ghost use Rattle.records.specs.Ranges.{IsTokenInRange};
 ghost use Rattle.records.specs.Reading.{IsSomeIn};
+ghost use Rattle.records.specs.Table.{table_of};
 ghost use Rattle.records.specs.TokenEntry.{token_entry};
 ghost use Rattle.records.specs.Transaction.{IsHonest, GoesOn, is_storage};
+ghost use Rattle.token_tree.specs.TokenRows.{IsTokenAt};
 ghost use Rattle.api_json.specs.Kept.{IsKeptCreation};
 ghost use Rattle.mounts.specs.Calls.{OnAnswer, OnFault};
 ghost use Rattle.mounts.specs.declared.operation.TokenOperation.TheVariants as operations;
+ghost use Rattle.policies.specs.Grants.{grants};
+ghost use Rattle.policies.specs.PolicyRows.{IsReadable};
+ghost use Rattle.policies.specs.declared.capability.Capability.TheVariants as capability;
 ghost use Rattle.broker.specs.ClockRow.{IsNotBadStart};
 ghost use Rattle.broker.specs.Command.{on_tokens};
 ghost use Rattle.broker.specs.Operating.{Operates, Performs};
-ghost use Rattle.broker.specs.ReadableRow.{IsReadableToken};
+ghost use Rattle.broker.specs.ReadableRow.{HasReadablePolicies};
 ghost use Rattle.broker.specs.Representing.{Represents};
-ghost use Rattle.broker.specs.parts.TokenCreation.{Making, makes_orphans};
+ghost use Rattle.broker.specs.parts.TokenCreation.{Making, makes_orphans, making_path};
 ghost use Rattle.broker.specs.parts.TokenMaking.{MakesAsked, PutsToken};
 ghost use Rattle.broker.specs.parts.Tokens as part;
 
 use crate::answered::Answered;
 use crate::context::Context;
 use crate::order::identifiers::{are_both_new, use_up};
+use crate::order::permission::grant_sudo;
 use crate::parts::tokens::new_policies::new_policies;
 use crate::parts::tokens::new_token::{check, new_parent, new_record};
 use crate::parts::tokens::shown::auth_reply;
@@ -35,7 +44,7 @@ use api_json::{TokenCreation, read_body, token_creation};
 use broker_types::{Denial, Fault, Refusal, RequestError, TextBuf, TokenText, id_text};
 use records::{RecordsTx, TokenRecord};
 use std::alloc::{AllocError, Global};
-use token_tree::{create as create_token, find, is_among};
+use token_tree::{create as create_token, find};
 
 /// Makes a child of the caller, or a token without parent if the body asks for it.
 pub(super) fn create<T: RecordsTx>(
@@ -108,16 +117,17 @@ fn make_asked<T: RecordsTx>(
     requires { IsKeptCreation asked }
     ensures ok { MakesAsked context.now (T.seen tx.old) (T.seen tx.new) orphans asked result }
 
-    // Whatever the rows are: it is neither answered nor refused if the row of the caller is damaged.
+    // Whatever the rows are: it is neither answered nor refused if the row of the caller is damaged, or one of its
+    // policies.
     ensures undamaged { IsHonest (T.seen tx.new) → context.now.caller ≢ []
-        → OnAnswer result (IsReadableToken (T.seen tx.old).rows context.now.caller) }
+        → OnAnswer result (HasReadablePolicies (T.seen tx.old).rows context.now.caller) }
     ensures started { OnFault result IsNotBadStart }
     ensures goes_on { GoesOn (T.seen tx.old) (T.seen tx.new) (step_fails result) }
 {
     let Some(caller) = find_caller(alloc, tx, context.caller)? else {
         return Err(RequestError::Refused(Refusal::Forbidden(Denial::BadToken)));
     };
-    let privileged = is_among(&caller.policies, "root");
+    let privileged = has_sudo(alloc, tx, &caller.policies, orphans)?;
     let policies = new_policies(alloc, privileged, &caller, &asked)?;
     check(privileged, orphans, &caller, &policies, &asked)?;
     let parent = new_parent(alloc, context.caller, orphans, &asked)?;
@@ -125,6 +135,33 @@ fn make_asked<T: RecordsTx>(
     let clock = context.clock;
     let token = new_record(alloc, clock, parent, accessor, policies, &asked)?;
     put(alloc, tx, context, token)
+}
+
+/// Whether policies grant `sudo` on the path of the route that makes the token.
+fn has_sudo<T: RecordsTx>(
+    alloc: Global,
+    tx: &mut T,
+    policies: &[TextBuf],
+    orphans: bool,
+) -> Result<bool, Fault>
+    ensures told { IsHonest (T.seen tx.new) → (who : Option Text) (b : Broker) → Represents who (T.seen tx.old).rows b
+        → (m : Making) → makes_orphans m ≡ orphans
+        → IfOk result (λ v. v ≡ grants b.policies policies.now verb.Write (making_path m) capability.Sudo) }
+
+    // Whatever the rows are: no damaged row of these policies is passed over.
+    ensures readable { IsHonest (T.seen tx.new)
+        → OnOk result (All (IsReadable (table_of (T.seen tx.old).rows)) policies.now) }
+    ensures wants { IsHonest (T.seen tx.new) → (who : Option Text) (b : Broker) → Represents who (T.seen tx.old).rows b
+        → IfErr result IsMemoryOrStorage }
+    ensures same { IsHonest (T.seen tx.new) → OnOk result ((T.seen tx.new).rows ≡ (T.seen tx.old).rows) }
+    ensures started { IfErr result IsNotBadStart }
+    ensures goes_on { GoesOn (T.seen tx.old) (T.seen tx.new) (is_storage result) }
+{
+    if orphans {
+        grant_sudo(alloc, tx, policies, "auth/token/create-orphan")
+    } else {
+        grant_sudo(alloc, tx, policies, "auth/token/create")
+    }
 }
 
 /// The caller's token; no token has an empty text.
@@ -137,8 +174,8 @@ fn find_caller<T: RecordsTx>(
         → IfOk result (λ found. found ≡ option_map token_entry (get b.tokens caller.now)) }
 
     // Whatever the rows are: a damaged row is answered neither as a token nor as an absent one.
-    ensures undamaged { IsHonest (T.seen tx.new) → caller.now ≢ []
-        → OnOk result (IsReadableToken (T.seen tx.old).rows caller.now) }
+    ensures found { IsHonest (T.seen tx.new) → caller.now ≢ []
+        → IfOk result (IsTokenAt (table_of (T.seen tx.old).rows) caller.now) }
     ensures in_range { IfOk result (IsSomeIn IsTokenInRange) }
     ensures named { caller.now ≡ [] → IfOk result (λ found. found ≡ None) }
     ensures wants { IsHonest (T.seen tx.new) → (b : Broker) → Represents (Some caller.now) (T.seen tx.old).rows b

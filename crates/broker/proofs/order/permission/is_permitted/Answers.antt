@@ -1,51 +1,92 @@
-use Rattle.std.specs.Prelude.{List, codes, not, ◌||◌, false}
-use Rattle.std.specs.Option.{option_map_or}
-use Rattle.std.proofs.Common.{sym, ap, ◌∙◌}
+use Rattle.std.specs.Prelude.{List, Bool, Option}
+use Rattle.std.proofs.Common.{◌≡◌, sym, ◌∙◌, ap, subst}
 use Rattle.std.proofs.lemmas.Result.{err_from_is_err_and}
-use Rattle.records.specs.ValueLaws.{none_of}
-use Rattle.records.specs.TokenEntry.{TokenEntry}
-use Rattle.records.specs.Children.{has}
 use Rattle.broker_types.specs.Map.{get}
 use Rattle.broker_types.specs.Text.{Text}
+use Rattle.records.specs.CallLaws.{honest_before}
+use Rattle.records.specs.Table.{table_of}
+use Rattle.records.specs.TokenEntry.{TokenEntry}
+use Rattle.records.specs.Transaction.{Rows}
+use Rattle.records.specs.ValueLaws.{none_of}
+use Rattle.token_tree.specs.TokenRows.{IsTokenAt}
+use Rattle.api_json.specs.Kept.{is_object}
+use Rattle.policies.specs.Grants.{rules_of}
+use Rattle.policies.specs.Rules.{Rules}
+use Rattle.broker.specs.Capabilities as capabilities
 use Rattle.broker.specs.Forms.{forms}
+use Rattle.broker.specs.Permission.{may, may_ask}
+use Rattle.broker.specs.PermittedRows.{IsAllowedFor}
 use Rattle.broker.proofs.Expired.{represents_tokens}
-use Rattle.broker.proofs.Permitted.{unknown_root, root_told}
+use Rattle.broker.proofs.Permitted.{policies_there, allowed_here, unknown_denied, entry_told}
+use Rattle.broker.proofs.Serving.{still_represented}
 use Rattle.broker.proofs.order.permission.is_permitted.Goals as goal
 
 pub returns-in_err-token-clause-wants : goal.returns-in_err-token-clause-wants
 returns-in_err-token-clause-wants g c honest b st =
-    let p = err_from_is_err_and c.from_residual.result c.from_residual.ensures.1 in
-    rw (p.1, p.2) (c.in_err-token.ensures.undamaged honest forms b (represents_tokens b (g.T.RecordsTx.seen c.args.tx.now).rows st))
+    let seen = g.T.RecordsTx.seen in
+    let p = err_from_is_err_and c.from_residual-in_err-token.result c.from_residual-in_err-token.ensures.1 in
+    let mid = honest_before (seen c.capability.new.tx) (seen c.find.new.tx) _ c.in_err-token.ensures.goes_on honest in
+    let still = still_represented b (seen c.args.tx.now).rows (seen c.capability.new.tx).rows (c.in_ok-asked.ensures.same mid) st in
+    rw (p.1, p.2) (c.in_err-token.ensures.undamaged honest forms b (represents_tokens b (seen c.capability.new.tx).rows still))
 
 pub returns-in_default-clause-ok : goal.returns-in_default-clause-ok
-returns-in_default-clause-ok g c honest b verb st =
-    let old = (g.T.RecordsTx.seen c.args.tx.now).rows in
-    rw (sym c.needs_sudo.ensures ∙ c.if-not-needs_sudo.false)
-    (unknown_root (get b.tokens c.args.caller.now) c.in_ok-token.field-0
-    (c.in_ok-token.ensures.told honest forms b (represents_tokens b old st)) (none_of _ c.in_default.not-Some))
+returns-in_default-clause-ok g c honest b st here =
+    let seen = g.T.RecordsTx.seen in
+    let mid = honest_before (seen c.capability.new.tx) (seen c.find.new.tx) _ c.in_ok-token.ensures.goes_on honest in
+    let still = still_represented b (seen c.args.tx.now).rows (seen c.capability.new.tx).rows (c.in_ok-asked.ensures.same mid) st in
+    unknown_denied (may_ask b c.args.caller.now c.args.verb c.args.path.now) (get b.tokens c.args.caller.now) c.in_ok-token.field-0
+    (c.in_ok-token.ensures.told honest forms b (represents_tokens b (seen c.capability.new.tx).rows still)) (none_of _ c.in_default.not-Some)
+
+pub returns-in_err-rules-clause-wants : goal.returns-in_err-rules-clause-wants
+returns-in_err-rules-clause-wants g c honest b st =
+    let seen = g.T.RecordsTx.seen in
+    let p = err_from_is_err_and c.from_residual-in_err-rules.result c.from_residual-in_err-rules.ensures.1 in
+    let found = honest_before (seen c.find.new.tx) (seen c.rules_of.new.tx) _ c.in_err-rules.ensures.goes_on honest in
+    let mid = honest_before (seen c.capability.new.tx) (seen c.find.new.tx) _ c.in_ok-token.ensures.goes_on found in
+    let same = c.in_ok-token.ensures.same found ∙ c.in_ok-asked.ensures.same mid in
+    let still = still_represented b (seen c.args.tx.now).rows (seen c.find.new.tx).rows same st in
+    rw (p.1, p.2) (c.in_err-rules.ensures.undamaged honest is_object b.policies still.sound.policies
+    (policies_there b (seen c.find.new.tx).rows c.deref.result.now still))
 
 pub returns-clause-ok : goal.returns-clause-ok
-returns-clause-ok g c honest b verb st =
-    let old = (g.T.RecordsTx.seen c.args.tx.now).rows in
-    let told = c.in_ok-token.ensures.told honest forms b (represents_tokens b old st) in
-    rw (sym c.needs_sudo.ensures ∙ c.if-not-needs_sudo.false)
-    (root_told (get b.tokens c.args.caller.now) c.in_ok-token.field-0 c.in-Some.token _ told c.in-Some.is
-    (c.is_among.ensures
-    ∙ ap (λ (policies : List Text). has policies (codes "root")) (c.deref.ensures.value ∙ ap (λ (e : TokenEntry). e.policies) c.token.view_is)))
-
-pub returns-in_default-clause-found : goal.returns-in_default-clause-found
-returns-in_default-clause-found g c honest =
-    let needs = sym c.needs_sudo.ensures ∙ c.if-not-needs_sudo.false in
-    let none = sym (ap (λ o. option_map_or (λ (e : TokenEntry). has e.policies (codes "root")) o false) (none_of _ c.in_default.not-Some)) in
-    (false, (λ _. (c.in_ok-token.field-0, c.in_ok-token.ensures.in_range, c.in_ok-token.ensures.found honest, none)), ap (λ v. not v || false) (sym needs))
+returns-clause-ok g c honest b st here =
+    let seen = g.T.RecordsTx.seen in
+    let old = (seen c.args.tx.now).rows in
+    let caller = c.args.caller.now in
+    let path = c.args.path.now in
+    let found = honest_before (seen c.find.new.tx) (seen c.rules_of.new.tx) _ c.in_ok-rules.ensures.goes_on honest in
+    let mid = honest_before (seen c.capability.new.tx) (seen c.find.new.tx) _ c.in_ok-token.ensures.goes_on found in
+    let still = still_represented b old (seen c.capability.new.tx).rows (c.in_ok-asked.ensures.same mid) st in
+    let later = still_represented b (seen c.capability.new.tx).rows (seen c.find.new.tx).rows (c.in_ok-token.ensures.same found) still in
+    let told = c.in_ok-token.ensures.told found forms b (represents_tokens b (seen c.capability.new.tx).rows still) in
+    let names = c.deref.ensures.value ∙ ap (λ (e : TokenEntry). e.policies) c.token.view_is in
+    let asked = c.in_ok-asked.ensures.told mid b st here in
+    let rules = c.in_ok-rules.ensures.told honest b.policies (policies_there b (seen c.find.new.tx).rows c.deref.result.now later)
+    ∙ ap (λ (ns : List Text). rules_of b.policies ns c.args.verb) names in
+    let allowed : List Text → Bool =
+    λ (ns : List Text). may (rules_of b.policies ns c.args.verb) path (capabilities.asked b caller c.args.verb path) in
+    c.may.ensures ∙ (λ i. may (rules i) path (asked i))
+    ∙ entry_told allowed (get b.tokens caller) c.in_ok-token.field-0 c.in-Some.token told c.in-Some.is
 
 pub returns-clause-found : goal.returns-clause-found
 returns-clause-found g c honest =
-    let needs = sym c.needs_sudo.ensures ∙ c.if-not-needs_sudo.false in
-    let root = c.is_among.ensures
-    ∙ ap (λ (policies : List Text). has policies (codes "root")) (c.deref.ensures.value ∙ ap (λ (e : TokenEntry). e.policies) c.token.view_is)
-    ∙ sym (ap (λ o. option_map_or (λ (e : TokenEntry). has e.policies (codes "root")) o false) c.in-Some.is) in (
-      c.is_among.result,
-      (λ _. (c.in_ok-token.field-0, c.in_ok-token.ensures.in_range, c.in_ok-token.ensures.found honest, root)),
-      ap (λ v. not v || c.is_among.result) (sym needs),
-    )
+    let seen = g.T.RecordsTx.seen in
+    let old = (seen c.args.tx.now).rows in
+    let caller = c.args.caller.now in
+    let verb = c.args.verb in
+    let path = c.args.path.now in
+    let found = honest_before (seen c.find.new.tx) (seen c.rules_of.new.tx) _ c.in_ok-rules.ensures.goes_on honest in
+    let mid = honest_before (seen c.capability.new.tx) (seen c.find.new.tx) _ c.in_ok-token.ensures.goes_on found in
+    let same = c.in_ok-token.ensures.same found ∙ c.in_ok-asked.ensures.same mid in
+    let names = c.deref.ensures.value ∙ ap (λ (e : TokenEntry). e.policies) c.token.view_is in
+    let allowed = allowed_here verb path c.in_ok-asked.asked old (seen c.find.new.tx).rows c.deref.result.now c.in-Some.token.policies c.in_ok-rules.rules
+    c.may.result same names (c.in_ok-rules.ensures.readable honest) (c.in_ok-rules.ensures.told honest) c.may.ensures in
+    record {
+      entry = c.in_ok-token.field-0;
+      in_range = c.in_ok-token.ensures.in_range;
+      token = subst (λ (rows : Rows). IsTokenAt (table_of rows) caller c.in_ok-token.field-0) (c.in_ok-asked.ensures.same mid)
+          (c.in_ok-token.ensures.found found);
+      asked = c.in_ok-asked.asked;
+      asks = c.in_ok-asked.ensures.found mid;
+      allowed = subst (λ (o : Option TokenEntry). IsAllowedFor old o verb path c.in_ok-asked.asked c.may.result) (sym c.in-Some.is) allowed;
+    }

@@ -1,28 +1,26 @@
 use Rattle.std.specs.Prelude.{◌⊎◌, false}
-use Rattle.std.proofs.Common.{◌≡◌, Some, Ok, Err, Result, IfOk, sym, ap, subst, rules, refl, inl}
+use Rattle.std.proofs.Common.{◌≡◌, Some, Ok, Err, Result, IfOk, OnOk, sym, ap, subst, rules, refl, inl}
 use Rattle.std.proofs.lemmas.Result.{IfOk-weaker, on_ok_weaker}
 use Rattle.broker_types.specs.Names.{names_of}
 use Rattle.broker_types.specs.Spending.{spend}
 use Rattle.broker_types.specs.declared.refusal.Refusal.{Refusal}
 use Rattle.broker_types.specs.declared.request_error.RequestError.TheVariants.{Refused}
-use Rattle.mounts.specs.Route.{cut}
 use Rattle.records.specs.CallLaws.{honest_before, goes_further}
-use Rattle.records.specs.declared.kind.Kind.TheVariants as kind
 use Rattle.records.specs.Table.{table_of}
 use Rattle.token_tree.specs.TokenRows.{ChangesToken, spent_entry}
 use Rattle.broker.specs.Context.{Context}
 use Rattle.broker.specs.Operating.{Starts}
 use Rattle.broker.specs.Order.{Wrapped, finish}
 use Rattle.broker.specs.ReadableRow.{IsReadableToken}
-use Rattle.broker.specs.Ending.{IsSpentAt}
-use Rattle.broker.specs.Reads.{AreReadable, IsNotPermitted}
+use Rattle.broker.specs.Ending.{EndsCaller, IsSpentAt}
+use Rattle.broker.specs.Reads.{IsForbidden, MayBeDone}
 use Rattle.broker.specs.Representing.{Represents, Gives}
 use Rattle.broker.specs.Serving.{served}
 use Rattle.broker.specs.Stages.{HasServed}
 use Rattle.broker.specs.declared.answered.Answered.{Answered}
 use Rattle.broker.proofs.Callers.{spent_here}
 use Rattle.broker.proofs.Finishing.{on_ok}
-use Rattle.broker.proofs.CommandReads.{asks_still, ended_or_unspent, reads_served, reads_refused}
+use Rattle.broker.proofs.CommandReads.{ended_or_unspent, may_served, may_refused, ok_with}
 use Rattle.broker.proofs.Routes.{fault_goes_on}
 use Rattle.broker.proofs.order.serving.answer_caller.Goals as goal
 
@@ -123,7 +121,7 @@ returns-in-Err-Fault-clause-safely g c =
     }
 
 pub returns-in-Ok-clause-undamaged : goal.returns-in-Ok-clause-undamaged
-returns-in-Ok-clause-undamaged g c honest command asks =
+returns-in-Ok-clause-undamaged g c honest =
     let seen = g.T.RecordsTx.seen in
     let caller = c.args.context.now.caller in
     let old = (seen c.args.tx.now).rows in
@@ -132,27 +130,28 @@ returns-in-Ok-clause-undamaged g c honest command asks =
     let mid = honest_before (seen c.spend.new.tx) (seen c.serve.new.tx) _ c.serve.ensures.goes_on left in
     let at : c.context.inside.caller.now ≡ caller = ap (λ (x : Context). x.caller) c.context.view_is in
     let spends = subst (λ t. ChangesToken t spent_entry (table_of old) (table_of new)) at (c.in_ok-spend.ensures.rows mid) in
-    let asked = asks_still old new c.args.ask.now command (c.in_ok-spend.ensures.others mid kind.Mount (cut c.args.ask.now.path).0 refl) asks in
-    let readable = reads_served (AreReadable new caller command) new caller c.args.ask.now c.in-Ok.answered
-    (c.in-Ok.ensures.undamaged left command asked) in
-    IfOk-weaker c.finish.result _ _ (λ a room. (new, spends, inl readable)) c.finish.ensures.room
+    let may = may_served new (seen c.serve.new.tx).rows caller c.args.ask.now c.in-Ok.answered (c.in-Ok.ensures.undamaged left) in
+    IfOk-weaker c.finish.result _ _ (λ a room. (new, spends, inl may)) c.finish.ensures.room
 
 pub returns-in-Err-Refused-clause-undamaged : goal.returns-in-Err-Refused-clause-undamaged
-returns-in-Err-Refused-clause-undamaged g c honest command asks =
+returns-in-Err-Refused-clause-undamaged g c honest =
     let seen = g.T.RecordsTx.seen in
     let caller = c.args.context.now.caller in
+    let ask = c.args.ask.now in
     let old = (seen c.args.tx.now).rows in
     let new = (seen c.spend.new.tx).rows in
+    let done = (seen c.serve.new.tx).rows in
+    let final = (seen c.finish-in-Err-Refused.new.tx).rows in
     let left = honest_before (seen c.serve.new.tx) (seen c.finish-in-Err-Refused.new.tx) _ c.finish-in-Err-Refused.ensures.goes_on honest in
     let mid = honest_before (seen c.spend.new.tx) (seen c.serve.new.tx) _ c.serve.ensures.goes_on left in
     let here : c.context.inside.caller.now ≡ caller = ap (λ (x : Context). x.caller) c.context.view_is in
     let spends = subst (λ t. ChangesToken t spent_entry (table_of old) (table_of new)) here (c.in_ok-spend.ensures.rows mid) in
-    let asked = asks_still old new c.args.ask.now command (c.in_ok-spend.ensures.others mid kind.Mount (cut c.args.ask.now.path).0 refl) asks in
-    let found : AreReadable new caller command ⊎ IsNotPermitted {A = Answered} new caller c.args.ask.now (Err (Refused c.in-Err-Refused.refusal)) =
-    rw c.in-Err-Refused.field-0-is at (c.in-Err-Refused.ensures.undamaged left command asked) in
+    let found : MayBeDone new caller ask ⊎ IsForbidden {A = Answered} new done caller ask (Err (Refused c.in-Err-Refused.refusal)) =
+    rw c.in-Err-Refused.field-0-is at (c.in-Err-Refused.ensures.undamaged left) in
+    let ends = subst (λ t. OnOk c.finish-in-Err-Refused.result (EndsCaller t done final)) here (c.finish-in-Err-Refused.ensures.rows honest) in
     IfOk-weaker c.finish-in-Err-Refused.result _ _
-    (λ a response. (new, spends, reads_refused (AreReadable new caller command) new caller c.args.ask.now c.in-Err-Refused.refusal a found response))
-    c.finish-in-Err-Refused.ensures.refused
+    (λ a told. (new, spends, may_refused new done caller ask final c.in-Err-Refused.refusal a found told.1 told.0))
+    (ok_with _ _ c.finish-in-Err-Refused.result ends c.finish-in-Err-Refused.ensures.refused)
 
 pub returns-in-Ok-clause-ends : goal.returns-in-Ok-clause-ends
 returns-in-Ok-clause-ends g c honest =

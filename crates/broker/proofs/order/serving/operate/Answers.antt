@@ -17,8 +17,8 @@ use Rattle.broker.specs.Serving.{acted}
 use Rattle.broker.specs.declared.answered.Answered.{Answered}
 use Rattle.broker.specs.parts.SecretCommands.{Place, at}
 use Rattle.broker.proofs.CubbyholeAnswers.{ActsAs, meant_there}
-use Rattle.broker.proofs.CommandReads.{cubbyholes_read, tokens_read, secrets_read, known_by, meant_by_route, no_route}
-use Rattle.broker.proofs.Routes.{found_is, meant_on_tokens, mounts_there, operated_by, operated_nowhere, on_answer, on_error}
+use Rattle.broker.proofs.CommandReads.{cubbyholes_read, policies_read, tokens_read, secrets_read, known_by, meant_by_route, no_route}
+use Rattle.broker.proofs.Routes.{found_is, meant_on_policies, meant_on_tokens, mounts_there, operated_by, operated_nowhere, on_answer, on_error}
 use Rattle.broker.proofs.SecretRoutes.{mount_named, meant_on_secrets}
 use Rattle.broker.proofs.Serving.{still_represented}
 use Rattle.broker.proofs.order.serving.operate.Goals as goal
@@ -85,6 +85,25 @@ returns-in-Secrets-clause-ok g c honest b starts =
     c.as_str.ensures.text ends
     (subst (ActsAs caller b (seen c.act-in-Secrets.new.tx).rows c.act-in-Secrets.result) (ap (acted b caller names) (sym meant))
     (c.act-in-Secrets.ensures.ok named good honest b (record { represents = still; here = starts.here; clock = starts.clock })))
+
+pub returns-in-Policies-clause-ok : goal.returns-in-Policies-clause-ok
+returns-in-Policies-clause-ok g c honest b starts =
+    let seen = g.T.RecordsTx.seen in
+    let rows = (seen c.args.tx.now).rows in
+    let mid = honest_before (seen c.route.new.tx) (seen c.act-in-Policies.new.tx) _ c.act-in-Policies.ensures.goes_on honest in
+    let ends = c.in_ok-found.ensures.told mid b.mounts (mounts_there b rows starts.represents) in
+    let still = still_represented b rows (seen c.route.new.tx).rows (c.in_ok-found.ensures.same mid) starts.represents in
+    let caller = c.args.context.now.caller in
+    let names = names_of c.args.context.now.words in
+    let ask = c.args.ask.now in
+    let is : c.in_ok-found.found.operation ≡ c.found.inside.operation = sym (ap (λ (r : Route). r.operation) c.found.view_is) in
+    let there : c.in_ok-found.found.parameter ≡ c.found.inside.parameter.now = sym (ap (λ (r : Route). r.parameter) c.found.view_is) in
+    let meant = meant_on_policies c.in_ok-found.found ask c.in-Policies.operation c.found.inside.parameter.now c.as_slice-body.result.now
+    (is ∙ c.in-Policies.is) there c.as_slice-body.ensures.bytes in
+    operated_by b caller names ask (seen c.act-in-Policies.new.tx).rows c.act-in-Policies.result c.in_ok-found.found c.as_str.result.now
+    c.as_str.ensures.text ends
+    (subst (ActsAs caller b (seen c.act-in-Policies.new.tx).rows c.act-in-Policies.result) (ap (acted b caller names) (sym meant))
+    (c.act-in-Policies.ensures.ok honest b (record { represents = still; here = starts.here; clock = starts.clock })))
 
 pub returns-in_err-found-clause-ok : goal.returns-in_err-found-clause-ok
 returns-in_err-found-clause-ok g c honest b starts =
@@ -165,6 +184,23 @@ returns-in-Secrets-clause-undamaged g c honest command asks =
     (at c.found.inside.mount.now c.found.inside.parameter.now) c.as_slice-version.result.now c.as_slice-body.result.now
     (is ∙ c.in-Secrets.is) place c.as_slice-version.ensures c.as_slice-body.ensures.bytes (c.act-in-Secrets.ensures.undamaged honest) command meant)
 
+pub returns-in-Policies-clause-undamaged : goal.returns-in-Policies-clause-undamaged
+returns-in-Policies-clause-undamaged g c honest command asks =
+    let seen = g.T.RecordsTx.seen in
+    let rows = (seen c.args.tx.now).rows in
+    let found = (seen c.route.new.tx).rows in
+    let caller = c.args.context.now.caller in
+    let ask = c.args.ask.now in
+    let path = c.as_str.ensures.text in
+    let mid = honest_before (seen c.route.new.tx) (seen c.act-in-Policies.new.tx) _ c.act-in-Policies.ensures.goes_on honest in
+    let ends = c.in_ok-found.ensures.found mid asks.mount (known_by rows ask command c.as_str.result.now path asks) in
+    let meant = meant_by_route rows ask command c.as_str.result.now c.in_ok-found.found path asks ends in
+    let is : c.in_ok-found.found.operation ≡ c.found.inside.operation = sym (ap (λ (r : Route). r.operation) c.found.view_is) in
+    let there : c.in_ok-found.found.parameter ≡ c.found.inside.parameter.now = sym (ap (λ (r : Route). r.parameter) c.found.view_is) in
+    subst (λ (z : Rows). OnAnswer c.act-in-Policies.result (AreReadable z caller command)) (c.in_ok-found.ensures.same mid)
+    (policies_read found caller ask c.in_ok-found.found c.act-in-Policies.result c.in-Policies.operation c.found.inside.parameter.now
+    c.as_slice-body.result.now (is ∙ c.in-Policies.is) there c.as_slice-body.ensures.bytes (c.act-in-Policies.ensures.undamaged honest) command meant)
+
 pub returns-in_err-found-clause-undamaged : goal.returns-in_err-found-clause-undamaged
 returns-in_err-found-clause-undamaged g c honest command asks =
     let rows = (g.T.RecordsTx.seen c.args.tx.now).rows in
@@ -181,6 +217,14 @@ returns-in-Secrets-clause-mount g c honest =
     let rows = (seen c.args.tx.now).rows in
     let mid = honest_before (seen c.route.new.tx) (seen c.act-in-Secrets.new.tx) _ c.act-in-Secrets.ensures.goes_on honest in
     on_answer c.act-in-Secrets.result
+    (subst (λ path. IsReadableAt (table_of rows) (cut path).0) c.as_str.ensures.text (c.in_ok-found.ensures.undamaged mid))
+
+pub returns-in-Policies-clause-mount : goal.returns-in-Policies-clause-mount
+returns-in-Policies-clause-mount g c honest =
+    let seen = g.T.RecordsTx.seen in
+    let rows = (seen c.args.tx.now).rows in
+    let mid = honest_before (seen c.route.new.tx) (seen c.act-in-Policies.new.tx) _ c.act-in-Policies.ensures.goes_on honest in
+    on_answer c.act-in-Policies.result
     (subst (λ path. IsReadableAt (table_of rows) (cut path).0) c.as_str.ensures.text (c.in_ok-found.ensures.undamaged mid))
 
 pub returns-in_err-found-clause-mount : goal.returns-in_err-found-clause-mount

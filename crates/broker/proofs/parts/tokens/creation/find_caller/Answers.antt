@@ -1,7 +1,6 @@
 use Rattle.broker.specs.Forms.{forms}
 use Rattle.broker.proofs.Expired.{represents_tokens}
 use Rattle.broker.proofs.TokenMade.{no_empty_token}
-use Rattle.broker.proofs.CommandReads.{readable_found}
 use Rattle.broker.proofs.parts.tokens.creation.find_caller.Goals as goal
 
 pub returns-then-is_empty-clause-told : goal.returns-then-is_empty-clause-told
@@ -15,7 +14,3 @@ returns-clause-told g c honest b st =
 pub returns-clause-wants : goal.returns-clause-wants
 returns-clause-wants g c honest b st =
     c.find.ensures.undamaged honest forms b (represents_tokens b (g.T.RecordsTx.seen c.args.tx.now).rows st)
-
-pub returns-clause-undamaged : goal.returns-clause-undamaged
-returns-clause-undamaged g c honest named =
-    readable_found (g.T.RecordsTx.seen c.args.tx.now).rows c.args.caller.now c.find.result (c.find.ensures.found honest) c.find.ensures.in_range

@@ -1,0 +1,138 @@
+-- The part of policies: from rows that a call on policies left to the broker that they represent; what is answered; what is given out.
+use Rattle.std.specs.Prelude.{◌≡◌, ℕ, List, [], Option, Some, None, Result, Ok, Err}
+use Rattle.std.proofs.Common.{refl, sym, subst}
+use Rattle.broker_types.specs.Broker.{Broker}
+use Rattle.broker_types.specs.Fault.{IsMemoryOrStorage}
+use Rattle.broker_types.specs.Map.{Map}
+use Rattle.broker_types.specs.Names.{Names}
+use Rattle.broker_types.specs.Operation.{nothing, reply, Done, plainly}
+use Rattle.broker_types.specs.Refuse.{◌>>=◌, some_or}
+use Rattle.broker_types.specs.RequestError.{EndsOk, EndsErr}
+use Rattle.broker_types.specs.Sound.{Sound}
+use Rattle.broker_types.specs.SpendingLaws.{evolves_self}
+use Rattle.broker_types.specs.Text.{Text}
+use Rattle.broker_types.specs.declared.refusal.Refusal.{Refusal}
+use Rattle.broker_types.specs.declared.refusal.Refusal.TheVariants as refusal
+use Rattle.broker_types.specs.declared.reply.Reply.{Reply}
+use Rattle.broker_types.specs.declared.request_error.RequestError.{RequestError}
+use Rattle.broker_types.specs.declared.request_error.RequestError.TheVariants.{Refused, Fault}
+use Rattle.serde_json.specs.Data.{Members}
+use Rattle.api_json.specs.Json.{body_members}
+use Rattle.api_json.specs.Readers as reader
+use Rattle.api_json.specs.Reads.{IsReadErr}
+use Rattle.records.specs.PartLaws.{joined_rows, rows_of-other_policies}
+use Rattle.records.specs.Parts.{KeepsOthers, of_policies}
+use Rattle.records.specs.Table.{table_of}
+use Rattle.records.specs.Transaction.{Rows}
+use Rattle.records.specs.ValueLaws.{ok_inj}
+use Rattle.policies.specs.Policies as policies
+use Rattle.policies.specs.PolicyRows.{ArePolicies}
+use Rattle.policies.specs.SoundLaws.{policies_evolve}
+use Rattle.policies.specs.TellLaws.{policies_told, told_policies}
+use Rattle.mounts.specs.declared.operation.PolicyOperation.TheVariants as operation
+use Rattle.broker.specs.Command.{on_policy, on_policies}
+use Rattle.broker.specs.Forms.{forms}
+use Rattle.broker.specs.Order.{IsProper}
+use Rattle.broker.specs.Representing.{AsServed, Represents}
+use Rattle.broker.specs.Serving.{acted}
+use Rattle.broker.specs.declared.answered.Answered as Code
+use Rattle.broker.specs.declared.answered.Answered.TheVariants.{Nothing}
+use Rattle.broker.specs.parts.Policies.{set, act_on_policies}
+use Rattle.broker.specs.parts.PolicyCommands.{PolicyCommand, list_policies, show_policy, set_policy, remove_policy}
+use Rattle.broker.proofs.CubbyholeAnswers.{ActsAs}
+use Rattle.broker.proofs.Operations.{plainly_proper}
+use Rattle.broker.proofs.Serving.{still_represented, tells_part}
+use Rattle.broker.proofs.TokenAnswers.{ok_step}
+
+-- ---- a broker with other policies
+
+-- the rows of policies that a broker has are those of its policies
+pub policies_there : {who : Option Text} (b : Broker) (rows : Rows) → Represents who rows b → ArePolicies (table_of rows) b.policies
+policies_there b rows st = policies_told (table_of rows) b (tells_part of_policies b rows st)
+
+-- what the requests served so far can leave is so with any policies
+served_still : (b : Broker) (next : Map Text) → AsServed b → AsServed (record b { policies = next })
+served_still b next s = record { no_leases = s.no_leases; none_waits = s.none_waits; no_roles = s.no_roles }
+
+module _ (b : Broker) (c : Text) (old new : Rows) (st : Represents (Some c) old b) where
+  represents-policies : (next : Map Text) → Sound forms (Some c) (record b { policies = next }) → ArePolicies (table_of new) next
+      → KeepsOthers of_policies (table_of old) (table_of new) → Represents (Some c) new (record b { policies = next })
+  represents-policies next sound are keeps = record {
+    rows = joined_rows of_policies (table_of old) (table_of new) b (record b { policies = next }) st.rows
+        (told_policies (table_of new) (record b { policies = next }) are) keeps (rows_of-other_policies b next);
+    sound = sound;
+    served = served_still b next st.served;
+  }
+
+  -- ---- a change
+
+  abbrev changed : Result (Map Text) Refusal → Result Done Refusal
+  changed m = m >>= (λ next. Ok (plainly nothing (record b { policies = next })))
+
+  -- one that is made leaves the policies that it says
+  pub acts_changed : {X : Type 0} (x : X) (m : Result (Map Text) Refusal)
+      → ((next : Map Text) → m ≡ Ok next → Sound forms (Some c) (record b { policies = next }))
+      → EndsOk (λ (_ : X) next. ArePolicies (table_of new) next) x m → KeepsOthers of_policies (table_of old) (table_of new)
+      → ActsAs c b new (Ok Nothing) (changed m)
+  acts_changed x (Ok next) sound are keeps = (refl, represents-policies next (sound next refl) are keeps)
+  acts_changed x (Err r) sound are keeps = absurd are
+
+  -- one that is refused leaves the broker as it was
+  pub acts_refused : (m : Result (Map Text) Refusal) (e : RequestError) → EndsErr (new ≡ old) e m → ActsAs c b new (Err e) (changed m)
+  acts_refused (Ok next) (Refused r) h = absurd h
+  acts_refused (Err x) (Refused r) h = (h.0, still_represented b old new h.1 st)
+  acts_refused m (Fault f) h = h
+
+-- ---- what a body means
+
+module _ (b : Broker) (rows : Rows) (c name : Text) (names : Names) (body : List ℕ) where
+  abbrev meant : Result Members Refusal → Result Done Refusal
+  meant read = acted b c names ((read >>= (λ ms. reader.policy_text ms >>= (λ x. Ok (set_policy name x)))) >>= (λ command. Ok (on_policy command)))
+
+  abbrev meant_by : Result Text Refusal → Result Done Refusal
+  meant_by read = acted b c names ((read >>= (λ x. Ok (set_policy name x))) >>= (λ command. Ok (on_policy command)))
+
+  -- a body that cannot be read is refused
+  pub acts_bad_body : (e : RequestError) → Represents (Some c) rows b → IsReadErr (body_members body) e
+      → ActsAs c b rows (Err e) (acted b c names (on_policies operation.Set name body))
+  acts_bad_body (Refused r) st read = subst (λ read. ActsAs c b rows (Err (Refused r)) (meant read)) (sym read) (refl, st)
+  acts_bad_body (Fault f) st memory = subst IsMemoryOrStorage (sym memory) tt
+
+  module _ (ms : Members) (members : body_members body ≡ Ok ms) where
+    -- so is one without a text
+    pub acts_no_text : (e : RequestError) → Represents (Some c) rows b → IsReadErr (reader.policy_text ms) e
+        → ActsAs c b rows (Err e) (acted b c names (on_policies operation.Set name body))
+    acts_no_text (Refused r) st read =
+        subst (λ read. ActsAs c b rows (Err (Refused r)) (meant read)) (sym members)
+        (subst (λ read. ActsAs c b rows (Err (Refused r)) (meant_by read)) (sym read) (refl, st))
+    acts_no_text (Fault f) st memory = subst IsMemoryOrStorage (sym memory) tt
+
+    -- and another sets its text
+    pub acts_meant : (text : Text) (result : Result Code.Answered RequestError) → reader.policy_text ms ≡ Ok text
+        → ActsAs c b rows result (set b name text) → ActsAs c b rows result (acted b c names (on_policies operation.Set name body))
+    acts_meant text result read acts =
+        subst (λ read. ActsAs c b rows result (meant read)) (sym members)
+        (subst (λ read. ActsAs c b rows result (meant_by read)) (sym read) acts)
+
+-- ---- what a command gives out
+
+module _ (b : Broker) (names : Names) where
+  shown_proper : (r : Reply) → IsProper b [] (plainly (reply r None) b)
+  shown_proper r = plainly_proper b b (reply r None) refl (λ r n. absurd (cc)) (λ t n. absurd (cc)) (evolves_self b)
+
+  changed_proper : (next : Map Text) → IsProper b [] (plainly nothing (record b { policies = next }))
+  changed_proper next =
+      plainly_proper b (record b { policies = next }) nothing refl (λ r n. absurd (cc)) (λ t n. absurd (cc)) (policies_evolve b next)
+
+  -- a command that is not refused gives out no identifiers, and lets the broker evolve
+  pub acts : (command : PolicyCommand) (d : Done) → act_on_policies b names command ≡ Ok d → IsProper b [] d
+  acts list_policies d e = subst (IsProper b []) (ok_inj e) (shown_proper _)
+  acts (show_policy name) d e =
+      let text = ok_step (some_or refusal.NotFound (policies.text_of b.policies name)) _ d e in
+      subst (IsProper b []) (ok_inj text.2) (shown_proper _)
+  acts (set_policy name text) d e =
+      let next = ok_step (policies.set b.policies name text) _ d e in
+      subst (IsProper b []) (ok_inj next.2) (changed_proper next.0)
+  acts (remove_policy name) d e =
+      let next = ok_step (policies.deleted b.policies name) _ d e in
+      subst (IsProper b []) (ok_inj next.2) (changed_proper next.0)

@@ -1,0 +1,124 @@
+//! Requests on policies (Vault's documentation, "/sys/policies").
+
+ghost use Rattle.std.specs.Prelude.{◌≡◌, ◌≤◌, Ok, length};
+ghost use Rattle.broker_types.specs.Limits.{longest_body};
+ghost use Rattle.broker_types.specs.RequestError.{step_fails};
+ghost use Rattle.records.specs.Transaction.{IsHonest, GoesOn};
+ghost use Rattle.mounts.specs.Calls.{OnAnswer, OnFault};
+ghost use Rattle.mounts.specs.declared.operation.PolicyOperation.TheVariants as operations;
+ghost use Rattle.broker.specs.ClockRow.{IsNotBadStart};
+ghost use Rattle.broker.specs.Command.{on_policy, on_policies};
+ghost use Rattle.broker.specs.Operating.{Operates};
+ghost use Rattle.broker.specs.ReadableRow.{IsReadablePolicy};
+ghost use Rattle.broker.specs.Reads.{AreReadablePolicies};
+ghost use Rattle.broker.specs.parts.PolicyCommands as part;
+
+use crate::answered::Answered;
+use crate::answers::shown;
+use crate::context::Context;
+use api_json::{keys_object, policy_object, policy_text, read_body};
+use broker_types::{Refusal, RequestError};
+use mounts::PolicyOperation;
+use records::RecordsTx;
+use std::alloc::Global;
+
+/// Carries out an operation on policies, with the name of a policy and the body.
+pub(crate) fn act<T: RecordsTx>(
+    alloc: Global,
+    tx: &mut T,
+    context: &Context<'_>,
+    operation: PolicyOperation,
+    name: &str,
+    body: &[u8],
+) -> Result<Answered, RequestError>
+    requires { length body.now ≤ longest_body }
+    ensures ok { Operates context.now (T.seen tx.old) (T.seen tx.new)
+        (λ b. on_policies operation name.now body.now) result }
+
+    // Whatever the rows are: it is neither answered nor refused if a row that the command reads is damaged.
+    ensures undamaged { IsHonest (T.seen tx.new)
+        → (c : part.PolicyCommand) → part.policy_command operation name.now body.now ≡ Ok c
+        → OnAnswer result (AreReadablePolicies (T.seen tx.old).rows c) }
+    ensures started { OnFault result IsNotBadStart }
+    ensures goes_on { GoesOn (T.seen tx.old) (T.seen tx.new) (step_fails result) }
+{
+    match operation {
+        PolicyOperation::List => list(alloc, tx, context),
+        PolicyOperation::Show => show(alloc, tx, context, name),
+        PolicyOperation::Set => set(alloc, tx, context, name, body),
+        PolicyOperation::Remove => remove(tx, context, name),
+    }
+}
+
+/// Lists the names of all policies.
+fn list<T: RecordsTx>(
+    alloc: Global,
+    tx: &mut T,
+    context: &Context<'_>,
+) -> Result<Answered, RequestError>
+    ensures ok { Operates context.now (T.seen tx.old) (T.seen tx.new) (λ b. Ok (on_policy part.list_policies)) result }
+    ensures started { OnFault result IsNotBadStart }
+    ensures goes_on { GoesOn (T.seen tx.old) (T.seen tx.new) (step_fails result) }
+{
+    let names = policies::list(alloc, tx)?;
+    let object = keys_object(alloc, &names)?;
+    Ok(shown(alloc, context, object)?)
+}
+
+/// Shows a policy with its text.
+fn show<T: RecordsTx>(
+    alloc: Global,
+    tx: &mut T,
+    context: &Context<'_>,
+    name: &str,
+) -> Result<Answered, RequestError>
+    ensures ok { Operates context.now (T.seen tx.old) (T.seen tx.new)
+        (λ b. Ok (on_policy (part.show_policy name.now))) result }
+
+    // Whatever the rows are: a damaged row is answered neither as a policy nor as an absent one.
+    ensures undamaged { IsHonest (T.seen tx.new)
+        → OnAnswer result (IsReadablePolicy (T.seen tx.old).rows name.now) }
+    ensures started { OnFault result IsNotBadStart }
+    ensures goes_on { GoesOn (T.seen tx.old) (T.seen tx.new) (step_fails result) }
+{
+    let Some(text) = policies::get(alloc, tx, name)? else {
+        return Err(RequestError::Refused(Refusal::NotFound));
+    };
+    let object = policy_object(alloc, name, text.as_str())?;
+    Ok(shown(alloc, context, object)?)
+}
+
+/// Sets a policy to the text that a body brings.
+fn set<T: RecordsTx>(
+    alloc: Global,
+    tx: &mut T,
+    context: &Context<'_>,
+    name: &str,
+    body: &[u8],
+) -> Result<Answered, RequestError>
+    requires { length body.now ≤ longest_body }
+    ensures ok { Operates context.now (T.seen tx.old) (T.seen tx.new)
+        (λ b. on_policies operations.Set name.now body.now) result }
+    ensures started { OnFault result IsNotBadStart }
+    ensures goes_on { GoesOn (T.seen tx.old) (T.seen tx.new) (step_fails result) }
+{
+    let members = read_body(alloc, body)?;
+    let text = policy_text(alloc, &members)?;
+    policies::set(alloc, tx, name, text.as_str())?;
+    Ok(Answered::Nothing)
+}
+
+/// Deletes a policy.
+fn remove<T: RecordsTx>(
+    tx: &mut T,
+    context: &Context<'_>,
+    name: &str,
+) -> Result<Answered, RequestError>
+    ensures ok { Operates context.now (T.seen tx.old) (T.seen tx.new)
+        (λ b. Ok (on_policy (part.remove_policy name.now))) result }
+    ensures started { OnFault result IsNotBadStart }
+    ensures goes_on { GoesOn (T.seen tx.old) (T.seen tx.new) (step_fails result) }
+{
+    policies::delete(tx, name)?;
+    Ok(Answered::Nothing)
+}
