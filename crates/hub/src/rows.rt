@@ -67,6 +67,20 @@ macro_rules! change {
     };
 }
 
+/// A write of the root token that sets a policy, with a body of so many bytes.
+macro_rules! set {
+    ($name:literal, $len:literal, $body:literal) => {
+        concat!(
+            "POST /v1/sys/policies/acl/",
+            $name,
+            " HTTP/1.1\r\nHost: b\r\nX-Vault-Token: hvs.00000000-0000-0000-0000-000000000001\r\nContent-Length: ",
+            $len,
+            "\r\n\r\n",
+            $body
+        )
+    };
+}
+
 /// A request with sixty-four fields, and what comes after them.
 macro_rules! sixty_four_fields {
     ($end:literal) => {
@@ -297,6 +311,8 @@ macro_rules! row {
 }
 
 mod limits;
+mod acl_policies;
+mod policy_texts;
 mod secret_bodies;
 mod secrets;
 mod token_bodies;

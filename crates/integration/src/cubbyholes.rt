@@ -1,5 +1,5 @@
 use broker_types::{Bytes, Fault, TextBuf};
-use cubbyhole::{delete, drop_owner, list, read, write};
+use cubbyhole::{delete, drop_owner, is_there, list, read, write};
 use records::{Kind, ListRecords, ListTx, RecordsTx, Row};
 use std::test::Fail;
 
@@ -78,6 +78,18 @@ fn a_path_is_deleted_alone(rt: HostRuntime) -> Result<(), Fail> {
 }
 
 #[test]
+fn what_is_written_is_there(rt: HostRuntime) -> Result<(), Fail> {
+    let alloc = rt.alloc();
+    let mut tx = kept(&rt, ROOT, &["a/b"])?;
+    assert!(rt; is_there(alloc, &mut tx, ROOT, "a/b")?);
+    assert!(rt; !is_there(alloc, &mut tx, ROOT, "a")?);
+    assert!(rt; !is_there(alloc, &mut tx, CHILD, "a/b")?);
+    delete(alloc, &mut tx, ROOT, "a/b")?;
+    assert!(rt; !is_there(alloc, &mut tx, ROOT, "a/b")?);
+    Ok(())
+}
+
+#[test]
 fn a_cubbyhole_goes_without_others(rt: HostRuntime) -> Result<(), Fail> {
     let alloc = rt.alloc();
     let mut tx = kept(&rt, CHILD, &["a", "a/b"])?;
@@ -101,6 +113,7 @@ fn a_damaged_row_is_told_where_it_is_read(rt: HostRuntime) -> Result<(), Fail> {
     let key = "hvs.00000000-0000-0000-0000-000000000001/a";
     tx.put(Kind::Cubby, key, row)?;
     assert!(rt; matches!(read(alloc, &mut tx, ROOT, "a"), Err(Fault::Damaged)));
+    assert!(rt; is_there(alloc, &mut tx, ROOT, "a")?);
     assert!(rt; reads(&rt, &mut tx, ROOT, "b", "{\"x\":1}")?);
     Ok(())
 }

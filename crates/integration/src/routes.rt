@@ -1,7 +1,8 @@
 use broker_types::Verb::{self, Delete, Get, List, Write};
 use broker_types::{Methods, Reason, Refusal, RequestError};
 use mounts::{
-    Cubbyhole, MountType, Operation, SecretOperation, TokenOperation, disable, enable, list, route,
+    Cubbyhole, MountType, Operation, PolicyOperation, SecretOperation, TokenOperation, disable,
+    enable, list, route,
 };
 use records::{ListRecords, ListTx};
 use std::process::Abort;
@@ -47,6 +48,14 @@ const OF_METADATA: &[(Verb, Operation)] = &[
     (Get, Operation::Secrets(SecretOperation::ShowMetadata)),
     (List, Operation::Secrets(SecretOperation::List)),
     (Delete, Operation::Secrets(SecretOperation::Remove)),
+];
+
+const OF_POLICIES: &[(Verb, Operation)] = &[(List, Operation::Policies(PolicyOperation::List))];
+
+const OF_ONE_POLICY: &[(Verb, Operation)] = &[
+    (Get, Operation::Policies(PolicyOperation::Show)),
+    (Write, Operation::Policies(PolicyOperation::Set)),
+    (Delete, Operation::Policies(PolicyOperation::Remove)),
 ];
 
 /// The routes of the profile, each with a path that fits, one with a segment more and one with a segment less.
@@ -149,9 +158,9 @@ const LINES: &[Line] = &[
     Line("sys", NONE, &[]),
     Line("sys/mounts/db", NONE, &[Write, Delete]),
     Line("sys/mounts/db/a", NONE, &[]),
-    Line("sys/policies/acl", NONE, &[List]),
+    Line("sys/policies/acl", OF_POLICIES, &[]),
     Line("sys/policies", NONE, &[]),
-    Line("sys/policies/acl/p", NONE, &[Get, Write, Delete]),
+    Line("sys/policies/acl/p", OF_ONE_POLICY, &[]),
     Line("sys/policies/acl/p/a", NONE, &[]),
     Line("cubbyhole", NONE, &[List]),
     Line("cubbyhole/a", IN_CUBBYHOLES, &[List, Delete]),

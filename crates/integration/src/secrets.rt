@@ -3,8 +3,8 @@
 
 use broker_types::{Bytes, Fault, Moment, Reason, Refusal, RequestError, TextBuf};
 use kv2::{
-    SecretVersion, config, delete, delete_versions, destroy, drop_mount, list, metadata, read,
-    remove_key, set_config, undelete, write,
+    SecretVersion, config, delete, delete_versions, destroy, drop_mount, is_there, list, metadata,
+    read, remove_key, set_config, undelete, write,
 };
 use records::{Engine, Kind, ListRecords, ListTx, MountRecord, RecordsTx, Row, write_mount};
 use std::test::Fail;
@@ -222,6 +222,22 @@ fn a_destroyed_version_takes_a_deletion_time(rt: HostRuntime) -> Result<(), Fail
         )?
     );
     assert!(rt; metadata(alloc, &mut tx, "secret", "none")?.is_none());
+    Ok(())
+}
+
+#[test]
+fn a_deleted_secret_is_there_until_it_is_removed(rt: HostRuntime) -> Result<(), Fail> {
+    let alloc = rt.alloc();
+    let mut tx = started(&rt)?;
+    assert!(rt; !is_there(alloc, &mut tx, "secret", "x")?);
+    writes(&rt, &mut tx, "x", None)?;
+    delete(alloc, &mut tx, moment(1001)?, "secret", "x")?;
+    assert!(rt; is_there(alloc, &mut tx, "secret", "x")?);
+    destroy(alloc, &mut tx, "secret", "x", &[1])?;
+    assert!(rt; is_there(alloc, &mut tx, "secret", "x")?);
+    assert!(rt; !is_there(alloc, &mut tx, "secret2", "x")?);
+    remove_key(alloc, &mut tx, "secret", "x")?;
+    assert!(rt; !is_there(alloc, &mut tx, "secret", "x")?);
     Ok(())
 }
 

@@ -1,8 +1,8 @@
 //! Rows about tokens: how they are made and renewed, and how they end.
 
 use super::{
-    FORBIDDEN, INVALID_PATH, NONE, NOT_FOUND, WRITTEN, WRITTEN_IN_2023, expect_replies,
-    expect_replies_at, expect_replies_with,
+    FORBIDDEN, NONE, NOT_FOUND, WRITTEN, WRITTEN_IN_2023, expect_replies, expect_replies_at,
+    expect_replies_with,
 };
 use std::test::Fail;
 
@@ -65,7 +65,7 @@ fn orphan_survives(rt: HostRuntime) -> Result<(), Fail> {
         1 request!("POST /v1/sys/policies/acl/p",
             "Content-Length: 112\r\n\r\n{\"policy\":\"{\\\"path\\\":{\\\"*\\\":{\\\"capabilities\\\":[\\\"create\\\
                 \",\\\"read\\\",\\\"update\\\",\\\"delete\\\",\\\"list\\\",\\\"sudo\\\"]}}}\"}")
-            => NOT_FOUND;
+            => WRITTEN;
         1 ask!("001", "create", "18", "{\"policies\":[\"p\"]}")
             => made!("451", token "021", accessor "022", seconds "2764800", metadata "null", uses "0",
                 orphan "false", policies "[\"default\",\"p\"]", renewable "true", request "020");
@@ -96,7 +96,7 @@ fn freed_child_survives(rt: HostRuntime) -> Result<(), Fail> {
         1 request!("POST /v1/sys/policies/acl/p",
             "Content-Length: 112\r\n\r\n{\"policy\":\"{\\\"path\\\":{\\\"*\\\":{\\\"capabilities\\\":[\\\"create\\\
                 \",\\\"read\\\",\\\"update\\\",\\\"delete\\\",\\\"list\\\",\\\"sudo\\\"]}}}\"}")
-            => NOT_FOUND;
+            => WRITTEN;
         1 ask!("001", "create", "18", "{\"policies\":[\"p\"]}")
             => made!("451", token "021", accessor "022", seconds "2764800", metadata "null", uses "0",
                 orphan "false", policies "[\"default\",\"p\"]", renewable "true", request "020");
@@ -133,7 +133,7 @@ fn root_child_refused(rt: HostRuntime) -> Result<(), Fail> {
         1 request!("POST /v1/sys/policies/acl/p",
             "Content-Length: 112\r\n\r\n{\"policy\":\"{\\\"path\\\":{\\\"*\\\":{\\\"capabilities\\\":[\\\"create\\\
                 \",\\\"read\\\",\\\"update\\\",\\\"delete\\\",\\\"list\\\",\\\"sudo\\\"]}}}\"}")
-            => NOT_FOUND;
+            => WRITTEN;
         1 ask!("001", "create", "18", "{\"policies\":[\"p\"]}")
             => made!("451", token "021", accessor "022", seconds "2764800", metadata "null", uses "0",
                 orphan "false", policies "[\"default\",\"p\"]", renewable "true", request "020");
@@ -443,26 +443,49 @@ fn moments(rt: HostRuntime) -> Result<(), Fail> {
     expect_replies_at(&rt, 0, &moments, &row)
 }
 
-/// Every caller may do all but what needs `sudo`, which the policy `root` alone has so far.
+/// Tokens that revoke themselves.
 #[test]
-fn callers_and_sudo(rt: HostRuntime) -> Result<(), Fail> {
+fn tokens_that_end_themselves(rt: HostRuntime) -> Result<(), Fail> {
     let row = row! {
-        1 request!("POST /v1/sys/policies/acl/p", "Content-Length: 14\r\n\r\n{\"policy\":\"{\"}") => NOT_FOUND;
-        1 ask!("001", "create", "18", "{\"policies\":[\"p\"]}")
-            => made!("451", token "021", accessor "022", seconds "2764800", metadata "null", uses "0",
-                orphan "false", policies "[\"default\",\"p\"]", renewable "true", request "020");
-        1 by!("021", "POST /v1/secret/data/x", "Content-Length: 11\r\n\r\n{\"data\":{}}")
-            => version_made!("269", "1", "030");
-        1 by!("021", "GET /v1/secret/data/x?version=1", "\r\n") => version_found!("292", "{}", "1", "040");
-        1 by!("021", "LIST /v1/auth/token/accessors", "\r\n") => FORBIDDEN;
-        1 ask!("021", "revoke-orphan", "13", "{\"token\":\"x\"}") => FORBIDDEN;
-        1 ask!("021", "create", "18", "{\"no_parent\":true}")
-            => refused!("400 Bad Request", "71", "root or sudo privileges required to create orphan token");
-        1 ask!("021", "create", "18", "{\"policies\":[\"x\"]}")
-            => refused!("400 Bad Request", "55", "child policies must be subset of parent");
-        1 by!("021", "GET /v1/none/x", "\r\n") => NOT_FOUND;
-        1 by!("021", "GET /v1/sys/mounts", "\r\n") => NOT_FOUND;
-        1 request!("GET /v1/secret/data/x?version=%31", "\r\n") => INVALID_PATH;
+        1 set!("p", "112",
+            "{\"policy\":\"{\\\"path\\\":{\\\"*\\\":{\\\"capabilities\\\":[\\\"create\\\",\\\"read\\\",\
+                \\\"update\\\",\\\"delete\\\",\\\"list\\\",\\\"sudo\\\"]}}}\"}") => WRITTEN;
+        1 ask!("001", "create", "31", "{\"policies\":[\"p\"],\"num_uses\":0}")
+            => made!("451", token "021", accessor "022", seconds "2764800", metadata "null", uses "0", orphan "false",
+                policies "[\"default\",\"p\"]", renewable "true", request "020");
+        1 ask!("021", "create", "31", "{\"policies\":[\"p\"],\"num_uses\":0}")
+            => made!("451", token "031", accessor "032", seconds "2764800", metadata "null", uses "0", orphan "false",
+                policies "[\"default\",\"p\"]", renewable "true", request "030");
+        1 by!("021", "POST /v1/auth/token/revoke-self", "\r\n") => WRITTEN;
+        1 by!("031", "GET /v1/auth/token/lookup-self", "\r\n") => FORBIDDEN;
+        1 ask!("001", "create", "31", "{\"policies\":[\"p\"],\"num_uses\":1}")
+            => made!("451", token "061", accessor "062", seconds "2764800", metadata "null", uses "1", orphan "false",
+                policies "[\"default\",\"p\"]", renewable "true", request "060");
+        1 ask!("061", "revoke-self", "2", "{}") => WRITTEN;
+        1 ask!("001", "create", "31", "{\"policies\":[\"p\"],\"num_uses\":0}")
+            => made!("451", token "081", accessor "082", seconds "2764800", metadata "null", uses "0", orphan "false",
+                policies "[\"default\",\"p\"]", renewable "true", request "080");
+        1 ask!("081", "create", "31", "{\"policies\":[\"p\"],\"num_uses\":0}")
+            => made!("451", token "091", accessor "092", seconds "2764800", metadata "null", uses "0", orphan "false",
+                policies "[\"default\",\"p\"]", renewable "true", request "090");
+        1 ask!("081", "revoke-orphan", "52", "{\"token\":\"hvs.00000000-0000-0000-0000-000000000081\"}") => WRITTEN;
+        1 by!("081", "GET /v1/auth/token/lookup-self", "\r\n") => FORBIDDEN;
+        1 by!("091", "GET /v1/auth/token/lookup-self", "\r\n")
+            => found!("509",
+                "{\"accessor\":\"00000000-0000-0000-0000-000000000092\",\"creation_time\":1000,\
+                    \"creation_ttl\":2764800,\"expire_time\":\"1970-02-02T00:16:40Z\",\"explicit_max_ttl\":0,\
+                    \"id\":\"hvs.00000000-0000-0000-0000-000000000091\",\"issue_time\":\"1970-01-01T00:16:40Z\",\
+                    \"meta\":null,\"num_uses\":0,\"orphan\":true,\"policies\":[\"default\",\"p\"],\
+                    \"renewable\":true,\"ttl\":2764800,\"type\":\"service\"}", "0c0");
+        1 ask!("091", "revoke", "52", "{\"token\":\"hvs.00000000-0000-0000-0000-000000000001\"}") => WRITTEN;
+        1 request!("GET /v1/auth/token/lookup-self", "\r\n") => FORBIDDEN;
+        1 by!("091", "GET /v1/auth/token/lookup-self", "\r\n")
+            => found!("509",
+                "{\"accessor\":\"00000000-0000-0000-0000-000000000092\",\"creation_time\":1000,\
+                    \"creation_ttl\":2764800,\"expire_time\":\"1970-02-02T00:16:40Z\",\"explicit_max_ttl\":0,\
+                    \"id\":\"hvs.00000000-0000-0000-0000-000000000091\",\"issue_time\":\"1970-01-01T00:16:40Z\",\
+                    \"meta\":null,\"num_uses\":0,\"orphan\":true,\"policies\":[\"default\",\"p\"],\
+                    \"renewable\":true,\"ttl\":2764800,\"type\":\"service\"}", "0f0");
     };
     expect_replies(&rt, 1000, &row)
 }

@@ -45,6 +45,23 @@ fn unserved_routes(rt: HostRuntime) -> Result<(), Fail> {
     expect_replies(&rt, 1000, &row)
 }
 
+/// Mounts and leases are not served so far, but for the mount `secret`.
+#[test]
+fn unserved_mounts(rt: HostRuntime) -> Result<(), Fail> {
+    let row = row! {
+        1 set!("q", "103",
+            "{\"policy\":\"{\\\"path\\\":{\\\"*\\\":{\\\"capabilities\\\":[\\\"create\\\",\\\"read\\\",\
+                \\\"update\\\",\\\"delete\\\",\\\"list\\\"]}}}\"}") => WRITTEN;
+        1 request!("GET /v1/sys/mounts", "\r\n") => NOT_FOUND;
+        1 request!("POST /v1/sys/mounts/db", "\r\n") => NOT_FOUND;
+        1 request!("POST /v1/sys/leases/lookup", "\r\n") => NOT_FOUND;
+        1 request!("POST /v1/sys/leases/revoke-prefix/db", "\r\n") => NOT_FOUND;
+        1 request!("GET /v1/db/creds/r", "\r\n") => NOT_FOUND;
+        1 change!("metadata/x", "2", "{}") => not_allowed!("GET, LIST, DELETE");
+    };
+    expect_replies(&rt, 1000, &row)
+}
+
 /// Listing and deleting in a cubbyhole are refused so far.
 #[test]
 fn unserved_cubbyhole_lists(rt: HostRuntime) -> Result<(), Fail> {

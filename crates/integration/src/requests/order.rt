@@ -290,7 +290,7 @@ fn refused_last_use(rt: HostRuntime) -> Result<(), Fail> {
         expect(&rt, &answer, Status::Success, GIVEN);
     }
     let answer = answered(alloc, &mut tx, 0, Verb::Get, "nothing/a", 0xf, "")?;
-    expect(&rt, &answer, Status::NotFound, NOT_FOUND);
+    expect(&rt, &answer, Status::Forbidden, PERMISSION_DENIED);
     expect_left(&rt, alloc, &mut tx, &[0xa, 0xb, 0xc, 0xd, 0xe])?;
     Ok(())
 }
