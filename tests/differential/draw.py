@@ -7,9 +7,9 @@ Writes one JSON object a line, with the `name` of a run and its `stdin`. Every r
 generator of its own, seeded by the seed and the run's name, so that a theme that is changed or added
 leaves the inputs of the others as they were. What the replies must be is not known here.
 
-An input is a start line and 3 to 12 events, up to 16 in the themes about tokens and secrets, but for some runs
-of the theme `lines`, in which a line is bad at once. A theme draws inputs about one matter; `THEMES` names them
-all, with how many runs each has.
+An input is a start line and 3 to 12 events, up to 16 in the themes about tokens, secrets and policies, but for
+some runs of the theme `lines`, in which a line is bad at once. A theme draws inputs about one matter; `THEMES`
+names them all, with how many runs each has.
 """
 
 import argparse
@@ -18,6 +18,10 @@ import json
 import sys
 
 from drawing import GREATEST_CONNECTION, GREATEST_MOMENT, GREATEST_WORD, Run, identifier, request
+from policy_themes import (changing_policies, creating_or_updating, cubbyhole_permissions, denials, exact_and_prefix,
+                           list_patterns, mixed_policies, permissions, policies_by_callers, policies_not_there,
+                           policies_of_children, policy_names, policy_routes, policy_texts, refusals_in_order,
+                           stars_in_paths, sudo_permissions)
 from secret_themes import (asked_versions, check_and_set, deletions, folders, forgotten_secrets, mixed_secrets,
                            old_versions, refused_secrets, secret_callers, secret_moments, secret_routes, secret_writes,
                            settings, version_lists)
@@ -516,7 +520,7 @@ UNSERVED_ROUTES = (
     ("POST", "secret/metadata/x", '{"max_versions":1}'), ("PUT", "secret/metadata/a/b", "["),
     ("GET", "secret/subkeys/x", None),
     ("GET", "sys/mounts", None), ("POST", "sys/mounts/db", '{"type":"issued"}'),
-    ("GET", "sys/policies/acl/default", None), ("LIST", "sys/policies/acl", None),
+    ("POST", "sys/leases/revoke-prefix/secret", None), ("GET", "sys/policy/default", None),
     ("POST", "sys/wrapping/wrap", '{"a":1}'), ("POST", "sys/wrapping/unwrap", '{"token":"x"}'),
     ("POST", "sys/wrapping/lookup", None), ("POST", "sys/leases/lookup", "{}"), ("GET", "db/creds/r", None),
     ("LIST", "cubbyhole", None), ("GET", "cubbyhole", None), ("DELETE", "cubbyhole", None),
@@ -613,17 +617,21 @@ def unserved_lines(run):
 
 
 THEMES = {
-    bodies: 10, refused_bodies: 12, numbers: 6, replaced_members: 6, depths: 4, paths: 12, tokens: 8, methods: 6,
-    heads: 16, changed_heads: 8, line_ends: 6, many_fields: 4, body_lengths: 6, cuts: 8, single_bytes: 4,
-    pipelines: 6, connections: 6, closing: 6, moments: 6, spellings: 6, lines: 16, changed_lines: 8, large: 2,
-    mixed: 14, queries: 8, limits: 6,
-    creations: 6, lenient_creations: 12, refused_creations: 10, children: 10, families: 8, look_ups: 8,
-    accessors: 6, renewals: 10, ends: 8, uses: 8, revocations: 8, sudo_paths: 4, given_twice: 6,
-    other_cubbyholes: 6, token_routes: 6, mixed_tokens: 6,
-    secret_writes: 8, check_and_set: 16, old_versions: 10, asked_versions: 16, deletions: 16, version_lists: 10,
-    refused_secrets: 10, settings: 14, folders: 14, forgotten_secrets: 8, secret_callers: 16, secret_routes: 10,
-    secret_moments: 4, mixed_secrets: 10,
-    unserved_routes: 8, unserved_targets: 4, unserved_lines: 4,
+    bodies: 4, refused_bodies: 5, numbers: 3, replaced_members: 3, depths: 2, paths: 5, tokens: 4, methods: 3, heads: 6,
+    changed_heads: 4, line_ends: 3, many_fields: 2, body_lengths: 3, cuts: 4, single_bytes: 2, pipelines: 3,
+    connections: 3, closing: 3, moments: 3, spellings: 3, lines: 6, changed_lines: 4, large: 1, mixed: 6, queries: 4,
+    limits: 4,
+    creations: 4, lenient_creations: 7, refused_creations: 6, children: 8, families: 6, look_ups: 6, accessors: 4,
+    renewals: 6, ends: 6, uses: 6, revocations: 6, sudo_paths: 6, given_twice: 4, other_cubbyholes: 4, token_routes: 4,
+    mixed_tokens: 6,
+    secret_writes: 4, check_and_set: 7, old_versions: 5, asked_versions: 7, deletions: 8, version_lists: 5,
+    refused_secrets: 6, settings: 7, folders: 7, forgotten_secrets: 4, secret_callers: 10, secret_routes: 6,
+    secret_moments: 2, mixed_secrets: 6,
+    permissions: 18, exact_and_prefix: 16, denials: 16, list_patterns: 20, creating_or_updating: 22,
+    cubbyhole_permissions: 12, stars_in_paths: 10, sudo_permissions: 20, policy_texts: 12, policy_names: 10,
+    changing_policies: 16, policies_of_children: 10, policies_not_there: 8, policies_by_callers: 8,
+    refusals_in_order: 10, policy_routes: 6, mixed_policies: 8,
+    unserved_routes: 6, unserved_targets: 3, unserved_lines: 3,
 }
 
 

@@ -139,6 +139,14 @@ class Run:
         self.made.append(("hvs." + identifier(first + 1), identifier(first + 2)))
         return self.made[-1]
 
+    def grant(self, name, policy, token=None, **event):
+        """An event that sets a policy: a map of capabilities by pattern, or the text itself."""
+        if isinstance(policy, dict):
+            path = {pattern: {"capabilities": list(granted)} for pattern, granted in policy.items()}
+            policy = json.dumps({"path": path}, ensure_ascii=False, separators=(",", ":"))
+        body = json.dumps({"policy": policy}, ensure_ascii=self.chance(4))
+        self.call(self.pick("POST", "PUT"), "sys/policies/acl/" + name, body, token, **event)
+
     def token(self):
         """A token that was asked for, mostly, or the root token."""
         if not self.made or self.chance(8):

@@ -1,10 +1,11 @@
 #!/usr/bin/env python3
 """Runs a program on every stored run, and compares what it wrote and its status with what is stored.
 
-    python3 run.py PROGRAM [NAME...]
+    python3 run.py [--more] PROGRAM [NAME...]
 
 The program is called as `PROGRAM replay` with the run's input on its standard input. With names, only
-the runs whose names begin with one of them are tried. The last line is `N passed, M failed`; the status
+the runs whose names begin with one of them are tried; with `--more`, the runs of `more_runs.jsonl` are
+taken in place of those of `runs.jsonl`. The last line is `N passed, M failed`; the status
 is 0 if nothing failed.
 """
 
@@ -18,6 +19,7 @@ import subprocess
 import sys
 
 RUNS = pathlib.Path(__file__).with_name("runs.jsonl")
+MORE_RUNS = pathlib.Path(__file__).with_name("more_runs.jsonl")
 SECONDS = 60  # for one run
 EXCERPT = 48  # bytes that are shown from where two outputs differ, and half as many before
 
@@ -29,9 +31,9 @@ def data_of(value):
     return base64.b64decode(value["base64"])
 
 
-def stored_runs(names):
-    """The stored runs whose names begin with one of the names, or all."""
-    lines = RUNS.read_bytes().splitlines()
+def stored_runs(file, names):
+    """The runs stored in a file whose names begin with one of the names, or all."""
+    lines = file.read_bytes().splitlines()
     runs = [json.loads(line) for line in lines]
     return [run for run in runs if not names or run["name"].startswith(tuple(names))]
 
@@ -71,11 +73,12 @@ def try_all(program, runs):
 
 def main():
     parser = argparse.ArgumentParser(description="compares a program with the stored runs")
+    parser.add_argument("--more", action="store_true", help="take the runs of more_runs.jsonl")
     parser.add_argument("program")
     parser.add_argument("names", nargs="*", metavar="NAME")
     arguments = parser.parse_args()
     program = os.path.abspath(arguments.program)
-    runs = stored_runs(arguments.names)
+    runs = stored_runs(MORE_RUNS if arguments.more else RUNS, arguments.names)
     if not runs or not os.access(program, os.X_OK):
         print("no such run" if not runs else f"no program {program}", file=sys.stderr)
         print("0 passed, 1 failed")

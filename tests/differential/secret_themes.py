@@ -3,7 +3,7 @@
 import json
 
 from drawing import GREATEST_MOMENT, request
-from token_themes import creation, longer
+from token_themes import allow_callers, creation, longer, with_callers
 
 PATHS = ("a", "a/b", "a-b", "a0", "b", "team/x", "team", "team/y", "a/b/c", "x.y", "A", "été", "Ω/😀", "data/a", "c")
 COUNTS = (0, 1, 2, 3, 5, 12, 999999999999999999, 2**63, 2**64 - 1)
@@ -367,7 +367,8 @@ def forgotten_secrets(run):
 
 def secret_callers(run):
     """Secrets asked for by several tokens, some of which have uses or an end; a secret stays when they go."""
-    run.size = run.random.randrange(9, 17)
+    run.size = run.random.randrange(10, 17)
+    allow_callers(run)
     secrets = Secrets(run, 2)
     ttl = run.pick(10, 60, 3600)
     creation(run, num_uses=run.pick(2, 3, 4, 6), ttl=0)
@@ -455,7 +456,7 @@ def secret_moments(run):
 
 def mixed_secrets(run):
     """Secrets on three connections, with tokens and cubbyholes beside them, some requests cut and some pipelined."""
-    longer(run)
+    with_callers(run)
     secrets = Secrets(run, 2)
     creation(run, num_uses=None)
     secrets.write()

@@ -48,6 +48,19 @@ def longer(run):
     run.size = run.random.randrange(6, 17)
 
 
+def with_callers(run):
+    """Gives the run room, and its tokens mostly the policy that they have."""
+    longer(run)
+    allow_callers(run)
+
+
+def allow_callers(run):
+    """Mostly sets the policy that tokens have: it lets them do all, or all but what needs `sudo`."""
+    if not run.chance(6):
+        capabilities = ["create", "read", "update", "delete", "list"]
+        run.grant("a", {"*": run.pick(capabilities, [*capabilities, "sudo"])})
+
+
 def creation(run, by=None, **members):
     """A token with a few policies and some life, which is mostly made."""
     body = {**asked(run, GOOD_MEMBERS, 0, 2), "policies": run.pick(["a", "b"], ["a"], "a,b,c", []), **members}
@@ -90,7 +103,7 @@ def refused_creations(run):
 
 def children(run):
     """Creations by tokens of some policies: which policies a child may have, and what is refused first."""
-    longer(run)
+    with_callers(run)
     first, _ = run.make({"policies": run.pick(["a", "b"], ["a", "b"], ["a", "b"], ["root"], ["root"]),
                          "ttl": run.pick(0, 86400, 2764800), "no_default_policy": run.pick(False, False, True),
                          "num_uses": run.pick(0, 0, 0, 0, 0, 2)})
@@ -110,7 +123,8 @@ def children(run):
 
 def families(run):
     """Trees of tokens with orphans among them, one of which ends, and who of them is left."""
-    run.size = run.random.randrange(10, 17)
+    run.size = run.random.randrange(11, 17)
+    allow_callers(run)
     creation(run, num_uses=None)
     for _ in range(run.pick(2, 3, 4, 5)):
         creation(run, run.pick(run.made[0][0], run.made[-1][0], run.made[-1][0], run.token()), num_uses=None)
@@ -133,7 +147,7 @@ def families(run):
 
 def look_ups(run):
     """Look-ups of tokens that are there and of texts that are none, by the caller and by others, in every form."""
-    longer(run)
+    with_callers(run)
     creation(run)
     while run.room() > 0:
         if run.chance(5):
@@ -160,7 +174,7 @@ def look_ups(run):
 
 def accessors(run):
     """Accessors: the list of them, a token looked up and revoked by its accessor."""
-    longer(run)
+    with_callers(run)
     for _ in range(run.pick(1, 2, 4)):
         creation(run, run.pick(None, run.token()))
     while run.room() > 0:
@@ -180,7 +194,7 @@ def accessors(run):
 
 def renewals(run):
     """Renewals at moments before and at a token's end, with increments in every form, up to its explicit maximum."""
-    longer(run)
+    with_callers(run)
     ttl = run.pick(10, 60, 3600, 2764800)
     made, _ = run.make({"ttl": ttl, "explicit_max_ttl": run.pick(0, 0, ttl, ttl * 2, ttl + 5, 4294967295),
                         "policies": run.pick(["a"], ["root"])})
@@ -207,7 +221,7 @@ def renewals(run):
 
 def ends(run):
     """Tokens and their children at the moments around their ends, and moments that go back."""
-    longer(run)
+    with_callers(run)
     start, ttl = run.moment, run.pick(1, 5, 60, 3600, 2764800)
     first, _ = run.make({"ttl": ttl, "policies": run.pick(["a"], ["root"])}, moment=start)
     for _ in range(run.pick(1, 2, 3)):
@@ -230,7 +244,7 @@ def ends(run):
 
 def uses(run):
     """Tokens of limited uses: what spends a use, what does not, and what the last one still does."""
-    longer(run)
+    with_callers(run)
     run.make({"num_uses": run.pick(1, 2, 2, 3, 4, "3"), "policies": run.pick([], ["a"], ["root"]),
               "ttl": run.pick(0, 60)})
     while run.room() > 0:
@@ -266,7 +280,7 @@ def uses(run):
 
 def revocations(run):
     """Revocations of each kind, of tokens and of texts that are none, with bodies in every form."""
-    longer(run)
+    with_callers(run)
     creation(run, num_uses=None)
     while run.room() > 0:
         if run.chance(3) or len(run.made) < 3:
@@ -294,7 +308,7 @@ def revocations(run):
 
 def sudo_paths(run):
     """Paths that need `sudo`, asked for by callers with the policy `root` and without."""
-    longer(run)
+    with_callers(run)
     run.make({"policies": ["a"]})
     run.make({"policies": run.pick(["root"], ["root", "a"], "root,default"), "ttl": run.pick(0, 60, None)})
     while run.room() > 0:
@@ -318,7 +332,7 @@ def sudo_paths(run):
 
 def given_twice(run):
     """Words that would give an identifier out a second time, or two identifiers at once."""
-    longer(run)
+    with_callers(run)
     words = [0x1000]
     while run.room() > 0:
         word = (run.pick(*words) + run.pick(0, 0, 0, 1, -1, 1, -1, 2, -2, 3)) % 2**128
@@ -363,7 +377,7 @@ TOKEN_ROUTES = ("create", "create-orphan", "lookup", "lookup-self", "lookup-acce
 
 def token_routes(run):
     """Methods of each route of tokens, paths that are nearly one, and bodies that are not read."""
-    longer(run)
+    with_callers(run)
     creation(run, num_uses=None)
     while run.room() > 0:
         path = "auth/token/" + run.pick(*TOKEN_ROUTES)
@@ -378,7 +392,7 @@ def token_routes(run):
 
 def mixed_tokens(run):
     """Tokens made, used and revoked on three connections, some requests cut and some pipelined."""
-    longer(run)
+    with_callers(run)
     creation(run)
     while run.room() > 0:
         token, accessor = run.pick(*run.made)
