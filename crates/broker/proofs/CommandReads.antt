@@ -12,7 +12,7 @@ use Rattle.broker_types.specs.TextLaws.{same_self, same_true, same-text_cmp}
 use Rattle.broker_types.specs.Answer.{response_of, refused}
 use Rattle.broker_types.specs.Broker.{Mount}
 use Rattle.broker_types.specs.Refuse.{◌>>=◌}
-use Rattle.broker_types.specs.RequestError.{EndsErr, EndsOk, EndsRefused}
+use Rattle.broker_types.specs.RequestError.{EndsRefused}
 use Rattle.broker_types.specs.declared.answer.Answer.{Answer}
 use Rattle.broker_types.specs.declared.ask.Ask.{Ask}
 use Rattle.broker_types.specs.declared.ask.Verb.{Verb}
@@ -37,7 +37,7 @@ use Rattle.api_json.specs.Json.{body_members}
 use Rattle.api_json.specs.Readers.{token_creation}
 use Rattle.api_json.specs.declared.token_bodies.TokenCreation.{TokenCreation}
 use Rattle.mounts.specs.Calls.{OnAnswer}
-use Rattle.mounts.specs.MountRows.{IsKnownAt}
+use Rattle.mounts.specs.MountRows.{IsKnownAt, IsReadableAt}
 use Rattle.mounts.specs.Route.{Route, cut, route_at}
 use Rattle.mounts.specs.declared.operation.Cubbyhole.{Cubbyhole}
 use Rattle.mounts.specs.declared.operation.Cubbyhole.TheVariants as cubbyhole
@@ -50,7 +50,7 @@ use Rattle.broker.specs.Order.{permission_denied}
 use Rattle.broker.proofs.CubbyholeAnswers.{meant_there}
 use Rattle.broker.proofs.Ended.{neither, others_kept}
 use Rattle.broker.proofs.Expired.{readable_gone}
-use Rattle.broker.proofs.Routes.{found_is, known_still, meant_on_tokens, meant_on_policies}
+use Rattle.broker.proofs.Routes.{known_still, meant_on_tokens, meant_on_policies}
 use Rattle.broker.proofs.SecretRoutes.{meant_on_secrets}
 use Rattle.broker.proofs.TokenAnswers.{ok_step}
 use Rattle.std.specs.FinMap as map
@@ -88,16 +88,15 @@ asks_still old new a c same asks = record {
 
 -- the command is that of the route that was found
 pub meant_by_route : (rows : Rows) (a : Ask) (c : Command) (path : Text) (r : Route) → path ≡ a.path → (asks : Asks rows a c)
-    → EndsOk (λ (found known : Route). found ≡ known) r (route_at asks.mount a.verb path) → command_for r a ≡ Ok c
-meant_by_route rows a c path r at asks ends =
-    ap (λ z. command_for z a) (ok_inj (sym (found_is _ r ends) ∙ ap (route_at asks.mount a.verb) at ∙ asks.found)) ∙ asks.meant
+    → Ok r ≡ route_at asks.mount a.verb path → command_for r a ≡ Ok c
+meant_by_route rows a c path r at asks routed =
+    ap (λ z. command_for z a) (ok_inj (routed ∙ ap (route_at asks.mount a.verb) at ∙ asks.found)) ∙ asks.meant
 
 -- an ask that means a command has a route
-pub no_route : (A : Type 0) (rows : Rows) (a : Ask) (c : Command) (path : Text) (e : RequestError) (P : Type 0) → path ≡ a.path
-    → (asks : Asks rows a c) → EndsErr ⊤ e (route_at asks.mount a.verb path) → OnAnswer {A = A} (Err e) P
-no_route A rows a c path (Refused x) P at asks ends =
-    absurd (subst (EndsRefused ⊤ x) (ap (route_at asks.mount a.verb) at ∙ asks.found) ends)
-no_route A rows a c path (Given f) P at asks ends = tt
+pub no_route : (rows : Rows) (a : Ask) (c : Command) (path : Text) (r : Refusal) (P : Type 0) → path ≡ a.path → (asks : Asks rows a c)
+    → Err r ≡ route_at asks.mount a.verb path → P
+no_route rows a c path r P at asks routed =
+    absurd (subst (EndsRefused ⊤ r) (routed ∙ ap (route_at asks.mount a.verb) at ∙ asks.found) (refl, tt))
 
 -- what is known at the first segment of a path is known there
 pub known_by : (rows : Rows) (a : Ask) (c : Command) (path : Text) → path ≡ a.path → (asks : Asks rows a c)
@@ -269,11 +268,17 @@ pub ok_with : {A E : Type 0} (Q : Type 0) (P : A → Type 0) (r : Result A E) �
 ok_with Q P (Ok a) q p = (q, p)
 ok_with Q P (Err e) q p = tt
 
--- what is permitted by one path and text is so by the same
-pub permitted_same : (rows : Rows) (t u path q : Text) (verb : Verb) (v w : Bool) → t ≡ u → path ≡ q → v ≡ w → IsPermittedAt rows t verb path v
-    → IsPermittedAt rows u verb q w
-permitted_same rows t u path q verb v w at same_path is permitted =
-    subst (IsPermittedAt rows u verb q) is (subst (λ z. IsPermittedAt rows u verb z v) same_path (subst (λ z. IsPermittedAt rows z verb path v) at permitted))
+-- what is permitted once the route is found, by one path and text, is so by the same before
+pub permitted_before : (old new : Rows) (t u path q : Text) (verb : Verb) (found : Result Route Refusal) (v w : Bool) → new ≡ old → t ≡ u → path ≡ q
+    → v ≡ w → (readable : IsReadableAt (table_of old) (cut path).0) → found ≡ route_at readable.0 verb path
+    → ((mount : Option Mount) → IsKnownAt (table_of new) (cut path).0 mount → found ≡ route_at mount verb path → IsPermittedAt new t verb path v)
+    → IsPermittedAt old u verb q w
+permitted_before old new t u path q verb found v w same_rows at same_path is readable routed permitted =
+    let known = subst (λ (rows : Rows). IsKnownAt (table_of rows) (cut path).0 readable.0) (sym same_rows) readable.1 in
+    subst (IsPermittedAt old u verb q) is
+    (subst (λ z. IsPermittedAt old u verb z v) same_path
+    (subst (λ z. IsPermittedAt old z verb path v) at
+    (subst (λ (rows : Rows). IsPermittedAt rows t verb path v) same_rows (permitted readable.0 known routed))))
 
 -- a use is spent, and an ask means the same
 pub asks_spent : (old new : Rows) (t : Text) (a : Ask) (c : Command) → ChangesToken t spent_entry (table_of old) (table_of new) → Asks old a c

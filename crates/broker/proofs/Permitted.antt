@@ -1,7 +1,7 @@
 -- From the rows of the caller and of its policies to what it may ask.
-use Rattle.std.specs.Prelude.{◌≡◌, Bool, false, List, All, Option, Some, None, option_map}
+use Rattle.std.specs.Prelude.{◌≡◌, Bool, false, List, All, Any, Option, Some, None, option_map}
 use Rattle.std.specs.Option.{option_map_or}
-use Rattle.std.proofs.Common.{refl, sym, ◌∙◌, ap, subst}
+use Rattle.std.proofs.Common.{refl, sym, ◌∙◌, ap, subst, inr}
 use Rattle.std.proofs.lemmas.Option.{none-some, same_Some}
 use Rattle.broker_types.specs.Broker.{Broker}
 use Rattle.broker_types.specs.Map.{Map}
@@ -12,13 +12,14 @@ use Rattle.records.specs.Parts.{of_policies}
 use Rattle.records.specs.Table.{table_of}
 use Rattle.records.specs.TokenEntry.{TokenEntry, token_entry}
 use Rattle.records.specs.Transaction.{Rows}
+use Rattle.token_tree.specs.TokenRows.{IsTokenAt}
 use Rattle.policies.specs.Grants.{rules_of}
 use Rattle.policies.specs.PolicyLaws.{readable_policies, told_at}
-use Rattle.policies.specs.PolicyRows.{ArePoliciesAt, IsReadable}
+use Rattle.policies.specs.PolicyRows.{ArePoliciesAt, IsReadable, IsUnreadable}
 use Rattle.policies.specs.Rules.{Rules}
 use Rattle.policies.specs.declared.capability.Capability.{Capability}
 use Rattle.broker.specs.Permission.{may}
-use Rattle.broker.specs.PermittedRows.{IsAllowedAt}
+use Rattle.broker.specs.PermittedRows.{IsAllowedAt, IsUntold}
 use Rattle.broker.specs.Representing.{Represents}
 use Rattle.broker.proofs.Serving.{tells_part}
 
@@ -47,6 +48,16 @@ module _ (verb : Verb) (path : Text) (asked : Capability) where
         readable = readable;
         is = is ∙ ap (λ rs. may rs path asked) (told policies.0 policies.1);
       }))
+
+-- a policy of the token whose row is damaged leaves untold what it may ask
+pub untold_policy : (old new : Rows) (t : Text) (names : List Text) (found : Option TokenEntry) (e : TokenEntry) → new ≡ old
+    → IsTokenAt (table_of old) t found → found ≡ Some e → names ≡ e.policies → Any (IsUnreadable (table_of new)) names → IsUntold old t
+untold_policy old new t names found e same_rows at some same_names any = inr (
+  e,
+  subst (IsTokenAt (table_of old) t) some at,
+  subst (λ (rows : Rows). Any (IsUnreadable (table_of rows)) e.policies) same_rows
+      (subst (λ (ns : List Text). Any (IsUnreadable (table_of new)) ns) same_names any),
+)
 
 -- ---- the caller
 

@@ -1,13 +1,19 @@
 -- What an operation starts from, and how it ends (this project's definition).
-use Rattle.std.specs.Prelude.{◌≡◌, ◌≢◌, Some, None, Result}
+use Rattle.std.specs.Prelude.{◌≡◌, ◌≢◌, true, Some, None, Result}
 use Rattle.broker_types.specs.Broker.{Broker}
 use Rattle.broker_types.specs.Map.{get}
+use Rattle.broker_types.specs.Name.{is_mount_name}
 use Rattle.broker_types.specs.Names.{names_of}
 use Rattle.broker_types.specs.Operation.{Done}
+use Rattle.broker_types.specs.Path.{is_path}
 use Rattle.broker_types.specs.RequestError.{Ends}
 use Rattle.broker_types.specs.declared.refusal.Refusal.{Refusal}
 use Rattle.broker_types.specs.declared.request_error.RequestError.{RequestError}
 use Rattle.records.specs.Transaction.{Seen, Rows, IsHonest}
+use Rattle.mounts.specs.Route.{Route}
+use Rattle.mounts.specs.Table.{takes_parameter}
+use Rattle.mounts.specs.declared.operation.Operation.TheVariants.{Secrets}
+use Rattle.mounts.specs.declared.operation.SecretOperation.{SecretOperation}
 use Rattle.broker.specs.Command.{Command}
 use Rattle.broker.specs.Context.{Context}
 use Rattle.broker.specs.Representing.{Represents}
@@ -20,6 +26,11 @@ pub record Starts (x : Context) (rows : Rows) (b : Broker) : Type 0 where
   pub represents : Represents (Some x.caller) rows b
   pub here : get b.tokens x.caller ≢ None
   pub clock : b.clock ≡ x.clock
+
+-- what an operation takes from its route is of the form that it asks for
+pub record IsWellFormed (r : Route) : Type 0 where
+  pub parameter : takes_parameter r.operation ≡ true → is_path r.parameter ≡ true
+  pub mount : (op : SecretOperation) → r.operation ≡ Secrets op → is_mount_name r.mount ≡ true
 
 -- The call does this. If it is refused, the rows represent the broker that it started from; else the next one, in which
 -- the identifiers that it gave out are used.

@@ -1,5 +1,5 @@
 -- What a caller may ask, by the rows alone, whatever they are (this project's definition).
-use Rattle.std.specs.Prelude.{◌≡◌, Bool, false, Option, Some, None, is_some, List, All}
+use Rattle.std.specs.Prelude.{◌≡◌, ◌⊎◌, Bool, false, Option, Some, None, is_some, List, All, Any}
 use Rattle.broker_types.specs.Answer.{response_of, refused}
 use Rattle.broker_types.specs.Broker.{Mount}
 use Rattle.broker_types.specs.Map.{Map}
@@ -13,15 +13,15 @@ use Rattle.records.specs.Reading.{IsSomeIn}
 use Rattle.records.specs.Table.{table_of}
 use Rattle.records.specs.TokenEntry.{TokenEntry}
 use Rattle.records.specs.Transaction.{Rows}
-use Rattle.token_tree.specs.TokenRows.{IsTokenAt}
+use Rattle.token_tree.specs.TokenRows.{IsTokenAt, IsDamagedToken}
 use Rattle.cubbyhole.specs.Objects.{object_key}
 use Rattle.kv2.specs.Secrets.{secret_name}
 use Rattle.mounts.specs.MountRows.{IsKnownAt}
 use Rattle.mounts.specs.Route.{cut, route_at}
 use Rattle.policies.specs.Grants.{rules_of}
-use Rattle.policies.specs.PolicyRows.{ArePoliciesAt, IsReadable}
+use Rattle.policies.specs.PolicyRows.{ArePoliciesAt, IsReadable, IsUnreadable}
 use Rattle.policies.specs.declared.capability.Capability.{Capability}
-use Rattle.broker.specs.Capabilities.{Stored, object, secret, stored, is_there, capability}
+use Rattle.broker.specs.Capabilities.{Stored, object, secret, asked_by}
 use Rattle.broker.specs.Ending.{EndsCaller}
 use Rattle.broker.specs.Order.{permission_denied}
 use Rattle.broker.specs.Permission.{may}
@@ -36,7 +36,7 @@ has_row rows t (secret mount path) = is_some (table_of rows kind.KvKey (secret_n
 abbrev pub IsAskedAt : Rows → Text → Verb → Text → Capability → Type 0
 IsAskedAt rows t verb path c =
     (mount : Option Mount) × IsKnownAt (table_of rows) (cut path).0 mount
-    × (c ≡ capability verb (is_there (has_row rows t) (stored (route_at mount verb path))))
+    × (c ≡ asked_by (has_row rows t) verb (route_at mount verb path))
 
 -- v is whether the policies of these names allow the capability at a path: their rows can be read, where they are there
 pub record IsAllowedAt (rows : Rows) (names : List Text) (verb : Verb) (path : Text) (c : Capability) (v : Bool) :
@@ -59,6 +59,12 @@ pub record IsPermittedAt (rows : Rows) (t : Text) (verb : Verb) (path : Text) (v
   pub asked : Capability
   pub asks : IsAskedAt rows t verb path asked
   pub allowed : IsAllowedFor rows entry verb path asked v
+
+-- it cannot be told whether the token t may ask: its row is damaged, or that of one of its policies
+abbrev pub IsUntold : Rows → Text → Type 0
+IsUntold rows t =
+    IsDamagedToken (table_of rows) t
+    ⊎ ((e : TokenEntry) × IsTokenAt (table_of rows) t (Some e) × Any (IsUnreadable (table_of rows)) e.policies)
 
 -- The answer is 403 `permission denied`, and the rows say that the token t may not ask. Nothing was done but that t
 -- ended, if it has no uses left.

@@ -7,4 +7,5 @@ pub(crate) mod expiry;
 pub(crate) mod finishing;
 pub(crate) mod identifiers;
 pub(crate) mod permission;
+pub(crate) mod routing;
 pub(crate) mod serving;

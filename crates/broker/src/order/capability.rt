@@ -1,49 +1,44 @@
 //! The capability that a request asks for.
 
-ghost use Rattle.std.specs.Prelude.{◌≡◌, ◌≢◌, None, Some, true, IfOk, IfErr, OnOk};
-ghost use Rattle.std.specs.Option.{option_map_or};
+ghost use Rattle.std.specs.Prelude.{◌≡◌, ◌≢◌, None, Some, IfOk, OnOk};
 ghost use Rattle.broker_types.specs.Broker.{Broker};
-ghost use Rattle.broker_types.specs.Fault.{IsMemoryOrStorage};
 ghost use Rattle.broker_types.specs.Map.{get};
-ghost use Rattle.records.specs.Transaction.{IsHonest, IsCall, GoesOn, is_storage};
+ghost use Rattle.records.specs.Transaction.{IsHonest, IsCall};
 ghost use Rattle.broker.specs.Capabilities as capabilities;
-ghost use Rattle.broker.specs.Capabilities.{stored_by, has_stored, asked};
-ghost use Rattle.broker.specs.ClockRow.{IsNotBadStart};
-ghost use Rattle.broker.specs.PermittedRows.{has_row, IsAskedAt};
+ghost use Rattle.broker.specs.Capabilities.{stored_by, has_stored};
+ghost use Rattle.broker.specs.PermittedRows.{has_row};
 ghost use Rattle.broker.specs.Representing.{Represents};
 
-use broker_types::{Fault, RequestError, Verb};
-use mounts::{Cubbyhole, Operation, Route, SecretOperation, route};
+use broker_types::{Fault, Refusal, Verb};
+use mounts::{Cubbyhole, Operation, Route, SecretOperation};
 use policies::Capability;
 use records::RecordsTx;
 use std::alloc::Global;
 
-/// The capability that a request asks for: a write makes what is not there, and changes what is (Vault's
-/// documentation, "Policies", capabilities).
+/// The capability that a request of a route asks for: a write makes what is not there, and changes what is (Vault's
+/// documentation, "Policies", capabilities). What has no route makes nothing.
 pub(crate) fn capability<T: RecordsTx>(
     alloc: Global,
     tx: &mut T,
     caller: &str,
     verb: Verb,
-    path: &str,
+    found: &Result<Route<'_>, Refusal>,
 ) -> Result<Capability, Fault>
     ensures told { IsHonest (T.seen tx.new) → (b : Broker) → Represents (Some caller.now) (T.seen tx.old).rows b
-        → get b.tokens caller.now ≢ None → IfOk result (λ c. c ≡ asked b caller.now verb path.now) }
+        → get b.tokens caller.now ≢ None
+        → IfOk result (λ c. c ≡ capabilities.asked_by (has_stored b caller.now) verb found.now) }
 
-    // Whatever the rows are: the row of the mount can be read, and by it and the keys of rows the capability is found.
+    // Whatever the rows are: the keys of rows decide, and no row is read.
     ensures found { IsHonest (T.seen tx.new)
-        → IfOk result (IsAskedAt (T.seen tx.old).rows caller.now verb path.now) }
-    ensures wants { IsHonest (T.seen tx.new) → (b : Broker) → Represents (Some caller.now) (T.seen tx.old).rows b
-        → IfErr result IsMemoryOrStorage }
+        → IfOk result (λ c. c ≡ capabilities.asked_by (has_row (T.seen tx.old).rows caller.now) verb found.now) }
     ensures same { IsHonest (T.seen tx.new) → OnOk result ((T.seen tx.new).rows ≡ (T.seen tx.old).rows) }
-    ensures started { IfErr result IsNotBadStart }
-    ensures goes_on { GoesOn (T.seen tx.old) (T.seen tx.new) (is_storage result) }
+    ensures call { IsCall (T.seen tx.old) (T.seen tx.new) result }
 {
-    match route(alloc, tx, verb, path) {
-        Ok(found) => Ok(of_verb(verb, is_there(alloc, tx, caller, &found)?)),
-        Err(RequestError::Refused(_)) => Ok(of_verb(verb, true)),
-        Err(RequestError::Fault(fault)) => Err(fault),
-    }
+    let there = match found {
+        Ok(route) => is_there(alloc, tx, caller, route)?,
+        Err(_) => true,
+    };
+    Ok(of_verb(verb, there))
 }
 
 /// Whether what the route stores is there already; what stores neither an object nor a secret makes nothing anew.

@@ -1,6 +1,6 @@
 //! A caller is served.
 
-ghost use Rattle.std.specs.Prelude.{◌≡◌, ◌≢◌, ◌⊎◌, false, None, Some, IfOk, IfErr, OnOk};
+ghost use Rattle.std.specs.Prelude.{◌≡◌, ◌≢◌, ◌⊎◌, false, None, Some, Ok, IfOk, IfErr, OnOk};
 ghost use Rattle.broker_types.specs.Broker.{Broker};
 ghost use Rattle.broker_types.specs.Map.{get};
 ghost use Rattle.broker_types.specs.Names.{names_of};
@@ -12,11 +12,11 @@ ghost use Rattle.mounts.specs.Calls.{OnAnswer, OnFault};
 ghost use Rattle.mounts.specs.MountRows.{IsReadableAt};
 ghost use Rattle.mounts.specs.Route.{cut};
 ghost use Rattle.broker.specs.ClockRow.{IsNotBadStart};
-ghost use Rattle.broker.specs.Command.{Command, command_of};
+ghost use Rattle.broker.specs.Command.{Command, command_for};
 ghost use Rattle.broker.specs.Ending.{IsSpentAt};
-ghost use Rattle.broker.specs.Operating.{Starts, Operates};
+ghost use Rattle.broker.specs.Operating.{Starts, Operates, IsWellFormed};
 ghost use Rattle.broker.specs.ReadableRow.{IsReadableToken};
-ghost use Rattle.broker.specs.Reads.{AreReadable, Asks, IsForbidden, IsDoneOrForbidden, MayBeDone};
+ghost use Rattle.broker.specs.Reads.{AreReadable, IsForbidden, IsDoneOrForbidden, MayBeDone};
 ghost use Rattle.broker.specs.Representing.{Represents, Gives};
 ghost use Rattle.broker.specs.Safely.{AnswersSafely};
 ghost use Rattle.broker.specs.Serving.{called, served};
@@ -27,10 +27,11 @@ use crate::context::Context;
 use crate::order::caller::spend;
 use crate::order::finishing::finish;
 use crate::order::permission::{PERMISSION_DENIED, is_permitted};
+use crate::order::routing::find_route;
 use crate::parts::secrets::Place;
 use crate::parts::{acl_policies, cubbyholes, secrets, tokens};
 use broker_types::{Answer, Ask, Fault, RequestError};
-use mounts::{Operation, route};
+use mounts::{Operation, Route};
 use records::RecordsTx;
 use std::alloc::Global;
 
@@ -100,49 +101,47 @@ fn serve<T: RecordsTx>(
     ensures started { OnFault result IsNotBadStart }
     ensures goes_on { GoesOn (T.seen tx.old) (T.seen tx.new) (step_fails result) }
 {
-    let caller = context.caller;
-    if !is_permitted(alloc, tx, caller, ask.verb, ask.path.as_str())? {
+    let path = ask.path.as_str();
+    let found = find_route(alloc, tx, ask.verb, path)?;
+    if !is_permitted(alloc, tx, context.caller, ask.verb, path, &found)? {
         return Err(RequestError::Refused(PERMISSION_DENIED));
     }
-    operate(alloc, tx, context, ask)
+    operate(alloc, tx, context, ask, &found?)
 }
 
-/// Does what an ask means: its route, its body and its operation.
+/// Does what an ask of this route means: its body and its operation.
 fn operate<T: RecordsTx>(
     alloc: Global,
     tx: &mut T,
     context: &Context<'_>,
     ask: &Ask<'_>,
+    route: &Route<'_>,
 ) -> Result<Answered, RequestError>
-    ensures ok { Operates context.now (T.seen tx.old) (T.seen tx.new) (λ b. command_of b.mounts ask.now) result }
+    ensures ok { IsWellFormed route.now
+        → Operates context.now (T.seen tx.old) (T.seen tx.new) (λ b. command_for route.now ask.now) result }
 
     // Whatever the rows are: it is neither answered nor refused if a row that the command reads is damaged.
-    ensures undamaged { IsHonest (T.seen tx.new) → (c : Command) → Asks (T.seen tx.old).rows ask.now c
+    ensures undamaged { IsHonest (T.seen tx.new) → (c : Command) → command_for route.now ask.now ≡ Ok c
         → OnAnswer result (AreReadable (T.seen tx.old).rows context.now.caller c) }
-
-    // Nor is anything if the row of the mount that the path names is damaged.
-    ensures mount { IsHonest (T.seen tx.new)
-        → OnAnswer result (IsReadableAt (table_of (T.seen tx.old).rows) (cut ask.now.path).0) }
     ensures started { OnFault result IsNotBadStart }
     ensures goes_on { GoesOn (T.seen tx.old) (T.seen tx.new) (step_fails result) }
 {
-    let found = route(alloc, tx, ask.verb, ask.path.as_str())?;
     let body = ask.body.as_slice();
-    match found.operation {
+    match route.operation {
         Operation::Cubbyholes(operation) => {
-            cubbyholes::act(alloc, tx, context, operation, found.parameter, body)
+            cubbyholes::act(alloc, tx, context, operation, route.parameter, body)
         }
         Operation::Tokens(operation) => tokens::act(alloc, tx, context, operation, body),
         Operation::Secrets(operation) => {
             let place = Place {
-                mount: found.mount,
-                path: found.parameter,
+                mount: route.mount,
+                path: route.parameter,
             };
             let version = ask.version.as_slice();
             secrets::act(alloc, tx, context, operation, &place, version, body)
         }
         Operation::Policies(operation) => {
-            acl_policies::act(alloc, tx, context, operation, found.parameter, body)
+            acl_policies::act(alloc, tx, context, operation, route.parameter, body)
         }
     }
 }

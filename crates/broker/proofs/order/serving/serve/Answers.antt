@@ -1,64 +1,148 @@
-use Rattle.std.proofs.Common.{◌≡◌, ◌≢◌, Some, None, true, false, refl, sym, ap, ◌∙◌, subst, inl, inr}
+use Rattle.std.proofs.Common.{◌≡◌, ◌≢◌, Some, None, Ok, Err, true, false, refl, sym, ap, ◌∙◌, subst, inl, inr}
+use Rattle.std.proofs.lemmas.Result.{err_from_is_err_and}
 use Rattle.records.specs.CallLaws.{honest_before}
-use Rattle.records.specs.Table.{table_of}
 use Rattle.records.specs.Transaction.{Rows}
 use Rattle.broker_types.specs.Map.{get}
+use Rattle.broker_types.specs.declared.request_error.RequestError.TheVariants.{Refused}
 use Rattle.broker_types.specs.Names.{names_of}
 use Rattle.mounts.specs.Calls.{OnAnswer}
-use Rattle.mounts.specs.MountRows.{IsReadableAt}
-use Rattle.mounts.specs.Route.{cut}
 use Rattle.broker.specs.Command.{Command}
 use Rattle.broker.specs.Context.{Context}
 use Rattle.broker.specs.Permission.{permits}
 use Rattle.broker.specs.Reads.{AreReadable, Asks}
 use Rattle.broker.specs.Representing.{Represents}
-use Rattle.broker.proofs.CommandReads.{on_answer_all, on_answer_if, on_answer_weaker, permitted_same}
-use Rattle.broker.proofs.Routes.{served_permitted}
+use Rattle.broker.proofs.CommandReads.{known_by, meant_by_route, no_route, on_answer_all, on_answer_if, on_answer_weaker, permitted_before}
+use Rattle.broker.proofs.Routes.{mounts_there, not_served, operated_by, operated_nowhere, served_permitted}
+use Rattle.broker.proofs.SecretRoutes.{mount_named}
 use Rattle.broker.proofs.Serving.{still_represented}
 use Rattle.broker.proofs.order.serving.serve.Goals as goal
+
+pub returns-in_err-found-clause-ok : goal.returns-in_err-found-clause-ok
+returns-in_err-found-clause-ok g c honest b starts =
+    let p = err_from_is_err_and c.from_residual.result c.from_residual.ensures.1 in
+    rw (p.1 ∙ ap Err p.2)
+    (c.in_err-found.ensures.wants honest b.mounts (mounts_there b (g.T.RecordsTx.seen c.args.tx.now).rows starts.represents))
+
+pub returns-then-not-branch-clause-ok : goal.returns-then-not-branch-clause-ok
+returns-then-not-branch-clause-ok g c honest b starts =
+    let seen = g.T.RecordsTx.seen in
+    let old = (seen c.args.tx.now).rows in
+    let caller = c.args.context.now.caller in
+    let ask = c.args.ask.now in
+    let at : c.context.inside.caller.now ≡ caller = ap (λ (x : Context). x.caller) c.context.view_is in
+    let mid = honest_before (seen c.find_route.new.tx) (seen c.is_permitted.new.tx) _ c.in_ok-is_permitted.ensures.goes_on honest in
+    let still = still_represented b old (seen c.find_route.new.tx).rows (c.in_ok-found.ensures.same mid) starts.represents in
+    let told = c.in_ok-is_permitted.ensures.ok honest b (subst (λ t. Represents (Some t) (seen c.find_route.new.tx).rows b) (sym at) still)
+    (subst (λ t. get b.tokens t ≢ None) (sym at) starts.here) (c.in_ok-found.ensures.told mid b.mounts (mounts_there b old starts.represents)) in
+    let forbidden : permits b (Some caller) ask.verb ask.path ≡ false =
+    (λ i. permits b (Some (sym at i)) ask.verb (sym c.as_str-path.ensures.text i)) ∙ sym told ∙ c.if-not-branch.true in
+    not_served b caller (names_of c.args.context.now.words) ask (seen c.is_permitted.new.tx).rows forbidden
+    (still_represented b (seen c.find_route.new.tx).rows (seen c.is_permitted.new.tx).rows (c.in_ok-is_permitted.ensures.same honest) still)
+
+pub returns-then-not-branch-clause-undamaged : goal.returns-then-not-branch-clause-undamaged
+returns-then-not-branch-clause-undamaged g c honest =
+    let seen = g.T.RecordsTx.seen in
+    let old = (seen c.args.tx.now).rows in
+    let ask = c.args.ask.now in
+    let at : c.context.inside.caller.now ≡ c.args.context.now.caller = ap (λ (x : Context). x.caller) c.context.view_is in
+    let mid = honest_before (seen c.find_route.new.tx) (seen c.is_permitted.new.tx) _ c.in_ok-is_permitted.ensures.goes_on honest in
+    let readable = c.in_ok-found.ensures.undamaged mid in
+    let forbidden = permitted_before old (seen c.find_route.new.tx).rows c.context.inside.caller.now c.args.context.now.caller
+    c.as_str-path.result.now ask.path ask.verb c.in_ok-found.found c.in_ok-is_permitted.field-0 false (c.in_ok-found.ensures.same mid) at
+    c.as_str-path.ensures.text c.if-not-branch.true readable (c.in_ok-found.ensures.found mid readable.0 readable.1)
+    (c.in_ok-is_permitted.ensures.found honest) in
+    inr (record { refused = refl; forbidden = forbidden; same = c.in_ok-is_permitted.ensures.same honest ∙ c.in_ok-found.ensures.same mid })
+
+pub returns-in_err-found-2-clause-ok : goal.returns-in_err-found-2-clause-ok
+returns-in_err-found-2-clause-ok g c honest b starts =
+    let seen = g.T.RecordsTx.seen in
+    let old = (seen c.args.tx.now).rows in
+    let caller = c.args.context.now.caller in
+    let ask = c.args.ask.now in
+    let names = names_of c.args.context.now.words in
+    let at : c.context.inside.caller.now ≡ caller = ap (λ (x : Context). x.caller) c.context.view_is in
+    let p = err_from_is_err_and c.from_residual-in_err-found-2.result c.from_residual-in_err-found-2.ensures.1 in
+    let mid = honest_before (seen c.find_route.new.tx) (seen c.is_permitted.new.tx) _ c.in_ok-is_permitted.ensures.goes_on honest in
+    let still = still_represented b old (seen c.find_route.new.tx).rows (c.in_ok-found.ensures.same mid) starts.represents in
+    let routed = c.in_ok-found.ensures.told mid b.mounts (mounts_there b old starts.represents) in
+    let told = c.in_ok-is_permitted.ensures.ok honest b (subst (λ t. Represents (Some t) (seen c.find_route.new.tx).rows b) (sym at) still)
+    (subst (λ t. get b.tokens t ≢ None) (sym at) starts.here) routed in
+    let permitted : permits b (Some caller) ask.verb ask.path ≡ true =
+    (λ i. permits b (Some (sym at i)) ask.verb (sym c.as_str-path.ensures.text i)) ∙ sym told ∙ c.if-not-branch.false in
+    rw (p.1 ∙ ap Err p.2)
+    (served_permitted b caller names ask (seen c.is_permitted.new.tx).rows (Err (Refused c.in_err-found-2.field-0.0)) permitted
+    (operated_nowhere b caller names ask (seen c.is_permitted.new.tx).rows c.in_err-found-2.field-0.0 c.as_str-path.result.now
+    c.as_str-path.ensures.text (sym c.in_err-found-2.was ∙ routed)
+    (still_represented b (seen c.find_route.new.tx).rows (seen c.is_permitted.new.tx).rows (c.in_ok-is_permitted.ensures.same honest) still)))
+
+pub returns-in_err-found-2-clause-undamaged : goal.returns-in_err-found-2-clause-undamaged
+returns-in_err-found-2-clause-undamaged g c honest =
+    let seen = g.T.RecordsTx.seen in
+    let old = (seen c.args.tx.now).rows in
+    let ask = c.args.ask.now in
+    let path = c.as_str-path.result.now in
+    let at : c.context.inside.caller.now ≡ c.args.context.now.caller = ap (λ (x : Context). x.caller) c.context.view_is in
+    let p = err_from_is_err_and c.from_residual-in_err-found-2.result c.from_residual-in_err-found-2.ensures.1 in
+    let mid = honest_before (seen c.find_route.new.tx) (seen c.is_permitted.new.tx) _ c.in_ok-is_permitted.ensures.goes_on honest in
+    let readable = c.in_ok-found.ensures.undamaged mid in
+    let permitted = permitted_before old (seen c.find_route.new.tx).rows c.context.inside.caller.now c.args.context.now.caller
+    path ask.path ask.verb c.in_ok-found.found c.in_ok-is_permitted.field-0 true (c.in_ok-found.ensures.same mid) at
+    c.as_str-path.ensures.text c.if-not-branch.false readable (c.in_ok-found.ensures.found mid readable.0 readable.1)
+    (c.in_ok-is_permitted.ensures.found honest) in
+    let nothing = λ (command : Command) (asks : Asks old ask command).
+    no_route old ask command path c.in_err-found-2.field-0.0 (AreReadable old c.args.context.now.caller command) c.as_str-path.ensures.text asks
+    (sym c.in_err-found-2.was ∙ c.in_ok-found.ensures.found mid asks.mount (known_by old ask command path c.as_str-path.ensures.text asks)) in
+    rw (p.1 ∙ ap Err p.2) (inl (record { permitted = permitted; readable = nothing }))
 
 pub returns-clause-ok : goal.returns-clause-ok
 returns-clause-ok g c honest b starts =
     let seen = g.T.RecordsTx.seen in
-    let rows = (seen c.args.tx.now).rows in
+    let old = (seen c.args.tx.now).rows in
     let caller = c.args.context.now.caller in
     let ask = c.args.ask.now in
+    let path = c.as_str-path.result.now in
+    let names = names_of c.args.context.now.words in
+    let route = c.in_ok-found-2.field-0 in
     let at : c.context.inside.caller.now ≡ caller = ap (λ (x : Context). x.caller) c.context.view_is in
-    let mid = honest_before (seen c.is_permitted.new.tx) (seen c.operate.new.tx) _ c.operate.ensures.goes_on honest in
-    let told = c.in_ok-is_permitted.ensures.ok mid b (subst (λ t. Represents (Some t) rows b) (sym at) starts.represents)
-    (subst (λ t. get b.tokens t ≢ None) (sym at) starts.here) in
+    let later = honest_before (seen c.is_permitted.new.tx) (seen c.operate.new.tx) _ c.operate.ensures.goes_on honest in
+    let mid = honest_before (seen c.find_route.new.tx) (seen c.is_permitted.new.tx) _ c.in_ok-is_permitted.ensures.goes_on later in
+    let still = still_represented b old (seen c.find_route.new.tx).rows (c.in_ok-found.ensures.same mid) starts.represents in
+    let then = still_represented b (seen c.find_route.new.tx).rows (seen c.is_permitted.new.tx).rows (c.in_ok-is_permitted.ensures.same later) still in
+    let routed = c.in_ok-found.ensures.told mid b.mounts (mounts_there b old starts.represents) in
+    let told = c.in_ok-is_permitted.ensures.ok later b (subst (λ t. Represents (Some t) (seen c.find_route.new.tx).rows b) (sym at) still)
+    (subst (λ t. get b.tokens t ≢ None) (sym at) starts.here) routed in
     let permitted : permits b (Some caller) ask.verb ask.path ≡ true =
-    (λ i. permits b (Some (sym at i)) ask.verb (sym c.as_str.ensures.text i)) ∙ sym told ∙ c.if-not-branch.false in
-    let still = still_represented b rows (seen c.is_permitted.new.tx).rows (c.in_ok-is_permitted.ensures.same mid) starts.represents in
-    served_permitted b caller (names_of c.args.context.now.words) ask (seen c.operate.new.tx).rows c.operate.result permitted
-    (c.operate.ensures.ok honest b (record { represents = still; here = starts.here; clock = starts.clock }))
+    (λ i. permits b (Some (sym at i)) ask.verb (sym c.as_str-path.ensures.text i)) ∙ sym told ∙ c.if-not-branch.false in
+    let found = sym c.in_ok-found-2.was ∙ routed in
+    served_permitted b caller names ask (seen c.operate.new.tx).rows c.operate.result permitted
+    (operated_by b caller names ask (seen c.operate.new.tx).rows c.operate.result route path c.as_str-path.ensures.text found
+    (c.operate.ensures.ok
+    (record {
+      parameter = λ takes. c.in_ok-found.ensures.parameter c.as_str-path.ensures.good route takes c.in_ok-found-2.was;
+      mount = λ op is. mount_named b ask.verb path route op starts.represents.sound.mounts (sym found) is;
+    })
+    honest b (record { represents = then; here = starts.here; clock = starts.clock })))
 
 pub returns-clause-undamaged : goal.returns-clause-undamaged
 returns-clause-undamaged g c honest =
     let seen = g.T.RecordsTx.seen in
-    let rows = (seen c.args.tx.now).rows in
+    let old = (seen c.args.tx.now).rows in
     let caller = c.args.context.now.caller in
     let ask = c.args.ask.now in
+    let path = c.as_str-path.result.now in
+    let route = c.in_ok-found-2.field-0 in
     let at : c.context.inside.caller.now ≡ caller = ap (λ (x : Context). x.caller) c.context.view_is in
-    let mid = honest_before (seen c.is_permitted.new.tx) (seen c.operate.new.tx) _ c.operate.ensures.goes_on honest in
-    let same = c.in_ok-is_permitted.ensures.same mid in
-    let permitted = permitted_same rows c.context.inside.caller.now caller c.as_str.result.now ask.path ask.verb c.in_ok-is_permitted.field-0 true at
-    c.as_str.ensures.text c.if-not-branch.false (c.in_ok-is_permitted.ensures.found mid) in
-    let read : (command : Command) → OnAnswer c.operate.result (Asks rows ask command → AreReadable rows caller command) = λ command.
-    subst (λ (z : Rows). OnAnswer c.operate.result (Asks z ask command → AreReadable z caller command)) same
-    (on_answer_if _ c.operate.result (c.operate.ensures.undamaged honest command)) in
-    on_answer_weaker c.operate.result (λ readable. inl (record { permitted = permitted; readable = readable })) (on_answer_all _ c.operate.result read)
-
-pub returns-then-not-branch-clause-undamaged : goal.returns-then-not-branch-clause-undamaged
-returns-then-not-branch-clause-undamaged g c honest =
-    let rows = (g.T.RecordsTx.seen c.args.tx.now).rows in
-    let ask = c.args.ask.now in
-    let at : c.context.inside.caller.now ≡ c.args.context.now.caller = ap (λ (x : Context). x.caller) c.context.view_is in
-    let forbidden = permitted_same rows c.context.inside.caller.now c.args.context.now.caller c.as_str.result.now ask.path ask.verb
-    c.in_ok-is_permitted.field-0 false at c.as_str.ensures.text c.if-not-branch.true (c.in_ok-is_permitted.ensures.found honest) in
-    inr (record { refused = refl; forbidden = forbidden; same = c.in_ok-is_permitted.ensures.same honest })
-
-pub returns-then-not-branch-clause-mount : goal.returns-then-not-branch-clause-mount
-returns-then-not-branch-clause-mount g c honest =
-    let asks = (c.in_ok-is_permitted.ensures.found honest).asks in
-    subst (λ path. IsReadableAt (table_of (g.T.RecordsTx.seen c.args.tx.now).rows) (cut path).0) c.as_str.ensures.text (asks.0, asks.1)
+    let later = honest_before (seen c.is_permitted.new.tx) (seen c.operate.new.tx) _ c.operate.ensures.goes_on honest in
+    let mid = honest_before (seen c.find_route.new.tx) (seen c.is_permitted.new.tx) _ c.in_ok-is_permitted.ensures.goes_on later in
+    let same = c.in_ok-is_permitted.ensures.same later ∙ c.in_ok-found.ensures.same mid in
+    let readable = c.in_ok-found.ensures.undamaged mid in
+    let permitted = permitted_before old (seen c.find_route.new.tx).rows c.context.inside.caller.now caller path ask.path ask.verb
+    c.in_ok-found.found c.in_ok-is_permitted.field-0 true (c.in_ok-found.ensures.same mid) at c.as_str-path.ensures.text c.if-not-branch.false
+    readable (c.in_ok-found.ensures.found mid readable.0 readable.1) (c.in_ok-is_permitted.ensures.found later) in
+    let read : (command : Command) → OnAnswer c.operate.result (Asks old ask command → AreReadable old caller command) = λ command.
+    on_answer_if _ c.operate.result (λ (asks : Asks old ask command).
+    let routed = sym c.in_ok-found-2.was
+    ∙ c.in_ok-found.ensures.found mid asks.mount (known_by old ask command path c.as_str-path.ensures.text asks) in
+    subst (λ (rows : Rows). OnAnswer c.operate.result (AreReadable rows caller command)) same
+    (c.operate.ensures.undamaged honest command (meant_by_route old ask command path route c.as_str-path.ensures.text asks routed))) in
+    on_answer_weaker c.operate.result (λ all. inl (record { permitted = permitted; readable = all })) (on_answer_all _ c.operate.result read)
