@@ -218,7 +218,8 @@ module _ (moment now : ℕ) (t u : Text) (old expired new : Rows) (caller : t �
   }
 
   -- or there is no caller, and nothing else was done
-  pub denied_there : (a : Answer) → response_of a ≡ refused permission_denied → map.get new (kind.Token, t) ≡ None → IsDenied moment a old new t
+  pub denied_there : (a : Answer) → response_of a ≡ refused permission_denied → map.get new (kind.Token, t) ≡ None
+      → IsDenied moment (response_of a) old new t
   denied_there a response none = (response, none, now, subst (Expires moment now old) (sym same_rows) expires)
 
 -- ---- whether it may be asked
@@ -250,7 +251,7 @@ module _ (old new : Rows) (t : Text) (ask : Ask) where
 
   -- who is refused for that is told so, and ends then if it has no uses left
   pub may_refused : {P A : Type 0} (final : Rows) (r : Refusal) (a : Answer) → (P ⊎ IsForbidden {A = A} old new t ask (Err (Refused r)))
-      → response_of a ≡ refused r → EndsCaller t new final → P ⊎ IsToldForbidden old final t ask a
+      → response_of a ≡ refused r → EndsCaller t new final → P ⊎ IsToldForbidden old final t ask (response_of a)
   may_refused final r a (inl p) is ends = inl p
   may_refused final r a (inr forbidden) is ends = inr (record {
     response = is ∙ ap refused (ap refusal_in forbidden.refused);

@@ -45,7 +45,7 @@ pub not_two : (v s w : Bool) → s ≡ true → false ≡ (v && (not (s || false
 not_two true s w h = λ i. not (sym h i || false) && (w && true)
 not_two false s w h = refl
 
-given_out : (o : Option ⊤) (u : Bool) → is_some o ≡ true → false ≡ (is_none o && u)
+pub given_out : {A : Type 0} (o : Option A) (u : Bool) → is_some o ≡ true → false ≡ (is_none o && u)
 given_out None u h = absurd (false≢true h)
 given_out (Some x) u h = refl
 
@@ -54,7 +54,7 @@ pub first_used : {who : Option Text} (b : Broker) (rows : Rows) (i : Text) (u v 
     → v ≡ is_some (map.get rows (kind.Used, i)) → v ≡ true → false ≡ (is_none (get b.used i) && u)
 first_used b rows i u v st found here = given_out (get b.used i) u (sym (used_here b rows i st) ∙ sym found ∙ here)
 
-both : (o : Option ⊤) (s w : Bool) → is_some o ≡ false → s ≡ false → w ≡ (is_none o && (not (s || false) && (w && true)))
+pub both : {A : Type 0} (o : Option A) (s w : Bool) → is_some o ≡ false → s ≡ false → w ≡ (is_none o && (not (s || false) && (w && true)))
 both None s true h e = λ i. not (sym e i || false) && true
 both None s false h e = λ i. not (sym e i || false) && false
 both (Some x) s w h e = absurd (true≢false h)

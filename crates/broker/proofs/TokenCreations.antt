@@ -29,6 +29,7 @@ use Rattle.api_json.specs.declared.token_bodies.TokenCreation.{TokenCreation}
 use Rattle.policies.specs.Grants.{grants}
 use Rattle.policies.specs.PolicyRows.{IsReadable}
 use Rattle.policies.specs.declared.capability.Capability.TheVariants.{Sudo}
+use Rattle.broker.specs.PermittedRows.{IsSudoAt}
 use Rattle.broker.specs.ReadableRow.{HasReadablePolicies}
 use Rattle.broker.specs.parts.TokenCreation.{Making, of_caller, without_parent, makes_orphans, making_path, is_privileged}
 use Rattle.broker.specs.parts.TokenCreation.{new_policies, may_make, new_parent, new_token}
@@ -74,6 +75,17 @@ path_of_making m v is = ap path (sym is) ∙ by m
     by : (m : Making) → path (makes_orphans m) ≡ making_path m
     by of_caller = refl
     by without_parent = refl
+
+-- one of the two routes makes orphans alone
+pub making_for : (v : Bool) → (m : Making) × (makes_orphans m ≡ v)
+making_for false = (of_caller, refl)
+making_for true = (without_parent, refl)
+
+-- what the rows say of policies once the caller is found, they say before of its own
+pub sudo_before : (old new : Rows) (names own : List Text) (path : Text) (v : Bool) → new ≡ old → names ≡ own → IsSudoAt new names path v
+    → IsSudoAt old own path v
+sudo_before old new names own path v same named sudo =
+    subst (λ rows. IsSudoAt rows own path v) same (subst (λ ns. IsSudoAt new ns path v) named sudo)
 
 module _ (b : Broker) (c : Text) (names : Names) (m : Making) (asked : TokenCreation) where
   abbrev made_by : Option Token → Result Done Refusal

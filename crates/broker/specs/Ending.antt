@@ -3,6 +3,7 @@ use Rattle.std.specs.Prelude.{◌≡◌, ◌≢◌, ◌||◌, ◌==◌, ℕ, max
 use Rattle.std.specs.Prelude.{Option, Some, None, if◌then◌else◌}
 use Rattle.std.specs.FinMap as map
 use Rattle.std.specs.Option.{option_map_or}
+use Rattle.broker_types.specs.Sound.{IsMoment}
 use Rattle.broker_types.specs.Text.{Text}
 use Rattle.broker_types.specs.Map.{get, empty}
 use Rattle.broker_types.specs.Token.{Token, Tokens}
@@ -18,7 +19,7 @@ use Rattle.records.specs.Table.{table_of, with_row}
 use Rattle.records.specs.TokenEntry.{TokenEntry}
 use Rattle.records.specs.Transaction.{Rows, rows_under}
 use Rattle.token_tree.specs.Ended.{IsDescent, has_come, is_named}
-use Rattle.token_tree.specs.Endings.{AreTokenRows, EndsDescent, without_tokens}
+use Rattle.token_tree.specs.Endings.{AreTokenRows, EndsAlone, EndsDescent, without_tokens}
 use Rattle.token_tree.specs.TokenRows.{IsTokenAt}
 use Rattle.cubbyhole.specs.Cubbyhole.{object_at}
 use Rattle.cubbyhole.specs.Laws.{without_owners}
@@ -60,6 +61,7 @@ HaveNoLeases ts = (t : Text) (x : Token) → get ts t ≡ Some x → x.leases �
 -- the clock's row was that of some moment, and now it is that of the later of this moment and the given one
 pub record Advances (moment now : ℕ) (old new : Rows) : Type 0 where
   pub clock : ℕ
+  pub in_range : IsMoment clock
   pub was : table_of old kind.Clock [] ≡ Some (clock_row clock)
   pub later : now ≡ max clock moment
   pub is : table_of new ≡ with_row (table_of old) kind.Clock [] (clock_row now)
@@ -92,6 +94,12 @@ abbrev pub HasEnded : Text → Rows → Rows → Type 0
 HasEnded t old new =
     (ended : List Text) × IsDescent (is_named t) (rows_under old kind.Token []) ended
     × AreTokenRows ended (table_of old) × (table_of new ≡ without_owners (without_tokens ended (table_of old)) ended)
+
+-- the token t has ended alone, and its cubbyhole has gone with it; no other row has changed but those of its children
+abbrev pub HasEndedAlone : Text → Rows → Rows → Type 0
+HasEndedAlone t old new =
+    (alone : Rows) × (ended : List Text) × EndsAlone t old ended alone
+    × (table_of new ≡ without_owners (table_of alone) ended)
 
 -- if the token t has no uses left, then it has ended; else no row has changed
 pub record EndsCaller (t : Text) (old new : Rows) : Type 0 where

@@ -8,6 +8,7 @@ pub mod Forms
 pub mod Kept
 pub mod Laws
 pub mod Listed
+pub mod Marks
 pub mod Operating
 pub mod Order
 pub mod Permission

@@ -1,12 +1,12 @@
 -- What a caller may ask, by the rows alone, whatever they are (this project's definition).
 use Rattle.std.specs.Prelude.{◌≡◌, ◌⊎◌, Bool, false, Option, Some, None, is_some, List, All, Any}
-use Rattle.broker_types.specs.Answer.{response_of, refused}
+use Rattle.broker_types.specs.Answer.{Response, refused}
 use Rattle.broker_types.specs.Broker.{Mount}
 use Rattle.broker_types.specs.Map.{Map}
 use Rattle.broker_types.specs.Text.{Text}
-use Rattle.broker_types.specs.declared.answer.Answer.{Answer}
 use Rattle.broker_types.specs.declared.ask.Ask.{Ask}
 use Rattle.broker_types.specs.declared.ask.Verb.{Verb}
+use Rattle.broker_types.specs.declared.ask.Verb.TheVariants as verb
 use Rattle.records.specs.declared.kind.Kind.TheVariants as kind
 use Rattle.records.specs.Ranges.{IsTokenInRange}
 use Rattle.records.specs.Reading.{IsSomeIn}
@@ -18,9 +18,10 @@ use Rattle.cubbyhole.specs.Objects.{object_key}
 use Rattle.kv2.specs.Secrets.{secret_name}
 use Rattle.mounts.specs.MountRows.{IsKnownAt}
 use Rattle.mounts.specs.Route.{cut, route_at}
-use Rattle.policies.specs.Grants.{rules_of}
+use Rattle.policies.specs.Grants.{rules_of, grants}
 use Rattle.policies.specs.PolicyRows.{ArePoliciesAt, IsReadable, IsUnreadable}
 use Rattle.policies.specs.declared.capability.Capability.{Capability}
+use Rattle.policies.specs.declared.capability.Capability.TheVariants.{Sudo}
 use Rattle.broker.specs.Capabilities.{Stored, object, secret, asked_by}
 use Rattle.broker.specs.Ending.{EndsCaller}
 use Rattle.broker.specs.Order.{permission_denied}
@@ -60,15 +61,22 @@ pub record IsPermittedAt (rows : Rows) (t : Text) (verb : Verb) (path : Text) (v
   pub asks : IsAskedAt rows t verb path asked
   pub allowed : IsAllowedFor rows entry verb path asked v
 
+-- v is whether these policies grant `sudo` for a write to a path: their rows can be read, where they are there
+pub record IsSudoAt (rows : Rows) (names : List Text) (path : Text) (v : Bool) : Type 0 where
+  pub policies : Map Text
+  pub known : ArePoliciesAt (table_of rows) names policies
+  pub readable : All (IsReadable (table_of rows)) names
+  pub is : v ≡ grants policies names verb.Write path Sudo
+
 -- it cannot be told whether the token t may ask: its row is damaged, or that of one of its policies
 abbrev pub IsUntold : Rows → Text → Type 0
 IsUntold rows t =
     IsDamagedToken (table_of rows) t
     ⊎ ((e : TokenEntry) × IsTokenAt (table_of rows) t (Some e) × Any (IsUnreadable (table_of rows)) e.policies)
 
--- The answer is 403 `permission denied`, and the rows say that the token t may not ask. Nothing was done but that t
+-- The response is 403 `permission denied`, and the rows say that the token t may not ask. Nothing was done but that t
 -- ended, if it has no uses left.
-pub record IsToldForbidden (rows new : Rows) (t : Text) (ask : Ask) (a : Answer) : Type 0 where
-  pub response : response_of a ≡ refused permission_denied
+pub record IsToldForbidden (rows new : Rows) (t : Text) (ask : Ask) (r : Response) : Type 0 where
+  pub response : r ≡ refused permission_denied
   pub forbidden : IsPermittedAt rows t ask.verb ask.path false
   pub ends : EndsCaller t rows new

@@ -4,8 +4,7 @@ use Rattle.std.specs.Prelude.{◌≡◌, ℕ, List, [], None, Option, All}
 use Rattle.std.specs.Option.{option_map_or}
 use Rattle.std.specs.FinMap as map
 use Rattle.broker_types.specs.Text.{Text}
-use Rattle.broker_types.specs.Answer.{response_of, refused}
-use Rattle.broker_types.specs.declared.answer.Answer.{Answer}
+use Rattle.broker_types.specs.Answer.{Response, refused}
 use Rattle.records.specs.declared.kind.Kind.TheVariants as kind
 use Rattle.records.specs.Table.{table_of}
 use Rattle.records.specs.Transaction.{Rows, rows_under}
@@ -59,8 +58,12 @@ IsReadableDescent rows t =
 abbrev pub KeepsDamaged : Rows → Rows → Type 0
 KeepsDamaged old new = (t : Text) → IsReadableToken new t → IsReadableToken old t
 
--- the answer is 403 `permission denied`: once tokens have expired there is no token t, and nothing else was done
-abbrev pub IsDenied : ℕ → Answer → Rows → Rows → Text → Type 0
-IsDenied moment a old new t =
-    (response_of a ≡ refused permission_denied) × (map.get new (kind.Token, t) ≡ None)
+-- the response is 403 `permission denied`: once tokens have expired there is no token t, and nothing else was done
+abbrev pub IsDenied : ℕ → Response → Rows → Rows → Text → Type 0
+IsDenied moment r old new t =
+    (r ≡ refused permission_denied) × (map.get new (kind.Token, t) ≡ None)
     × (now : ℕ) × Expires moment now old new
+
+-- the same of an ask without a client token
+abbrev pub IsDeniedToNobody : ℕ → Response → Rows → Rows → Type 0
+IsDeniedToNobody moment r old new = (r ≡ refused permission_denied) × (now : ℕ) × Expires moment now old new

@@ -2,9 +2,9 @@
 -- writes or takes away is not read, nor is one of which only the key, the owner or the end is looked at. The route has
 -- read the row of the mount before; it counts here only for commands that need the settings of the mount.
 use Rattle.std.specs.Prelude.{◌≡◌, ◌⊎◌, ℕ, true, false, Option, Some, None, Result, Ok, Err, ⊤}
+use Rattle.broker_types.specs.Answer.{Response}
 use Rattle.broker_types.specs.Broker.{Mount}
 use Rattle.broker_types.specs.Text.{Text}
-use Rattle.broker_types.specs.declared.answer.Answer.{Answer}
 use Rattle.broker_types.specs.declared.ask.Ask.{Ask}
 use Rattle.broker_types.specs.declared.request_error.RequestError.{RequestError}
 use Rattle.broker_types.specs.declared.request_error.RequestError.TheVariants.{Refused}
@@ -23,6 +23,7 @@ use Rattle.broker.specs.Ending.{Expires}
 use Rattle.broker.specs.Order.{permission_denied}
 use Rattle.broker.specs.PermittedRows.{IsPermittedAt, IsToldForbidden}
 use Rattle.broker.specs.ReadableRow.{IsReadable, IsReadablePolicy, IsReadableSecret, IsReadableToken, IsReadableDescent}
+use Rattle.broker.specs.ReadableRow.{IsDenied}
 use Rattle.broker.specs.parts.Cubbyholes.{CubbyholeCommand, read_object, write_object}
 use Rattle.broker.specs.parts.PolicyCommands.{PolicyCommand, list_policies, show_policy, set_policy, remove_policy}
 use Rattle.broker.specs.parts.SecretCommands.{Place, SecretCommand, show_settings, set_settings, read_version}
@@ -144,10 +145,18 @@ pub record MayBeDone (rows : Rows) (t : Text) (ask : Ask) : Type 0 where
   pub readable : (command : Command) → Asks rows ask command → AreReadable rows t command
 
 -- the token t may ask, and what it asks for can be read; or it is told that it may not ask
-abbrev pub IsDoneOrForbidden : Rows → Rows → Text → Ask → Answer → Type 0
-IsDoneOrForbidden rows new t ask a = MayBeDone rows t ask ⊎ IsToldForbidden rows new t ask a
+abbrev pub IsDoneOrForbidden : Rows → Rows → Text → Ask → Response → Type 0
+IsDoneOrForbidden rows new t ask r = MayBeDone rows t ask ⊎ IsToldForbidden rows new t ask r
 
 -- once tokens have expired and t has spent a use, it is told that it may not ask
-abbrev pub IsForbiddenThen : ℕ → Text → Rows → Rows → Ask → Answer → Type 0
-IsForbiddenThen moment t old new ask a =
-    (rows : Rows) × AreAtCommand moment t old rows × IsToldForbidden rows new t ask a
+abbrev pub IsForbiddenThen : ℕ → Text → Rows → Rows → Ask → Response → Type 0
+IsForbiddenThen moment t old new ask r =
+    (rows : Rows) × AreAtCommand moment t old rows × IsToldForbidden rows new t ask r
+
+-- ---- what is answered, whatever the rows are
+
+-- The rows decide whether the token t may ask. If it may, its command is not answered if a row that it reads is
+-- damaged; else it is told that it may not, and nothing is done. Or it is denied since it is not there any more.
+abbrev pub IsAnsweredBy : ℕ → Text → Rows → Rows → Ask → Response → Type 0
+IsAnsweredBy moment t old new ask r =
+    ((rows : Rows) × AreAtCommand moment t old rows × IsDoneOrForbidden rows new t ask r) ⊎ IsDenied moment r old new t

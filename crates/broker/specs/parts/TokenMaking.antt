@@ -4,22 +4,28 @@ use Rattle.broker_types.specs.Broker.{Broker}
 use Rattle.broker_types.specs.Map.{empty}
 use Rattle.broker_types.specs.Names.{names_of}
 use Rattle.broker_types.specs.RequestError.{Ends}
+use Rattle.broker_types.specs.Text.{Text}
 use Rattle.broker_types.specs.Token.{Token}
 use Rattle.broker_types.specs.TokenText.{token_text}
 use Rattle.broker_types.specs.Used.{are_new}
 use Rattle.broker_types.specs.declared.request_error.RequestError.{RequestError}
+use Rattle.records.specs.Ranges.{IsTokenInRange}
+use Rattle.records.specs.Table.{table_of}
 use Rattle.records.specs.TokenEntry.{TokenEntry, token_entry}
-use Rattle.records.specs.Transaction.{Seen, IsHonest}
+use Rattle.records.specs.Transaction.{Seen, Rows, IsHonest}
+use Rattle.token_tree.specs.TokenRows.{IsTokenAt}
 use Rattle.token_tree.specs.Tokens.{MayBeMade}
 use Rattle.api_json.specs.declared.token_bodies.TokenCreation.{TokenCreation}
 use Rattle.broker.specs.Context.{Context}
 use Rattle.broker.specs.Forms.{forms}
 use Rattle.broker.specs.Operating.{Starts}
+use Rattle.broker.specs.PermittedRows.{IsSudoAt}
 use Rattle.broker.specs.Representing.{Represents}
 use Rattle.broker.specs.Stages.{IsDone}
 use Rattle.broker.specs.declared.answered.Answered.{Answered}
 use Rattle.broker.specs.parts.TokenCommands.{token_names}
-use Rattle.broker.specs.parts.TokenCreation.{Making, makes_orphans}
+use Rattle.broker.specs.parts.TokenCreation.{Making, makes_orphans, making_path, may_make, new_policies}
+use Rattle.broker.specs.parts.TokenEntries.{token_told}
 use Rattle.broker.specs.parts.TokenRanges.{AreTokenNames}
 use Rattle.broker.specs.parts.Tokens.{create, made}
 
@@ -30,6 +36,16 @@ PutsToken x old new entry result =
     → MayBeMade forms b (token_text (names_of x.words).token) y → y.cubbyhole ≡ empty
     → y.accessor ≡ (names_of x.words).accessor
     → Ends (IsDone x.caller new.rows) (Represents (Some x.caller) new.rows b) result (Ok (made b (names_of x.words) y))
+
+-- the row of the token t and those of its policies say that it may make the token that is asked for
+pub record MayMakeAt (rows : Rows) (t : Text) (m : Making) (asked : TokenCreation) : Type 0 where
+  pub caller : TokenEntry
+  pub in_range : IsTokenInRange caller
+  pub row : IsTokenAt (table_of rows) t (Some caller)
+  pub privileged : Bool
+  pub sudo : IsSudoAt rows caller.policies (making_path m) privileged
+  pub may : may_make privileged (makes_orphans m) (token_told caller)
+      (new_policies privileged (token_told caller) asked) asked ≡ Ok tt
 
 -- the token that is asked for is made or refused, where its identifiers are new
 abbrev pub MakesAsked : Context → Seen → Seen → Bool → TokenCreation → Result Answered RequestError → Type 0

@@ -11,7 +11,7 @@ ghost use Rattle.broker.specs.Listed.{IsListed};
 ghost use Rattle.broker.specs.Ending.{EndsCaller};
 ghost use Rattle.broker.specs.Order as order;
 ghost use Rattle.broker.specs.Representing.{Gives};
-ghost use Rattle.broker.specs.Stages.{HasServed};
+ghost use Rattle.broker.specs.Stages.{HasServed, answered_of};
 
 use crate::answered::Answered;
 use crate::answers::{answer, refuse};
@@ -39,6 +39,7 @@ pub(crate) fn finish<T: RecordsTx>(
     // Whatever the rows are: the caller's row decides whether the caller ends, and the call fails if it is damaged.
     ensures rows { IsHonest (T.seen tx.new)
         → OnOk result (EndsCaller caller.now (T.seen tx.old).rows (T.seen tx.new).rows) }
+    ensures answered { IfOk served (λ x. IfOk result (λ a. response_of a ≡ order.response_to (answered_of x))) }
     ensures refused { IfErr served (λ r. IfOk result (λ a. response_of a ≡ refused r)) }
     ensures started { IfErr result IsNotBadStart }
     ensures goes_on { GoesOn (T.seen tx.old) (T.seen tx.new) (is_storage result) }

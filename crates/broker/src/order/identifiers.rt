@@ -9,6 +9,7 @@ ghost use Rattle.records.specs.RowForms.{used_row};
 ghost use Rattle.records.specs.Table.{table_of, with_row};
 ghost use Rattle.records.specs.Transaction.{IsHonest, IsCall};
 ghost use Rattle.records.specs.declared.kind.Kind.TheVariants as kind;
+ghost use Rattle.broker.specs.Marks.{are_unmarked};
 ghost use Rattle.broker.specs.Representing.{Represents};
 
 use broker_types::Fault;
@@ -23,6 +24,10 @@ pub(crate) fn are_both_new<T: RecordsTx>(
 ) -> Result<bool, Fault>
     ensures ok { IsHonest (T.seen tx.new) → (who : Option Text) (b : Broker) → Represents who (T.seen tx.old).rows b
         → IfOk result (λ v. v ≡ are_new b.used (first.now ∷ second.now ∷ [])) }
+
+    // Whatever the rows are: what has a row was given out, whether the row is damaged or not.
+    ensures found { IsHonest (T.seen tx.new)
+        → IfOk result (λ v. v ≡ are_unmarked (table_of (T.seen tx.old).rows) (first.now ∷ second.now ∷ [])) }
     ensures same { IsHonest (T.seen tx.new) → OnOk result ((T.seen tx.new).rows ≡ (T.seen tx.old).rows) }
     ensures call { IsCall (T.seen tx.old) (T.seen tx.new) result }
 {

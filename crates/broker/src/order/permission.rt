@@ -11,11 +11,11 @@ ghost use Rattle.records.specs.Transaction.{IsHonest, GoesOn, is_storage};
 ghost use Rattle.mounts.specs.MountRows.{IsKnownAt};
 ghost use Rattle.mounts.specs.Route.{cut, route_at, route_of};
 ghost use Rattle.policies.specs.Grants.{grants};
-ghost use Rattle.policies.specs.PolicyRows.{IsReadable, IsUnreadable, IsReadFault};
+ghost use Rattle.policies.specs.PolicyRows.{IsUnreadable, IsReadFault};
 ghost use Rattle.policies.specs.declared.capability.Capability.TheVariants as capability;
 ghost use Rattle.broker.specs.ClockRow.{IsNotBadStart};
 ghost use Rattle.broker.specs.Permission as permission;
-ghost use Rattle.broker.specs.PermittedRows.{IsPermittedAt, IsUntold};
+ghost use Rattle.broker.specs.PermittedRows.{IsPermittedAt, IsSudoAt, IsUntold};
 ghost use Rattle.broker.specs.Representing.{Represents};
 
 use crate::order::capability::capability;
@@ -82,9 +82,9 @@ pub(crate) fn grant_sudo<T: RecordsTx>(
     ensures told { IsHonest (T.seen tx.new) → (who : Option Text) (b : Broker) → Represents who (T.seen tx.old).rows b
         → IfOk result (λ v. v ≡ grants b.policies policies.now verb.Write path.now capability.Sudo) }
 
-    // Whatever the rows are: no damaged row of these policies is passed over.
-    ensures readable { IsHonest (T.seen tx.new)
-        → OnOk result (All (IsReadable (table_of (T.seen tx.old).rows)) policies.now) }
+    // Whatever the rows are: those of these policies can be read, and they decide.
+    ensures found { IsHonest (T.seen tx.new)
+        → IfOk result (IsSudoAt (T.seen tx.old).rows policies.now path.now) }
     ensures damaged { IfErr result (IsReadFault
         (IsHonest (T.seen tx.new) → Any (IsUnreadable (table_of (T.seen tx.old).rows)) policies.now)) }
     ensures wants { IsHonest (T.seen tx.new) → (who : Option Text) (b : Broker) → Represents who (T.seen tx.old).rows b

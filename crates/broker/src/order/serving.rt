@@ -1,6 +1,7 @@
 //! A caller is served.
 
 ghost use Rattle.std.specs.Prelude.{◌≡◌, ◌≢◌, ◌⊎◌, false, None, Some, Ok, IfOk, IfErr, OnOk};
+ghost use Rattle.broker_types.specs.Answer.{response_of};
 ghost use Rattle.broker_types.specs.Broker.{Broker};
 ghost use Rattle.broker_types.specs.Map.{get};
 ghost use Rattle.broker_types.specs.Names.{names_of};
@@ -51,7 +52,7 @@ pub(crate) fn answer_caller<T: RecordsTx>(
     // answered if a row that its command reads is damaged; else it is told that it may not, and nothing is done.
     ensures undamaged { IsHonest (T.seen tx.new) → IfOk result (λ a. (rows : Rows)
         × ChangesToken context.now.caller spent_entry (table_of (T.seen tx.old).rows) (table_of rows)
-        × IsDoneOrForbidden rows (T.seen tx.new).rows context.now.caller ask.now a) }
+        × IsDoneOrForbidden rows (T.seen tx.new).rows context.now.caller ask.now (response_of a)) }
 
     // After an answer the caller is not there, or its uses are not all spent.
     ensures ends { IsHonest (T.seen tx.new)

@@ -22,15 +22,15 @@ ghost use Rattle.api_json.specs.Kept.{IsKeptCreation};
 ghost use Rattle.mounts.specs.Calls.{OnAnswer, OnFault};
 ghost use Rattle.mounts.specs.declared.operation.TokenOperation.TheVariants as operations;
 ghost use Rattle.policies.specs.Grants.{grants};
-ghost use Rattle.policies.specs.PolicyRows.{IsReadable};
 ghost use Rattle.policies.specs.declared.capability.Capability.TheVariants as capability;
 ghost use Rattle.broker.specs.ClockRow.{IsNotBadStart};
 ghost use Rattle.broker.specs.Command.{on_tokens};
 ghost use Rattle.broker.specs.Operating.{Operates, Performs};
+ghost use Rattle.broker.specs.PermittedRows.{IsSudoAt};
 ghost use Rattle.broker.specs.ReadableRow.{HasReadablePolicies};
 ghost use Rattle.broker.specs.Representing.{Represents};
 ghost use Rattle.broker.specs.parts.TokenCreation.{Making, makes_orphans, making_path};
-ghost use Rattle.broker.specs.parts.TokenMaking.{MakesAsked, PutsToken};
+ghost use Rattle.broker.specs.parts.TokenMaking.{MakesAsked, MayMakeAt, PutsToken};
 ghost use Rattle.broker.specs.parts.Tokens as part;
 
 use crate::answered::Answered;
@@ -121,6 +121,10 @@ fn make_asked<T: RecordsTx>(
     // policies.
     ensures undamaged { IsHonest (T.seen tx.new) → context.now.caller ≢ []
         → OnAnswer result (HasReadablePolicies (T.seen tx.old).rows context.now.caller) }
+
+    // And it is made only if the row of the caller and those of its policies say that the caller may.
+    ensures may { IsHonest (T.seen tx.new) → context.now.caller ≢ [] → (m : Making) → makes_orphans m ≡ orphans
+        → OnOk result (MayMakeAt (T.seen tx.old).rows context.now.caller m asked) }
     ensures started { OnFault result IsNotBadStart }
     ensures goes_on { GoesOn (T.seen tx.old) (T.seen tx.new) (step_fails result) }
 {
@@ -148,9 +152,9 @@ fn has_sudo<T: RecordsTx>(
         → (m : Making) → makes_orphans m ≡ orphans
         → IfOk result (λ v. v ≡ grants b.policies policies.now verb.Write (making_path m) capability.Sudo) }
 
-    // Whatever the rows are: no damaged row of these policies is passed over.
-    ensures readable { IsHonest (T.seen tx.new)
-        → OnOk result (All (IsReadable (table_of (T.seen tx.old).rows)) policies.now) }
+    // Whatever the rows are: those of these policies can be read, and they decide.
+    ensures found { IsHonest (T.seen tx.new) → (m : Making) → makes_orphans m ≡ orphans
+        → IfOk result (IsSudoAt (T.seen tx.old).rows policies.now (making_path m)) }
     ensures wants { IsHonest (T.seen tx.new) → (who : Option Text) (b : Broker) → Represents who (T.seen tx.old).rows b
         → IfErr result IsMemoryOrStorage }
     ensures same { IsHonest (T.seen tx.new) → OnOk result ((T.seen tx.new).rows ≡ (T.seen tx.old).rows) }

@@ -8,6 +8,7 @@ ghost use Rattle.mounts.specs.Calls.{OnAnswer, OnFault};
 ghost use Rattle.mounts.specs.declared.operation.TokenOperation.TheVariants as operations;
 ghost use Rattle.broker.specs.ClockRow.{IsNotBadStart};
 ghost use Rattle.broker.specs.Command.{on_tokens};
+ghost use Rattle.broker.specs.Ending.{HasEnded, HasEndedAlone};
 ghost use Rattle.broker.specs.Operating.{Operates, Performs};
 ghost use Rattle.broker.specs.ReadableRow.{IsReadableDescent, IsReadableToken};
 ghost use Rattle.broker.specs.Reads.{AreReadableTokens};
@@ -131,6 +132,10 @@ fn end<T: RecordsTx>(
     // damaged.
     ensures undamaged { IsHonest (T.seen tx.new)
         → OnAnswer result (IsReadableDescent (T.seen tx.old).rows token.now) }
+
+    // And these rows go, with those of their accessors and their cubbyholes, and no other changes.
+    ensures rows { IsHonest (T.seen tx.new)
+        → OnAnswer result (HasEnded token.now (T.seen tx.old).rows (T.seen tx.new).rows) }
     ensures started { OnFault result IsNotBadStart }
     ensures goes_on { GoesOn (T.seen tx.old) (T.seen tx.new) (step_fails result) }
 {
@@ -151,6 +156,11 @@ fn end_alone<T: RecordsTx>(
     // Whatever the rows are: it is neither answered nor refused if the row of the token is damaged.
     ensures undamaged { IsHonest (T.seen tx.new)
         → OnAnswer result (IsReadableToken (T.seen tx.old).rows token.now) }
+
+    // And its row goes, with that of its accessor and its cubbyhole; its children have no parent then, and no other
+    // row changes.
+    ensures rows { IsHonest (T.seen tx.new)
+        → OnAnswer result (HasEndedAlone token.now (T.seen tx.old).rows (T.seen tx.new).rows) }
     ensures started { OnFault result IsNotBadStart }
     ensures goes_on { GoesOn (T.seen tx.old) (T.seen tx.new) (step_fails result) }
 {

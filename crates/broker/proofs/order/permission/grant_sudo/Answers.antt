@@ -4,6 +4,8 @@ use Rattle.api_json.specs.Kept.{is_object}
 use Rattle.policies.specs.Allows.{allows}
 use Rattle.policies.specs.Rules.{Rules}
 use Rattle.policies.specs.declared.capability.Capability.TheVariants as capability
+use Rattle.policies.specs.PolicyLaws.{readable_policies}
+use Rattle.records.specs.Table.{table_of}
 use Rattle.broker.proofs.Permitted.{policies_there}
 use Rattle.broker.proofs.order.permission.grant_sudo.Goals as goal
 
@@ -18,3 +20,15 @@ returns-clause-told g c honest who b st =
     c.allows.ensures
     ∙ ap (λ (rs : Rules). allows rs c.args.path.now capability.Sudo)
     (c.in_ok-rules.ensures.told honest b.policies (policies_there b (g.T.RecordsTx.seen c.args.tx.now).rows c.args.policies.now st))
+
+pub returns-clause-found : goal.returns-clause-found
+returns-clause-found g c honest =
+    let readable = c.in_ok-rules.ensures.readable honest in
+    let policies = readable_policies (table_of (g.T.RecordsTx.seen c.args.tx.now).rows) c.args.policies.now readable in
+    record {
+      policies = policies.0;
+      known = policies.1;
+      readable = readable;
+      is = c.allows.ensures
+          ∙ ap (λ (rs : Rules). allows rs c.args.path.now capability.Sudo) (c.in_ok-rules.ensures.told honest policies.0 policies.1);
+    }

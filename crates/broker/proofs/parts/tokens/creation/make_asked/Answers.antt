@@ -10,6 +10,9 @@ use Rattle.broker_types.specs.Text.{Text}
 use Rattle.broker_types.specs.declared.ask.Verb.TheVariants as verb
 use Rattle.records.specs.CallLaws.{honest_before, goes_further}
 use Rattle.records.specs.Ranges.{IsTokenInRange}
+use Rattle.records.specs.Table.{table_of}
+use Rattle.token_tree.specs.TokenRows.{IsTokenAt}
+use Rattle.broker.proofs.Finishing.{on_ok}
 use Rattle.records.specs.TokenEntry.{TokenEntry, token_entry}
 use Rattle.policies.specs.Grants.{grants}
 use Rattle.policies.specs.declared.capability.Capability.TheVariants as capability
@@ -21,7 +24,7 @@ use Rattle.broker.specs.parts.TokenMaking.{MakesAsked, PutsToken}
 use Rattle.broker.specs.parts.TokenRanges.{IsInRange}
 use Rattle.broker.proofs.Serving.{still_represented}
 use Rattle.broker.proofs.Routes.{on_answer}
-use Rattle.broker.proofs.TokenCreations.{each_pair, parent_named, readable_by, create_refused, create_made, same_may, same_policies_told}
+use Rattle.broker.proofs.TokenCreations.{each_pair, making_for, sudo_before, parent_named, readable_by, create_refused, create_made, same_may, same_policies_told}
 use Rattle.broker.proofs.TokenPolicies.{ArePolicies, IsPolicyName, each_passes, new_policies_are}
 use Rattle.broker.proofs.TokenRecords.{new_in_range, new_policies_short, same_new}
 use Rattle.broker.proofs.TokenRules.{allowed}
@@ -89,10 +92,11 @@ returns-in_err-check-clause-undamaged g c honest named =
     let here : c.context.inside.caller.now ≡ c.args.context.now.caller = ap (λ (x : Context). x.caller) c.context.view_is in
     let mid = honest_before (seen c.find_caller.new.tx) (seen c.has_sudo.new.tx) _ c.in_ok-privileged.ensures.goes_on honest in
     let own = c.deref.ensures.value ∙ ap (λ (e : TokenEntry). e.policies) c.caller.view_is in
+    let making = making_for c.args.orphans in
     on_answer c.from_residual-in_err-check.result (readable_by (seen c.args.tx.now).rows (seen c.find_caller.new.tx).rows
     c.args.context.now.caller c.context.inside.caller.now c.in_ok-caller.field-0 c.in-Some.caller c.deref.result.now here (c.in_ok-caller.ensures.same mid)
     c.in_ok-caller.ensures.in_range (c.in_ok-caller.ensures.found mid (λ none. named (sym here ∙ none))) c.in-Some.is own
-    (c.in_ok-privileged.ensures.readable honest))
+    (c.in_ok-privileged.ensures.found honest making.0 making.1).readable)
 
 pub returns-clause-undamaged : goal.returns-clause-undamaged
 returns-clause-undamaged g c honest named =
@@ -101,10 +105,35 @@ returns-clause-undamaged g c honest named =
     let made = honest_before (seen c.has_sudo.new.tx) (seen c.put.new.tx) _ c.put.ensures.goes_on honest in
     let mid = honest_before (seen c.find_caller.new.tx) (seen c.has_sudo.new.tx) _ c.in_ok-privileged.ensures.goes_on made in
     let own = c.deref.ensures.value ∙ ap (λ (e : TokenEntry). e.policies) c.caller.view_is in
+    let making = making_for c.args.orphans in
     on_answer c.put.result (readable_by (seen c.args.tx.now).rows (seen c.find_caller.new.tx).rows
     c.args.context.now.caller c.context.inside.caller.now c.in_ok-caller.field-0 c.in-Some.caller c.deref.result.now here (c.in_ok-caller.ensures.same mid)
     c.in_ok-caller.ensures.in_range (c.in_ok-caller.ensures.found mid (λ none. named (sym here ∙ none))) c.in-Some.is own
-    (c.in_ok-privileged.ensures.readable made))
+    (c.in_ok-privileged.ensures.found made making.0 making.1).readable)
+
+pub returns-clause-may : goal.returns-clause-may
+returns-clause-may g c honest named m of =
+    let seen = g.T.RecordsTx.seen in
+    let old = (seen c.args.tx.now).rows in
+    let asked = c.args.asked in
+    let e = c.in-Some.caller in
+    let privileged = c.in_ok-privileged.privileged in
+    let here : c.context.inside.caller.now ≡ c.args.context.now.caller = ap (λ (x : Context). x.caller) c.context.view_is in
+    let made = honest_before (seen c.has_sudo.new.tx) (seen c.put.new.tx) _ c.put.ensures.goes_on honest in
+    let mid = honest_before (seen c.find_caller.new.tx) (seen c.has_sudo.new.tx) _ c.in_ok-privileged.ensures.goes_on made in
+    let own = c.deref.ensures.value ∙ ap (λ (e : TokenEntry). e.policies) c.caller.view_is in
+    let given = c.deref-2.ensures.value ∙ c.in_ok-policies.ensures in
+    on_ok c.put.result (record {
+      caller = e;
+      in_range = c.in_ok-caller.ensures.in_range e c.in-Some.is;
+      row = subst (λ (t : Text). IsTokenAt (table_of old) t (Some e)) here
+          (subst (IsTokenAt (table_of old) c.context.inside.caller.now) c.in-Some.is
+          (c.in_ok-caller.ensures.found mid (λ none. named (sym here ∙ none))));
+      privileged = privileged;
+      sudo = sudo_before old (seen c.find_caller.new.tx).rows c.deref.result.now e.policies (making_path m) privileged (c.in_ok-caller.ensures.same mid) own
+          (c.in_ok-privileged.ensures.found made m of);
+      may = (λ i. may_make privileged (of i) (token_told e) (sym given i) asked) ∙ sym c.check.ensures ∙ c.in_ok-check.was;
+    })
 
 pub returns-clause-goes_on : goal.returns-clause-goes_on
 returns-clause-goes_on g c =

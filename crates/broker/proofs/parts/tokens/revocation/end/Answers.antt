@@ -2,6 +2,7 @@ use Rattle.std.proofs.Common.{refl, sym, ap, ◌∙◌, subst, Err}
 use Rattle.std.proofs.lemmas.Result.{err_from_is_err_and}
 use Rattle.broker_types.specs.Broker.{revoke}
 use Rattle.broker_types.specs.Lineage.{without_descendants}
+use Rattle.cubbyhole.specs.Laws.{without_owners}
 use Rattle.records.specs.CallLaws.{honest_before}
 use Rattle.token_tree.specs.Tokens.{AreEnded}
 use Rattle.broker.specs.Forms.{forms}
@@ -44,3 +45,14 @@ returns-clause-undamaged g c honest =
     let revoked = honest_before (seen c.revoke.new.tx) (seen c.drop_cubbyholes.new.tx) _ c.drop_cubbyholes.ensures.call.goes_on honest in
     let ends = c.in_ok-ended.ensures.rows revoked in
     (c.in_ok-ended.ended.items, ends.descent, ends.readable)
+
+pub returns-clause-rows : goal.returns-clause-rows
+returns-clause-rows g c honest =
+    let seen = g.T.RecordsTx.seen in
+    let revoked = honest_before (seen c.revoke.new.tx) (seen c.drop_cubbyholes.new.tx) _ c.drop_cubbyholes.ensures.call.goes_on honest in
+    let ends = c.in_ok-ended.ensures.rows revoked in (
+      c.in_ok-ended.ended.items,
+      ends.descent,
+      ends.readable,
+      c.in_ok-drop_cubbyholes.ensures.rows honest ∙ (λ i. without_owners (ends.rows i) (c.deref.ensures.value i)),
+    )

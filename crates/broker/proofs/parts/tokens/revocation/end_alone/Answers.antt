@@ -2,6 +2,8 @@ use Rattle.std.proofs.Common.{refl, sym, ap, ◌∙◌, subst, Err}
 use Rattle.std.proofs.lemmas.Result.{err_from_is_err_and}
 use Rattle.broker_types.specs.Broker.{revoke_orphan}
 use Rattle.broker_types.specs.Lineage.{without_parent}
+use Rattle.cubbyhole.specs.Laws.{without_owners}
+use Rattle.records.specs.Table.{table_of}
 use Rattle.records.specs.CallLaws.{honest_before}
 use Rattle.token_tree.specs.Tokens.{AreEnded}
 use Rattle.broker.specs.Forms.{forms}
@@ -45,3 +47,14 @@ returns-clause-undamaged g c honest =
     let revoked = honest_before (seen c.revoke_one.new.tx) (seen c.drop_cubbyholes.new.tx) _ c.drop_cubbyholes.ensures.call.goes_on honest in
     readable_alone c.args.token.now (seen c.args.tx.now).rows c.in_ok-ended.ended.items (seen c.revoke_one.new.tx).rows
     (c.in_ok-ended.ensures.rows revoked)
+
+pub returns-clause-rows : goal.returns-clause-rows
+returns-clause-rows g c honest =
+    let seen = g.T.RecordsTx.seen in
+    let revoked = honest_before (seen c.revoke_one.new.tx) (seen c.drop_cubbyholes.new.tx) _ c.drop_cubbyholes.ensures.call.goes_on honest in
+    let alone = (seen c.revoke_one.new.tx).rows in (
+      alone,
+      c.in_ok-ended.ended.items,
+      c.in_ok-ended.ensures.rows revoked,
+      c.in_ok-drop_cubbyholes.ensures.rows honest ∙ ap (without_owners (table_of alone)) c.deref.ensures.value,
+    )
