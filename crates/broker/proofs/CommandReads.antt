@@ -36,7 +36,7 @@ use Rattle.token_tree.specs.Ended.{AllStay, goes, is_named}
 use Rattle.api_json.specs.Json.{body_members}
 use Rattle.api_json.specs.Readers.{token_creation}
 use Rattle.api_json.specs.declared.token_bodies.TokenCreation.{TokenCreation}
-use Rattle.mounts.specs.Calls.{OnAnswer}
+use Rattle.records.specs.Calls.{OnAnswer}
 use Rattle.mounts.specs.MountRows.{IsKnownAt, IsReadableAt}
 use Rattle.mounts.specs.Route.{Route, cut, route_at}
 use Rattle.mounts.specs.declared.operation.Cubbyhole.{Cubbyhole}
@@ -58,7 +58,7 @@ use Rattle.cubbyhole.specs.Objects.{object_key}
 use Rattle.token_tree.specs.Endings.{AreTokenRows, EndsAlone, without_tokens}
 use Rattle.token_tree.specs.TokenRows.{ChangesToken, IsTokenAt, spent_entry, with_entry}
 use Rattle.broker.specs.Ending.{EndsCaller, Expires, HasEnded, IsSpentAt}
-use Rattle.broker.specs.ReadableRow.{IsReadable, IsReadableToken, IsDenied}
+use Rattle.broker.specs.ReadableRow.{IsReadableObject, IsReadableToken, IsDenied}
 use Rattle.broker.specs.PermittedRows.{IsPermittedAt, IsToldForbidden}
 use Rattle.broker.specs.Reads.{AreAtCommand, AreReadable, AreReadableObjects, AreReadablePolicies, AreReadableTokens, AreReadableSecrets, Asks}
 use Rattle.broker.specs.Reads.{IsForbidden}
@@ -198,9 +198,9 @@ ended_or_unspent t old new e =
 -- ---- when it is read
 
 -- a use is spent, and a cubbyhole stays
-pub objects_unspent : (old new : Rows) (t path : Text) → ChangesToken t spent_entry (table_of old) (table_of new) → IsReadable new t path
-    → IsReadable old t path
-objects_unspent old new t path spent r = (r.0, sym (kept spent.entry spent.is) ∙ r.1)
+pub objects_unspent : (old new : Rows) (t path : Text) → ChangesToken t spent_entry (table_of old) (table_of new) → IsReadableObject new t path
+    → IsReadableObject old t path
+objects_unspent old new t path spent r = (r.0, r.1, sym (kept spent.entry spent.is) ∙ r.2)
   where
     kept : (o : Option TokenEntry) → table_of new ≡ with_entry (table_of old) t (option_map spent_entry o)
         → table_of new kind.Cubby (object_key t path) ≡ table_of old kind.Cubby (object_key t path)

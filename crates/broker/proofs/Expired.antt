@@ -39,7 +39,7 @@ use Rattle.cubbyhole.specs.Laws.{without_owners}
 use Rattle.cubbyhole.specs.Objects.{object_key}
 use Rattle.broker.specs.Ending.{of_ended, of_expired, AreTokenLong, HasTokenKeys, KeepsCubbyholes, LosesObjects}
 use Rattle.broker.specs.Forms.{forms}
-use Rattle.broker.specs.ReadableRow.{IsReadable, IsReadableToken, KeepsDamaged}
+use Rattle.broker.specs.ReadableRow.{IsReadableObject, IsReadableToken, KeepsDamaged}
 use Rattle.broker.specs.Representing.{Represents}
 use Rattle.broker.proofs.Clocks.{expired_is, served-at_moment}
 use Rattle.broker.proofs.Ended.{others_kept, neither, left_alone, KeepCubbyholes, ended_long, objects_lost, rows_left}
@@ -194,9 +194,10 @@ readable_token_before old expired new t u keeps same caller readable =
 
 -- a row of a cubbyhole that can be read once tokens have expired can be read before
 pub readable_before : (old expired new : Rows) (t u path : Text) → KeepsCubbyholes old expired → map.get expired (kind.Token, t) ≢ None
-    → new ≡ expired → t ≡ u → IsReadable new u path → IsReadable old t path
+    → new ≡ expired → t ≡ u → IsReadableObject new u path → IsReadableObject old t path
 readable_before old expired new t u path left here same caller readable =
-    let at_t = subst (λ u. IsReadable new u path) (sym caller) readable in (
+    let at_t = subst (λ u. IsReadableObject new u path) (sym caller) readable in (
       at_t.0,
-      sym (left t path here) ∙ ap (λ (rows : Rows). table_of rows kind.Cubby (object_key t path)) (sym same) ∙ at_t.1,
+      at_t.1,
+      sym (left t path here) ∙ ap (λ (rows : Rows). table_of rows kind.Cubby (object_key t path)) (sym same) ∙ at_t.2,
     )

@@ -12,7 +12,6 @@ use Rattle.records.specs.Parts.{KeepsOthers, of_tokens}
 use Rattle.records.specs.Table.{table_of}
 use Rattle.records.specs.Transaction.{Rows}
 use Rattle.cubbyhole.specs.Objects.{object_key}
-use Rattle.broker.specs.ReadableRow.{IsReadable}
 use Rattle.broker.specs.Order.{Wrapped, finish, response_to}
 use Rattle.broker.specs.Representing.{Represents, Gives}
 use Rattle.broker.specs.Stages.{answered_of, counted, HasServed}
@@ -49,7 +48,3 @@ if_ok (Err e) p = tt
 pub on_ok : {T E P : Type 0} (r : Result T E) → P → OnOk r P
 on_ok (Ok x) p = p
 on_ok (Err e) p = tt
-
--- a row of a cubbyhole that can be read once a use was spent can be read before
-pub readable_unspent : (old new : Rows) (t path : Text) → KeepsOthers of_tokens (table_of old) (table_of new) → IsReadable new t path → IsReadable old t path
-readable_unspent old new t path others readable = (readable.0, sym (others kind.Cubby (object_key t path) refl) ∙ readable.1)

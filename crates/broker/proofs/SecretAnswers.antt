@@ -21,7 +21,8 @@ use Rattle.serde_json.specs.Data.{Members}
 use Rattle.api_json.specs.Json.{body_members}
 use Rattle.api_json.specs.Readers as reader
 use Rattle.api_json.specs.declared.secret_bodies.SecretWrite.{SecretWrite}
-use Rattle.records.specs.Parts.{Tells, KeepsOthers, OnRefused, of_secrets}
+use Rattle.records.specs.Calls.{OnRefused}
+use Rattle.records.specs.Parts.{Tells, KeepsOthers, of_secrets}
 use Rattle.records.specs.Table.{table_of}
 use Rattle.records.specs.Transaction.{Rows}
 use Rattle.records.specs.ValueLaws.{ok_inj}

@@ -18,7 +18,7 @@ use Rattle.records.specs.ValueLaws.{ok_inj}
 use Rattle.kv2.specs.SecretRows as kv2
 use Rattle.kv2.specs.SecretRows.{AreChanged, AreReadableVersions, is_key_of}
 use Rattle.kv2.specs.Versions.{is_among}
-use Rattle.mounts.specs.Calls.{OnAnswer}
+use Rattle.records.specs.Calls.{OnAnswer}
 use Rattle.broker.specs.declared.answered.Answered.{Answered}
 use Rattle.broker.specs.parts.SecretCommands.{SecretCommand, read_as}
 

@@ -3,6 +3,7 @@
 use Rattle.std.specs.Prelude.{◌≡◌, ℕ, List, [], None, Option, All}
 use Rattle.std.specs.Option.{option_map_or}
 use Rattle.std.specs.FinMap as map
+use Rattle.broker_types.specs.Sound.{IsShortText}
 use Rattle.broker_types.specs.Text.{Text}
 use Rattle.broker_types.specs.Answer.{Response, refused}
 use Rattle.records.specs.declared.kind.Kind.TheVariants as kind
@@ -24,12 +25,14 @@ use Rattle.broker.specs.Ending.{Expires}
 use Rattle.broker.specs.Order.{permission_denied}
 
 -- the row at the path of t's cubbyhole is that of some object, or there is none
-abbrev pub IsReadable : Rows → Text → Text → Type 0
-IsReadable rows t path = (object : Option Text) × IsObjectAt (table_of rows) t path object
+abbrev pub IsReadableObject : Rows → Text → Text → Type 0
+IsReadableObject rows t path =
+    (object : Option Text) × IsSomeIn IsShortText object × IsObjectAt (table_of rows) t path object
 
 -- the row at the name is that of some policy, or there is none; `root` needs no row
 abbrev pub IsReadablePolicy : Rows → Text → Type 0
-IsReadablePolicy rows name = (text : Option Text) × policies.IsKnownAt (table_of rows) name text
+IsReadablePolicy rows name =
+    (text : Option Text) × IsSomeIn IsShortText text × policies.IsKnownAt (table_of rows) name text
 
 -- The rows that a read of version n of a secret asks for can be read: that of its key is one of a key, or there is
 -- none; and if there is one, so it is with that of the version.

@@ -22,7 +22,7 @@ use Rattle.broker.specs.Command.{Command, on_cubbyhole, on_token, on_secret, on_
 use Rattle.broker.specs.Ending.{Expires}
 use Rattle.broker.specs.Order.{permission_denied}
 use Rattle.broker.specs.PermittedRows.{IsPermittedAt, IsToldForbidden}
-use Rattle.broker.specs.ReadableRow.{IsReadable, IsReadablePolicy, IsReadableSecret, IsReadableToken, IsReadableDescent}
+use Rattle.broker.specs.ReadableRow.{IsReadableObject, IsReadablePolicy, IsReadableSecret, IsReadableToken, IsReadableDescent}
 use Rattle.broker.specs.ReadableRow.{IsDenied}
 use Rattle.broker.specs.parts.Cubbyholes.{CubbyholeCommand, read_object, write_object}
 use Rattle.broker.specs.parts.PolicyCommands.{PolicyCommand, list_policies, show_policy, set_policy, remove_policy}
@@ -36,7 +36,7 @@ use Rattle.broker.specs.parts.TokenCommands.{revoke_accessor, revoke_self, list_
 -- ---- cubbyholes
 
 abbrev pub AreReadableObjects : Rows → Text → CubbyholeCommand → Type 0
-AreReadableObjects rows caller (read_object path) = IsReadable rows caller path
+AreReadableObjects rows caller (read_object path) = IsReadableObject rows caller path
 AreReadableObjects rows caller (write_object path _) = ⊤
 
 -- ---- tokens

@@ -1,9 +1,7 @@
 -- Cubbyholes as rows: each object has one, at its token, a slash and its path (this project's row format).
-use Rattle.std.specs.Prelude.{◌≡◌, ◌++◌, List, [], ◌∷◌, false, length, Option, Some, option_map, ⊤}
+use Rattle.std.specs.Prelude.{◌≡◌, ◌++◌, List, [], ◌∷◌, false, length, Option, Some, option_map}
 use Rattle.broker_types.specs.Text.{Text}
 use Rattle.broker_types.specs.Sound.{IsShortText}
-use Rattle.broker_types.specs.declared.fault.Fault.{Fault}
-use Rattle.broker_types.specs.declared.fault.Fault.TheVariants.{Memory, Storage, Damaged, BadStart}
 use Rattle.records.specs.declared.kind.Kind.{Kind}
 use Rattle.records.specs.declared.kind.Kind.TheVariants as kind
 use Rattle.records.specs.declared.row.Row.{Row}
@@ -30,13 +28,6 @@ IsObjectAt rows t path object = rows kind.Cubby (object_key t path) ≡ option_m
 -- the row at the path of t's cubbyhole is no row of an object
 abbrev pub IsDamagedAt : Table → Text → Text → Type 0
 IsDamagedAt rows t path = (object : Option Text) → IsSomeIn IsShortText object → IsObjectAt rows t path object → ⊥
-
--- memory ran out, the storage failed, or the row is damaged and the fact holds
-abbrev pub IsReadFault : Type 0 → Fault → Type 0
-IsReadFault P Memory = ⊤
-IsReadFault P Storage = ⊤
-IsReadFault P Damaged = P
-IsReadFault P BadStart = ⊥
 
 -- the children of a folder among the keys of t's cubbyhole
 abbrev pub children_in : Rows → Text → Text → List Text

@@ -5,14 +5,15 @@ ghost use Rattle.broker_types.specs.Broker.{Broker};
 ghost use Rattle.broker_types.specs.Fault.{IsMemoryOrStorage};
 ghost use Rattle.broker_types.specs.Sound.{Forms, SoundTokens, IsShortText};
 ghost use Rattle.records.specs.declared.kind.Kind.TheVariants as kind;
+ghost use Rattle.records.specs.Calls.{IsReadFault};
 ghost use Rattle.records.specs.Parts.{of_cubbyholes, Tells};
-ghost use Rattle.records.specs.Reading.{Reads, shown};
+ghost use Rattle.records.specs.Reading.{IsSomeIn, Reads, shown};
 ghost use Rattle.records.specs.RowForms.{cubby_row};
 ghost use Rattle.records.specs.Rows.{token_len};
 ghost use Rattle.records.specs.Transaction.{IsHonest, GoesOn, IsCall, is_storage};
 ghost use Rattle.cubbyhole.specs.Cubbyhole as cubbyhole;
 ghost use Rattle.cubbyhole.specs.Objects as objects;
-ghost use Rattle.cubbyhole.specs.Objects.{table, children_in, IsObjectAt, IsDamagedAt, IsReadFault};
+ghost use Rattle.cubbyhole.specs.Objects.{table, children_in, IsObjectAt, IsDamagedAt};
 
 use crate::keys::{folder_key, object_key};
 use broker_types::{Fault, TextBuf};
@@ -41,6 +42,7 @@ pub fn read<T: RecordsTx>(
     path: &str,
 ) -> Result<Option<TextBuf>, Fault>
     ensures found { IsHonest (T.seen tx.new) → IfOk result (IsObjectAt (table (T.seen tx.old)) token.now path.now) }
+    ensures short { IfOk result (IsSomeIn IsShortText) }
     ensures told { IsHonest (T.seen tx.new) → (b : Broker) → Tells of_cubbyholes (table (T.seen tx.old)) b
         → length token.now ≡ token_len → IfOk result (λ object. object ≡ cubbyhole.object_at b token.now path.now) }
     ensures same { IsHonest (T.seen tx.new) → OnOk result ((T.seen tx.new).rows ≡ (T.seen tx.old).rows) }

@@ -75,12 +75,6 @@ abbrev pub AreReadable : Table → Text → Text → Type 0
 AreReadable rows mount name =
     (m : Option Mount) × HasMount rows mount m × (m ≢ None → IsReadableKey rows name)
 
--- it is so if the write was answered or refused
-abbrev pub OnAnswer : {A : Type 0} → Result A RequestError → Type 0 → Type 0
-OnAnswer (Ok x) P = P
-OnAnswer (Err (Refused r)) P = P
-OnAnswer (Err (Given f)) P = ⊤
-
 -- how the keys of a name's versions begin
 abbrev pub versions_prefix : Text → Text
 versions_prefix name = name ++ line_feed ∷ []

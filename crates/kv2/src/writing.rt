@@ -5,12 +5,13 @@ ghost use Rattle.broker_types.specs.Broker.{Broker, Mount};
 ghost use Rattle.broker_types.specs.Limits.{greatest_version};
 ghost use Rattle.broker_types.specs.RequestError.{Ends, step_fails};
 ghost use Rattle.broker_types.specs.Sound.{Forms, SoundSecrets, SoundMounts, IsPathText};
+ghost use Rattle.records.specs.Calls.{OnAnswer, OnRefused};
 ghost use Rattle.records.specs.KeyEntry.{KeyEntry};
-ghost use Rattle.records.specs.Parts.{of_secrets, of_mounts, Tells, OnRefused};
+ghost use Rattle.records.specs.Parts.{of_secrets, of_mounts, Tells};
 ghost use Rattle.records.specs.Table.{table_of};
 ghost use Rattle.records.specs.Transaction.{IsHonest, GoesOn, IsCall};
 ghost use Rattle.kv2.specs.SecretRows as rows;
-ghost use Rattle.kv2.specs.SecretRows.{HasKey, HasMount, KeepsOtherNames, IsStarted, OnAnswer, AreReadable};
+ghost use Rattle.kv2.specs.SecretRows.{HasKey, HasMount, KeepsOtherNames, IsStarted, AreReadable};
 ghost use Rattle.kv2.specs.Secrets as secrets;
 ghost use Rattle.kv2.specs.Versions as versions;
 

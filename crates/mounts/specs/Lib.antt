@@ -1,4 +1,3 @@
-pub mod Calls
 pub mod Forms
 pub mod Laws
 pub mod MountRows

@@ -8,7 +8,7 @@ ghost use Rattle.records.specs.Engines.{engine_of};
 ghost use Rattle.records.specs.Parts.{of_mounts, KeepsOthers};
 ghost use Rattle.records.specs.Table.{table_of};
 ghost use Rattle.records.specs.Transaction.{IsHonest};
-ghost use Rattle.mounts.specs.Calls.{IsRequestCall};
+ghost use Rattle.records.specs.Calls.{IsRequestCall};
 ghost use Rattle.mounts.specs.MountRows as rows;
 ghost use Rattle.mounts.specs.MountRows.{AreMounts};
 ghost use Rattle.mounts.specs.Mounts as spec;

@@ -9,7 +9,7 @@ ghost use Rattle.broker_types.specs.Path.{is_path};
 ghost use Rattle.broker_types.specs.RequestError.{Ends, step_fails};
 ghost use Rattle.records.specs.Table.{table_of};
 ghost use Rattle.records.specs.Transaction.{IsHonest, GoesOn, is_storage};
-ghost use Rattle.mounts.specs.Calls.{OnAnswer, OnFault};
+ghost use Rattle.records.specs.Calls.{OnAnswer, OnFault};
 ghost use Rattle.mounts.specs.Forms as forms;
 ghost use Rattle.mounts.specs.MountRows.{IsKnownAt, IsReadableAt, IsDamagedAt, AreMounts};
 ghost use Rattle.mounts.specs.Table.{takes_parameter};

@@ -7,11 +7,12 @@ use Rattle.broker_types.specs.Sound.{SoundPolicies, IsShortText}
 use Rattle.broker_types.specs.Text.{Text}
 use Rattle.broker_types.specs.declared.fault.Fault.{Fault}
 use Rattle.broker_types.specs.declared.fault.Fault.TheVariants.{Memory, Storage, Damaged, BadStart}
+use Rattle.records.specs.Calls.{IsReadFault}
 use Rattle.records.specs.Reading.{IsSomeIn}
 use Rattle.records.specs.Table.{Table}
 use Rattle.policies.specs.Policies.{is_root, text_of}
 use Rattle.policies.specs.PolicyLaws.{one_policy}
-use Rattle.policies.specs.PolicyRows.{IsPolicyAt, ArePolicies, IsReadFault}
+use Rattle.policies.specs.PolicyRows.{IsPolicyAt, ArePolicies}
 use Rattle.policies.specs.Reading.{policy_forms}
 
 -- the text that is told is that of the policy

@@ -1,5 +1,4 @@
 pub mod Allows
-pub mod Calls
 pub mod Examples
 pub mod Grants
 pub mod Laws

@@ -1,13 +1,11 @@
 -- Policies as rows: each has one, at its name (this project's row format).
 use Rattle.std.specs.Prelude.{◌≡◌, List, [], ◌∷◌, false, if◌then◌else◌, Option, Some, None}
-use Rattle.std.specs.Prelude.{option_map, Result, Ok, All, ⊤}
+use Rattle.std.specs.Prelude.{option_map, Result, Ok, All}
 use Rattle.std.specs.Ordering.{is_lt}
 use Rattle.broker_types.specs.Map.{Map, get}
 use Rattle.broker_types.specs.Refuse.{◌>>=◌}
 use Rattle.broker_types.specs.Sound.{IsShortText}
 use Rattle.broker_types.specs.Text.{Text, text_cmp}
-use Rattle.broker_types.specs.declared.fault.Fault.{Fault}
-use Rattle.broker_types.specs.declared.fault.Fault.TheVariants.{Memory, Storage, Damaged, BadStart}
 use Rattle.broker_types.specs.declared.refusal.Refusal.{Refusal}
 use Rattle.records.specs.declared.kind.Kind.TheVariants as kind
 use Rattle.records.specs.Reading.{IsSomeIn}
@@ -58,13 +56,6 @@ IsKnownAt rows name text = is_root name ≡ false → IsPolicyAt rows name text
 -- the row at a name is that of no policy, and the name is not `root`
 abbrev pub IsDamagedAt : Table → Text → Type 0
 IsDamagedAt rows name = (text : Option Text) → IsSomeIn IsShortText text → IsKnownAt rows name text → ⊥
-
--- memory ran out, the storage failed, or a row is damaged and the fact holds
-abbrev pub IsReadFault : Type 0 → Fault → Type 0
-IsReadFault P Memory = ⊤
-IsReadFault P Storage = ⊤
-IsReadFault P Damaged = P
-IsReadFault P BadStart = ⊥
 
 -- the rules of a text that is kept; a policy that is not there has none
 abbrev pub kept_rules : Option Text → Option (List Rule)

@@ -6,11 +6,12 @@ ghost use Rattle.broker_types.specs.Text.{Text};
 ghost use Rattle.broker_types.specs.Fault.{IsMemoryOrStorage};
 ghost use Rattle.broker_types.specs.Map.{Map, get};
 ghost use Rattle.broker_types.specs.Sound.{SoundPolicies};
+ghost use Rattle.records.specs.Calls.{IsReadFault};
 ghost use Rattle.records.specs.Transaction.{IsHonest, GoesOn, is_storage};
 ghost use Rattle.policies.specs.Grants as spec;
 ghost use Rattle.policies.specs.Policies as policies;
 ghost use Rattle.policies.specs.PolicyRows.{table, IsPolicyAt, ArePoliciesAt, GivesRules};
-ghost use Rattle.policies.specs.PolicyRows.{IsReadable, IsUnreadable, IsReadFault};
+ghost use Rattle.policies.specs.PolicyRows.{IsReadable, IsUnreadable};
 ghost use Rattle.policies.specs.Reading.{policy_of, is_policy, policy_forms};
 
 use crate::keeping::kept_text;

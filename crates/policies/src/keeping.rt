@@ -7,13 +7,13 @@ ghost use Rattle.broker_types.specs.RequestError.{Ends};
 ghost use Rattle.broker_types.specs.Sound.{SoundPolicies, IsShortText};
 ghost use Rattle.broker_types.specs.Text.{Text};
 ghost use Rattle.api_json.specs.Reads.{IsRead};
+ghost use Rattle.records.specs.Calls.{IsReadFault, IsRequestCall};
 ghost use Rattle.records.specs.Reading.{IsSomeIn};
 ghost use Rattle.records.specs.Parts.{of_policies, KeepsOthers};
 ghost use Rattle.records.specs.Transaction.{IsHonest, GoesOn, is_storage};
-ghost use Rattle.policies.specs.Calls.{IsRequestCall};
 ghost use Rattle.policies.specs.Policies as spec;
 ghost use Rattle.policies.specs.PolicyRows as rows;
-ghost use Rattle.policies.specs.PolicyRows.{table, ArePolicies, IsPolicyAt, IsDamagedAt, IsReadFault};
+ghost use Rattle.policies.specs.PolicyRows.{table, ArePolicies, IsPolicyAt, IsDamagedAt};
 ghost use Rattle.policies.specs.Reading.{policy_forms};
 
 use crate::naming::{is_fixed, is_name, is_root};
@@ -91,6 +91,7 @@ pub fn get<T: RecordsTx>(alloc: Global, tx: &mut T, name: &str) -> Result<Option
     ensures root { spec.is_root name.now ≡ true → IfOk result (λ text. text ≡ Some []) }
     ensures found { IsHonest (T.seen tx.new) → spec.is_root name.now ≡ false
         → IfOk result (IsPolicyAt (table (T.seen tx.old)) name.now) }
+    ensures short { IfOk result (IsSomeIn IsShortText) }
     ensures told { IsHonest (T.seen tx.new) → (policies : Map Text) → ArePolicies (table (T.seen tx.old)) policies
         → IfOk result (λ text. text ≡ spec.text_of policies name.now) }
     ensures same { IsHonest (T.seen tx.new) → OnOk result ((T.seen tx.new).rows ≡ (T.seen tx.old).rows) }

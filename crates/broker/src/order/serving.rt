@@ -9,7 +9,7 @@ ghost use Rattle.broker_types.specs.RequestError.{Ends, step_fails};
 ghost use Rattle.records.specs.Table.{table_of};
 ghost use Rattle.records.specs.Transaction.{IsHonest, GoesOn, Rows};
 ghost use Rattle.token_tree.specs.TokenRows.{ChangesToken, spent_entry};
-ghost use Rattle.mounts.specs.Calls.{OnAnswer, OnFault};
+ghost use Rattle.records.specs.Calls.{OnAnswer, OnFault};
 ghost use Rattle.mounts.specs.MountRows.{IsReadableAt};
 ghost use Rattle.mounts.specs.Route.{cut};
 ghost use Rattle.broker.specs.ClockRow.{IsNotBadStart};

@@ -5,14 +5,14 @@ ghost use Rattle.broker_types.specs.Limits.{longest_body};
 ghost use Rattle.broker_types.specs.Path.{is_path};
 ghost use Rattle.broker_types.specs.RequestError.{step_fails};
 ghost use Rattle.records.specs.Transaction.{IsHonest, GoesOn};
-ghost use Rattle.mounts.specs.Calls.{OnAnswer, OnFault};
+ghost use Rattle.records.specs.Calls.{OnAnswer, OnFault};
 ghost use Rattle.mounts.specs.Table.{takes_parameter};
 ghost use Rattle.mounts.specs.declared.operation.Cubbyhole.TheVariants as operations;
 ghost use Rattle.mounts.specs.declared.operation.Operation.TheVariants.{Cubbyholes};
 ghost use Rattle.broker.specs.ClockRow.{IsNotBadStart};
 ghost use Rattle.broker.specs.Command.{on_cubbyhole, on_cubbyholes};
 ghost use Rattle.broker.specs.Operating.{Operates};
-ghost use Rattle.broker.specs.ReadableRow.{IsReadable};
+ghost use Rattle.broker.specs.ReadableRow.{IsReadableObject};
 ghost use Rattle.broker.specs.Reads.{AreReadableObjects};
 ghost use Rattle.broker.specs.parts.Cubbyholes as part;
 
@@ -62,7 +62,7 @@ fn read<T: RecordsTx>(
 
     // Whatever the rows are: a damaged row is answered neither as an object nor as an absent one.
     ensures undamaged { IsHonest (T.seen tx.new)
-        → OnAnswer result (IsReadable (T.seen tx.old).rows context.now.caller path.now) }
+        → OnAnswer result (IsReadableObject (T.seen tx.old).rows context.now.caller path.now) }
     ensures started { OnFault result IsNotBadStart }
     ensures goes_on { GoesOn (T.seen tx.old) (T.seen tx.new) (step_fails result) }
 {

@@ -6,7 +6,7 @@ ghost use Rattle.broker_types.specs.Name.{is_mount_name};
 ghost use Rattle.broker_types.specs.Path.{is_path};
 ghost use Rattle.broker_types.specs.RequestError.{step_fails};
 ghost use Rattle.records.specs.Transaction.{IsHonest, GoesOn};
-ghost use Rattle.mounts.specs.Calls.{OnAnswer, OnFault};
+ghost use Rattle.records.specs.Calls.{OnAnswer, OnFault};
 ghost use Rattle.mounts.specs.Table.{takes_path};
 ghost use Rattle.broker.specs.ClockRow.{IsNotBadStart};
 ghost use Rattle.broker.specs.Command.{on_secrets};

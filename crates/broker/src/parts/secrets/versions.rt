@@ -6,7 +6,7 @@ ghost use Rattle.broker_types.specs.Path.{is_path};
 ghost use Rattle.broker_types.specs.RequestError.{step_fails};
 ghost use Rattle.records.specs.Transaction.{IsHonest, GoesOn};
 ghost use Rattle.api_json.specs.Readers.{version_number};
-ghost use Rattle.mounts.specs.Calls.{OnAnswer, OnFault};
+ghost use Rattle.records.specs.Calls.{OnAnswer, OnFault};
 ghost use Rattle.mounts.specs.declared.operation.SecretOperation.TheVariants as operations;
 ghost use Rattle.broker.specs.ClockRow.{IsNotBadStart};
 ghost use Rattle.broker.specs.Command.{on_secrets};

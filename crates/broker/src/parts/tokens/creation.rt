@@ -19,7 +19,7 @@ ghost use Rattle.records.specs.TokenEntry.{token_entry};
 ghost use Rattle.records.specs.Transaction.{IsHonest, GoesOn, is_storage};
 ghost use Rattle.token_tree.specs.TokenRows.{IsTokenAt};
 ghost use Rattle.api_json.specs.Kept.{IsKeptCreation};
-ghost use Rattle.mounts.specs.Calls.{OnAnswer, OnFault};
+ghost use Rattle.records.specs.Calls.{OnAnswer, OnFault};
 ghost use Rattle.mounts.specs.declared.operation.TokenOperation.TheVariants as operations;
 ghost use Rattle.policies.specs.Grants.{grants};
 ghost use Rattle.policies.specs.declared.capability.Capability.TheVariants as capability;

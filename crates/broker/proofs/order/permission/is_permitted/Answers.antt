@@ -11,7 +11,7 @@ use Rattle.records.specs.ValueLaws.{none_of}
 use Rattle.token_tree.specs.TokenRows.{IsTokenAt}
 use Rattle.api_json.specs.Kept.{is_object}
 use Rattle.policies.specs.Grants.{rules_of}
-use Rattle.policies.specs.PolicyRows.{IsReadFault}
+use Rattle.records.specs.Calls.{IsReadFault}
 use Rattle.policies.specs.Rules.{Rules}
 use Rattle.broker.specs.Capabilities as capabilities
 use Rattle.broker.specs.Capabilities.{asked_by, has_stored}

@@ -5,7 +5,7 @@ use Rattle.records.specs.Transaction.{Rows}
 use Rattle.broker_types.specs.Map.{get}
 use Rattle.broker_types.specs.declared.request_error.RequestError.TheVariants.{Refused}
 use Rattle.broker_types.specs.Names.{names_of}
-use Rattle.mounts.specs.Calls.{OnAnswer}
+use Rattle.records.specs.Calls.{OnAnswer}
 use Rattle.broker.specs.Command.{Command}
 use Rattle.broker.specs.Context.{Context}
 use Rattle.broker.specs.Permission.{permits}

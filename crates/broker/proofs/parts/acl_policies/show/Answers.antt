@@ -52,7 +52,7 @@ returns-clause-ok g c honest b starts =
     )
 
 pub returns-in_default-clause-undamaged : goal.returns-in_default-clause-undamaged
-returns-in_default-clause-undamaged g c honest = (c.in_ok-text.field-0, c.in_ok-text.ensures.found honest)
+returns-in_default-clause-undamaged g c honest = (c.in_ok-text.field-0, c.in_ok-text.ensures.short, c.in_ok-text.ensures.found honest)
 
 pub returns-clause-undamaged : goal.returns-clause-undamaged
-returns-clause-undamaged g c honest = (c.in_ok-text.field-0, c.in_ok-text.ensures.found honest)
+returns-clause-undamaged g c honest = (c.in_ok-text.field-0, c.in_ok-text.ensures.short, c.in_ok-text.ensures.found honest)

@@ -12,7 +12,7 @@ use Rattle.records.specs.Parts.{Tells, of_secrets, of_mounts}
 use Rattle.records.specs.Table.{table_of}
 use Rattle.kv2.specs.Secrets as secrets
 use Rattle.kv2.specs.Secrets.{Written}
-use Rattle.mounts.specs.Calls.{OnAnswer}
+use Rattle.records.specs.Calls.{OnAnswer}
 use Rattle.broker.specs.Context.{Context}
 use Rattle.broker.specs.Forms.{forms}
 use Rattle.broker.specs.Reads.{AreReadableSecrets}

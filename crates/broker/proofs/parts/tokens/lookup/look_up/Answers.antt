@@ -1,7 +1,7 @@
 use Rattle.std.proofs.Common.{Ok, sym, ap, ◌∙◌, subst}
 use Rattle.api_json.specs.Parsed.{members_of}
 use Rattle.api_json.specs.Readers as reader
-use Rattle.mounts.specs.Calls.{OnAnswer}
+use Rattle.records.specs.Calls.{OnAnswer}
 use Rattle.broker.specs.Reads.{AreReadableTokens}
 use Rattle.broker.specs.parts.TokenCommands.{lookup_token}
 use Rattle.broker.proofs.CommandReads.{meant_as}

@@ -9,7 +9,7 @@ use Rattle.broker.proofs.Expired.{represents_tokens}
 use Rattle.broker.proofs.Serving.{still_represented}
 use Rattle.broker.proofs.TokenLookups.{acts_by_accessor, acts_no_accessor}
 use Rattle.api_json.specs.Readers as reader
-use Rattle.mounts.specs.Calls.{OnAnswer}
+use Rattle.records.specs.Calls.{OnAnswer}
 use Rattle.records.specs.Transaction.{Rows}
 use Rattle.broker.specs.ReadableRow.{IsReadableToken}
 use Rattle.broker.specs.Reads.{AreReadableTokens, IfNamed}

@@ -13,7 +13,7 @@ use Rattle.broker.proofs.Expired.{represents_tokens}
 use Rattle.broker.proofs.Revocations.{acts_on_named, ended_if_found}
 use Rattle.broker.proofs.Serving.{still_represented}
 use Rattle.api_json.specs.Readers as reader
-use Rattle.mounts.specs.Calls.{OnAnswer}
+use Rattle.records.specs.Calls.{OnAnswer}
 use Rattle.records.specs.Transaction.{Rows}
 use Rattle.broker.specs.ReadableRow.{IsReadableDescent}
 use Rattle.broker.specs.Reads.{AreReadableTokens, IfNamed}

@@ -1,6 +1,6 @@
 use Rattle.std.proofs.Common.{ap, subst}
 use Rattle.api_json.specs.Parsed.{members_of}
-use Rattle.mounts.specs.Calls.{OnAnswer}
+use Rattle.records.specs.Calls.{OnAnswer}
 use Rattle.broker.specs.Context.{Context}
 use Rattle.broker.specs.ReadableRow.{IsReadableDescent}
 use Rattle.broker.specs.Reads.{AreReadableTokens}
