@@ -7,6 +7,8 @@ mod bodies;
 #[cfg(test)]
 mod cubbyholes;
 #[cfg(test)]
+mod damaged;
+#[cfg(test)]
 mod messages;
 #[cfg(test)]
 mod permissions;

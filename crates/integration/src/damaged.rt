@@ -1,0 +1,84 @@
+//! Damaged rows: each call that reads one tells it, and as no other fault.
+
+use broker_types::{Bytes, Fault, Moment, RequestError, TextBuf, Verb};
+use records::{Kind, ListRecords, ListTx, RecordsTx, Row};
+use std::alloc::Global;
+use std::test::Fail;
+
+/// The bodies of no row: that without bytes, and one of a format that there is not.
+const BODIES: [&str; 2] = ["", "\t"];
+
+/// A transaction with one row, which has this body.
+fn with_row(alloc: Global, kind: Kind, key: &str, body: &str) -> Result<ListTx, Fault> {
+    let mut tx = ListRecords::new(alloc).begin()?;
+    let mut bytes = Vec::new(alloc);
+    bytes.extend_from_slice(body.as_bytes())?;
+    let row = Row {
+        owner: TextBuf::copied(alloc, "")?,
+        due: None,
+        body: Bytes::new(bytes),
+    };
+    tx.put(kind, key, row)?;
+    Ok(tx)
+}
+
+#[test]
+fn rows_of_tokens(rt: HostRuntime) -> Result<(), Fail> {
+    let alloc = rt.alloc();
+    for body in BODIES {
+        let mut tx = with_row(alloc, Kind::Token, "t", body)?;
+        assert!(rt; matches!(token_tree::find(alloc, &mut tx, "t"), Err(Fault::Damaged)));
+        assert!(rt; matches!(token_tree::spend(alloc, &mut tx, "t"), Err(Fault::Damaged)));
+        assert!(rt; matches!(token_tree::revoke(alloc, &mut tx, "t"), Err(Fault::Damaged)));
+        let mut alone = with_row(alloc, Kind::Token, "t", body)?;
+        assert!(rt;
+            matches!(
+                token_tree::revoke_one(alloc, &mut alone, "t"),
+                Err(Fault::Damaged)
+            )
+        );
+    }
+    Ok(())
+}
+
+#[test]
+fn rows_of_accessors(rt: HostRuntime) -> Result<(), Fail> {
+    let alloc = rt.alloc();
+    for body in BODIES {
+        let mut tx = with_row(alloc, Kind::Accessor, "a", body)?;
+        assert!(rt; matches!(token_tree::find_accessor(&mut tx, "a"), Err(Fault::Damaged)));
+        assert!(rt; matches!(token_tree::accessors(alloc, &mut tx), Err(Fault::Damaged)));
+    }
+    Ok(())
+}
+
+#[test]
+fn rows_of_mounts(rt: HostRuntime) -> Result<(), Fail> {
+    let alloc = rt.alloc();
+    for body in BODIES {
+        let mut tx = with_row(alloc, Kind::Mount, "team", body)?;
+        let found = mounts::route(alloc, &mut tx, Verb::Get, "team/data/a");
+        assert!(rt; matches!(found, Err(RequestError::Fault(Fault::Damaged))));
+        assert!(rt; matches!(mounts::list(alloc, &mut tx), Err(Fault::Damaged)));
+        assert!(rt; matches!(kv2::config(&mut tx, "team"), Err(Fault::Damaged)));
+        let set = kv2::set_config(alloc, &mut tx, "team", None, Some(3));
+        assert!(rt; matches!(set, Err(Fault::Damaged)));
+        let now = Moment::new(1000).ok_or("no moment")?;
+        let written = kv2::write(alloc, &mut tx, now, "team", "a", None, "{}");
+        assert!(rt; matches!(written, Err(RequestError::Fault(Fault::Damaged))));
+    }
+    Ok(())
+}
+
+#[test]
+fn rows_of_policies(rt: HostRuntime) -> Result<(), Fail> {
+    let alloc = rt.alloc();
+    for body in BODIES {
+        let mut tx = with_row(alloc, Kind::Policy, "p", body)?;
+        assert!(rt; matches!(policies::get(alloc, &mut tx, "p"), Err(Fault::Damaged)));
+        let names = [TextBuf::copied(alloc, "p")?];
+        let rules = policies::rules_of(alloc, &mut tx, &names, Verb::Get);
+        assert!(rt; matches!(rules, Err(Fault::Damaged)));
+    }
+    Ok(())
+}
