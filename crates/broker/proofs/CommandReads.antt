@@ -32,7 +32,7 @@ use Rattle.records.specs.Table.{Table, table_of}
 use Rattle.records.specs.TokenEntry.{TokenEntry}
 use Rattle.records.specs.Transaction.{Rows, rows_under}
 use Rattle.records.specs.ValueLaws.{ok_inj}
-use Rattle.token_tree.specs.Ended.{AllStay, goes, is_named}
+use Rattle.token_tree.specs.Ended.{AllStay, goes, is_named, of_owner}
 use Rattle.api_json.specs.Json.{body_members}
 use Rattle.api_json.specs.Readers.{token_creation}
 use Rattle.api_json.specs.declared.token_bodies.TokenCreation.{TokenCreation}
@@ -148,7 +148,7 @@ stays_named t ended (e ∷ es) all row found =
           elim (has ended e.0.1) as (λ v. has ended e.0.1 ≡ v → has ended t ≡ true) [
             | true ↦ λ among. ap (has ended) is ∙ among
             | false ↦ λ apart. absurd (true≢false
-                (sym ((λ i. not (apart i) && (((same-text_cmp t e.0.1 ∙ one) i) || has ended e.1.owner))) ∙ all.0))
+                (sym ((λ i. not (apart i) && (((same-text_cmp t e.0.1 ∙ one) i) || of_owner (has ended) e.1.owner))) ∙ all.0))
           ] refl
       | false ↦ λ _ later. stays_named t ended es all.1 row later
     ] refl found

@@ -1,5 +1,5 @@
 -- What the passes collect is what ends: what does so by itself, and each child of what ends.
-use Rattle.std.specs.Prelude.{◌≡◌, ℕ, zero, suc, List, [], Bool, true, false, not, ◌&&◌, ◌||◌, nat_lt, nat_le, Option, Some, None, unwrap_or, is_none}
+use Rattle.std.specs.Prelude.{◌≡◌, ℕ, zero, suc, List, [], ◌∷◌, Bool, true, false, not, ◌&&◌, ◌||◌, nat_lt, nat_le, Option, Some, None, unwrap_or, is_none}
 use Rattle.std.specs.Prelude.{option_and_then}
 use Rattle.std.specs.List.{list_any, list_all}
 use Rattle.std.specs.Option.{option_map_or}
@@ -13,7 +13,7 @@ use Rattle.std.proofs.lemmas.Bool.{false≢true, or_left, or_right}
 use Rattle.broker_types.specs.OptionLaws.{found_or_not}
 use Rattle.broker_types.specs.TreeLaws.{lineage_none, lineage_orphan, lineage_child}
 use Rattle.records.specs.Children.{has}
-use Rattle.token_tree.specs.Ended.{goes, has_come, is_named, IsDescent, Start}
+use Rattle.token_tree.specs.Ended.{goes, of_owner, has_come, is_named, IsDescent, Start}
 use Rattle.token_tree.proofs.Listed.{node, listing, each_listed, listed_at}
 
 -- the texts that end by a start
@@ -26,6 +26,11 @@ both_ways true b f g = sym (f refl)
 both_ways false true f g = g refl
 both_ways false false f g = refl
 
+-- what holds of an owner holds of its text
+owned : (p : Text → Bool) (o : Text) → of_owner p o ≡ true → p o ≡ true
+owned p [] h = absurd (false≢true h)
+owned p (c ∷ o) h = h
+
 is_nothing : {X : Type 0} (o : Option X) → is_none o ≡ true → o ≡ None
 is_nothing None h = refl
 is_nothing (Some x) h = absurd (false≢true h)
@@ -35,15 +40,20 @@ module _ (ts : Tokens) (s : Start) (gone : Text → Bool) (fate : IsFate ts s go
   starts_at : (t : Text) (x : Token) → get ts t ≡ Some x → s (node t x) ≡ true → gone t ≡ true
   starts_at t x is h = fate.known t x is ∙ or_left _ _ h
 
-  closed_at : (t : Text) (x : Token) → get ts t ≡ Some x → gone (unwrap_or x.parent []) ≡ true → gone t ≡ true
+  closed_at : (t : Text) (x : Token) → get ts t ≡ Some x → of_owner gone (unwrap_or x.parent []) ≡ true → gone t ≡ true
   closed_at t x is h =
-      elim (x.parent) as (λ p. x.parent ≡ p → gone (unwrap_or p []) ≡ true → gone t ≡ true) [
-        | None ↦ λ _ v. absurd (false≢true (sym (fate.unknown [] unnamed) ∙ v))
-        | Some p ↦ λ ip v. fate.known t x is ∙ or_right (s (node t x)) _ (ap (λ o. option_map_or gone o false) ip ∙ v)
+      elim (x.parent) as (λ p. x.parent ≡ p → of_owner gone (unwrap_or p []) ≡ true → gone t ≡ true) [
+        | None ↦ λ _ v. absurd (false≢true v)
+        | Some p ↦ λ ip v. fate.known t x is ∙ or_right (s (node t x)) _ (ap (λ o. option_map_or gone o false) ip ∙ owned gone p v)
       ] refl h
 
+  -- what is gone has a text, so its children are its own
+  named : (p : Text) → gone p ≡ true → has ended p ≡ true → of_owner (has ended) p ≡ true
+  named [] v e = absurd (false≢true (sym (fate.unknown [] unnamed) ∙ v))
+  named (c ∷ p) v e = e
+
   -- a child of what ended, and what ends by itself
-  into : (q : Text) (x : Token) → get ts q ≡ Some x → (s (node q x) || has ended (unwrap_or x.parent [])) ≡ true → has ended q ≡ true
+  into : (q : Text) (x : Token) → get ts q ≡ Some x → (s (node q x) || of_owner (has ended) (unwrap_or x.parent [])) ≡ true → has ended q ≡ true
   into q x is moves = settle _ _ (listed_at ts (λ e. goes s ended e ≡ false) q x is down.stay) moves
     where
       settle : (a b : Bool) → (not a && b) ≡ false → b ≡ true → a ≡ true
@@ -52,13 +62,13 @@ module _ (ts : Tokens) (s : Start) (gone : Text → Bool) (fate : IsFate ts s go
 
   moved : (q : Text) (x : Token) (within : Text → Bool) → ((p : Text) → within p ≡ true → gone p ≡ true → has ended p ≡ true)
       → option_map_or within x.parent true ≡ true
-      → (s (node q x) || option_map_or gone x.parent false) ≡ true → (s (node q x) || has ended (unwrap_or x.parent [])) ≡ true
+      → (s (node q x) || option_map_or gone x.parent false) ≡ true → (s (node q x) || of_owner (has ended) (unwrap_or x.parent [])) ≡ true
   moved q x within later above v =
-      elim (s (node q x)) as (λ b. (b || option_map_or gone x.parent false) ≡ true → (b || has ended (unwrap_or x.parent [])) ≡ true) [
+      elim (s (node q x)) as (λ b. (b || option_map_or gone x.parent false) ≡ true → (b || of_owner (has ended) (unwrap_or x.parent [])) ≡ true) [
         | true ↦ λ _. refl
-        | false ↦ λ w. elim (x.parent) as (λ p. option_map_or within p true ≡ true → option_map_or gone p false ≡ true → has ended (unwrap_or p []) ≡ true) [
+        | false ↦ λ w. elim (x.parent) as (λ p. option_map_or within p true ≡ true → option_map_or gone p false ≡ true → of_owner (has ended) (unwrap_or p []) ≡ true) [
           | None ↦ λ _ e. absurd (false≢true e)
-          | Some p ↦ λ a e. later p a e
+          | Some p ↦ λ a e. named p e (later p a e)
         ] above w
       ] v
 
@@ -76,7 +86,7 @@ module _ (ts : Tokens) (s : Start) (gone : Text → Bool) (fate : IsFate ts s go
   fated q =
       both_ways _ _
       (down.least gone (each_listed ts (λ e. s e ≡ true → gone e.0.1 ≡ true) starts_at)
-      (each_listed ts (λ e. gone e.1.owner ≡ true → gone e.0.1 ≡ true) closed_at) q)
+      (each_listed ts (λ e. of_owner gone e.1.owner ≡ true → gone e.0.1 ≡ true) closed_at) q)
       (reached (len ts) q (chains q))
 
 -- ---- revocation

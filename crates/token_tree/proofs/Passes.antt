@@ -12,7 +12,7 @@ use Rattle.broker_types.specs.TextLaws.{same_true, same_self, same_equiv}
 use Rattle.records.specs.declared.row.Row.{Row}
 use Rattle.records.specs.Kind.{RowKey}
 use Rattle.records.specs.Children.{has}
-use Rattle.token_tree.specs.Ended.{has_key, goes, ends_too, grown, AllStay, IsClosed, IsDescent, Start, Starts}
+use Rattle.token_tree.specs.Ended.{has_key, goes, of_owner, ends_too, grown, AllStay, IsClosed, IsDescent, Start, Starts}
 
 -- what each pass keeps
 pub record IsPart (t : Start) (es : List (RowKey × Row)) (ended : List Text) : Type 0 where
@@ -23,6 +23,11 @@ pub record IsPart (t : Start) (es : List (RowKey × Row)) (ended : List Text) : 
 pub no_part : (t : Start) (es : List (RowKey × Row)) → IsPart t es []
 unfolding IsDistinct
 no_part t es = record { once = tt; keys = λ q h. absurd (false≢true h); least = λ p at closed q h. absurd (false≢true h) }
+
+-- what passes for an owner by one test passes by a weaker one
+pub of_owner_weaker : (p r : Text → Bool) → ((q : Text) → p q ≡ true → r q ≡ true) → (o : Text) → of_owner p o ≡ true → of_owner r o ≡ true
+of_owner_weaker p r f [] h = h
+of_owner_weaker p r f (c ∷ o) h = f (c ∷ o) h
 
 or_cases : (a b : Bool) (P : Type 0) → (a ≡ true → P) → (b ≡ true → P) → (a || b) ≡ true → P
 or_cases true b P f g h = f refl
@@ -36,20 +41,20 @@ has-push ended k q P f g h =
 
 module _ (t : Start) (whole : List (RowKey × Row)) where
   pushed : (ended : List Text) (e : RowKey × Row) → goes t ended e ≡ true → has_key whole e.0.1 ≡ true
-      → ((p : Text → Bool) → IsClosed p whole → p e.1.owner ≡ true → p e.0.1 ≡ true) → ((p : Text → Bool) → Starts p t whole → t e ≡ true → p e.0.1 ≡ true)
+      → ((p : Text → Bool) → IsClosed p whole → of_owner p e.1.owner ≡ true → p e.0.1 ≡ true) → ((p : Text → Bool) → Starts p t whole → t e ≡ true → p e.0.1 ≡ true)
       → IsPart t whole ended → IsPart t whole (ended ++ e.0.1 ∷ [])
   pushed ended e moves stands closes starts part = record {
     once = IsDistinct-push same_equiv ended e.0.1 part.once (not-true _ (and_parts _ _ moves).0);
     keys = λ q h. has-push ended e.0.1 q (has_key whole q ≡ true) (part.keys q) (λ is. subst (λ z. has_key whole z ≡ true) (sym is) stands) h;
     least = λ p at closed q h. has-push ended e.0.1 q (p q ≡ true) (part.least p at closed q) (λ is. subst (λ z. p z ≡ true) (sym is)
-        (or_cases (t e) (has ended e.1.owner) (p e.0.1 ≡ true)
+        (or_cases (t e) (of_owner (has ended) e.1.owner) (p e.0.1 ≡ true)
         (λ s. starts p at s)
-        (λ o. closes p closed (part.least p at closed e.1.owner o))
+        (λ o. closes p closed (of_owner_weaker (has ended) p (part.least p at closed) e.1.owner o))
         (and_parts (not (has ended e.0.1)) _ moves).1)) h;
   }
 
   one_more : (ended : List Text) (e : RowKey × Row) → has_key whole e.0.1 ≡ true
-      → ((p : Text → Bool) → IsClosed p whole → p e.1.owner ≡ true → p e.0.1 ≡ true) → ((p : Text → Bool) → Starts p t whole → t e ≡ true → p e.0.1 ≡ true)
+      → ((p : Text → Bool) → IsClosed p whole → of_owner p e.1.owner ≡ true → p e.0.1 ≡ true) → ((p : Text → Bool) → Starts p t whole → t e ≡ true → p e.0.1 ≡ true)
       → IsPart t whole ended → IsPart t whole (ends_too t e ended)
   one_more ended e stands closes starts part =
       elim (goes t ended e) as (λ b. goes t ended e ≡ b → IsPart t whole (if b then ended ++ e.0.1 ∷ [] else ended)) [

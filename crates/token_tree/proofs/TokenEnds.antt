@@ -22,7 +22,7 @@ use Rattle.records.specs.Parts.{of_tokens}
 use Rattle.records.specs.Table.{Table, table_of}
 use Rattle.records.specs.TableLaws.{table_of-insert}
 use Rattle.records.specs.Transaction.{Rows, rows_under}
-use Rattle.token_tree.specs.Ended.{IsClosed, IsDescent, Start, Starts, AllStay}
+use Rattle.token_tree.specs.Ended.{IsClosed, IsDescent, Start, Starts, of_owner, AllStay}
 use Rattle.token_tree.specs.Endings.{AreTokenRows, EndsDescent, IsDamagedDescent, EndsAlone, is_told, without_tokens, orphan_row, without_children_of}
 use Rattle.token_tree.specs.Orphaned.{is_child, without_owner, without_parent}
 use Rattle.token_tree.specs.TokenRows.{IsDamagedToken}
@@ -137,7 +137,7 @@ module _ (rows : Rows) (ended : List Text) where
 module _ (s : Start) (es : List (RowKey × Row)) where
   starts_within : (ended : List Text) (fs : List (RowKey × Row)) → AllStay s ended fs → Starts (has ended) s fs
   starts_within ended [] stay = tt
-  starts_within ended (e ∷ fs) stay = (by (has ended e.0.1) (s e) (has ended e.1.owner) stay.0, starts_within ended fs stay.1)
+  starts_within ended (e ∷ fs) stay = (by (has ended e.0.1) (s e) (of_owner (has ended) e.1.owner) stay.0, starts_within ended fs stay.1)
     where
       by : (a b c : Bool) → (not a && (b || c)) ≡ false → b ≡ true → a ≡ true
       by true b c h is = refl
@@ -146,7 +146,7 @@ module _ (s : Start) (es : List (RowKey × Row)) where
 
   closed_within : (ended : List Text) (fs : List (RowKey × Row)) → AllStay s ended fs → IsClosed (has ended) fs
   closed_within ended [] stay = tt
-  closed_within ended (e ∷ fs) stay = (by (has ended e.0.1) (s e) (has ended e.1.owner) stay.0, closed_within ended fs stay.1)
+  closed_within ended (e ∷ fs) stay = (by (has ended e.0.1) (s e) (of_owner (has ended) e.1.owner) stay.0, closed_within ended fs stay.1)
     where
       by : (a b c : Bool) → (not a && (b || c)) ≡ false → c ≡ true → a ≡ true
       by true b c h is = refl

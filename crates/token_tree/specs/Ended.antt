@@ -24,9 +24,14 @@ is_named t e = same t e.0.1
 abbrev pub has_come : ℕ → Start
 has_come now e = option_map_or (λ due. nat_le due now) e.1.due false
 
+-- what holds of an owner; a row without one is a child of nobody, also not of a row at the empty key
+abbrev pub of_owner : (Text → Bool) → Text → Bool
+of_owner p [] = false
+of_owner p (c ∷ t) = p (c ∷ t)
+
 -- a row not yet among the ended, that ends by itself or is a child of one that ends
 abbrev pub goes : Start → List Text → RowKey × Row → Bool
-goes t ended e = not (has ended e.0.1) && (t e || has ended e.1.owner)
+goes t ended e = not (has ended e.0.1) && (t e || of_owner (has ended) e.1.owner)
 
 -- the ended, with the row's token if it goes
 abbrev pub ends_too : Start → RowKey × Row → List Text → List Text
@@ -43,7 +48,7 @@ AllStay t ended es = AllByRecursion (λ e. goes t ended e ≡ false) es
 
 -- every child of a text that passes passes as well
 abbrev pub IsClosed : (Text → Bool) → List (RowKey × Row) → Type 0
-IsClosed p es = AllByRecursion (λ e. p e.1.owner ≡ true → p e.0.1 ≡ true) es
+IsClosed p es = AllByRecursion (λ e. of_owner p e.1.owner ≡ true → p e.0.1 ≡ true) es
 
 -- what ends by itself passes
 abbrev pub Starts : (Text → Bool) → Start → List (RowKey × Row) → Type 0

@@ -3,7 +3,7 @@
 ghost use Rattle.std.specs.Prelude.{◌≡◌, IfOk, IfErr, OnOk};
 ghost use Rattle.broker_types.specs.Text.{same};
 ghost use Rattle.records.specs.Children.{has};
-ghost use Rattle.token_tree.specs.Ended.{grown, IsDescent};
+ghost use Rattle.token_tree.specs.Ended.{grown, of_owner, IsDescent};
 ghost use Rattle.token_tree.specs.Starts.{starts};
 
 use crate::start::Start;
@@ -43,6 +43,13 @@ fn begins(start: &Start<'_>, entry: &Entry) -> bool
     }
 }
 
+/// Whether a row is a child of one of the list, by its owner. A row without owner is a child of nobody.
+fn is_child_of(list: &[TextBuf], owner: &str) -> bool
+    ensures { result ≡ of_owner (has list.now) owner.now }
+{
+    !owner.is_empty() && is_among(list, owner)
+}
+
 /// One pass: adds what ends by itself, and each child of a token that ends.
 fn add_children(
     alloc: Global,
@@ -56,7 +63,7 @@ fn add_children(
     for entry in entries {
         let key = entry.key.as_str();
         if !is_among(ended, key)
-            && (begins(start, entry) || is_among(ended, entry.row.owner.as_str()))
+            && (begins(start, entry) || is_child_of(ended, entry.row.owner.as_str()))
         {
             ended.push(TextBuf::copied(alloc, key)?)?;
         }
