@@ -31,7 +31,7 @@ use token_tree::find;
 pub(crate) const PERMISSION_DENIED: Refusal = Refusal::Forbidden(Denial::PermissionDenied);
 
 /// Whether the caller may ask with a verb at a path: its policies allow the capability that is asked for, and `sudo`
-/// too where the path asks for it (Vault's documentation, "Policies"). The route of the path has been looked for.
+/// too where the path asks for it (Vault's documentation, "Policies"). The route of the path has been looked up.
 pub(crate) fn is_permitted<T: RecordsTx>(
     alloc: Global,
     tx: &mut T,
