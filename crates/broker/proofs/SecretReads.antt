@@ -52,7 +52,7 @@ module _ {X : Type 0} (P : SecretCommand → Type 0) (read : Members → Result 
 -- ---- what a call on secrets says of its rows
 
 -- what holds of an error of a write holds of the same error of another call
-pub on_written : (P : Type 0) (e : RequestError) → kv2.OnAnswer {A = ℕ} (Err e) P → OnAnswer {A = Answered} (Err e) P
+pub on_written : (P : Type 0) (e : RequestError) → OnAnswer {A = ℕ} (Err e) P → OnAnswer {A = Answered} (Err e) P
 on_written P (Refused r) p = p
 on_written P (Given f) p = p
 
