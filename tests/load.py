@@ -1,15 +1,16 @@
 #!/usr/bin/env python3
-"""Measures `brokerd replay` under many rows, and prints the replays for it.
+"""Measures `brokerd replay` under many secrets or tokens, and prints the replays for it.
 
-    python3 load.py lines KIND ROWS REQUESTS            # writes a replay to standard output
-    python3 load.py measure PROGRAM KIND ROWS REQUESTS [RUNS]
+    python3 load.py lines KIND MANY REQUESTS            # writes a replay to standard output
+    python3 load.py measure PROGRAM KIND MANY REQUESTS [RUNS]
 
-KIND is `read`, `write` (of secrets), `create` or `look_up` (of tokens). A replay makes ROWS secrets or tokens by as many
-requests of the root token, and then asks REQUESTS times, each time on a new connection: `read` and `look_up` for one of
-them, spread over all; `write` writes a second version of one; `create` makes one more. Nothing ends meanwhile.
+KIND is `read`, `write` (of secrets), `create` or `look_up` (of tokens). A replay makes MANY secrets or tokens by as
+many requests of the root token, and then asks REQUESTS times, each time on a new connection: `read` and `look_up` for
+one of them, spread over all; `write` writes one more version of one; `create` makes one more. Nothing ends meanwhile.
 
-`measure` calls PROGRAM, the built program itself, as `PROGRAM replay` with the requests and without them, RUNS times
-each by turns (3 if not given), and prints the user time and the greatest resident size of the medians, and the difference.
+`measure` calls PROGRAM, the built program itself, as `PROGRAM replay` without the requests and with them, RUNS times
+each by turns (3 if not given). It prints the medians of the user time, and what their difference is for one request;
+in brackets the least and the greatest difference of one turn.
 """
 
 import argparse
@@ -65,22 +66,22 @@ def look_up(number):
 KINDS = {"read": (write, read), "write": (write, write), "create": (creation, creation), "look_up": (creation, look_up)}
 
 
-def lines(kind, rows, requests):
+def lines(kind, many, requests):
     """The lines of a replay."""
     make, ask = KINDS[kind]
-    numbers = [(make, n) for n in range(rows)] + [(ask, n * 7919 % rows) for n in range(requests)]
+    numbers = [(make, n) for n in range(many)] + [(ask, n * 7919 % many) for n in range(requests)]
     yield {"moment": MOMENT, "words": f"{0:032x}"}
     for event, (text, number) in enumerate(numbers, start=1):
         yield {"conn": event, "moment": MOMENT, "words": f"{event * STEP:032x}", "piece": text(number)}
 
 
-def replay(kind, rows, requests):
+def replay(kind, many, requests):
     """The bytes of a replay."""
-    return "".join(json.dumps(line, separators=(",", ":")) + "\n" for line in lines(kind, rows, requests)).encode()
+    return "".join(json.dumps(line, separators=(",", ":")) + "\n" for line in lines(kind, many, requests)).encode()
 
 
 def used(program, data):
-    """User seconds and greatest resident KB of a run, in which each request has to be answered 200."""
+    """The user seconds of a run, in which each request has to be answered 200."""
     with tempfile.TemporaryFile() as stdin, tempfile.TemporaryFile() as stdout:
         stdin.write(data)
         stdin.seek(0)
@@ -90,38 +91,37 @@ def used(program, data):
         replies = stdout.read().count(b"HTTP/1.1 200 OK\r\n")
     if status != 0 or replies != data.count(b"\n") - 1:
         raise SystemExit(f"status {status}, and {replies} replies are 200")
-    return usage.ru_utime, usage.ru_maxrss
+    return usage.ru_utime
 
 
-def measure(program, kind, rows, requests, runs):
+def measure(program, kind, many, requests, runs):
     """Prints what the requests took."""
-    both = [replay(kind, rows, 0), replay(kind, rows, requests)]
+    both = [replay(kind, many, 0), replay(kind, many, requests)]
     found = [[used(program, data) for data in both] for _ in range(runs)]
-    before, after = (statistics.median(run[which][0] for run in found) for which in range(2))
-    differences = sorted(run[1][0] - run[0][0] for run in found)
-    size = statistics.median(run[1][1] for run in found)
-    each = (after - before) / requests
-    print(f"{kind} {rows} rows, {requests} requests, {runs} runs: {before:.3f} s without, {after:.3f} s with; "
-          f"{each * 1000:.3f} ms each ({differences[0] / requests * 1000:.3f} to "
-          f"{differences[-1] / requests * 1000:.3f}), {1 / each:.0f} a second; {size / 1024:.1f} MB", flush=True)
+    before, after = (statistics.median(times) for times in zip(*found))
+    differences = [run[1] - run[0] for run in found]
+    each, least, greatest = (seconds / requests * 1000
+                             for seconds in (after - before, min(differences), max(differences)))
+    print(f"{kind} {many}: {runs} runs of {requests} requests, {before:.3f} s without them, {after:.3f} s with them: "
+          f"{each:.3f} ms each ({least:.3f} to {greatest:.3f})", flush=True)
 
 
 def main():
-    parser = argparse.ArgumentParser(description="measures brokerd replay under many rows")
+    parser = argparse.ArgumentParser(description="measures brokerd replay under many secrets or tokens")
     commands = parser.add_subparsers(dest="command", required=True)
     printing = commands.add_parser("lines")
     measuring = commands.add_parser("measure")
     measuring.add_argument("program")
     for command in (printing, measuring):
         command.add_argument("kind", choices=KINDS)
-        command.add_argument("rows", type=int)
+        command.add_argument("many", type=int)
         command.add_argument("requests", type=int)
     measuring.add_argument("runs", type=int, nargs="?", default=3)
     arguments = parser.parse_args()
     if arguments.command == "lines":
-        sys.stdout.buffer.write(replay(arguments.kind, arguments.rows, arguments.requests))
+        sys.stdout.buffer.write(replay(arguments.kind, arguments.many, arguments.requests))
     else:
-        measure(os.path.abspath(arguments.program), arguments.kind, arguments.rows, arguments.requests, arguments.runs)
+        measure(os.path.abspath(arguments.program), arguments.kind, arguments.many, arguments.requests, arguments.runs)
 
 
 if __name__ == "__main__":
