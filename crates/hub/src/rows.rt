@@ -310,8 +310,8 @@ macro_rules! row {
     };
 }
 
-mod limits;
 mod acl_policies;
+mod limits;
 mod policy_texts;
 mod secret_bodies;
 mod secrets;
