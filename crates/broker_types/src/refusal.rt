@@ -76,11 +76,11 @@ impl Field {
 /// API", if Vault has such a text; else this profile's).
 #[derive(Clone, Copy, Debug, PartialEq, Eq)]
 pub enum Reason {
-    /// A head outside the grammar, with a wrong number of Host or Content-Length fields, HTTP/1.0, a
-    /// Transfer-Encoding field, or a length that is no number or too great; or a field of the client
-    /// that is there twice or is not UTF-8.
+    /// A head outside the grammar of HTTP/1.1, with more fields than are read, with a wrong number of Host
+    /// or Content-Length fields, or with a length that is no number; or a field with the client token that
+    /// is there twice or is not UTF-8.
     MalformedRequest,
-    /// A target whose path is not valid, or that has a query or an encoded byte: neither is read so far.
+    /// A target without a valid path between `/v1/` and its query.
     InvalidPath,
     /// A text that is not a duration of at most 4,294,967,295 seconds.
     InvalidDuration,
