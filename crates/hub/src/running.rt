@@ -62,7 +62,7 @@ pub fn run<S: Store>(
         (w : World) → HubRepresents S.seen hub.old w → IsMemoryOrStorage stop.2) }
     ensures storage { IfErr result (λ stop.
         stop.2 ≡ Fault.Storage → IsTrue (hub_store S.seen hub.new).has_failed) }
-    ensures stays_open { MatchResult result
+    ensures stays_open { IsHonestStore (hub_store S.seen hub.new) → MatchResult result
         (λ _. (hub_store S.seen hub.new).is_open ≡ (hub_store S.seen hub.old).is_open)
         (λ stop. stop.2 ≢ Fault.Storage
         → (hub_store S.seen hub.new).is_open ≡ (hub_store S.seen hub.old).is_open) }

@@ -72,7 +72,7 @@ loop-i-init g c = record {
   count = search rules;
   room = search rules;
   later = search rules;
-  is_open = search rules;
+  is_open = λ honest. search rules;
   listed = subst (All IsListedReply) (sym (ap bytes_of (c.reserve.ensures.items ∙ c.new-replies.ensures.items))) (All-nil IsListedReply);
   answers = λ honest w represents.
       subst (λ (l : List (List ℕ)). Answers g.S.Store.seen w [] l c.args.hub.now)
@@ -94,7 +94,10 @@ loop-i-preserved g c =
       room = omega (arith, c.push.ensures.capacity, c.loop-i.invariant.room);
       later = later_still (hub_store g.S.Store.seen c.args.hub.now) (hub_store g.S.Store.seen c.loop-i.hub) (hub_store g.S.Store.seen c.feed.new.self)
           c.loop-i.invariant.later c.feed.ensures.keeps.later;
-      is_open = c.in-Ok.ensures.keeps.stays_open refl ∙ c.loop-i.invariant.is_open;
+      is_open = λ honest.
+          let before = honest_before (hub_store g.S.Store.seen c.loop-i.hub) (hub_store g.S.Store.seen c.feed.new.self)
+          c.feed.ensures.keeps.later.mismatches honest in
+          c.in-Ok.ensures.keeps.stays_open honest refl ∙ c.loop-i.invariant.is_open before;
       listed = subst (All IsListedReply) (sym now)
           (All-push IsListedReply (bytes_of c.loop-i.replies.items) c.in-Ok.bytes.items c.loop-i.invariant.listed c.in-Ok.ensures.listed);
       answers = λ honest w represents.
