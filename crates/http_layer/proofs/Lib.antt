@@ -1,4 +1,3 @@
-pub mod AskedLemmas
 pub mod CutLemmas
 pub mod EndLemmas
 pub mod FrontLemmas
