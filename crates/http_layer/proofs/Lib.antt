@@ -1,3 +1,4 @@
+pub mod AskedLemmas
 pub mod CutLemmas
 pub mod EndLemmas
 pub mod FrontLemmas

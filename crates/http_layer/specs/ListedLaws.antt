@@ -1,5 +1,5 @@
 -- Laws of refusals: what is refused without asking the broker is listed.
-use Rattle.std.proofs.Common.{ℕ, ◌+◌, Option, ◌||◌, ◌&&◌, Bool, true, false, cond, List, [], ◌∷◌, length, take, drop}
+use Rattle.std.proofs.Common.{ℕ, ◌+◌, ◌||◌, ◌&&◌, Bool, true, false, cond, List, [], ◌∷◌, length, take, drop}
 use Rattle.std.proofs.Common.{codes, bytes_eq, slice_range, Result, Ok, Err, IfErr, nat_le, nat_lt, refl, sym, subst}
 use Rattle.std.proofs.Common.{inl, inr, lit<}
 use Rattle.std.specs.Str.{is_utf8}

@@ -101,7 +101,8 @@ fn value_of<'b>(head: &Head<'b>, name: &[u8]) -> Result<Option<&'b str>, HttpRef
 /// The client token, from the values of X-Vault-Token and Authorization.
 fn client_token<'b>(vault: Option<&'b str>, authorization: Option<&'b str>) -> Option<&'b str>
     ensures { option_map (λ text. text.now) result
-        ≡ client_token (option_map (λ text. text.now) vault) (option_map (λ text. text.now) authorization) }
+        ≡ client_token (option_map (λ text. text.now) vault.entry)
+        (option_map (λ text. text.now) authorization.entry) }
 {
     match vault {
         Some(token) if !token.is_empty() => Some(token),
