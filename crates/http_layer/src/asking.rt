@@ -151,10 +151,10 @@ fn read_path<'b>(alloc: Global, encoded: &'b str) -> Result<Path<'b>, AskError>
 {
     let text = match percent_decode(encoded.as_bytes()).decode_utf8(alloc) {
         Ok(text) => text,
-        Err(DecodeError::Utf8(_)) => return Err(HttpRefusal::bad_request(
-            Reason::InvalidPath,
-        ).into()),
         Err(DecodeError::OutOfMemory) => return Err(AskError::Fault(Fault::Memory)),
+        Err(DecodeError::Utf8(_)) => {
+            return Err(HttpRefusal::bad_request(Reason::InvalidPath).into());
+        }
     };
     match Path::read(text) {
         Ok(path) => Ok(path),
