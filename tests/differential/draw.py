@@ -602,8 +602,8 @@ def unserved_targets(run):
         run.event(request(run.pick("GET", "GET", "PUT", "LIST"), target, fields, run.pick(None, '{"a":1}')))
 
 
-def unserved_lines(run):
-    """Forms of a line that are not read so far make it bad."""
+def hex_and_lists(run):
+    """Pieces in hexadecimal digits and words as lists; a line with both forms of a piece is bad."""
     while run.room() > 1:
         run.event(run.served())
     event = {"conn": 1, "moment": run.moment, "words": "0" * 32}
@@ -631,7 +631,7 @@ THEMES = {
     cubbyhole_permissions: 12, stars_in_paths: 10, sudo_permissions: 20, policy_texts: 12, policy_names: 10,
     changing_policies: 16, policies_of_children: 10, policies_not_there: 8, policies_by_callers: 8,
     refusals_in_order: 10, policy_routes: 6, mixed_policies: 8,
-    unserved_routes: 6, unserved_targets: 3, unserved_lines: 3,
+    unserved_routes: 6, unserved_targets: 3, hex_and_lists: 3,
 }
 
 
