@@ -1,8 +1,8 @@
-ghost use Rattle.std.specs.Prelude.{◌≡◌, ◌≤◌, length, nat_le, if◌then◌else◌};
+ghost use Rattle.std.specs.Prelude.{◌≡◌, ◌≤◌, length, take, nat_le, if◌then◌else◌};
 ghost use Rattle.broker_types.specs.Limits.{longest_body};
 ghost use Rattle.http_layer.specs.Cutting.{front_of, FitsIn, IsNeed};
 ghost use Rattle.broker_types.specs.declared.status.Status.TheVariants.{HeaderFieldsTooLarge};
-ghost use Rattle.http_layer.specs.Front.{IsFront, need, refused_with, longest_head};
+ghost use Rattle.http_layer.specs.Front.{IsFront, HasNoHeadEnd, need, refused_with, longest_head};
 
 use crate::front::Cut;
 use crate::head::Head;
@@ -21,7 +21,17 @@ pub fn cut<'b>(bytes: &'b [u8]) -> Cut<'b>
     ensures fits { FitsIn (length bytes.now) result }
     ensures waits { IsFront bytes.now need → IsNeed result }
 {
-    let Some(len) = head_end(bytes) else {
+    cut_after(bytes, 0)
+}
+
+/// As `cut`, where no head ends within the first `seen` bytes: these are not searched for its end again. So
+/// a head that comes in many pieces costs time in proportion to its bytes. It allocates nothing.
+pub fn cut_after<'b>(bytes: &'b [u8], seen: usize) -> Cut<'b>
+    ensures front { HasNoHeadEnd (take seen bytes.now) → IsFront bytes.now (front_of result) }
+    ensures fits { FitsIn (length bytes.now) result }
+    ensures waits { HasNoHeadEnd (take seen bytes.now) → IsFront bytes.now need → IsNeed result }
+{
+    let Some(len) = head_end(bytes, seen) else {
         return without_end(bytes.len());
     };
     let Some(head) = Head::read(&bytes[..len]) else {

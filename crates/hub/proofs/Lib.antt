@@ -1,8 +1,13 @@
 pub mod AnswersLemmas
 pub mod AskingLemmas
+pub mod EndingLemmas
 pub mod HistoryLemmas
 pub mod HubLemmas
+pub mod KnownLemmas
 pub mod ListedLemmas
+pub mod NumberLemmas
 pub mod RunLemmas
 pub mod ServeLemmas
+pub mod ServingLemmas
 pub mod TurnLemmas
+pub mod WaitingLemmas

@@ -1,5 +1,5 @@
 use crate::connection::Connection;
-use crate::table::{is_closed, open};
+use crate::table::{close, is_closed, next_number, open};
 use broker::Store;
 use broker_types::{Fault, Moment, Words};
 use std::alloc::Global;
@@ -21,8 +21,10 @@ impl<S: Store> Hub<S> {
     ghost use Rattle.hub.specs.AnyRows.{EventGives, EventNeedsClock};
     ghost use Rattle.hub.specs.Feeding.{Feeds, Keeps};
     ghost use Rattle.hub.specs.Listed.{IsListedReply};
+    ghost use Rattle.hub.specs.Numbers.{IsNextNumber};
     ghost use Rattle.hub.specs.Representing.{HubRepresents, ConnectionsRepresent, hub_connections, hub_store};
     ghost use Rattle.hub.specs.Runs.{AnswersOne};
+    ghost use Rattle.hub.specs.Serving.{LeavesClosed};
     ghost use Rattle.hub.specs.World.{World, Connections, history_at, new_world, no_connections};
     ghost use Rattle.hub.specs.declared.connection.Connection.{Connection as Seen};
 
@@ -38,6 +40,35 @@ impl<S: Store> Hub<S> {
             store,
             connections: BTreeMap::new(alloc),
         }
+    }
+
+    /// The number of a connection that was not seen: 0 if none was, else one above the greatest number that
+    /// was; none if 18,446,744,073,709,551,615 was seen. It opens nothing and takes no memory.
+    pub fn open_conn(&self) -> Option<u64>
+        ensures { (all : Connections) → ConnectionsRepresent self.now all → IsNextNumber all result }
+    {
+        next_number(&self.connections)
+    }
+
+    /// Whether the connection is closed. It takes no memory.
+    pub fn is_closed(&self, conn: u64) -> bool
+        ensures { (all : Connections) → ConnectionsRepresent self.now all
+            → result ≡ (history_at all conn).closed }
+    {
+        is_closed(&self.connections, conn)
+    }
+
+    /// Closes a connection whose peer is gone, if it was seen, and drops the bytes that wait on it: the hub
+    /// represents the same worlds, with that connection closed. It takes no memory.
+    pub fn close(&mut self, conn: u64)
+        ensures worlds { (w : World) → HubRepresents S.seen self.old w
+            → (after : Connections) × LeavesClosed w.connections conn after
+            × HubRepresents S.seen self.new (record w { connections = after }) }
+        ensures connections { (all : Connections) → ConnectionsRepresent self.old all
+            → (after : Connections) × ConnectionsRepresent self.new after × LeavesClosed all conn after }
+        ensures store { hub_store S.seen self.new ≡ hub_store S.seen self.old }
+    {
+        close(&mut self.connections, conn);
     }
 
     /// Takes a piece that comes on a connection, and answers at most one request. A connection that was

@@ -1,12 +1,14 @@
 //! The connections of the broker: pieces of bytes come in, at most one request is answered for each.
 #![tactic(auto)]
 
+mod buffer;
 mod connection;
 mod endpoints;
 mod event;
 mod hub;
 mod laws;
 mod running;
+mod serve;
 mod serving;
 mod table;
 
@@ -15,8 +17,11 @@ pub use event::Event;
 pub use hub::Hub;
 pub use laws::{asking_laws, run_laws};
 pub use running::run;
+pub use serve::{Clock, ConnectionFault, WordSource, serve_connection};
 
 #[cfg(test)]
 mod rows;
+#[cfg(test)]
+mod serve_tests;
 #[cfg(test)]
 mod tests;

@@ -1,0 +1,363 @@
+-- Serving a connection: events run one after another.
+use Rattle.std.proofs.Common.{◌≡◌, ◌≢◌, ◌∙◌, ◌⊎◌, inl, inr, ℕ, ◌+◌, ◌<◌, ◌≤◌, Bool, true, false, cond, List, [], ◌∷◌, ◌++◌, length, map, MatchBool, Option, Some, None}
+use Rattle.std.proofs.Common.{IsTrue, refl, sym, ap, subst, append_assoc, append-nil, arith}
+use Rattle.std.proofs.lemmas.List.{map-append}
+use Rattle.std.proofs.lemmas.List.Elements.{All-append, All-cons, All-nil}
+use Rattle.std.proofs.lemmas.List.Folds.{concat-append}
+use Rattle.std.proofs.lemmas.Map.{update_apart}
+use Rattle.std.specs.Io.KnownBytes.{Appends, IsAtEnd}
+use Rattle.std.specs.List.{concat}
+use Rattle.broker_types.specs.declared.fault.Fault.{Fault}
+use Rattle.broker_types.specs.declared.fault.Fault.TheVariants.{Memory}
+use Rattle.broker_types.specs.declared.words.Words.{Words}
+use Rattle.broker.specs.Kept.{Kept, IsHonestStore}
+use Rattle.broker.specs.Representing.{Represents}
+use Rattle.records.specs.Transaction.{Rows}
+use Rattle.hub.specs.AnyRows.{FaultsAt, NextConnections, RunConnections, TurnsOpen, close_history}
+use Rattle.hub.specs.Listed.{IsListedReply}
+use Rattle.hub.specs.Representing.{ConnectionsRepresent, HubRepresents, hub_store}
+use Rattle.hub.specs.Runs.{AnswersOne}
+use Rattle.hub.specs.Serving.{Exchange, read_in, sent_in, Proceeds, Stops, LeavesClosed, LeavesOthers, IsEventOf, longest_piece}
+use Rattle.hub.specs.Serving.{HasEnded, IsAnswered}
+use Rattle.hub.specs.World.{Connections, History, Run, World, history_at, put_history}
+use Rattle.hub.specs.declared.event.Event.{Event}
+use Rattle.hub.specs.declared.hub.Hub.{Hub}
+use Rattle.hub.specs.declared.serve.ConnectionFault.{ConnectionFault}
+use Rattle.hub.specs.declared.serve.ConnectionFault.TheVariants.{Broker as OfBroker, Write}
+use Rattle.hub.proofs.AnswersLemmas.{answers_of}
+use Rattle.hub.proofs.KnownLemmas.{Appends-nil}
+
+-- ---- runs
+
+Run-append : (w : World) (es fs : List Event) (rs ss : List (List ℕ)) (mid after : World) → Run w es rs mid → Run mid fs ss after
+    → Run w (es ++ fs) (rs ++ ss) after
+Run-append w [] fs [] ss mid after run next = subst (λ (v : World). Run v fs ss after) run next
+Run-append w [] fs (r ∷ rs) ss mid after run next = absurd run
+Run-append w (e ∷ es) fs [] ss mid after run next = absurd run
+Run-append w (e ∷ es) fs (r ∷ rs) ss mid after (v, first, run) next = (v, first, Run-append v es fs rs ss mid after run next)
+
+RunConnections-append : (all : Connections) (es fs : List Event) (rs ss : List (List ℕ)) (mid after : Connections)
+    → RunConnections all es rs mid → RunConnections mid fs ss after → RunConnections all (es ++ fs) (rs ++ ss) after
+RunConnections-append all [] fs [] ss mid after run next = subst (λ (v : Connections). RunConnections v fs ss after) run next
+RunConnections-append all [] fs (r ∷ rs) ss mid after run next = absurd run
+RunConnections-append all (e ∷ es) fs [] ss mid after run next = absurd run
+RunConnections-append all (e ∷ es) fs (r ∷ rs) ss mid after (v, first, run) next =
+    (v, first, RunConnections-append v es fs rs ss mid after run next)
+
+-- ---- exchanges
+
+abbrev exchange_none : (conn : ℕ) → Exchange conn
+exchange_none conn = record { events = []; replies = []; of_connection = All-nil (IsEventOf conn); listed = All-nil IsListedReply }
+
+abbrev exchange_one : (conn : ℕ) (e : Event) (bytes : List ℕ) → IsEventOf conn e → IsListedReply bytes → Exchange conn
+exchange_one conn e bytes of listed =
+    record {
+      events = e ∷ [];
+      replies = bytes ∷ [];
+      of_connection = All-cons (IsEventOf conn) e [] of (All-nil (IsEventOf conn));
+      listed = All-cons IsListedReply bytes [] listed (All-nil IsListedReply);
+    }
+
+abbrev exchange_on : (conn : ℕ) → Exchange conn → Exchange conn → Exchange conn
+exchange_on conn p q =
+    record {
+      events = p.events ++ q.events;
+      replies = p.replies ++ q.replies;
+      of_connection = All-append (IsEventOf conn) p.events q.events p.of_connection q.of_connection;
+      listed = All-append IsListedReply p.replies q.replies p.listed q.listed;
+    }
+
+read_on : (conn : ℕ) (p q : Exchange conn) → read_in (exchange_on conn p q) ≡ read_in p ++ read_in q
+read_on conn p q = ap concat (map-append (λ (e : Event). e.piece) p.events q.events)
+    ∙ concat-append (map (λ (e : Event). e.piece) p.events) (map (λ (e : Event). e.piece) q.events)
+
+sent_on : (conn : ℕ) (p q : Exchange conn) → sent_in (exchange_on conn p q) ≡ sent_in p ++ sent_in q
+sent_on conn p q = concat-append p.replies q.replies
+
+-- ---- one call after another
+
+-- what two calls read or wrote, one after the other
+abbrev pub Joins : (List ℕ → Type 0) → (List ℕ → Type 0) → (List ℕ → Type 0) → Type 0
+Joins P Q R = (a b : List ℕ) → P a → Q b → R (a ++ b)
+
+-- the store was honest before, if it is
+abbrev pub HonestBefore : {S : Type 0} → (S → Kept) → Hub S → Hub S → Type 0
+HonestBefore seen mid new = IsHonestStore (hub_store seen new) → IsHonestStore (hub_store seen mid)
+
+pub proceeds_on : {S : Type 0} (seen : S → Kept) (conn : ℕ) (P Q R T U V : List ℕ → Type 0) (old mid new : Hub S)
+    → Joins P Q R → Joins T U V → HonestBefore seen mid new → Proceeds seen conn P T old mid → Proceeds seen conn Q U mid new
+    → Proceeds seen conn R V old new
+proceeds_on seen conn P Q R T U V old mid new reads writes before p q =
+    record {
+      exchange = exchange_on conn p.exchange q.exchange;
+      reads = subst R (sym (read_on conn p.exchange q.exchange)) (reads (read_in p.exchange) (read_in q.exchange) p.reads q.reads);
+      writes = subst V (sym (sent_on conn p.exchange q.exchange)) (writes (sent_in p.exchange) (sent_in q.exchange) p.writes q.writes);
+      answers = λ honest w represents.
+          let a = p.answers (before honest) w represents in
+          let b = q.answers honest a.after a.represents in
+          answers_of seen w (p.exchange.events ++ q.exchange.events) (p.exchange.replies ++ q.exchange.replies) new b.after
+          (Run-append w p.exchange.events q.exchange.events p.exchange.replies q.exchange.replies a.after b.after a.run b.run) b.represents;
+      turns = λ all represents.
+          let a = p.turns all represents in
+          let b = q.turns a.after a.represents in
+          record {
+            after = b.after;
+            run = RunConnections-append all p.exchange.events q.exchange.events p.exchange.replies q.exchange.replies a.after b.after a.run b.run;
+            represents = b.represents;
+          };
+    }
+
+pub stops_on : {S : Type 0} (seen : S → Kept) (conn : ℕ) (P Q R T U V : List ℕ → Type 0) (fault : ConnectionFault) (old mid new : Hub S)
+    → Joins P Q R → Joins T U V → HonestBefore seen mid new → Proceeds seen conn P T old mid → Stops seen conn Q U fault mid new
+    → Stops seen conn R V fault old new
+stops_on seen conn P Q R T U V fault old mid new reads writes before p s =
+    record {
+      exchange = exchange_on conn p.exchange s.exchange;
+      last = s.last;
+      reads = subst R
+          (sym (ap (λ (l : List ℕ). l ++ s.last) (read_on conn p.exchange s.exchange) ∙ append_assoc (read_in p.exchange) (read_in s.exchange) s.last))
+          (reads (read_in p.exchange) (read_in s.exchange ++ s.last) p.reads s.reads);
+      writes = λ other.
+          subst V (sym (sent_on conn p.exchange s.exchange))
+          (writes (sent_in p.exchange) (sent_in s.exchange) p.writes (s.writes other));
+      answers = λ honest known w represents.
+          let a = p.answers (before honest) w represents in
+          let b = s.answers honest known a.after a.represents in
+          record {
+            before = b.before;
+            run = Run-append w p.exchange.events s.exchange.events p.exchange.replies s.exchange.replies a.after b.before a.run b.run;
+            after = b.after;
+            left = b.left;
+            represents = b.represents;
+          };
+      turns = λ all represents.
+          let a = p.turns all represents in
+          let b = s.turns a.after a.represents in
+          record {
+            before = b.before;
+            run = RunConnections-append all p.exchange.events s.exchange.events p.exchange.replies s.exchange.replies a.after b.before a.run b.run;
+            after = b.after;
+            left = b.left;
+            represents = b.represents;
+          };
+    }
+
+-- nothing was done so far
+pub proceeds_none : {S : Type 0} (seen : S → Kept) (conn : ℕ) (P T : List ℕ → Type 0) (hub : Hub S) → P [] → T [] → Proceeds seen conn P T hub hub
+proceeds_none seen conn P T hub p t =
+    record {
+      exchange = exchange_none conn;
+      reads = p;
+      writes = t;
+      answers = λ honest w represents. answers_of seen w [] [] hub w refl represents;
+      turns = λ all represents. record { after = all; run = refl; represents = represents };
+    }
+
+-- with other words for what was read
+pub proceeds_so : {S : Type 0} (seen : S → Kept) (conn : ℕ) (P Q T : List ℕ → Type 0) (old new : Hub S) → ((l : List ℕ) → P l → Q l)
+    → Proceeds seen conn P T old new → Proceeds seen conn Q T old new
+proceeds_so seen conn P Q T old new reads p =
+    record {
+      exchange = p.exchange;
+      reads = reads (read_in p.exchange) p.reads;
+      writes = p.writes;
+      answers = p.answers;
+      turns = p.turns;
+    }
+
+pub stops_so : {S : Type 0} (seen : S → Kept) (conn : ℕ) (P Q T : List ℕ → Type 0) (fault : ConnectionFault) (old new : Hub S)
+    → ((l : List ℕ) → P l → Q l) → Stops seen conn P T fault old new → Stops seen conn Q T fault old new
+stops_so seen conn P Q T fault old new reads s =
+    record {
+      exchange = s.exchange;
+      last = s.last;
+      reads = reads (read_in s.exchange ++ s.last) s.reads;
+      writes = s.writes;
+      answers = s.answers;
+      turns = s.turns;
+    }
+
+-- ---- one event
+
+-- what feeding an event that had no fault ensures
+pub record Fed {S : Type 0} (seen : S → Kept) (conn : ℕ) (piece : List ℕ) (m : ℕ) (ws : Words) (bytes : List ℕ) (old new : Hub S) : Type 0 where
+  pub short : length piece ≤ longest_piece
+  pub answers : IsHonestStore (hub_store seen new) → (w : World) → HubRepresents seen old w
+      → AnswersOne seen w (record { conn = conn; piece = piece; moment = m; words = ws }) bytes new
+  pub gives : (all : Connections) → ConnectionsRepresent old all
+      → (after : Connections) × ConnectionsRepresent new after × NextConnections all conn piece m bytes after
+  pub listed : IsListedReply bytes
+
+abbrev exchange_fed : {S : Type 0} (seen : S → Kept) (conn : ℕ) (piece : List ℕ) (m : ℕ) (ws : Words) (bytes : List ℕ) (old new : Hub S)
+    → Fed seen conn piece m ws bytes old new → Exchange conn
+exchange_fed seen conn piece m ws bytes old new f =
+    exchange_one conn (record { conn = conn; piece = piece; moment = m; words = ws }) bytes (refl, f.short) f.listed
+
+-- an event was answered, and its reply was written
+pub proceeds_one : {S : Type 0} (seen : S → Kept) (conn : ℕ) (piece : List ℕ) (m : ℕ) (ws : Words) (bytes : List ℕ) (before after : Option (List ℕ))
+    (old new : Hub S) → Fed seen conn piece m ws bytes old new → Appends before after bytes
+    → Proceeds seen conn (λ read. read ≡ piece) (Appends before after) old new
+proceeds_one seen conn piece m ws bytes before after old new f written =
+    let e : Event = record { conn = conn; piece = piece; moment = m; words = ws } in
+    record {
+      exchange = exchange_fed seen conn piece m ws bytes old new f;
+      reads = append-nil piece;
+      writes = subst (Appends before after) (sym (append-nil bytes)) written;
+      answers = λ honest w represents.
+          let a = f.answers honest w represents in
+          answers_of seen w (e ∷ []) (bytes ∷ []) new a.after (a.after, a.next, refl) a.represents;
+      turns = λ all represents.
+          let a = f.gives all represents in
+          record { after = a.0; run = (a.0, a.2, refl); represents = a.1 };
+    }
+
+-- closing the connection leaves the store
+pub record Closes {S : Type 0} (seen : S → Kept) (conn : ℕ) (mid new : Hub S) : Type 0 where
+  pub store : hub_store seen new ≡ hub_store seen mid
+  pub connections : (all : Connections) → ConnectionsRepresent mid all
+      → (after : Connections) × ConnectionsRepresent new after × LeavesClosed all conn after
+
+pub closed_world : {S : Type 0} (seen : S → Kept) (conn : ℕ) (mid new : Hub S) (w : World) → Closes seen conn mid new → HubRepresents seen mid w
+    → (after : Connections) × LeavesClosed w.connections conn after × HubRepresents seen new (record w { connections = after })
+closed_world seen conn mid new w c represents =
+    let left = c.connections w.connections represents.connections in (
+      left.0,
+      left.2,
+      record {
+        broker = subst (λ (k : Kept). Represents None k.rows w.broker) (sym c.store) represents.broker;
+        connections = left.1;
+      },
+    )
+
+-- an event was answered, and writing its reply failed
+pub stops_writing : {S : Type 0} (seen : S → Kept) (conn : ℕ) (piece : List ℕ) (m : ℕ) (ws : Words) (bytes : List ℕ) (before after : Option (List ℕ))
+    (old mid new : Hub S) → Fed seen conn piece m ws bytes old mid → Closes seen conn mid new
+    → Stops seen conn (λ read. read ≡ piece) (Appends before after) Write old new
+stops_writing seen conn piece m ws bytes before after old mid new f c =
+    record {
+      exchange = exchange_fed seen conn piece m ws bytes old mid f;
+      last = [];
+      reads = append-nil (piece ++ []) ∙ append-nil piece;
+      writes = λ other. absurd (other refl);
+      answers = λ honest known w represents.
+          let a = f.answers (subst IsHonestStore c.store honest) w represents in
+          let left = closed_world seen conn mid new a.after c a.represents in
+          record { before = a.after; run = (a.after, a.next, refl); after = left.0; left = left.1; represents = left.2 };
+      turns = λ all represents.
+          let a = f.gives all represents in
+          let left = c.connections a.0 a.1 in
+          record { before = a.0; run = (a.0, a.2, refl); after = left.0; left = left.2; represents = left.1 };
+    }
+
+-- the connection was closed at a fault of the source
+pub stops_reading : {S : Type 0} (seen : S → Kept) (conn : ℕ) (P T : List ℕ → Type 0) (fault : ConnectionFault) (mid new : Hub S)
+    → P [] → T [] → Closes seen conn mid new → Stops seen conn P T fault mid new
+stops_reading seen conn P T fault mid new p t c =
+    record {
+      exchange = exchange_none conn;
+      last = [];
+      reads = p;
+      writes = λ other. t;
+      answers = λ honest known w represents.
+          let left = closed_world seen conn mid new w c represents in
+          record { before = w; run = refl; after = left.0; left = left.1; represents = left.2 };
+      turns = λ all represents.
+          let left = c.connections all represents in
+          record { before = all; run = refl; after = left.0; left = left.2; represents = left.1 };
+    }
+
+pub leaves_closed : (fault : Fault) (all : Connections) (conn : ℕ) (piece : List ℕ) (after : Connections) → FaultsAt fault all conn piece after
+    → LeavesClosed all conn after
+leaves_closed fault all conn piece after f = at f.left
+  where
+    at : (after ≡ close_history all conn) ⊎ ((fault ≡ Memory) × (all conn ≡ None) × (after ≡ all)) → LeavesClosed all conn after
+    at (inl closed) = inl closed
+    at (inr (memory, unseen, same)) = inr (unseen, same)
+
+-- an event had a fault
+pub stops_feeding : {S : Type 0} (seen : S → Kept) (conn : ℕ) (piece : List ℕ) (known : Option (List ℕ)) (fault : Fault) (old new : Hub S)
+    → (IsHonestStore (hub_store seen new) → IsTrue (hub_store seen new).is_open → (hub_store seen new).rows ≡ (hub_store seen old).rows)
+    → ((all : Connections) → ConnectionsRepresent old all → (after : Connections) × ConnectionsRepresent new after × FaultsAt fault all conn piece after)
+    → Stops seen conn (λ read. read ≡ piece) (Appends known known) (OfBroker fault) old new
+stops_feeding seen conn piece known fault old new kept faults =
+    record {
+      exchange = exchange_none conn;
+      last = piece;
+      reads = refl;
+      writes = λ other. Appends-nil known;
+      answers = λ honest is_open w represents.
+          let f = faults w.connections represents.connections in
+          record {
+            before = w;
+            run = refl;
+            after = f.0;
+            left = leaves_closed fault w.connections conn piece f.0 f.2;
+            represents = record {
+              broker = subst (λ (t : Rows). Represents None t w.broker) (sym (kept honest is_open)) represents.broker;
+              connections = f.1;
+            };
+          };
+      turns = λ all represents.
+          let f = faults all represents in
+          record { before = all; run = refl; after = f.0; left = leaves_closed fault all conn piece f.0 f.2; represents = f.1 };
+    }
+
+-- ---- other connections
+
+others_put : (all : Connections) (conn : ℕ) (h : History) (after : Connections) → after ≡ put_history all conn h → (k : ℕ) → k ≢ conn → after k ≡ all k
+others_put all conn h after is k ne = ap (λ (x : Connections). x k) is ∙ update_apart all conn (Some h) k ne
+
+others_closed : (all : Connections) (conn : ℕ) (after : Connections) → LeavesClosed all conn after → (k : ℕ) → k ≢ conn → after k ≡ all k
+others_closed all conn after (inl is) k ne = others_put all conn (record (history_at all conn) { closed = true }) after is k ne
+others_closed all conn after (inr (unseen, same)) k ne = ap (λ (x : Connections). x k) same
+
+others_at : (all : Connections) (conn : ℕ) (piece : List ℕ) (m : ℕ) (bytes : List ℕ) (after : Connections) (closed : Bool)
+    → MatchBool closed ((bytes ≡ []) × (after ≡ all)) ((h : History) × TurnsOpen (history_at all conn) piece m bytes h × (after ≡ put_history all conn h))
+    → (k : ℕ) → k ≢ conn → after k ≡ all k
+others_at all conn piece m bytes after true (none, same) k ne = ap (λ (x : Connections). x k) same
+others_at all conn piece m bytes after false (h, turns, put) k ne = others_put all conn h after put k ne
+
+-- a fed hub leaves the other connections
+pub fed_leaves : {S : Type 0} (conn : ℕ) (piece : List ℕ) (m : ℕ) (bytes : List ℕ) (all : Connections) (new : Hub S)
+    → (after : Connections) × ConnectionsRepresent new after × NextConnections all conn piece m bytes after → LeavesOthers conn all new
+fed_leaves conn piece m bytes all new (after, represents, next) =
+    record { after = after; represents = represents; others = others_at all conn piece m bytes after (history_at all conn).closed next }
+
+pub closed_leaves : {S : Type 0} (conn : ℕ) (all : Connections) (new : Hub S)
+    → (after : Connections) × ConnectionsRepresent new after × LeavesClosed all conn after → LeavesOthers conn all new
+closed_leaves conn all new (after, represents, left) =
+    record { after = after; represents = represents; others = others_closed all conn after left }
+
+pub fault_leaves : {S : Type 0} (conn : ℕ) (piece : List ℕ) (fault : Fault) (all : Connections) (new : Hub S)
+    → (after : Connections) × ConnectionsRepresent new after × FaultsAt fault all conn piece after → LeavesOthers conn all new
+fault_leaves conn piece fault all new (after, represents, faults) =
+    closed_leaves conn all new (after, represents, leaves_closed fault all conn piece after faults)
+
+pub leaves_none : {S : Type 0} (conn : ℕ) (all : Connections) (hub : Hub S) → ConnectionsRepresent hub all → LeavesOthers conn all hub
+leaves_none conn all hub represents = record { after = all; represents = represents; others = λ k ne. refl }
+
+-- one call after another
+pub leaves_on : {S : Type 0} (conn : ℕ) (all : Connections) (mid new : Hub S) → LeavesOthers conn all mid
+    → ((each : Connections) → ConnectionsRepresent mid each → LeavesOthers conn each new) → LeavesOthers conn all new
+leaves_on conn all mid new l next =
+    let n = next l.after l.represents in
+    record { after = n.after; represents = n.represents; others = λ k ne. n.others k ne ∙ l.others k ne }
+
+-- ---- endings
+
+-- what an end of the input makes of an answered connection
+pub ended_at : (left : Option (List ℕ)) (all : Connections) (conn : ℕ) → IsAtEnd left → IsAnswered all conn → HasEnded left all conn
+ended_at left all conn end (inl closed) = inl closed
+ended_at left all conn end (inr needs) = inr (end, needs)
+
+-- what is read where the pieces are one piece and nothing more
+pub joins_nothing : (piece nothing : List ℕ) → nothing ≡ [] → Joins (λ read. read ≡ piece) (λ read. read ≡ nothing) (λ read. read ≡ piece)
+joins_nothing piece nothing is a b p q = ap (λ (l : List ℕ). l ++ b) p ∙ ap (λ (l : List ℕ). piece ++ l) (q ∙ is) ∙ append-nil piece
+
+-- a loop that goes on while replies come falls
+pub measure_falls : (was more : Bool) (a b : ℕ) → was ≡ true → (more ≡ true → a < b) → cond more (a + 1) 0 < cond was (b + 1) 0
+measure_falls was more a b is falls = subst (λ (x : Bool). cond more (a + 1) 0 < cond x (b + 1) 0) (sym is) (at more falls)
+  where
+    at : (more : Bool) → (more ≡ true → a < b) → cond more (a + 1) 0 < b + 1
+    at true falls = let less = falls refl in omega (arith, less)
+    at false falls = omega arith

@@ -1,0 +1,16 @@
+use Rattle.std.proofs.Common.{ℕ, nat_cmp, refl}
+use Rattle.std.specs.BTreeMap.{get}
+use Rattle.hub.specs.Representing.{hub_connections}
+use Rattle.hub.proofs.HubLemmas.{closed_represents}
+use Rattle.hub.proofs.ServingLemmas.{closed_world}
+use Rattle.hub.proofs.hub.Hub.close.Goals as goal
+
+pub returns-clause-connections : goal.returns-clause-connections
+returns-clause-connections g c = λ all each.
+    closed_represents (hub_connections c.args.self.now) (λ (k : ℕ). get nat_cmp c.close.new.connections k) c.args.conn all each
+    c.close.ensures.closed c.close.ensures.unseen c.close.ensures.others
+
+pub returns-clause-worlds : goal.returns-clause-worlds
+returns-clause-worlds g c = λ w represents.
+    closed_world g.S.Store.seen c.args.conn c.args.self.now (record c.args.self.now { connections = c.close.new.connections }) w
+    (record { store = refl; connections = returns-clause-connections g c }) represents
