@@ -99,8 +99,40 @@ def depths(run):
         run.event(run.read(path))
 
 
+def spelled(run, path):
+    """A path as a target has it: some of its characters are percent-encoded, and those that must be."""
+    return "".join(encoded(run, c) if c in " %?" or run.chance(4) else c for c in path)
+
+
+def encoded(run, character):
+    """A character, percent-encoded by digits of either case."""
+    return "".join(f"%{byte:02x}" if run.chance(2) else f"%{byte:02X}" for byte in character.encode())
+
+
+ODD_ESCAPES = ("%", "%%", "a%", "%4", "%zz", "%%34", "%2541", "%25", "%u0041", "a%2", "%2f", "%2F%2f", "a%2F", "%2Fa",
+               "a%2fb/", "a/%2e", "%2E%2e", "a/%2e%2e/b", ".%2e", "%2e%2e%2e", "a%2f..", "%00", "a%1f", "%7F",
+               "a%0d%0ab", "%ff", "%C3", "%c3%28", "%c3%A9", "%ed%a0%80", "%f4%90%80%80", "%F0%9F%98%80", "%e9", "%5C",
+               "%3f%23", "%2Aa", "a%3Flist=true", "%20", "+", "%2B", "%7e", "a%20", "%41%", "0%30")
+
+
+def odd_escape(run):
+    """A target with percent signs that are escapes, or not, in any place of it."""
+    if run.chance(6):
+        letter, size = run.pick(("%78", 1), ("%c3%a9", 2), ("%2541", 3), ("x%20", 2))
+        return "/v1/cubbyhole/" + letter * (502 // size) + run.pick("", "", "y", "%79", "/", "yy")
+    return run.pick(
+        "/v1/cubbyhole/" + run.pick(*ODD_ESCAPES), "/v1/cubbyhole/" + run.pick(*ODD_ESCAPES),
+        "/v1/cubbyhole/a/" + run.pick(*ODD_ESCAPES), "/v1/" + run.pick(*ODD_ESCAPES),
+        run.pick("/v1/%63ubbyhole/a", "/v1/cubbyhole%2Fa", "/v1/cubbyhole%2fa%2F", "/v1/cubbyhole%",
+                 "/v1%2Fcubbyhole/a", "/%761/cubbyhole/a", "%2Fv1/cubbyhole/a", "/v2/%", "/v1/cubbyhole/a?%",
+                 "/v1/cubbyhole/%61?list=tru%65", "/v1/cubbyhole/a%3F?a", "/v1/%2e/cubbyhole/a",
+                 "/v1/auth/token/lookup%2Dself", "/v1/n%6fne/x"))
+
+
 def odd_target(run):
     """A target that may be a path, or not."""
+    if run.chance(3):
+        return odd_escape(run)
     if run.chance(6):
         length = run.pick(511, 512, 512, 513, 513, 514)
         path = run.pick("cubbyhole/", "cubbyhole/a/", "cubbyhole/b/c/").ljust(length, "x")
@@ -126,9 +158,35 @@ def paths(run):
         run.event(request("GET", run.pick(target, target, target.rstrip("/"), target + "/"), run.fields()))
 
 
+def authorization(run, token):
+    """An Authorization field with a token, in one of its forms, or nearly."""
+    name = run.pick("Authorization", "Authorization", "authorization", "AUTHORIZATION", "Proxy-Authorization")
+    scheme = run.pick("Bearer", "Bearer", "Bearer", "bearer", "BEARER", "beArEr", "Basic", "Token", "Bearer:",
+                      "Bearers")
+    value = run.pick(
+        f"{scheme} {token}", f"{scheme} {token}", f"{scheme} {token}", f"{scheme}   {token}", f"{scheme}\t{token}",
+        f"{scheme} \t{token}", f" {scheme} {token} ", f"{scheme}{token}", f"{scheme} {token} x", f"{scheme} x {token}",
+        f"{scheme} {token},", f'{scheme} "{token}"', f"{scheme} {token.upper()}", f"{scheme} {token[4:]}", token,
+        run.pick(scheme, f"{scheme} ", f"{scheme} é", "", f"{scheme} {token}, {scheme} {token}"))
+    return f"{name}: {value}"
+
+
+def authorized(run, token, other):
+    """Fields of the client token, an Authorization field among them, and now and then the other token beside it."""
+    bearer = authorization(run, token)
+    fields = run.pick(
+        [bearer], [bearer], [bearer], ["X-Vault-Token:", bearer], ["X-Vault-Token: ", bearer],
+        [f"X-Vault-Token: {other}", bearer], [f"X-Vault-Token: {token}", authorization(run, other)],
+        [bearer, authorization(run, other)], [bearer, bearer], [bearer, f"X-Vault-Token: {other}", "x-vault-token: x"])
+    run.random.shuffle(fields)
+    return ["Host: b", *fields]
+
+
 def odd_token(run):
     """Fields of the client token: another one, none, two, other spellings."""
     root = run.root()
+    if run.chance(3):
+        return authorized(run, root, run.pick("x", "nobody", root + "x"))[1:]
     return run.pick(
         [], ["X-Vault-Token:"], ["X-Vault-Token: "], [f"X-Vault-Token: {root}x"], [f"X-Vault-Token: {root[:-1]}"],
         [f"X-Vault-Token: {root[4:]}"], [f"X-Vault-Token: {root.upper()}"], [f"X-Vault-Token: HVS{root[3:]}"],
@@ -156,6 +214,48 @@ def tokens(run):
             run.event(request(run.pick("PUT", "POST"), target, fields, run.pick('{"other":2}', "{", '{"a":1.5}')))
         if run.chance(4):
             run.event(run.read(path))
+
+
+def escapes(run):
+    """Paths with percent-encoded bytes: what is written by one spelling is read by another, if policies allow it."""
+    run.size = run.random.randrange(6, 15)
+    mount, body = run.pick(("cubbyhole/", '{"a":1}'), ("cubbyhole/", '{"a":1}'), ("secret/data/", '{"data":{"a":1}}'))
+    path = mount + run.pick("a b", "a/b", "a%b", "%41", "a?b=c", "a#b", "été", "Ω/😀", "a+b", 'x"y', "a/b/c d", ".a",
+                            "...", "a\\b", "a*", "a&b=%")
+    token = run.root()
+    if run.chance(3):
+        pattern = run.pick(path, path, path + "*", mount + "*", spelled(run, path))
+        run.grant("p", {pattern: ["read", "create", "update"]})
+        token, _ = run.make({"policies": ["p"], "no_default_policy": True})
+    while run.room() > 0:
+        target = "/v1/" + spelled(run, path) + run.pick("", "", "", "/", encoded(run, "/"))
+        way = run.random.randrange(11)
+        if way < 3:
+            run.event(request(run.pick("PUT", "POST"), target, run.fields(token), body))
+        elif way < 6:
+            run.event(request("GET", target + run.pick("", "", "?", "?version=%31", "?a%"), run.fields(token)))
+        elif way < 9:
+            run.event(request(run.pick("GET", "GET", "PUT"), odd_escape(run), run.fields(), run.pick(None, body)))
+        elif way == 9:
+            run.event(request(run.pick("LIST", "DELETE"), target, run.fields(run.pick(token, run.root()))))
+        else:
+            run.call(run.pick("LIST", "GET"), run.pick("secret/metadata", "secret/m%65tadata", "sys/policies/acl/%70",
+                                                       "sys/policies/%61cl"))
+
+
+def authorizations(run):
+    """The client token in an Authorization field: of root and of tokens with few uses, in every form, and twice."""
+    run.size = run.random.randrange(6, 15)
+    run.make({"num_uses": run.pick(1, 2, 3), "policies": run.pick(["root"], ["default"])})
+    while run.room() > 0:
+        token, other = run.pick(run.token(), run.root()), run.pick(run.token(), run.stranger(), "x")
+        fields = authorized(run, token, other) if not run.chance(6) else run.fields(token)
+        target = run.pick("/v1/auth/token/lookup-self", "/v1/auth/token/lookup-self", "/v1/cubbyhole/a", "/v1/none",
+                          run.pick("/v2/x", "/v1/a//b", "/v1/auth/token/lookup%2Dself"))
+        if run.chance(5):
+            run.event(request("PUT", "/v1/cubbyhole/a", fields, run.pick('{"a":1}', "{")))
+        else:
+            run.event(request("GET", target, fields))
 
 
 def methods(run):
@@ -558,21 +658,16 @@ def limits(run):
                   run.pick(connection, connection, connection + 1))
 
 
-def unserved_targets(run):
-    """Percent signs and fields that are not read so far."""
+def unserved_fields(run):
+    """Fields that are not read so far."""
     path = run.path()
     run.event(run.write(path, run.object_text(1)))
     while run.room() > 0:
-        target = "/v1/" + path + run.pick("", "", "%", "%20", "%2F", "?%", "?list=tru%65", "%61?")
-        if run.chance(8):
-            target = run.pick("/v2/x?%", "/v1/%", "%")
         fields = run.fields()
-        if run.chance(2):
+        if not run.chance(4):
             fields += run.pick(["X-Vault-Wrap-TTL: 60"], ["X-Vault-Wrap-TTL: 1d"], ["X-Vault-Wrap-TTL: é"],
-                               ["Authorization: a"], ["X-Vault-Wrap-TTL: 5", "X-Vault-Wrap-TTL: 6"],
-                               ["Authorization: a", "Authorization: b"], ["X-Vault-Namespace: a"])
-        if run.chance(6):
-            fields = ["Host: b", f"Authorization: Bearer {run.root()}"]
+                               ["X-Vault-Wrap-TTL: 5", "X-Vault-Wrap-TTL: 6"], ["X-Vault-Namespace: a"])
+        target = "/v1/" + run.pick(path, path, path, "none", "a//b", "auth/token/lookup-self")
         run.event(request(run.pick("GET", "GET", "PUT", "LIST"), target, fields, run.pick(None, '{"a":1}')))
 
 
