@@ -26,9 +26,9 @@ from policy_themes import (changing_policies, creating_or_updating, cubbyhole_pe
                            policies_of_children, policy_names, policy_routes, policy_texts, refusals_in_order,
                            stars_in_paths, sudo_permissions)
 from request_themes import (authorizations, bodies, body_lengths, changed_heads, changed_lines, closing, connections,
-                            cuts, depths, escapes, heads, large, limits, line_ends, lines, many_fields, methods, mixed,
-                            moments, numbers, paths, pipelines, queries, refused_bodies, replaced_members,
-                            single_bytes, spellings, tokens, unserved_fields, unserved_lines, unserved_routes)
+                            cuts, depths, escapes, heads, hex_and_lists, large, limits, line_ends, lines, many_fields,
+                            methods, mixed, moments, numbers, paths, pipelines, queries, refused_bodies,
+                            replaced_members, single_bytes, spellings, tokens, unserved_fields, unserved_routes)
 from run import data_of
 from secret_themes import (asked_versions, check_and_set, deletions, folders, forgotten_secrets, mixed_secrets,
                            old_versions, refused_secrets, secret_callers, secret_moments, secret_routes, secret_writes,
@@ -49,7 +49,7 @@ THEMES = {
     bodies: 4, refused_bodies: 5, numbers: 3, replaced_members: 3, depths: 2, paths: 5, tokens: 4, methods: 3, heads: 6,
     changed_heads: 4, line_ends: 3, many_fields: 2, body_lengths: 3, cuts: 4, single_bytes: 2, pipelines: 3,
     connections: 3, closing: 3, moments: 3, spellings: 3, lines: 6, changed_lines: 4, large: 1, mixed: 6, queries: 4,
-    limits: 4, escapes: 6, authorizations: 5,
+    limits: 4, escapes: 6, authorizations: 5, hex_and_lists: 3,
     creations: 4, lenient_creations: 7, refused_creations: 6, children: 8, families: 6, look_ups: 6, accessors: 4,
     renewals: 6, ends: 6, uses: 6, revocations: 6, sudo_paths: 6, given_twice: 4, other_cubbyholes: 4, token_routes: 4,
     mixed_tokens: 6,
@@ -60,7 +60,7 @@ THEMES = {
     cubbyhole_permissions: 12, stars_in_paths: 10, sudo_permissions: 18, policy_texts: 12, policy_names: 10,
     changing_policies: 16, policies_of_children: 10, policies_not_there: 8, policies_by_callers: 8,
     refusals_in_order: 10, policy_routes: 6, mixed_policies: 8,
-    unserved_routes: 6, unserved_fields: 1, unserved_lines: 3,
+    unserved_routes: 6, unserved_fields: 1,
 }
 
 

@@ -671,15 +671,30 @@ def unserved_fields(run):
         run.event(request(run.pick("GET", "GET", "PUT", "LIST"), target, fields, run.pick(None, '{"a":1}')))
 
 
-def unserved_lines(run):
-    """Forms of a line that are not read so far make it bad."""
-    while run.room() > 1:
-        run.event(run.served())
-    event = {"conn": 1, "moment": run.moment, "words": "0" * 32}
-    words = [f"{n:032x}" for n in range(16, 24)]
-    run.add(run.pick({**event, "hex": ""}, {**event, "hex": run.read("cubbyhole/a").encode().hex()},
-                     {**event, "words": words, "piece": ""}, {**event, "words": words, "hex": "00"},
-                     {**event, "piece": "", "hex": ""}))
+def hex_and_lists(run):
+    """Pieces in hexadecimal digits, and words as lists of eight. The last line but one may be bad."""
     if run.chance(4):
-        run.lines[0] = json.dumps({"moment": run.moment, "words": words}).encode()
+        run.lines[0] = json.dumps({"moment": run.moment, "words": eight_words(run, run.first_word)}).encode()
+    while run.room() > 2:
+        for piece in run.pieces(run.served().encode(), run.pick(1, 1, 2, 3)):
+            run.add(in_digits(run, piece))
+    run.add({**in_digits(run, b""), **run.pick(
+        {}, {}, {}, {"hex": "0"}, {"hex": "0g"}, {"hex": " 00"}, {"hex": 0}, {"piece": ""}, {"words": []},
+        {"words": ["0" * 32] * 7}, {"words": ["0" * 32] * 9}, {"words": ["0" * 31, *["0" * 32] * 7]})})
     run.event(run.served())
+
+
+def in_digits(run, piece):
+    """An event whose piece is written in hexadecimal digits, and mostly its words as a list."""
+    words = eight_words(run, 0x10 * len(run.lines))
+    digits = piece.hex()
+    return {"conn": run.pick(1, 1, 1, 2), "moment": run.moment, "words": run.pick(words, words, words[0]),
+            "hex": run.pick(digits, digits.upper())}
+
+
+def eight_words(run, first):
+    """Eight words, mostly each one greater than the one before."""
+    words = [(first + n) % 2**128 for n in range(8)]
+    if run.chance(4):
+        words[3:] = [run.random.getrandbits(128) for _ in range(5)]
+    return [run.pick(f"{word:032x}", f"{word:032X}") for word in words]

@@ -25,7 +25,7 @@ PARTS = {
 ALL = frozenset(PARTS)
 
 # What `brokerd` serves today. This is the one place that says so: whoever lets it serve a further part adds its name.
-TODAY = frozenset({"cubbyholes", "tokens", "secrets", "queries", "limits", "policies", "decoding"})
+TODAY = frozenset({"cubbyholes", "tokens", "secrets", "queries", "limits", "policies", "decoding", "lines"})
 
 
 def parts_of(text: str) -> frozenset:
