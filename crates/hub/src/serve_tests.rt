@@ -88,7 +88,7 @@ fn moment() -> Result<Moment, Fail> {
 }
 
 /// How serving the connection ends, with words from 16 on.
-fn served<R: Source, W: Sink>(
+fn served<R: Source + Drop, W: Sink + Drop>(
     hub: &mut Hub<ListStore>,
     conn: u64,
     mut reader: R,
