@@ -1,0 +1,20 @@
+use Rattle.std.proofs.Common.{◌∙◌, Ok, Err, ap}
+use Rattle.std.proofs.lemmas.Result.{err_from_is_err_and}
+use Rattle.server.proofs.ServingLemmas.{leaves_none, leaves_on}
+use Rattle.server.proofs.serving.serve.Goals as goal
+
+pub loop-init : goal.loop-init
+loop-init g c = record { served = leaves_none g.S.Store.seen tt c.args.hub.now }
+
+pub loop-preserved : goal.loop-preserved
+loop-preserved g c = record {
+  served = leaves_on g.S.Store.seen tt (Ok tt) c.args.hub.now c.loop.hub c.serve_stream.new.hub c.loop.invariant.served
+      c.in_ok-serve_stream.ensures;
+}
+
+pub returns-in_err-serve_stream : goal.returns-in_err-serve_stream
+returns-in_err-serve_stream g c =
+    let p = err_from_is_err_and c.from_residual.result c.from_residual.ensures.1 in
+    rw (p.1 ∙ ap Err p.2)
+    (leaves_on g.S.Store.seen tt (Err c.in_err-serve_stream.field-0.0) c.args.hub.now c.loop.hub c.serve_stream.new.hub
+    c.loop.invariant.served c.in_err-serve_stream.ensures)

@@ -1,0 +1,5 @@
+pub mod Drawn
+pub mod Moments
+pub mod Patience
+pub mod Pieces
+pub mod Serving
