@@ -3,3 +3,4 @@ pub mod Moments
 pub mod Patience
 pub mod Pieces
 pub mod Serving
+pub mod Starting

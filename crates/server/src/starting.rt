@@ -1,3 +1,6 @@
+ghost use Rattle.std.specs.Prelude.{IfErr};
+ghost use Rattle.server.specs.Starting.{IsFaultOfStart};
+
 use crate::drawn::seeded;
 use crate::serving::serve;
 use crate::system_clock::SystemClock;
@@ -11,8 +14,9 @@ use std::random::RandomSource;
 use std::{io, time};
 
 /// Starts a broker in memory, prints its root token on standard output, and serves so many connections to
-/// the address, one after another. Randomness that cannot be read, and an address that cannot be
-/// listened on, are faults of reading, and a token that cannot be printed is one of writing.
+/// the address, one after another. It fails only before it serves: memory runs out, the words of the root
+/// token and its accessor are equal, the system has no randomness or the address cannot be listened on (a
+/// fault of reading), or the token cannot be printed (one of writing).
 pub fn serve_in_memory<R>(rt: &R, address: &str, connections: u32) -> Result<(), ConnectionFault>
 where
     R: AllocGlobal
@@ -20,6 +24,7 @@ where
         + RandomSource
         + time::Clock
         + Net<Listener = TcpListener, Stream = TcpStream>,
+    ensures { IfErr result IsFaultOfStart }
 {
     let mut clock = SystemClock::new(rt);
     let Ok(mut words) = seeded(rt) else {
