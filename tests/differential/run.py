@@ -1,12 +1,12 @@
 #!/usr/bin/env python3
 """Runs a program on every stored run, and compares what it wrote and its status with what is stored.
 
-    python3 run.py [--more] PROGRAM [NAME...]
+    python3 run.py [--more | --runs FILE] PROGRAM [NAME...]
 
 The program is called as `PROGRAM replay` with the run's input on its standard input. With names, only
 the runs whose names begin with one of them are tried; with `--more`, the runs of `more_runs.jsonl` are
-taken in place of those of `runs.jsonl`. The last line is `N passed, M failed`; the status
-is 0 if nothing failed.
+taken in place of those of `runs.jsonl`, and with `--runs` those of a file that `draw.py --answer` wrote.
+The last line is `N passed, M failed`; the status is 0 if nothing failed.
 """
 
 import argparse
@@ -73,12 +73,16 @@ def try_all(program, runs):
 
 def main():
     parser = argparse.ArgumentParser(description="compares a program with the stored runs")
-    parser.add_argument("--more", action="store_true", help="take the runs of more_runs.jsonl")
+    files = parser.add_mutually_exclusive_group()
+    files.add_argument("--more", action="store_const", dest="runs", const=MORE_RUNS,
+                       help="take the runs of more_runs.jsonl")
+    files.add_argument("--runs", type=pathlib.Path, metavar="FILE", help="take the runs of a file")
+    parser.set_defaults(runs=RUNS)
     parser.add_argument("program")
     parser.add_argument("names", nargs="*", metavar="NAME")
     arguments = parser.parse_args()
     program = os.path.abspath(arguments.program)
-    runs = stored_runs(MORE_RUNS if arguments.more else RUNS, arguments.names)
+    runs = stored_runs(arguments.runs, arguments.names)
     if not runs or not os.access(program, os.X_OK):
         print("no such run" if not runs else f"no program {program}", file=sys.stderr)
         print("0 passed, 1 failed")

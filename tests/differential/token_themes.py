@@ -2,7 +2,7 @@
 
 import json
 
-from drawing import GREATEST_MOMENT, GREATEST_WORD, identifier, request
+from drawing import GREATEST_MOMENT, GREATEST_WORD, request
 
 GOOD_MEMBERS = {
     "policies": (["a"], ["b", "a", "b"], ["default"], ["a", "default"], "a,b", [], "", None, ["root"], ["Z", "a", "-"]),

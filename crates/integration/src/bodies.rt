@@ -1,5 +1,7 @@
 //! What bodies are read as, and what replies print as. The outcomes of the readers are those of a reference broker that
-//! was written apart from this one; the printed objects are those of its replies.
+//! was written apart from this one; the printed objects are those of its replies. What the readers make of bodies, and
+//! which of several bad members is refused, is in `lenient_members`, `forms_of_settings`, `forms_of_versions`,
+//! `members_refused` and `order_of_creation_refusals` of `tests/rows`.
 
 use api_json::{
     AuthObject, Body, EndTime, KeyObject, Pairs, Texts, TokenObject, Tree, VersionObject, Versions,
@@ -9,7 +11,6 @@ use api_json::{
 };
 use broker_types::{Field, Moment, Reason, Refusal, Reply, RequestError, TextBuf};
 use std::alloc::{AllocError, Global};
-use std::process::Abort;
 use std::test::Fail;
 
 #[derive(Clone, Copy, Debug, PartialEq, Eq)]
@@ -223,51 +224,6 @@ fn kinds_of_members(rt: HostRuntime) -> Result<(), Fail> {
     Ok(())
 }
 
-/// The first bad member, in the order in which they are read, is the one that is refused.
-#[test]
-fn first_bad_members(rt: HostRuntime) -> Result<(), Fail> {
-    let alloc = rt.alloc();
-    let rows = [
-        (
-            Route::Creation,
-            "{\"type\":1,\"id\":\"x\",\"renewable\":0,\"period\":1}",
-            Reason::InvalidField(Field::Period),
-        ),
-        (
-            Route::Creation,
-            "{\"num_uses\":-1,\"ttl\":\"1d\",\"meta\":null}",
-            Reason::InvalidField(Field::Ttl),
-        ),
-        (
-            Route::Creation,
-            "{\"policies\":[1],\"meta\":[]}",
-            Reason::InvalidField(Field::Policies),
-        ),
-        (
-            Route::TokenRenewal,
-            "{\"increment\":-1}",
-            Reason::MissingField(Field::Token),
-        ),
-        (
-            Route::Settings,
-            "{\"max_versions\":-1,\"delete_version_after\":0}",
-            Reason::InvalidField(Field::MaxVersions),
-        ),
-        (Route::Secret, "{\"options\":1}", Reason::NoData),
-        (
-            Route::Versions,
-            "{\"versions\":\" , \"}",
-            Reason::MissingField(Field::Versions),
-        ),
-    ];
-    for (route, text, reason) in rows {
-        let body = read_body(alloc, text.as_bytes())?;
-        let want = Some(RequestError::Refused(Refusal::BadRequest(reason)));
-        assert!(rt; refused(alloc, route, &body) == want, "{text}");
-    }
-    Ok(())
-}
-
 /// Which bytes are bodies. Of two members of one name the last counts, also where the first has a float, but what the
 /// reader itself refuses is refused there too.
 #[test]
@@ -346,52 +302,6 @@ fn trees(rt: HostRuntime) -> Result<(), Fail> {
     );
     assert!(rt; Tree::read(alloc, b"[1.5]")?.is_none());
     assert!(rt; Tree::read(alloc, b"")?.is_none());
-    Ok(())
-}
-
-/// What the readers make of bodies that they read.
-#[test]
-fn values_of_members(rt: HostRuntime) -> Result<(), Fail> {
-    let alloc = rt.alloc();
-    let text =
-        "{\"policies\":\" a, b ,,c\",\"ttl\":\"1h30m\",\"explicit_max_ttl\":7,\"num_uses\":\"08\",\
-        \"no_parent\":\"true\",\"no_default_policy\":null,\"meta\":{\"b\":\"2\",\"a\":\"1\"},\"other\":[]}";
-    let creation = token_creation(alloc, &read_body(alloc, text.as_bytes())?)?;
-    let policies = creation.policies.as_slice();
-    assert!(rt; policies.len() == 3);
-    assert!(rt;
-        policies[0].as_str() == "a" && policies[1].as_str() == "b" && policies[2].as_str() == "c"
-    );
-    let meta = creation.meta.as_slice();
-    assert!(rt; meta.len() == 2 && meta[0].0.as_str() == "a" && meta[1].1.as_str() == "2");
-    assert!(rt; creation.ttl.count() == 5400 && creation.explicit_max_ttl.count() == 7);
-    assert!(rt; creation.num_uses == 8 && creation.no_parent && !creation.no_default_policy);
-    let creation = token_creation(alloc, &read_body(alloc, b"{\"policies\":[\"\",\" a\"]}")?)?;
-    let policies = creation.policies.as_slice();
-    assert!(rt; policies.len() == 2 && policies[0].as_str() == "" && policies[1].as_str() == " a");
-    assert!(rt; creation.meta.as_slice().is_empty() && creation.ttl.count() == 0);
-    assert!(rt; creation.explicit_max_ttl.count() == 0 && creation.num_uses == 0);
-    assert!(rt; !creation.no_parent && !creation.no_default_policy);
-    let body = read_body(
-        alloc,
-        b"{\"token\":\"t\",\"accessor\":\"\",\"increment\":\"5m\",\"policy\":\"p\",\"versions\":[\"1\",2]}",
-    )?;
-    assert_eq!(rt; token(alloc, &body)?.as_str(), "t");
-    assert_eq!(rt; accessor(alloc, &body)?.as_str(), "");
-    assert_eq!(rt; increment(alloc, &body)?.count(), 300);
-    let renewal = token_renewal(alloc, &body)?;
-    assert!(rt; renewal.token.as_str() == "t" && renewal.increment.count() == 300);
-    assert_eq!(rt; policy_text(alloc, &body)?.as_str(), "p");
-    assert!(rt; versions(alloc, &body)?.as_slice() == [1, 2].as_slice());
-    assert!(rt; body.members().len() == 5);
-    let body = read_body(
-        alloc,
-        b"{\"options\":{\"cas\":\"1\"},\"data\":{\"b\": 1, \"a\":[ ]},\"max_versions\":0}",
-    )?;
-    let written = secret_write(alloc, &body)?;
-    assert!(rt; written.object.as_str() == "{\"a\":[],\"b\":1}" && written.cas == Some(1));
-    let settings = mount_settings(alloc, &body)?;
-    assert!(rt; settings.cas_required == None && settings.max_versions == Some(0));
     Ok(())
 }
 

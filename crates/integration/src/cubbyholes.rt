@@ -36,13 +36,6 @@ fn lists(
 }
 
 #[test]
-fn a_folder_lists_its_children(rt: HostRuntime) -> Result<(), Fail> {
-    let mut tx = kept(&rt, ROOT, &["a", "b/c"])?;
-    assert!(rt; lists(&rt, &mut tx, ROOT, "", &["a", "b/"])?);
-    Ok(())
-}
-
-#[test]
 fn a_path_and_a_folder_may_have_one_name(rt: HostRuntime) -> Result<(), Fail> {
     let mut tx = kept(&rt, ROOT, &["a", "a/b", "a/b/c", "z"])?;
     assert!(rt; lists(&rt, &mut tx, ROOT, "", &["a", "a/", "z"])?);
@@ -68,24 +61,14 @@ fn reads(
 fn a_path_is_deleted_alone(rt: HostRuntime) -> Result<(), Fail> {
     let alloc = rt.alloc();
     let mut tx = kept(&rt, ROOT, &["a", "a/b", "z"])?;
+    assert!(rt; is_there(alloc, &mut tx, ROOT, "a")?);
     delete(alloc, &mut tx, ROOT, "a")?;
     delete(alloc, &mut tx, ROOT, "a")?;
+    assert!(rt; !is_there(alloc, &mut tx, ROOT, "a")?);
     write(alloc, &mut tx, ROOT, "z", "{\"new\":[1]}")?;
     assert!(rt; read(alloc, &mut tx, ROOT, "a")?.is_none());
     assert!(rt; reads(&rt, &mut tx, ROOT, "a/b", "{\"x\":1}")?);
     assert!(rt; reads(&rt, &mut tx, ROOT, "z", "{\"new\":[1]}")?);
-    Ok(())
-}
-
-#[test]
-fn what_is_written_is_there(rt: HostRuntime) -> Result<(), Fail> {
-    let alloc = rt.alloc();
-    let mut tx = kept(&rt, ROOT, &["a/b"])?;
-    assert!(rt; is_there(alloc, &mut tx, ROOT, "a/b")?);
-    assert!(rt; !is_there(alloc, &mut tx, ROOT, "a")?);
-    assert!(rt; !is_there(alloc, &mut tx, CHILD, "a/b")?);
-    delete(alloc, &mut tx, ROOT, "a/b")?;
-    assert!(rt; !is_there(alloc, &mut tx, ROOT, "a/b")?);
     Ok(())
 }
 

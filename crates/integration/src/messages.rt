@@ -141,7 +141,7 @@ const REFUSED_FRONTS: [(Status, &str); 4] = [
     (Status::NotImplemented, ""),
 ];
 
-/// Computes `refusal_body`, `refusal_response`, `ask_refused`, `front_refused`, `IsFrontRefusal`,
+/// Computes `cutting_text`, `refusal_body`, `refusal_response`, `ask_refused`, `front_refused`, `IsFrontRefusal`,
 /// `IsAskRefusal`, `IsListedRefusal`, `body_lines`, `reply_body`.
 #[test]
 fn refuses_fronts(rt: HostRuntime) -> Result<(), Fail> {

@@ -262,56 +262,29 @@ fn a_route_has_its_mount_and_its_parameter(rt: HostRuntime) -> Result<(), Fail> 
     Ok(())
 }
 
-/// Whether an operation was refused for a reason.
-fn refused(answer: Result<(), RequestError>, reason: Reason) -> bool {
-    answer == Err(RequestError::Refused(Refusal::BadRequest(reason)))
-}
-
 #[test]
 fn mounts_are_refused_in_order(rt: HostRuntime) -> Result<(), Fail> {
     let alloc = rt.alloc();
     let mut tx = with_mounts(&rt)?;
-    assert!(rt;
-        refused(
-            enable(alloc, &mut tx, "a:b", "x", None),
-            Reason::InvalidName
-        )
-    );
-    assert!(rt;
-        refused(
-            enable(alloc, &mut tx, "", "kv-v2", None),
-            Reason::InvalidName
-        )
-    );
-    assert!(rt; refused(enable(alloc, &mut tx, "db", "x", None), Reason::PathInUse));
-    assert!(rt;
-        refused(
-            enable(alloc, &mut tx, "identity", "kv-v2", None),
-            Reason::PathInUse
-        )
-    );
-    assert!(rt;
-        refused(
-            enable(alloc, &mut tx, "new", "kv", None),
-            Reason::UnsupportedMount
-        )
-    );
-    assert!(rt;
-        refused(
-            enable(alloc, &mut tx, "new", "kv", Some(1)),
-            Reason::UnsupportedMount
-        )
-    );
-    assert!(rt; enable(alloc, &mut tx, "new", "kv-v2", Some(1)) == Ok(()));
-    assert!(rt;
-        refused(
-            enable(alloc, &mut tx, "new", "kv-v2", None),
-            Reason::PathInUse
-        )
-    );
-    assert!(rt; refused(disable(&mut tx, "cubbyhole"), Reason::MountFixed));
-    assert!(rt; disable(&mut tx, "identity") == Ok(()));
-    assert!(rt; disable(&mut tx, "new") == Ok(()));
+    for (name, mount_type, version, reason) in [
+        ("a:b", "x", None, Some(Reason::InvalidName)),
+        ("", "kv-v2", None, Some(Reason::InvalidName)),
+        ("db", "x", None, Some(Reason::PathInUse)),
+        ("identity", "kv-v2", None, Some(Reason::PathInUse)),
+        ("new", "kv", None, Some(Reason::UnsupportedMount)),
+        ("new", "kv", Some(1), Some(Reason::UnsupportedMount)),
+        ("new", "kv-v2", Some(1), None),
+        ("new", "kv-v2", None, Some(Reason::PathInUse)),
+    ] {
+        let refused = enable(alloc, &mut tx, name, mount_type, version).err();
+        let wanted = reason.map(|reason| RequestError::Refused(Refusal::BadRequest(reason)));
+        assert!(rt; refused == wanted, "{name}");
+    }
+    let fixed = RequestError::Refused(Refusal::BadRequest(Reason::MountFixed));
+    assert!(rt; disable(&mut tx, "cubbyhole") == Err(fixed));
+    for name in ["identity", "new"] {
+        assert!(rt; disable(&mut tx, name) == Ok(()));
+    }
     assert!(rt; enable(alloc, &mut tx, "new", "issued", None) == Ok(()));
     Ok(())
 }
@@ -320,9 +293,9 @@ fn mounts_are_refused_in_order(rt: HostRuntime) -> Result<(), Fail> {
 fn all_mounts_are_listed_in_order(rt: HostRuntime) -> Result<(), Fail> {
     let alloc = rt.alloc();
     let mut tx = with_mounts(&rt)?;
-    assert!(rt; enable(alloc, &mut tx, "a", "kv-v2", None) == Ok(()));
-    assert!(rt; enable(alloc, &mut tx, "z", "issued", None) == Ok(()));
-    assert!(rt; enable(alloc, &mut tx, "db-2", "kv-v2", None) == Ok(()));
+    for (name, mount_type) in [("a", "kv-v2"), ("z", "issued"), ("db-2", "kv-v2")] {
+        assert!(rt; enable(alloc, &mut tx, name, mount_type, None) == Ok(()));
+    }
     let mounts = list(alloc, &mut tx)?;
     let expected = [
         ("a/", MountType::Kv),

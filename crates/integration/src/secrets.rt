@@ -1,7 +1,7 @@
-//! Secrets over a transaction in memory: each call, run once with enough memory, and check-and-set, pruning and
-//! changes of versions on small examples.
+//! Secrets over a transaction in memory: each call, run once with enough memory. Check-and-set and pruning are in
+//! `check_and_set`, `eleven_versions` and `settings_of_mount` of `tests/rows`.
 
-use broker_types::{Bytes, Fault, Moment, Reason, Refusal, RequestError, TextBuf};
+use broker_types::{Bytes, Fault, Moment, TextBuf};
 use kv2::{
     SecretVersion, config, delete, delete_versions, destroy, drop_mount, is_there, list, metadata,
     read, remove_key, set_config, undelete, write,
@@ -40,19 +40,6 @@ fn writes(rt: &HostRuntime, tx: &mut ListTx, path: &str, cas: Option<u64>) -> Re
     }
 }
 
-/// Whether a write is refused for this reason.
-fn refuses(
-    rt: &HostRuntime,
-    tx: &mut ListTx,
-    cas: Option<u64>,
-    reason: Reason,
-) -> Result<bool, Fail> {
-    match write(rt.alloc(), tx, moment(1000)?, "secret", "x", cas, ONE) {
-        Err(RequestError::Refused(refusal)) => Ok(refusal == Refusal::BadRequest(reason)),
-        _ => Ok(false),
-    }
-}
-
 /// Whether it is this version, deleted at this second, with this object.
 fn is_version(
     found: &Option<SecretVersion>,
@@ -86,82 +73,19 @@ fn reads(
     Ok(is_version(&found, expected.0, expected.1, expected.2))
 }
 
-/// Whether this is told of the secret `x`, whose times are all second 1,000: its last version, its oldest one, and of
-/// each version its number, when it was deleted, and whether it is destroyed.
-fn tells(
-    rt: &HostRuntime,
-    tx: &mut ListTx,
-    current: u64,
-    oldest: u64,
-    versions: &[(u64, Option<u64>, bool)],
-) -> Result<bool, Fail> {
-    let Some(found) = metadata(rt.alloc(), tx, "secret", "x")? else {
-        return Ok(false);
-    };
-    let settings = (found.cas_required, found.max_versions) == (false, 0);
-    let times = (found.created, found.updated) == (1000, 1000);
-    let numbers = (found.current, found.oldest) == (current, oldest);
-    Ok(
-        settings
-            && times
-            && numbers
-            && found.versions.len() == versions.len()
-            && found.versions.iter().zip(versions).all(|(version, wanted)| {
-                version.created == 1000
-                    && (version.number, version.deleted, version.destroyed) == *wanted
-            }),
-    )
-}
-
 #[test]
-fn check_and_set_goes_by_the_current_version(rt: HostRuntime) -> Result<(), Fail> {
+fn settings_and_metadata(rt: HostRuntime) -> Result<(), Fail> {
     let alloc = rt.alloc();
     let mut tx = started(&rt)?;
-    let now = moment(1000)?;
-    assert!(rt; writes(&rt, &mut tx, "x", Some(0))? == 1);
-    delete(alloc, &mut tx, now, "secret", "x")?;
-    assert!(rt; refuses(&rt, &mut tx, Some(0), Reason::CheckAndSetFailed)?);
-    assert!(rt; writes(&rt, &mut tx, "x", Some(1))? == 2);
-    set_config(alloc, &mut tx, "secret", Some(true), None)?;
-    assert!(rt; refuses(&rt, &mut tx, None, Reason::CheckAndSetRequired)?);
+    set_config(alloc, &mut tx, "secret", Some(true), Some(2))?;
     assert!(rt; config(&mut tx, "secret")?.is_some_and(|mount| mount.cas_required));
-    assert!(rt;
-        matches!(
-            write(alloc, &mut tx, now, "none", "x", None, ONE),
-            Err(RequestError::Refused(Refusal::NotFound))
-        )
-    );
-    Ok(())
-}
-
-#[test]
-fn the_oldest_of_eleven_versions_is_gone(rt: HostRuntime) -> Result<(), Fail> {
-    let alloc = rt.alloc();
-    let mut tx = started(&rt)?;
-    for _ in 0..11 {
-        writes(&rt, &mut tx, "x", None)?;
+    for last in 0..3u64 {
+        assert!(rt; writes(&rt, &mut tx, "x", Some(last))? == last.saturating_add(1));
     }
-    assert!(rt; read(alloc, &mut tx, "secret", "x", 1)?.is_none());
-    assert!(rt; reads(&rt, &mut tx, 2, (2, None, Some(ONE)))?);
     let Some(told) = metadata(alloc, &mut tx, "secret", "x")? else {
         return Err(Fail::from("no metadata"));
     };
-    assert!(rt; (told.current, told.oldest, told.versions.len()) == (11, 2, 10));
-    set_config(alloc, &mut tx, "secret", None, Some(2))?;
-    assert!(rt; reads(&rt, &mut tx, 2, (2, None, Some(ONE)))?);
-    assert!(rt; writes(&rt, &mut tx, "x", None)? == 12);
-    assert!(rt; read(alloc, &mut tx, "secret", "x", 10)?.is_none());
-    assert!(rt; reads(&rt, &mut tx, 11, (11, None, Some(ONE)))?);
-    assert!(rt; reads(&rt, &mut tx, 0, (12, None, Some(ONE)))?);
-    assert!(rt;
-        tells(
-            &rt,
-            &mut tx,
-            12,
-            11,
-            &[(11, None, false), (12, None, false)]
-        )?
-    );
+    assert!(rt; (told.current, told.oldest, told.versions.len()) == (3, 2, 2));
     Ok(())
 }
 
@@ -180,48 +104,6 @@ fn versions_are_deleted_restored_and_destroyed(rt: HostRuntime) -> Result<(), Fa
     undelete(alloc, &mut tx, "secret", "x", &[1, 2])?;
     assert!(rt; reads(&rt, &mut tx, 1, (1, None, Some(ONE)))?);
     assert!(rt; reads(&rt, &mut tx, 2, (2, Some(1002), None))?);
-    Ok(())
-}
-
-#[test]
-fn a_destroyed_version_takes_a_deletion_time(rt: HostRuntime) -> Result<(), Fail> {
-    let alloc = rt.alloc();
-    let mut tx = started(&rt)?;
-    writes(&rt, &mut tx, "x", None)?;
-    writes(&rt, &mut tx, "x", None)?;
-    delete(alloc, &mut tx, moment(1001)?, "secret", "x")?;
-    delete(alloc, &mut tx, moment(1002)?, "secret", "x")?;
-    assert!(rt;
-        tells(
-            &rt,
-            &mut tx,
-            2,
-            0,
-            &[(1, None, false), (2, Some(1001), false)]
-        )?
-    );
-    destroy(alloc, &mut tx, "secret", "x", &[1, 2])?;
-    undelete(alloc, &mut tx, "secret", "x", &[1, 2])?;
-    assert!(rt;
-        tells(
-            &rt,
-            &mut tx,
-            2,
-            0,
-            &[(1, None, true), (2, Some(1001), true)]
-        )?
-    );
-    delete_versions(alloc, &mut tx, moment(2000)?, "secret", "x", &[1])?;
-    assert!(rt;
-        tells(
-            &rt,
-            &mut tx,
-            2,
-            0,
-            &[(1, Some(2000), true), (2, Some(1001), true)]
-        )?
-    );
-    assert!(rt; metadata(alloc, &mut tx, "secret", "none")?.is_none());
     Ok(())
 }
 

@@ -110,20 +110,3 @@ fn uses_and_ends(rt: HostRuntime) -> Result<(), Fail> {
     assert!(rt; find_accessor(&mut tx, "not")?.is_none());
     Ok(())
 }
-
-#[test]
-fn a_chain_ends_with_its_first(rt: HostRuntime) -> Result<(), Fail> {
-    let alloc = rt.alloc();
-    let mut tx = ListRecords::new(alloc).begin()?;
-    let mut parent = String::new(alloc);
-    for number in 100..300 {
-        let token = format!(in alloc; "{number}")?;
-        put(alloc, &mut tx, token.as_str(), parent.as_str(), 100)?;
-        parent = token;
-    }
-    assert!(rt; left(alloc, &mut tx)? == (200, 200));
-    let list = revoke(alloc, &mut tx, "100")?;
-    assert!(rt; list.len() == 200);
-    assert!(rt; left(alloc, &mut tx)? == (0, 0));
-    Ok(())
-}

@@ -60,20 +60,6 @@ fn limits(rt: HostRuntime) {
     }
 }
 
-/// Computes `cutting_text`.
-#[test]
-fn texts_of_cut_requests(rt: HostRuntime) {
-    let texts = [
-        (Status::BadRequest, Some("malformed request")),
-        (Status::PayloadTooLarge, Some("request body too large")),
-        (Status::HeaderFieldsTooLarge, Some("request head too large")),
-        (Status::NotImplemented, None),
-    ];
-    for (status, want) in texts {
-        assert_eq!(rt; cutting_text(status), want);
-    }
-}
-
 /// Computes `IsDuration`, `Group`, `IsGroup`, `IsCount`, `IsSum`, `IsEmptyText`, `groups`,
 /// `group_step`, `duration_of`.
 #[test]
