@@ -1,17 +1,19 @@
 -- What one connection leaves, and then another.
-use Rattle.std.proofs.Common.{◌≡◌, ◌≢◌, ◌∙◌, ℕ, List, None, Result, Ok, Err, IsTrue, IfErr, MatchResult, Bool, true, false, ap, sym, subst, refl, arith}
+use Rattle.std.proofs.Common.{◌≡◌, ◌≢◌, ◌∙◌, ◌⊎◌, inl, inr, ⊎_elim, unwrap_or, ℕ, List, Option, Some, None, Result, Ok, Err, IsTrue, IfErr, MatchResult, Bool, true, false, ap, sym, subst, refl, arith}
+use Rattle.std.proofs.lemmas.Bool.{cases_eq}
+use Rattle.std.proofs.lemmas.Map.{update_apart, update_here}
 use Rattle.broker_types.specs.declared.fault.Fault.{Fault}
 use Rattle.broker_types.specs.declared.fault.Fault.TheVariants.{Memory, Storage, Damaged, BadStart}
 use Rattle.broker.specs.Kept.{Kept, IsHonestStore}
 use Rattle.broker.specs.Representing.{Represents}
 use Rattle.hub.specs.Feeding.{IsLater}
 use Rattle.hub.specs.Representing.{ConnectionsRepresent, HubRepresents, hub_store}
-use Rattle.hub.specs.Serving.{IsAllowed, IsKnown, LeavesClosed, Proceeds, Stops}
-use Rattle.hub.specs.World.{Connections, World}
+use Rattle.hub.specs.Serving.{IsAllowed, IsKnown, LeavesClosed, LeavesOthers, Proceeds, Stops}
+use Rattle.hub.specs.World.{Connections, History, World, history_at, new_history}
 use Rattle.hub.specs.declared.hub.Hub.{Hub}
 use Rattle.hub.specs.declared.serve.ConnectionFault.{ConnectionFault}
 use Rattle.hub.specs.declared.serve.ConnectionFault.TheVariants.{Broker, Read, Write}
-use Rattle.server.specs.Serving.{LeavesServed, RepresentsSome, is_skipped}
+use Rattle.server.specs.Serving.{LeavesOrCloses, LeavesServed, RepresentsSome, is_skipped}
 
 -- ---- nothing is served
 
@@ -156,3 +158,49 @@ leaves_connection {A = A} {B = B} seen conn Reads Writes end r old mid new serve
     world (Err end) (Err fault) honest open_ w represents stops want stays is =
         let e : end ≡ Broker fault = cc is.0 in
         allowed fault (subst IsAllowed e want) is.1
+
+-- ---- which connections are left
+
+pub leaves_all : {S : Type 0} (all : Connections) (hub : Hub S) → ConnectionsRepresent hub all → LeavesOrCloses all hub
+leaves_all all hub represents = record { after = all; represents = represents; each = λ k. inl refl }
+
+pub closes_on : {S : Type 0} (all : Connections) (mid new : Hub S) → LeavesOrCloses all mid
+    → ((each : Connections) → ConnectionsRepresent mid each → LeavesOrCloses each new) → LeavesOrCloses all new
+closes_on all mid new first next =
+    let second = next first.after first.represents in
+    record { after = second.after; represents = second.represents; each = λ k. at k (second.after k) refl (first.each k) (second.each k) }
+  where
+    at : (k : ℕ) (o : Option History) → (next first.after first.represents).after k ≡ o
+        → (first.after k ≡ all k) ⊎ ((history_at first.after k).closed ≡ true)
+        → ((next first.after first.represents).after k ≡ first.after k)
+        ⊎ ((history_at (next first.after first.represents).after k).closed ≡ true)
+        → ((next first.after first.represents).after k ≡ all k)
+        ⊎ ((history_at (next first.after first.represents).after k).closed ≡ true)
+    at k o is one (inr closed) = inr closed
+    at k o is (inl before) (inl same) = inl (same ∙ before)
+    at k o is (inr closed) (inl same) =
+        inr (ap (λ (x : Option History). (unwrap_or x new_history).closed) same ∙ closed)
+
+-- a connection that was not seen, and was closed after it was served
+pub closes_one : {S : Type 0} (all : Connections) (conn : ℕ) (mid new : Hub S) → all conn ≡ None → LeavesOthers conn all mid
+    → ((each : Connections) → ConnectionsRepresent mid each
+    → (after : Connections) × ConnectionsRepresent new after × LeavesClosed each conn after) → LeavesOrCloses all new
+closes_one all conn mid new unseen others closed =
+    let c = closed others.after others.represents in
+    record { after = c.0; represents = c.1; each = λ k. ⊎_elim (here c.0 c.2 k) (there c.0 c.2 k) (cases_eq k conn) }
+  where
+    here : (after : Connections) → LeavesClosed others.after conn after → (k : ℕ) → k ≡ conn
+        → (after k ≡ all k) ⊎ ((history_at after k).closed ≡ true)
+    here after (inl is) k e =
+        inr (ap (λ (q : ℕ). (history_at after q).closed) e ∙ ap (λ (x : Connections). (history_at x conn).closed) is
+        ∙ ap (λ (x : Option History). (unwrap_or x new_history).closed)
+        (update_here others.after conn (Some (record (history_at others.after conn) { closed = true }))))
+    here after (inr left) k e =
+        inl (ap after e ∙ ap (λ (x : Connections). x conn) left.1 ∙ left.0 ∙ sym (ap all e ∙ unseen))
+
+    there : (after : Connections) → LeavesClosed others.after conn after → (k : ℕ) → k ≢ conn
+        → (after k ≡ all k) ⊎ ((history_at after k).closed ≡ true)
+    there after (inl is) k ne =
+        inl (ap (λ (x : Connections). x k) is
+        ∙ update_apart others.after conn (Some (record (history_at others.after conn) { closed = true })) k ne ∙ others.others k ne)
+    there after (inr left) k ne = inl (ap (λ (x : Connections). x k) left.1 ∙ others.others k ne)

@@ -1,11 +1,11 @@
 -- What serving connections leaves of the hub, and which faults end it (this project's definition).
-use Rattle.std.specs.Prelude.{◌≡◌, ◌≢◌, Bool, true, false, Result, Err, IsTrue, IfErr, MatchResult}
+use Rattle.std.specs.Prelude.{◌≡◌, ◌≢◌, ◌⊎◌, ℕ, Bool, true, false, Result, Err, IsTrue, IfErr, MatchResult}
 use Rattle.broker_types.specs.declared.fault.Fault.{Fault}
 use Rattle.broker_types.specs.declared.fault.Fault.TheVariants.{Memory, Storage, Damaged, BadStart}
 use Rattle.broker.specs.Kept.{Kept, IsHonestStore}
 use Rattle.hub.specs.Feeding.{IsLater}
-use Rattle.hub.specs.Representing.{HubRepresents, hub_store}
-use Rattle.hub.specs.World.{World}
+use Rattle.hub.specs.Representing.{ConnectionsRepresent, HubRepresents, hub_store}
+use Rattle.hub.specs.World.{Connections, World, history_at}
 use Rattle.hub.specs.declared.hub.Hub.{Hub}
 use Rattle.hub.specs.declared.serve.ConnectionFault.{ConnectionFault}
 use Rattle.hub.specs.declared.serve.ConnectionFault.TheVariants.{Broker, Read, Write}
@@ -18,6 +18,12 @@ is_skipped (Broker Damaged) = false
 is_skipped (Broker BadStart) = false
 is_skipped Read = true
 is_skipped Write = true
+
+-- each connection is as before, or it is closed
+pub record LeavesOrCloses {S : Type 0} (all : Connections) (new : Hub S) : Type 0 where
+  pub after : Connections
+  pub represents : ConnectionsRepresent new after
+  pub each : (conn : ℕ) → (after conn ≡ all conn) ⊎ ((history_at after conn).closed ≡ true)
 
 -- the hub represents a world
 abbrev pub RepresentsSome : {S : Type 0} → (S → Kept) → Hub S → Type 0

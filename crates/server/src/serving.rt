@@ -1,7 +1,9 @@
 ghost use Rattle.std.specs.Prelude.{◌≡◌, ◌≢◌, Err, true, IfErr, MatchResult};
 ghost use Rattle.broker_types.specs.declared.fault.Fault.TheVariants.{Memory};
 ghost use Rattle.hub.specs.declared.serve.ConnectionFault.TheVariants.{Broker};
-ghost use Rattle.server.specs.Serving.{LeavesServed, is_skipped};
+ghost use Rattle.hub.specs.Representing.{ConnectionsRepresent};
+ghost use Rattle.hub.specs.World.{Connections};
+ghost use Rattle.server.specs.Serving.{LeavesOrCloses, LeavesServed, is_skipped};
 
 use crate::peer::Peer;
 use broker::Store;
@@ -22,7 +24,8 @@ pub fn serve<S: Store, C: hub::Clock, D: WordSource, R: Clock>(
     clock: &mut C,
     words: &mut D,
 ) -> Result<(), Fault>
-    ensures { LeavesServed S.seen result hub.old hub.new }
+    ensures served { LeavesServed S.seen result hub.old hub.new }
+    ensures closed { (all : Connections) → ConnectionsRepresent hub.old all → LeavesOrCloses all hub.new }
 {
     for _ in 0..connections {
         let Ok((stream, _)) = listener.accept() else {
@@ -41,7 +44,8 @@ fn serve_stream<S: Store, C: hub::Clock, D: WordSource, R: Clock>(
     clock: &mut C,
     words: &mut D,
 ) -> Result<(), Fault>
-    ensures { LeavesServed S.seen result hub.old hub.new }
+    ensures served { LeavesServed S.seen result hub.old hub.new }
+    ensures closed { (all : Connections) → ConnectionsRepresent hub.old all → LeavesOrCloses all hub.new }
 {
     let Ok(peer) = Peer::new(rt, stream) else {
         return Ok(());
