@@ -1,6 +1,12 @@
 use Rattle.std.proofs.Common.{arith}
-use Rattle.server.proofs.ServingLemmas.{closes_one, leaves_all, leaves_connection, leaves_none}
+use Rattle.server.proofs.ServingLemmas.{closes_one, leaves_all, leaves_connection}
 use Rattle.server.proofs.serving.serve_stream.Goals as goal
+
+pub returns-in_default-clause-closed : goal.returns-in_default-clause-closed
+returns-in_default-clause-closed g c = λ all each. leaves_all all c.args.hub.now each
+
+pub returns-in_default-open_conn-clause-closed : goal.returns-in_default-open_conn-clause-closed
+returns-in_default-open_conn-clause-closed g c = λ all each. leaves_all all c.args.hub.now each
 
 pub returns-clause-served : goal.returns-clause-served
 returns-clause-served g c =
@@ -12,5 +18,5 @@ returns-clause-served g c =
 pub returns-clause-closed : goal.returns-clause-closed
 returns-clause-closed g c = λ all each.
     closes_one all c.in-Some.conn c.serve_connection-end.new.hub c.close.new.self
-    ((c.open_conn.ensures all each).unseen c.in-Some.conn (omega arith))
+    ((c.in-Some.ensures all each).unseen c.in-Some.conn (omega arith))
     (c.serve_connection-end.ensures.others all each) c.close.ensures.connections
