@@ -1,25 +1,69 @@
 -- The command line of the program, as `clap` sees it (this project's).
-use Rattle.std.specs.Prelude.{◌≡◌, ◌≢◌, codes, true, Option, Some, None, List, ⊤}
-use Rattle.clap.specs.Words.{App, Row, Text, new_app, with_subcommand}
+use Rattle.std.specs.Prelude.{◌≡◌, ◌≢◌, ◌⊎◌, ◌<◌, ◌^◌, codes, true, Option, Some, None, List, ℕ, ⊤, pos}
+use Rattle.std.specs.Str.Parse.{IsNumeral, digits_value, without_leading_plus}
+use Rattle.clap.specs.Words.{App, Row, Rule, Text, first_of, new_app, new_rule, one_of, with_rule, with_subcommand}
+use Rattle.clap.specs.declared.builder.value_parser.ValueParser.TheVariants.{Signed}
 use Rattle.brokerd.specs.declared.command.Command.{Command}
-use Rattle.brokerd.specs.declared.command.Command.TheVariants.{Replay}
+use Rattle.brokerd.specs.declared.command.Command.TheVariants.{Replay, Serve}
+
+-- `--listen ADDR`, which is required
+abbrev pub listen_rule : Rule
+listen_rule =
+    record (new_rule (codes "listen")) { long = Some (codes "listen"); value_names = 1; required = true }
+
+-- `--connections N`, from 1 to 4,294,967,295
+abbrev pub connections_rule : Rule
+connections_rule =
+    record (new_rule (codes "connections")) {
+      long = Some (codes "connections");
+      value_names = 1;
+      parser = Some (Signed (pos 1) (pos 4294967295));
+    }
+
+-- `brokerd replay`
+abbrev pub replay_app : App
+replay_app = new_app (codes "replay")
+
+-- `brokerd serve --listen ADDR [--connections N]`
+abbrev pub serve_app : App
+serve_app = with_rule (with_rule (new_app (codes "serve")) listen_rule) connections_rule
 
 -- `brokerd`, which requires a subcommand
 abbrev pub top_app : App
 top_app =
     record (new_app (codes "brokerd")) { top = record (new_app (codes "brokerd")).top { subcommand_required = true } }
 
--- `brokerd replay`
+-- the whole command line
 unfoldable pub program_app : App
-program_app = with_subcommand top_app (new_app (codes "replay")).top
+program_app = with_subcommand (with_subcommand top_app replay_app.top) serve_app.top
 
--- the command that a subcommand's name means; none if it is the name of another
-abbrev pub IsMeant : Text → Option Command → Type 0
-IsMeant name None = name ≢ codes "replay"
-IsMeant name (Some Replay) = name ≡ codes "replay"
+-- the text is a number below 2^32
+abbrev pub IsNumber : Text → Type 0
+IsNumber text =
+    IsNumeral 10 (without_leading_plus text) × (digits_value 10 (without_leading_plus text) < 2 ^ 32)
+
+-- how many connections to serve: the number that the text is, or 1,000 if there is none
+abbrev pub IsCount : Option Text → ℕ → Type 0
+IsCount None count = count ≡ 1000
+IsCount (Some text) count = IsNumber text × (count ≡ digits_value 10 (without_leading_plus text))
+
+-- the values have no address, or a text for the connections that is no number; `clap` lets neither through
+abbrev pub LacksValues : List Row → Type 0
+LacksValues rows =
+    (first_of (codes "listen") rows ≡ None)
+    ⊎ ((text : Text) × (one_of (codes "connections") rows ≡ Some text) × ¬ IsNumber text)
+
+-- the command that a subcommand's name and the values of its matches mean; none if it is the name of another
+abbrev pub IsMeant : Text → List Row → Option Command → Type 0
+IsMeant name rows None = (name ≢ codes "replay") × (name ≡ codes "serve" → LacksValues rows)
+IsMeant name rows (Some Replay) = name ≡ codes "replay"
+IsMeant name rows (Some (Serve listen connections)) =
+    (name ≡ codes "serve")
+    × (first_of (codes "listen") rows ≡ Some listen.now)
+    × IsCount (one_of (codes "connections") rows) connections
 
 -- the command that the words of a line name, by the subcommand that they enter
 abbrev pub IsCommandOf : Option (Text × List Row) → Option Command → Type 0
 IsCommandOf None None = ⊤
 IsCommandOf None (Some command) = ⊥
-IsCommandOf (Some entered) command = IsMeant entered.0 command
+IsCommandOf (Some entered) command = IsMeant entered.0 entered.1 command

@@ -1,53 +1,111 @@
-ghost use Rattle.std.specs.Prelude.{◌≡◌, IfOk, IfErr, codes, map, string_bytes, true};
-ghost use Rattle.clap.specs.Words.{app_of, subcommand_of, takes, kind_of};
-ghost use Rattle.brokerd.specs.CommandLine.{program_app, IsMeant, IsCommandOf};
+ghost use Rattle.std.specs.Prelude.{◌≡◌, IfOk, IfErr, codes, false, map, string_bytes, true};
+ghost use Rattle.clap.specs.Words.{app_of, found_of, kind_of, rows_of, rule_of, subcommand_of, takes};
+ghost use Rattle.brokerd.specs.CommandLine.{program_app, replay_app, serve_app, listen_rule, connections_rule};
+ghost use Rattle.brokerd.specs.CommandLine.{IsMeant, IsCommandOf};
 
 use clap::error::{Error, ErrorKind};
+use clap::{Arg, ArgMatches};
 use std::alloc::{AllocError, Global};
+
+/// How many connections are served if the command line does not say.
+const CONNECTIONS: u32 = 1_000;
 
 /// What the program is asked to do.
 #[derive(Clone, Copy, Debug, PartialEq, Eq)]
-pub(crate) enum Command {
+pub(crate) enum Command<'a> {
     /// Run the lines of standard input, and write the replies to standard output.
     Replay,
+    /// Serve so many connections to an address.
+    Serve { listen: &'a str, connections: u32 },
 }
 
 /// The command that the words name. The first is the name of the program. None if they name another
 /// subcommand. The error is one of `clap`: a wrong command line, help that was asked for, or running out
 /// of memory.
-pub(crate) fn command_of(alloc: Global, words: &[String]) -> Result<Option<Command>, Error>
+pub(crate) fn command_of<'a>(
+    alloc: Global,
+    words: &'a [String],
+) -> Result<Option<Command<'a>>, Error>
     ensures ok { IfOk result (IsCommandOf (subcommand_of program_app
-        (map string_bytes words.now))) }
-    ensures err { IfErr result (λ error. takes program_app (map string_bytes words.now) ≡ true
+        (map string_bytes words.entry.now))) }
+    ensures err { IfErr result (λ error. takes program_app (map string_bytes words.entry.now) ≡ true
         → kind_of error ≡ ErrorKind.OutOfMemory) }
 {
     let matches = program(alloc)?.try_get_matches_from(words)?;
-    match matches.subcommand_name() {
-        Some(name) => Ok(meant(name)),
+    match matches.subcommand() {
+        Some((name, found)) => Ok(meant(name, found)),
         None => Ok(None),
     }
 }
 
-/// The command that a subcommand's name means; none if it is the name of another.
-fn meant(name: &str) -> Option<Command>
-    ensures { IsMeant name.now result }
+/// The command that a subcommand's name and what it was given mean; none if it is the name of another.
+fn meant<'a>(name: &str, found: &ArgMatches<'a>) -> Option<Command<'a>>
+    ensures { IsMeant name.now (rows_of (found_of found.now)) result }
 {
     if name == "replay" {
-        Some(Command::Replay)
-    } else {
-        None
+        return Some(Command::Replay);
     }
+    if name != "serve" {
+        return None;
+    }
+    let Some(listen) = found.get_str("listen") else {
+        return None;
+    };
+    let Ok(given) = found.try_get_one::<u32>("connections") else {
+        return None;
+    };
+    Some(Command::Serve {
+        listen,
+        connections: given.unwrap_or(CONNECTIONS),
+    })
 }
 
 /// The parser of the command line.
 fn program<'a>(alloc: Global) -> Result<clap::Command<'a>, AllocError>
     ensures { IfOk result (λ c. app_of c ≡ program_app) }
 {
-    let replay = clap::Command::new(alloc, "replay").about(
-        "Runs the lines of standard input, and writes the replies to standard output",
-    );
     clap::Command::new(alloc, "brokerd")
         .about("A broker for secrets that speaks the HTTP API of HashiCorp Vault")
         .subcommand_required(true)
-        .subcommand(replay)
+        .subcommand(replay(alloc))?
+        .subcommand(serve(alloc)?)
+}
+
+fn replay<'a>(alloc: Global) -> clap::Command<'a>
+    ensures { app_of result ≡ replay_app }
+{
+    clap::Command::new(alloc, "replay").about(
+        "Runs the lines of standard input, and writes the replies to standard output",
+    )
+}
+
+fn serve<'a>(alloc: Global) -> Result<clap::Command<'a>, AllocError>
+    ensures { IfOk result (λ c. app_of c ≡ serve_app) }
+{
+    clap::Command::new(alloc, "serve")
+        .about("Starts a broker in memory, prints its root token, and serves connections")
+        .arg(listen(alloc))?
+        .arg(connections(alloc))
+}
+
+fn listen<'a>(alloc: Global) -> Arg<'a>
+    ensures rule { rule_of result ≡ listen_rule }
+    ensures local { result.global ≡ false }
+{
+    Arg::new(alloc, "listen")
+        .long("listen")
+        .value_name("ADDR")
+        .help("The address to listen on, such as 127.0.0.1:8200")
+        .required(true)
+}
+
+fn connections<'a>(alloc: Global) -> Arg<'a>
+    ensures rule { rule_of result ≡ connections_rule }
+    ensures local { result.global ≡ false }
+{
+    Arg::new(alloc, "connections")
+        .long("connections")
+        .value_name("N")
+        .help("How many connections to serve before the program ends; 1000 if not given")
+        .value_parser(clap::value_parser!(u32).range(1..))
 }

@@ -14,6 +14,7 @@ use clap::error::{Error, ErrorKind};
 use command::{Command, command_of};
 use hub::{Reading, Writing};
 use replay::{Exit, replay};
+use server::serve_in_memory;
 use std::io::{Eprint, Print};
 use std::process::ExitCode;
 use std::{env, io};
@@ -31,13 +32,27 @@ fn main(rt: HostRuntime) -> anyhow::Result<ExitCode> {
             let exit = replay(alloc, &mut reader, &mut writer);
             tell(&rt, exit)
         }
+        Ok(
+            Some(
+                Command::Serve {
+                    listen,
+                    connections,
+                },
+            ),
+        ) => {
+            let exit = match serve_in_memory(&rt, listen, connections) {
+                Ok(()) => Exit::Done,
+                Err(fault) => Exit::Faulted(fault.number()),
+            };
+            tell(&rt, exit)
+        }
         Ok(None) => Ok(ExitCode::from(2)),
         Err(error) => refuse(&rt, &error),
     }
 }
 
-/// Says on standard error how a replay ended, unless all lines were run, and answers the status: 0, or
-/// 1 after a fault, or 2 at a bad line.
+/// Says on standard error why the command did not end well, if so, and answers the status: 0, or 1 after a
+/// fault, or 2 at a bad line.
 fn tell<R: Eprint>(rt: &R, exit: Exit) -> anyhow::Result<ExitCode>
     ensures { IfOk result (λ code. exit_status code ≡ status_after exit) }
 {

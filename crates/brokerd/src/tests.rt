@@ -20,11 +20,35 @@ fn command_lines(rt: HostRuntime) -> Result<(), Fail> {
     let alloc = rt.alloc();
     let line = words(alloc, "brokerd replay")?;
     assert_eq!(rt; command_of(alloc, line.as_slice())?, Some(Command::Replay));
+    let listen = "a:1";
+    for (line, connections) in [
+        ("brokerd serve --listen a:1", 1_000),
+        (
+            "brokerd serve --connections 4294967295 --listen a:1",
+            4_294_967_295,
+        ),
+    ] {
+        let line = words(alloc, line)?;
+        let meant = Command::Serve {
+            listen,
+            connections,
+        };
+        assert_eq!(rt; command_of(alloc, line.as_slice())?, Some(meant));
+    }
     let refused = [
         ("brokerd", ErrorKind::MissingSubcommand),
         ("brokerd reply", ErrorKind::InvalidSubcommand),
         ("brokerd replay twice", ErrorKind::UnknownArgument),
         ("brokerd --help", ErrorKind::DisplayHelp),
+        ("brokerd serve", ErrorKind::MissingRequiredArgument),
+        (
+            "brokerd serve --listen a:1 --connections 0",
+            ErrorKind::ValueValidation,
+        ),
+        (
+            "brokerd serve --listen a:1 --connections 4294967296",
+            ErrorKind::ValueValidation,
+        ),
     ];
     for (line, kind) in refused {
         let line = words(alloc, line)?;

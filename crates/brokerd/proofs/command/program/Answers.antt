@@ -1,9 +1,27 @@
-use Rattle.std.proofs.Common.{◌≡◌, ◌∙◌, ap, ap₂, rules, true}
+use Rattle.std.proofs.Common.{◌≡◌, ◌∙◌, Bool, true, false, not, ap, ap₂, refl}
+use Rattle.std.proofs.lemmas.Bool.{and_parts}
 use Rattle.std.proofs.lemmas.Result.{IfOk-weaker}
 use Rattle.clap.specs.Simple.{app_of_fields}
 use Rattle.clap.specs.Words.{App, app_of, new_app, with_subcommand}
+use Rattle.clap.specs.declared.builder.command.Command.{Command}
+use Rattle.clap.specs.declared.builder.command.Command.TheViews.{out-Command}
 use Rattle.brokerd.specs.CommandLine.{program_app, top_app}
 use Rattle.brokerd.proofs.command.program.Goals as goal
+
+-- a plain command has no global argument
+local : (c : Command) (a : App) → app_of c ≡ a → a.top.is_plain ≡ true → (out-Command c).has_globals ≡ false
+local c a same plain =
+    let fields = and_parts _ _ (ap (λ (b : App). b.top.is_plain) same ∙ plain) in
+    let rest = and_parts _ _ fields.1 in
+    no ((out-Command c).has_globals) (and_parts _ _ rest.1).0
+  where
+    no : (b : Bool) → not b ≡ true → b ≡ false
+    no false e = refl
+    no true e = cc
+
+-- the same commands have the same shape
+top : {a b : App} → a ≡ b → a.top ≡ b.top
+top e = ap (λ (a : App). a.top) e
 
 abbrev wants_subcommand : App → App
 wants_subcommand a = record a { top = record a.top { subcommand_required = true } }
@@ -11,7 +29,9 @@ wants_subcommand a = record a { top = record a.top { subcommand_required = true 
 pub returns : goal.returns
 unfolding program_app
 returns c =
-    let replay : app_of c.about-replay.result ≡ new_app _ = ap app_of_fields c.about-replay.ensures ∙ c.new.ensures.app in
-    let told : app_of c.about.result ≡ new_app _ = ap app_of_fields c.about.ensures ∙ c.new-2.ensures.app in
-    let top : app_of c.subcommand_required.result ≡ top_app = ap app_of_fields c.subcommand_required.ensures ∙ ap wants_subcommand told in
-    IfOk-weaker c.subcommand.result _ _ (λ d h. h.shape (search rules) ∙ ap₂ with_subcommand top (ap (λ (a : App). a.top) replay)) c.subcommand.ensures
+    let told : app_of c.about.result ≡ new_app _ = ap app_of_fields c.about.ensures ∙ c.new.ensures.app in
+    let begun : app_of c.subcommand_required.result ≡ top_app = ap app_of_fields c.subcommand_required.ensures ∙ ap wants_subcommand told in
+    let one = c.in_ok-subcommand.ensures.shape (local _ _ c.replay.ensures refl) ∙ ap₂ with_subcommand begun (top c.replay.ensures) in
+    IfOk-weaker c.subcommand-2.result _ _
+    (λ d h. h.shape (local _ _ c.in_ok-serve.ensures refl) ∙ ap₂ with_subcommand one (top c.in_ok-serve.ensures))
+    c.subcommand-2.ensures

@@ -1,0 +1,206 @@
+-- What one connection leaves, and then another.
+use Rattle.std.proofs.Common.{◌≡◌, ◌≢◌, ◌∙◌, ◌⊎◌, inl, inr, ⊎_elim, unwrap_or, ℕ, List, Option, Some, None, Result, Ok, Err, IsTrue, IfErr, MatchResult, Bool, true, false, ap, sym, subst, refl, arith}
+use Rattle.std.proofs.lemmas.Bool.{cases_eq}
+use Rattle.std.proofs.lemmas.Map.{update_apart, update_here}
+use Rattle.broker_types.specs.declared.fault.Fault.{Fault}
+use Rattle.broker_types.specs.declared.fault.Fault.TheVariants.{Memory, Storage, Damaged, BadStart}
+use Rattle.broker.specs.Kept.{Kept, IsHonestStore}
+use Rattle.broker.specs.Representing.{Represents}
+use Rattle.hub.specs.Feeding.{IsLater}
+use Rattle.hub.specs.Representing.{ConnectionsRepresent, HubRepresents, hub_store}
+use Rattle.hub.specs.Serving.{IsAllowed, IsKnown, LeavesClosed, LeavesOthers, Proceeds, Stops}
+use Rattle.hub.specs.World.{Connections, History, World, history_at, new_history}
+use Rattle.hub.specs.declared.hub.Hub.{Hub}
+use Rattle.hub.specs.declared.serve.ConnectionFault.{ConnectionFault}
+use Rattle.hub.specs.declared.serve.ConnectionFault.TheVariants.{Broker, Read, Write}
+use Rattle.server.specs.Serving.{LeavesOrCloses, LeavesServed, RepresentsSome, is_skipped}
+
+-- ---- nothing is served
+
+pub leaves_none : {A S : Type 0} (seen : S → Kept) (a : A) (hub : Hub S) → LeavesServed seen (Ok a) hub hub
+leaves_none seen a hub = record {
+  skipped = tt;
+  storage = λ is. cc is;
+  stays_open = λ honest. refl;
+  represents = λ honest open_ some. some;
+  later = record { mismatches = omega arith; closes = λ open_. open_ };
+}
+
+-- ---- two after each other
+
+honest_before : (a b : Kept) → IsLater a b → IsHonestStore b → IsHonestStore a
+honest_before a b later honest = omega (arith, later.mismatches, honest)
+
+-- whether the storage can be asked, after two calls
+open_on : {B : Type 0} (r : Result B Fault) (x m o : Bool) → MatchResult r (λ _. x ≡ m) (λ fault. fault ≢ Storage → x ≡ m) → m ≡ o
+    → MatchResult r (λ _. x ≡ o) (λ fault. fault ≢ Storage → x ≡ o)
+open_on (Ok b) x m o same first = same ∙ first
+open_on (Err fault) x m o same first = λ other. same other ∙ first
+
+pub leaves_on : {A B S : Type 0} (seen : S → Kept) (a : A) (r : Result B Fault) (old mid new : Hub S)
+    → LeavesServed seen (Ok a) old mid → LeavesServed seen r mid new → LeavesServed seen r old new
+leaves_on seen a r old mid new first second =
+    let before = honest_before (hub_store seen mid) (hub_store seen new) second.later in
+    record {
+      skipped = second.skipped;
+      storage = second.storage;
+      stays_open = λ honest. open_on r (hub_store seen new).is_open (hub_store seen mid).is_open (hub_store seen old).is_open
+          (second.stays_open honest) (first.stays_open (before honest));
+      represents = λ honest open_ some. second.represents honest
+          (subst IsTrue (sym (first.stays_open (before honest))) open_)
+          (first.represents (before honest) open_ some);
+      later = record {
+        mismatches = omega (arith, first.later.mismatches, second.later.mismatches);
+        closes = λ open_. first.later.closes (second.later.closes open_);
+      };
+    }
+
+-- ---- one connection
+
+-- what is said of the fault that ends the whole, if the end of the connection does
+abbrev IsUnskipped : {A B : Type 0} → Result A ConnectionFault → Result B Fault → Type 0
+IsUnskipped end r = MatchResult r (λ _. IfErr end (λ fault. is_skipped fault ≡ true))
+    (λ fault. (end ≡ Err (Broker fault)) × (fault ≢ Memory))
+
+-- closing a connection leaves a hub that represents a world
+closing : {S : Type 0} (seen : S → Kept) (conn : ℕ) (mid new : Hub S) (w : World)
+    → ((all : Connections) → ConnectionsRepresent mid all
+    → (after : Connections) × ConnectionsRepresent new after × LeavesClosed all conn after)
+    → hub_store seen new ≡ hub_store seen mid → HubRepresents seen mid w → RepresentsSome seen new
+closing seen conn mid new w closed same represents =
+    let c = closed w.connections represents.connections in (
+      record w { connections = c.0 },
+      record {
+        broker = subst (λ (k : Kept). Represents None k.rows w.broker) (sym same) represents.broker;
+        connections = c.1;
+      },
+    )
+
+skipped_by : {A B : Type 0} (end : Result A ConnectionFault) (r : Result B Fault) → IsUnskipped end r
+    → IfErr r (λ fault. fault ≢ Memory)
+skipped_by end (Ok b) is = tt
+skipped_by end (Err fault) is = is.1
+
+storage_by : {A B : Type 0} (end : Result A ConnectionFault) (r : Result B Fault) → IsUnskipped end r
+    → r ≡ Err Storage → end ≡ Err (Broker Storage)
+storage_by end (Ok b) is e = cc e
+storage_by end (Err fault) is e = let f : fault ≡ Storage = cc e in is.0 ∙ ap (λ (x : Fault). Err (Broker x)) f
+
+-- a skipped fault is none of the storage
+skipped_other : (fault : ConnectionFault) → is_skipped fault ≡ true → fault ≢ Broker Storage
+skipped_other fault skipped is = let bad : false ≡ true = sym (ap is_skipped is) ∙ skipped in cc bad
+
+open_by : {A B : Type 0} (end : Result A ConnectionFault) (r : Result B Fault) (x o : Bool) → IsUnskipped end r
+    → MatchResult end (λ _. x ≡ o) (λ fault. fault ≢ Broker Storage → x ≡ o)
+    → MatchResult r (λ _. x ≡ o) (λ fault. fault ≢ Storage → x ≡ o)
+open_by (Ok a) (Ok b) x o is same = same
+open_by (Err fault) (Ok b) x o is same = same (skipped_other fault is)
+open_by (Ok a) (Err fault) x o is same = cc is.0
+open_by (Err end) (Err fault) x o is same = λ other.
+    let e : end ≡ Broker fault = cc is.0 in
+    same (λ bad. let f : Broker fault ≡ Broker Storage = sym e ∙ bad in other (cc f))
+
+-- what is known after a skipped fault, if the storage can be asked
+known : (fault : ConnectionFault) (store : Kept) → IsTrue store.is_open → IsKnown fault store
+known (Broker fault) store open_ = open_
+known Read store open_ = tt
+known Write store open_ = tt
+
+-- on a broker's rows
+allowed : (fault : Fault) → IsAllowed (Broker fault) → fault ≢ Memory → fault ≡ Storage
+allowed Memory is other = absurd (other refl)
+allowed Storage is other = refl
+allowed Damaged is other = absurd is
+allowed BadStart is other = absurd is
+
+pub leaves_connection : {A B S : Type 0} (seen : S → Kept) (conn : ℕ) (Reads Writes : List ℕ → Type 0)
+    (end : Result A ConnectionFault) (r : Result B Fault) (old mid new : Hub S)
+    → MatchResult end (λ _. Proceeds seen conn Reads Writes old mid) (λ fault. Stops seen conn Reads Writes fault old mid)
+    → (IsHonestStore (hub_store seen mid) → (w : World) → HubRepresents seen old w → IfErr end IsAllowed)
+    → (end ≡ Err (Broker Storage) → IsTrue (hub_store seen mid).has_failed)
+    → (IsHonestStore (hub_store seen mid) → MatchResult end
+    (λ _. (hub_store seen mid).is_open ≡ (hub_store seen old).is_open)
+    (λ fault. fault ≢ Broker Storage → (hub_store seen mid).is_open ≡ (hub_store seen old).is_open))
+    → IsLater (hub_store seen old) (hub_store seen mid)
+    → ((all : Connections) → ConnectionsRepresent mid all
+    → (after : Connections) × ConnectionsRepresent new after × LeavesClosed all conn after)
+    → hub_store seen new ≡ hub_store seen mid → IsUnskipped end r → LeavesServed seen r old new
+leaves_connection {A = A} {B = B} seen conn Reads Writes end r old mid new served wants storage stays later closed same is =
+    let honest_mid : IsHonestStore (hub_store seen new) → IsHonestStore (hub_store seen mid) = subst IsHonestStore same in
+    record {
+      skipped = skipped_by end r is;
+      storage = λ e. subst (λ (k : Kept). IsTrue k.has_failed) (sym same) (storage (storage_by end r is e));
+      stays_open = λ honest. subst
+          (λ (k : Kept). MatchResult r (λ _. k.is_open ≡ (hub_store seen old).is_open)
+          (λ fault. fault ≢ Storage → k.is_open ≡ (hub_store seen old).is_open)) (sym same)
+          (open_by end r (hub_store seen mid).is_open (hub_store seen old).is_open is (stays (honest_mid honest)));
+      represents = λ honest open_ some. world end r (honest_mid honest) open_ some.0 some.1 served
+          (wants (honest_mid honest) some.0 some.1) (stays (honest_mid honest)) is;
+      later = subst (λ (k : Kept). IsLater (hub_store seen old) k) (sym same) later;
+    }
+  where
+    world : (end : Result A ConnectionFault) (r : Result B Fault) → IsHonestStore (hub_store seen mid)
+        → IsTrue (hub_store seen old).is_open → (w : World) → HubRepresents seen old w
+        → MatchResult end (λ _. Proceeds seen conn Reads Writes old mid) (λ fault. Stops seen conn Reads Writes fault old mid)
+        → IfErr end IsAllowed
+        → MatchResult end
+        (λ _. (hub_store seen mid).is_open ≡ (hub_store seen old).is_open)
+        (λ fault. fault ≢ Broker Storage → (hub_store seen mid).is_open ≡ (hub_store seen old).is_open)
+        → IsUnskipped end r → MatchResult r (λ _. RepresentsSome seen new) (λ fault. fault ≡ Storage)
+    world (Ok a) (Ok b) honest open_ w represents proceeds want stays is =
+        let answer = proceeds.answers honest w represents in
+        closing seen conn mid new answer.after closed same answer.represents
+    world (Err fault) (Ok b) honest open_ w represents stops want stays is =
+        let still = subst IsTrue (sym (stays (skipped_other fault is))) open_ in
+        let until = stops.answers honest (known fault (hub_store seen mid) still) w represents in
+        closing seen conn mid new (record until.before { connections = until.after }) closed same until.represents
+    world (Ok a) (Err fault) honest open_ w represents proceeds want stays is = cc is.0
+    world (Err end) (Err fault) honest open_ w represents stops want stays is =
+        let e : end ≡ Broker fault = cc is.0 in
+        allowed fault (subst IsAllowed e want) is.1
+
+-- ---- which connections are left
+
+pub leaves_all : {S : Type 0} (all : Connections) (hub : Hub S) → ConnectionsRepresent hub all → LeavesOrCloses all hub
+leaves_all all hub represents = record { after = all; represents = represents; each = λ k. inl refl }
+
+pub closes_on : {S : Type 0} (all : Connections) (mid new : Hub S) → LeavesOrCloses all mid
+    → ((each : Connections) → ConnectionsRepresent mid each → LeavesOrCloses each new) → LeavesOrCloses all new
+closes_on all mid new first next =
+    let second = next first.after first.represents in
+    record { after = second.after; represents = second.represents; each = λ k. at k (second.after k) refl (first.each k) (second.each k) }
+  where
+    at : (k : ℕ) (o : Option History) → (next first.after first.represents).after k ≡ o
+        → (first.after k ≡ all k) ⊎ ((history_at first.after k).closed ≡ true)
+        → ((next first.after first.represents).after k ≡ first.after k)
+        ⊎ ((history_at (next first.after first.represents).after k).closed ≡ true)
+        → ((next first.after first.represents).after k ≡ all k)
+        ⊎ ((history_at (next first.after first.represents).after k).closed ≡ true)
+    at k o is one (inr closed) = inr closed
+    at k o is (inl before) (inl same) = inl (same ∙ before)
+    at k o is (inr closed) (inl same) =
+        inr (ap (λ (x : Option History). (unwrap_or x new_history).closed) same ∙ closed)
+
+-- a connection that was not seen, and was closed after it was served
+pub closes_one : {S : Type 0} (all : Connections) (conn : ℕ) (mid new : Hub S) → all conn ≡ None → LeavesOthers conn all mid
+    → ((each : Connections) → ConnectionsRepresent mid each
+    → (after : Connections) × ConnectionsRepresent new after × LeavesClosed each conn after) → LeavesOrCloses all new
+closes_one all conn mid new unseen others closed =
+    let c = closed others.after others.represents in
+    record { after = c.0; represents = c.1; each = λ k. ⊎_elim (here c.0 c.2 k) (there c.0 c.2 k) (cases_eq k conn) }
+  where
+    here : (after : Connections) → LeavesClosed others.after conn after → (k : ℕ) → k ≡ conn
+        → (after k ≡ all k) ⊎ ((history_at after k).closed ≡ true)
+    here after (inl is) k e =
+        inr (ap (λ (q : ℕ). (history_at after q).closed) e ∙ ap (λ (x : Connections). (history_at x conn).closed) is
+        ∙ ap (λ (x : Option History). (unwrap_or x new_history).closed)
+        (update_here others.after conn (Some (record (history_at others.after conn) { closed = true }))))
+    here after (inr left) k e =
+        inl (ap after e ∙ ap (λ (x : Connections). x conn) left.1 ∙ left.0 ∙ sym (ap all e ∙ unseen))
+
+    there : (after : Connections) → LeavesClosed others.after conn after → (k : ℕ) → k ≢ conn
+        → (after k ≡ all k) ⊎ ((history_at after k).closed ≡ true)
+    there after (inl is) k ne =
+        inl (ap (λ (x : Connections). x k) is
+        ∙ update_apart others.after conn (Some (record (history_at others.after conn) { closed = true })) k ne ∙ others.others k ne)
+    there after (inr left) k ne = inl (ap (λ (x : Connections). x k) left.1 ∙ others.others k ne)

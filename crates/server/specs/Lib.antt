@@ -1,0 +1,6 @@
+pub mod Drawn
+pub mod Moments
+pub mod Patience
+pub mod Pieces
+pub mod Serving
+pub mod Starting

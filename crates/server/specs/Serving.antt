@@ -1,0 +1,43 @@
+-- What serving connections leaves of the hub, and which faults end it (this project's definition).
+use Rattle.std.specs.Prelude.{◌≡◌, ◌≢◌, ◌⊎◌, ℕ, Bool, true, false, Result, Err, IsTrue, IfErr, MatchResult}
+use Rattle.broker_types.specs.declared.fault.Fault.{Fault}
+use Rattle.broker_types.specs.declared.fault.Fault.TheVariants.{Memory, Storage, Damaged, BadStart}
+use Rattle.broker.specs.Kept.{Kept, IsHonestStore}
+use Rattle.hub.specs.Feeding.{IsLater}
+use Rattle.hub.specs.Representing.{ConnectionsRepresent, HubRepresents, hub_store}
+use Rattle.hub.specs.World.{Connections, World, history_at}
+use Rattle.hub.specs.declared.hub.Hub.{Hub}
+use Rattle.hub.specs.declared.serve.ConnectionFault.{ConnectionFault}
+use Rattle.hub.specs.declared.serve.ConnectionFault.TheVariants.{Broker, Read, Write}
+
+-- whether the next connection is served after this fault of one: running out of memory, reading and writing (1, 5, 6)
+abbrev pub is_skipped : ConnectionFault → Bool
+is_skipped (Broker Memory) = true
+is_skipped (Broker Storage) = false
+is_skipped (Broker Damaged) = false
+is_skipped (Broker BadStart) = false
+is_skipped Read = true
+is_skipped Write = true
+
+-- each connection is as before, or it is closed
+pub record LeavesOrCloses {S : Type 0} (all : Connections) (new : Hub S) : Type 0 where
+  pub after : Connections
+  pub represents : ConnectionsRepresent new after
+  pub each : (conn : ℕ) → (after conn ≡ all conn) ⊎ ((history_at after conn).closed ≡ true)
+
+-- the hub represents a world
+abbrev pub RepresentsSome : {S : Type 0} → (S → Kept) → Hub S → Type 0
+RepresentsSome seen hub = (w : World) × HubRepresents seen hub w
+
+-- What serving leaves, whatever comes on the connections. Running out of memory never ends it, and a failure of the
+-- storage only if the store failed. From a hub that represents a world, whose storage has returned what was written
+-- and could be asked, it leaves a hub that represents one, and no other fault ends it than a failure of the storage.
+pub record LeavesServed {A S : Type 0} (seen : S → Kept) (r : Result A Fault) (old new : Hub S) : Type 0 where
+  pub skipped : IfErr r (λ fault. fault ≢ Memory)
+  pub storage : r ≡ Err Storage → IsTrue (hub_store seen new).has_failed
+  pub stays_open : IsHonestStore (hub_store seen new) → MatchResult r
+      (λ _. (hub_store seen new).is_open ≡ (hub_store seen old).is_open)
+      (λ fault. fault ≢ Storage → (hub_store seen new).is_open ≡ (hub_store seen old).is_open)
+  pub represents : IsHonestStore (hub_store seen new) → IsTrue (hub_store seen old).is_open
+      → RepresentsSome seen old → MatchResult r (λ _. RepresentsSome seen new) (λ fault. fault ≡ Storage)
+  pub later : IsLater (hub_store seen old) (hub_store seen new)

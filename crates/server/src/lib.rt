@@ -1,0 +1,18 @@
+//! The broker behind a socket: connections that are served one after another, with the moments of the
+//! system's clock and random words.
+#![tactic(auto)]
+
+mod drawn;
+mod peer;
+mod serving;
+mod starting;
+mod system_clock;
+mod waiting;
+
+pub use drawn::{DrawnWords, seeded};
+pub use serving::serve;
+pub use starting::serve_in_memory;
+pub use system_clock::SystemClock;
+
+#[cfg(test)]
+mod tests;

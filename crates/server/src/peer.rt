@@ -1,0 +1,159 @@
+ghost use Rattle.std.specs.Prelude.{◌≡◌, ◌≤◌, ◌++◌, length, take, IfOk};
+ghost use Rattle.server.specs.Pieces.{at_most_one};
+
+use crate::waiting::{Wait, patience};
+use hub::{Failed, Reading, Sink};
+use std::cell::Cell;
+use std::io;
+use std::io::{ErrorKind, Read, Write};
+use std::net::TcpStream;
+use std::time::{Clock, Duration, Instant};
+
+/// A connection's stream, and what its two ends know of the peer: what it is waited for, and since when.
+#[derive(Drop)]
+pub(crate) struct Peer<'s, R: Clock> {
+    rt: &'s R,
+    stream: &'s TcpStream,
+    wait: Cell<Wait>,
+    since: Cell<Instant>,
+}
+
+impl<'s, R: Clock> Peer<'s, R> {
+    /// The peer of a connection that begins now. Each reply is sent at once.
+    pub(crate) fn new(rt: &'s R, stream: &'s TcpStream) -> io::Result<Peer<'s, R>> {
+        stream.set_nodelay(true)?;
+        Ok(Peer {
+            rt,
+            stream,
+            wait: Cell::new(Wait::Progress),
+            since: Cell::new(Instant::now(rt)?),
+        })
+    }
+
+    /// Where its requests come from.
+    pub(crate) fn requests(&'s self) -> Reading<Requests<'s, R>> {
+        Reading::new(Requests {
+            peer: self,
+            held: None,
+        })
+    }
+
+    /// Where its replies go.
+    pub(crate) fn replies(&'s self) -> Replies<'s, R> {
+        Replies {
+            peer: self,
+            failed: false,
+        }
+    }
+
+    /// From now on the peer is waited for so.
+    fn await_from_now(&self, wait: Wait) -> io::Result<()> {
+        self.since.set(Instant::now(self.rt)?);
+        self.wait.set(wait);
+        Ok(())
+    }
+
+    /// How long to wait for the peer now. It fails if its time is over.
+    fn patience(&self) -> io::Result<Duration> {
+        let age = self.since.get().elapsed(self.rt)?;
+        patience(self.wait.get(), age).ok_or(io::Error::from(ErrorKind::TimedOut))
+    }
+
+    /// The next bytes that the peer sends. It fails if none come in time.
+    fn receive(&self, buffer: &mut [u8]) -> io::Result<usize>
+        ensures { IfOk result (λ count. count ≤ length buffer.new) }
+    {
+        self.stream.set_read_timeout(Some(self.patience()?))?;
+        let mut stream = self.stream;
+        stream.read(buffer)
+    }
+
+    /// Sends a whole reply; then the next request is waited for. It fails if the peer does not take the
+    /// reply in time.
+    fn send(&self, reply: &[u8]) -> io::Result<()> {
+        self.await_from_now(Wait::Progress)?;
+        let mut writer = self;
+        writer.write_all(reply)?;
+        self.await_from_now(Wait::NextRequest)
+    }
+}
+
+impl<'s, R: Clock> Write for &Peer<'s, R> {
+    /// It fails if the peer takes no byte in time.
+    fn write(&mut self, bytes: &[u8]) -> io::Result<usize> {
+        self.stream.set_write_timeout(Some(self.patience()?))?;
+        let mut stream = self.stream;
+        stream.write(bytes)
+    }
+
+    fn flush(&mut self) -> io::Result<()> {
+        Ok(())
+    }
+}
+
+/// What a peer sends, as a reader. The last byte of each read is handed on alone, when it is the only one
+/// left. So a reply that follows it answers all that came: no byte waits for more of its request.
+#[derive(Drop)]
+pub(crate) struct Requests<'s, R: Clock> {
+    peer: &'s Peer<'s, R>,
+    held: Option<u8>,
+}
+
+impl<'s, R: Clock> Read for Requests<'s, R> {
+    fn read(&mut self, buffer: &mut [u8]) -> io::Result<usize> {
+        let Some(first) = buffer.first_mut() else {
+            return Ok(0);
+        };
+        if let Some(byte) = self.held.take() {
+            *first = byte;
+            self.peer.wait.set(Wait::Progress);
+            return Ok(1);
+        }
+        let count = self.peer.receive(buffer)?;
+        let (handed_on, held) = without_last(&buffer[..count]);
+        self.held = held;
+        self.peer.wait.set(Wait::Progress);
+        Ok(handed_on)
+    }
+}
+
+/// How many of the bytes are handed on, and the last one if it is not among them.
+fn without_last(bytes: &[u8]) -> (usize, Option<u8>)
+    ensures whole { take result.0 bytes.now ++ at_most_one result.1 ≡ bytes.now }
+    ensures bound { result.0 ≤ length bytes.now }
+{
+    match bytes {
+        [_, .., last] => (bytes.len() - 1, Some(*last)),
+        _ => (bytes.len(), None),
+    }
+}
+
+/// Where the replies to a peer go. A push fails if the peer does not take the reply in time.
+#[derive(Drop)]
+pub(crate) struct Replies<'s, R: Clock> {
+    peer: &'s Peer<'s, R>,
+    failed: bool,
+}
+
+impl<'s, R: Clock> Sink for Replies<'s, R> {
+    ghost use Rattle.std.specs.Prelude.{None};
+    ghost use Rattle.server.specs.Pieces.{push_failed};
+
+    ghost written = { λ _. None };
+
+    ghost has_failed = { push_failed };
+
+    fn push(&mut self, reply: &[u8]) -> Result<(), Failed> {
+        match self.peer.send(reply) {
+            Ok(()) => Ok(()),
+            Err(_) => {
+                self.failed = true;
+                Err(Failed)
+            }
+        }
+    }
+
+    fn failed(&self) -> bool {
+        self.failed
+    }
+}

@@ -1,0 +1,77 @@
+ghost use Rattle.std.specs.Prelude.{◌≡◌, ◌≢◌, Err, true, IfErr, MatchResult};
+ghost use Rattle.broker_types.specs.declared.fault.Fault.TheVariants.{Memory};
+ghost use Rattle.hub.specs.declared.serve.ConnectionFault.TheVariants.{Broker};
+ghost use Rattle.hub.specs.Representing.{ConnectionsRepresent};
+ghost use Rattle.hub.specs.World.{Connections};
+ghost use Rattle.server.specs.Serving.{LeavesOrCloses, LeavesServed, is_skipped};
+
+use crate::peer::Peer;
+use broker::Store;
+use broker_types::Fault;
+use hub::{ConnectionFault, Hub, WordSource, serve_connection};
+use std::net::{TcpListener, TcpStream};
+use std::time::Clock;
+
+/// Serves so many connections of the listener, one after another. One that cannot be accepted, or ends
+/// by a fault of memory, of reading or of writing, is skipped; another fault ends the whole. A peer that
+/// is idle or slow for too long is one whose read or write failed. After a connection what waits on it is
+/// dropped.
+pub fn serve<S: Store, C: hub::Clock, D: WordSource, R: Clock>(
+    rt: &R,
+    hub: &mut Hub<S>,
+    listener: &TcpListener,
+    connections: u32,
+    clock: &mut C,
+    words: &mut D,
+) -> Result<(), Fault>
+    ensures served { LeavesServed S.seen result hub.old hub.new }
+    ensures closed { (all : Connections) → ConnectionsRepresent hub.old all → LeavesOrCloses all hub.new }
+{
+    for _ in 0..connections {
+        let Ok((stream, _)) = listener.accept() else {
+            continue;
+        };
+        serve_stream(rt, hub, &stream, clock, words)?;
+    }
+    Ok(())
+}
+
+/// Serves one connection, and drops what waits on it.
+fn serve_stream<S: Store, C: hub::Clock, D: WordSource, R: Clock>(
+    rt: &R,
+    hub: &mut Hub<S>,
+    stream: &TcpStream,
+    clock: &mut C,
+    words: &mut D,
+) -> Result<(), Fault>
+    ensures served { LeavesServed S.seen result hub.old hub.new }
+    ensures closed { (all : Connections) → ConnectionsRepresent hub.old all → LeavesOrCloses all hub.new }
+{
+    let Ok(peer) = Peer::new(rt, stream) else {
+        return Ok(());
+    };
+    let Some(conn) = hub.open_conn() else {
+        return Ok(());
+    };
+    let end = serve_connection(
+        hub,
+        conn,
+        &mut peer.requests(),
+        &mut peer.replies(),
+        clock,
+        words,
+    );
+    hub.close(conn);
+    unskipped(end)
+}
+
+/// The fault of a connection, if it ends the whole.
+fn unskipped(end: Result<(), ConnectionFault>) -> Result<(), Fault>
+    ensures { MatchResult result (λ _. IfErr end (λ fault. is_skipped fault ≡ true))
+        (λ fault. (end ≡ Err (Broker fault)) × (fault ≢ Memory)) }
+{
+    match end {
+        Err(ConnectionFault::Broker(fault)) if fault != Fault::Memory => Err(fault),
+        Ok(()) | Err(_) => Ok(()),
+    }
+}

@@ -1,0 +1,100 @@
+//! One process that is both ends of its connections.
+
+use crate::waiting::{Wait, patience};
+use crate::{SystemClock, seeded, serve};
+use broker::ListStore;
+use broker_types::{Moment, Words};
+use hub::{Clock, Hub, WordSource};
+use std::io;
+use std::io::Write;
+use std::net::{Shutdown, TcpListener, TcpStream};
+use std::test::Fail;
+use std::time::Duration;
+
+const WRITE: &str = "PUT /v1/cubbyhole/a HTTP/1.1\r\nHost: b\r\n\
+    X-Vault-Token: hvs.00000000-0000-0000-0000-000000000001\r\n\
+    Content-Length: 9\r\n\r\n{\"k\":\"v\"}";
+
+const READ: &str = "GET /v1/cubbyhole/a HTTP/1.1\r\nHost: b\r\n\
+    X-Vault-Token: hvs.00000000-0000-0000-0000-000000000001\r\n\r\n";
+
+const WRITTEN: &str = "HTTP/1.1 204 No Content\r\n\
+    Date: Tue, 14 Nov 2023 22:13:20 GMT\r\n\
+    Cache-Control: no-store\r\n\r\n";
+
+const FOUND: &str = "HTTP/1.1 200 OK\r\n\
+    Date: Tue, 14 Nov 2023 22:13:20 GMT\r\n\
+    Cache-Control: no-store\r\n\
+    Content-Type: application/json\r\n\
+    Content-Length: 167\r\n\r\n\
+    {\"auth\":null,\"data\":{\"k\":\"v\"},\"lease_duration\":0,\"lease_id\":\"\",\"renewable\":false,\
+    \"request_id\":\"00000000-0000-0000-0000-000000000020\",\"warnings\":null,\"wrap_info\":null}\n";
+
+/// A clock that stands still.
+#[derive(Drop)]
+struct Fixed(Moment);
+
+impl Clock for Fixed {
+    fn now(&mut self) -> Moment {
+        self.0
+    }
+}
+
+/// The same words for each event.
+#[derive(Drop)]
+struct Same(Words);
+
+impl WordSource for Same {
+    fn words(&mut self) -> Words {
+        self.0
+    }
+}
+
+/// The first peer stays connected without a word; the second is served all the same.
+#[test]
+fn two_peers_over_the_loopback(rt: HostRuntime) -> Result<(), Fail> {
+    let alloc = rt.alloc();
+    let moment = Moment::new(1_700_000_000).ok_or("the moment is in range")?;
+    let mut store = ListStore::new(alloc);
+    store.start(moment, &Words([0, 1, 2, 3, 4, 5, 6, 7]))?;
+    let mut hub = Hub::new(alloc, store);
+    let listener = TcpListener::bind(&rt, "127.0.0.1:0")?;
+    let mut first = TcpStream::connect(&rt, listener.local_addr()?)?;
+    first.write_all(WRITE.as_bytes())?;
+    let mut second = TcpStream::connect(&rt, listener.local_addr()?)?;
+    second.write_all(READ.as_bytes())?;
+    second.shutdown(Shutdown::Write)?;
+    let mut words = Same(Words([32, 33, 34, 35, 36, 37, 38, 39]));
+    serve(&rt, &mut hub, &listener, 2, &mut Fixed(moment), &mut words)?;
+    let written = io::read_to_string(alloc, first)?;
+    assert_eq!(rt; written.as_str(), WRITTEN);
+    let found = io::read_to_string(alloc, second)?;
+    assert_eq!(rt; found.as_str(), FOUND);
+    assert!(rt; hub.is_closed(0) && hub.is_closed(1));
+    Ok(())
+}
+
+/// Computes `patience`.
+#[test]
+fn how_long_a_peer_is_waited_for(rt: HostRuntime) {
+    let pause = Some(Duration::from_millis(250));
+    let silence = Some(Duration::from_secs(5));
+    assert_eq!(rt; patience(Wait::NextRequest, Duration::from_secs(90)), pause);
+    assert_eq!(rt; patience(Wait::Progress, Duration::from_secs(0)), silence);
+    assert_eq!(rt; patience(Wait::Progress, Duration::from_secs(15)), silence);
+    let left = Some(Duration::from_millis(1));
+    assert_eq!(rt;
+        patience(Wait::Progress, Duration::from_millis(19_999)),
+        left
+    );
+    assert_eq!(rt; patience(Wait::Progress, Duration::from_secs(20)), None);
+}
+
+#[test]
+fn words_differ(rt: HostRuntime) -> Result<(), Fail> {
+    let mut words = seeded(&rt)?;
+    let first = words.words();
+    assert!(rt; first != words.words());
+    assert!(rt; SystemClock::new(&rt).now().seconds() > 1_700_000_000);
+    Ok(())
+}

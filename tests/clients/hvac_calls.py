@@ -1,0 +1,79 @@
+#!/usr/bin/env python3
+"""Calls of Python's hvac, a client of HashiCorp Vault, against a running broker.
+
+    python3 tests/clients/hvac_calls.py PORT ROOT_TOKEN
+
+If hvac is not installed, it says so, and nothing is tried. The last line is 'N passed, M failed'.
+"""
+
+import sys
+
+try:
+    import hvac
+    import hvac.exceptions
+except ImportError:
+    hvac = None
+
+
+def expect(condition, what):
+    if not condition:
+        raise AssertionError(what)
+
+
+def secrets(root, _):
+    kv = root.secrets.kv.v2
+    kv.create_or_update_secret(path="hvac/one", secret={"user": "app"})
+    found = kv.read_secret_version(path="hvac/one")
+    expect(found["data"]["data"] == {"user": "app"}, "another secret is read")
+    expect(kv.list_secrets(path="hvac")["data"]["keys"] == ["one"], "another list")
+    kv.delete_latest_version_of_secret(path="hvac/one")
+    try:
+        kv.read_secret_version(path="hvac/one")
+        raise AssertionError("a deleted version is read")
+    except hvac.exceptions.InvalidPath:
+        pass
+    kv.delete_metadata_and_all_versions(path="hvac/one")
+
+
+def tokens(root, url):
+    """A token that one client object makes and another one uses, while the connection of the first stays open."""
+    made = root.auth.token.create(policies=["default"])
+    child = hvac.Client(url=url, token=made["auth"]["client_token"])
+    expect(child.auth.token.lookup_self()["data"]["policies"] == ["default"], "other policies")
+    root.auth.token.revoke(child.token)
+    try:
+        child.auth.token.lookup_self()
+        raise AssertionError("a revoked token is served")
+    except hvac.exceptions.Forbidden:
+        pass
+
+
+def policies(root, _):
+    text = '{"path":{"secret/data/hvac/*":{"capabilities":["read"]}}}'
+    root.sys.create_or_update_acl_policy(name="hvac", policy=text)
+    expect(root.sys.read_acl_policy(name="hvac")["data"]["policy"] == text, "another policy is read")
+    expect("hvac" in root.sys.list_acl_policies()["data"]["keys"], "it is not listed")
+    root.sys.delete_acl_policy(name="hvac")
+
+
+def main():
+    if hvac is None:
+        print("hvac is not installed for this Python: its calls are skipped")
+        print("0 passed, 0 failed")
+        return 0
+    url = f"http://127.0.0.1:{sys.argv[1]}"
+    calls, failed = [secrets, tokens], 0
+    if hasattr(hvac.Client(url=url).sys, "create_or_update_acl_policy"):  # older ones only have `sys/policy`
+        calls.append(policies)
+    for call in calls:
+        try:
+            call(hvac.Client(url=url, token=sys.argv[2]), url)
+        except Exception as error:  # whatever the client raises
+            failed += 1
+            print(f"hvac, {call.__name__}: {type(error).__name__}: {error}")
+    print(f"{len(calls) - failed} passed, {failed} failed")
+    return 1 if failed else 0
+
+
+if __name__ == "__main__":
+    sys.exit(main())

@@ -1,0 +1,174 @@
+#!/bin/bash
+# Starts `brokerd serve` and asks it as its users do: by curl, by `client` if it is there, by Python's hvac if that is
+# installed, and on one connection 10,000 times; then by peers that are idle or slow, and by wrong command lines. It
+# takes some 30 seconds. The last line is 'N passed, M failed'; the status is 0 if nothing failed.
+set -u
+cd "$(dirname "$0")/.."
+
+passed=0
+failed=0
+pid=
+found=$(mktemp -d)
+trap 'stop; rm -rf "$found"' EXIT
+
+pass() { passed=$((passed + 1)); }
+fail() { echo "serve, $1: $2"; failed=$((failed + 1)); }
+
+finish() {
+    echo "$passed passed, $failed failed"
+    [ "$failed" -eq 0 ]
+    exit
+}
+
+stop() {
+    [ -z "$pid" ] && return
+    kill "$pid" 2> /dev/null
+    wait "$pid" 2> /dev/null
+    pid=
+}
+
+free_port() { python3 -c 'import sys; sys.path.insert(0, "tests/clients"); import broker; print(broker.free_port())'; }
+
+is_listened_on() { (exec 3<> "/dev/tcp/127.0.0.1/$port") 2> /dev/null; }
+
+# Starts the program on a free port, for so many connections beside the one that finds out whether it listens.
+start() {
+    local attempt turn
+    for attempt in 1 2 3 4 5; do
+        port=$(free_port)
+        "$program" serve --listen "127.0.0.1:$port" --connections "$1" > "$found/served" 2> "$found/served.err" &
+        pid=$!
+        for turn in $(seq 100); do
+            is_listened_on && return
+            kill -0 "$pid" 2> /dev/null || break
+            sleep 0.05
+        done
+        stop
+    done
+    fail "start" "no port can be listened on: $(cat "$found/served.err")"
+    finish
+}
+
+# Sends a request by curl, and compares the status and a text of the reply: ask NAME STATUS TEXT ARGUMENT..
+ask() {
+    local name=$1 wanted=$2 text=$3 status
+    shift 3
+    status=$(curl -s -m 20 -o "$found/body" -w '%{http_code}' -H "X-Vault-Token: $token" "$@")
+    if [ "$status" != "$wanted" ]; then
+        fail "$name" "status $status in place of $wanted: $(head -c 200 "$found/body")"
+    elif ! grep -qF -- "$text" "$found/body"; then
+        fail "$name" "no $text in $(head -c 200 "$found/body")"
+    else
+        pass
+    fi
+}
+
+# Runs the program, and compares its status and its standard error: run NAME STATUS TEXT ARGUMENT..
+run() {
+    local name=$1 wanted=$2 text=$3 status
+    shift 3
+    timeout 20 "$program" "$@" > "${output:-$found/out}" 2> "$found/err"
+    status=$?
+    if [ "$status" != "$wanted" ]; then
+        fail "$name" "status $status in place of $wanted"
+    elif ! grep -qF -- "$text" "$found/err"; then
+        fail "$name" "no $text in $(head -c 200 "$found/err")"
+    else
+        pass
+    fi
+}
+
+# Runs a command whose last line is 'N passed, M failed', and adds its counts.
+count() {
+    local line
+    timeout 120 "$@" > "$found/log" 2>&1
+    line=$(tail -n 1 "$found/log")
+    head -n -1 "$found/log"
+    if [[ $line =~ ^([0-9]+)\ passed,\ ([0-9]+)\ failed$ ]]; then
+        passed=$((passed + BASH_REMATCH[1]))
+        failed=$((failed + BASH_REMATCH[2]))
+    else
+        fail "$*" "it ended with: $line"
+    fi
+}
+
+ask_by_curl() {
+    local url=http://127.0.0.1:$port/v1 child
+    ask "write" 200 '"version":1' -d '{"data":{"user":"app"}}' "$url/secret/data/app"
+    ask "read" 200 '"data":{"user":"app"}' "$url/secret/data/app"
+    ask "list" 200 '"keys":["app"]' -X LIST "$url/secret/metadata"
+    ask "list by query" 200 '"keys":["app"]' "$url/secret/metadata?list=true"
+    ask "delete" 204 '' -X DELETE "$url/secret/data/app"
+    ask "read of a deleted version" 404 '"deletion_time"' "$url/secret/data/app"
+    ask "no route" 404 '{"errors":[]}' "$url/sys/health"
+    ask "policy" 204 '' -d '{"policy":"{\"path\":{\"cubbyhole/*\":{\"capabilities\":[\"read\"]}}}"}' \
+        "$url/sys/policies/acl/app"
+    ask "token" 200 '"client_token":"hvs.' -d '{"policies":["app"]}' "$url/auth/token/create"
+    child=$(sed 's/.*"client_token":"\([^"]*\)".*/\1/' "$found/body")
+    ask "look-up" 200 '"policies":["app","default"]' -d "{\"token\":\"$child\"}" "$url/auth/token/lookup"
+    ask "revocation" 204 '' -d "{\"token\":\"$child\"}" "$url/auth/token/revoke"
+    ask "look-up of a revoked token" 403 'bad token' -d "{\"token\":\"$child\"}" "$url/auth/token/lookup"
+    ask "a body that is too long" 413 'errors' --data-binary "@$found/long" "$url/secret/data/app"
+    token=hvs.00000000-0000-0000-0000-000000000000 ask "a stranger" 403 'permission denied' "$url/secret/data/app"
+}
+
+# A Python that has hvac, if there is one.
+python_with_hvac() {
+    local python
+    for python in python3 /usr/bin/python3; do
+        "$python" -c 'import hvac' 2> /dev/null && break
+    done
+    echo "$python"
+}
+
+ask_by_client() {
+    local address=127.0.0.1:$port text
+    if [ ! -x bin/client ]; then
+        echo "serve: there is no bin/client: it is skipped"
+        return
+    fi
+    if bin/client --addr "$address" --token "$token" write secret/data/client '{"data":{"user":"app"}}' \
+        > "$found/body" && grep -qF '"version":1' "$found/body"; then pass; else fail "client" "write"; fi
+    text=$(bin/client --addr "$address" --token "$token" read secret/data/client)
+    if [ $? -eq 0 ] && [[ $text == *'"data":{"user":"app"}'* ]]; then pass; else fail "client" "read"; fi
+    bin/client --addr "$address" --token "$token" read secret/data/absent > "$found/body"
+    if [ $? -eq 1 ] && grep -qF '"errors"' "$found/body"; then pass; else fail "client" "read of an absent secret"; fi
+}
+
+# The first use builds the program.
+if ! bin/brokerd --help > /dev/null; then
+    fail "brokerd" "it cannot be built"
+    finish
+fi
+program=${BROKERD:-crates/brokerd/out/brokerd}
+head -c 1048577 /dev/zero > "$found/long"
+
+start 4294967295
+token=$(sed -n 's/^root token: \(hvs\.[0-9a-f-]\{36\}\)$/\1/p' "$found/served")
+if [ -n "$token" ]; then pass; else fail "root token" "$(head -c 200 "$found/served")"; fi
+ask_by_curl
+ask_by_client
+count python3 tests/clients/keep_alive.py "$port" "$token" 10000
+count "$(python_with_hvac)" tests/clients/hvac_calls.py "$port" "$token"
+run "an address that is taken" 1 'fault 5' serve --listen "127.0.0.1:$port"
+if kill -0 "$pid" 2> /dev/null && [ ! -s "$found/served.err" ]; then pass; else fail "the program" "it has ended"; fi
+stop
+
+run "no address" 2 '--listen <ADDR>' serve
+run "no connections" 2 'Usage' serve --listen 127.0.0.1:0 --connections 0
+run "too many connections" 2 'Usage' serve --listen 127.0.0.1:0 --connections 4294967296
+run "another machine's address" 1 'fault 5' serve --listen 192.0.2.1:8200
+run "no address at all" 1 'fault 5' serve --listen nowhere
+output=/dev/full run "a token that cannot be printed" 1 'fault 6' serve --listen 127.0.0.1:0
+
+start 3
+token=$(sed -n 's/^root token: //p' "$found/served")
+ask "the second of three" 200 '"policies":["root"]' "http://127.0.0.1:$port/v1/auth/token/lookup-self"
+ask "the third of three" 200 '"policies":["root"]' "http://127.0.0.1:$port/v1/auth/token/lookup-self"
+wait "$pid"
+status=$?
+pid=
+if [ "$status" -eq 0 ] && [ ! -s "$found/served.err" ]; then pass; else fail "after three connections" "status $status"; fi
+
+count python3 tests/clients/slow_peers.py "$program"
+finish
