@@ -2,7 +2,6 @@
 #![tactic(auto)]
 
 mod connection;
-mod endpoints;
 mod event;
 mod hub;
 mod laws;
@@ -10,7 +9,6 @@ mod running;
 mod serving;
 mod table;
 
-pub use endpoints::{Failed, Reading, Sink, Source, Writing};
 pub use event::Event;
 pub use hub::Hub;
 pub use laws::{asking_laws, run_laws};
