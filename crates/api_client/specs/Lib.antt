@@ -1,0 +1,4 @@
+pub mod CommandLine
+pub mod Commands
+pub mod Meaning
+pub mod Refusing

@@ -1,0 +1,14 @@
+//! The client of the API: command lines read, requests sent, and replies read (RFC 9110, RFC 9112).
+#![tactic(auto)]
+
+mod argument;
+mod command;
+mod command_line;
+mod mistake;
+mod no_command;
+mod parsing;
+
+pub use argument::{FieldText, ShortText};
+pub use command::{Command, Request};
+pub use no_command::NoCommand;
+pub use parsing::command_of;
