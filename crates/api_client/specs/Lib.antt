@@ -1,4 +1,6 @@
 pub mod CommandLine
 pub mod Commands
+pub mod Escaping
 pub mod Meaning
 pub mod Refusing
+pub mod Requests

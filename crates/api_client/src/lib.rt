@@ -4,11 +4,14 @@
 mod argument;
 mod command;
 mod command_line;
+mod escaping;
 mod mistake;
 mod no_command;
 mod parsing;
+mod requesting;
 
 pub use argument::{FieldText, ShortText};
 pub use command::{Command, Request};
 pub use no_command::NoCommand;
 pub use parsing::command_of;
+pub use requesting::request_of;
