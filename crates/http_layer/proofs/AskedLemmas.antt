@@ -1,24 +1,38 @@
--- What the value of X-Vault-Token asks, case by case.
-use Rattle.std.proofs.Common.{◌≡◌, ℕ, Bool, true, List, [], ◌∷◌, length, ap, ◌∙◌, Option, Some, None, Result, Ok, Err, cond}
-use Rattle.std.specs.Prelude.{IsUtf8, ◌==◌}
-use Rattle.std.proofs.lemmas.Bool.{false_from_ne_true}
+-- What the value of a field asks, and which path bytes are, case by case.
+use Rattle.std.proofs.Common.{◌≡◌, ◌≢◌, ℕ, Bool, true, false, List, [], ◌∷◌, drop, ap, ◌∙◌, ◌&&◌, Some, Ok, Err, cond}
+use Rattle.std.specs.Prelude.{IsUtf8}
 use Rattle.std.specs.Str.{is_utf8}
+use Rattle.std.proofs.lemmas.Bool.{false_from_ne_true}
 use Rattle.std.proofs.lemmas.Str.{IsUtf8-from_is_utf8, is_utf8-from_IsUtf8}
-use Rattle.broker_types.specs.Text.{Text}
+use Rattle.std.proofs.lemmas.List.Elements.{All-drop}
+use Rattle.percent_encoding.specs.Percent.{percent_sign}
+use Rattle.broker_types.specs.Path.{is_path, without_slash}
 use Rattle.broker_types.specs.declared.refusal.Reason.TheVariants as reason
-use Rattle.http_layer.specs.Refusing.{RefusalParts}
-use Rattle.http_layer.specs.Asked.{token_asked, bad_request}
+use Rattle.http_layer.specs.Asked.{value_asked, HasNoEscape, path_read, bad_request}
 
--- the answer to one value, by the two tests on it
-abbrev one_value : List ℕ → Bool → Bool → Result (Option Text) RefusalParts
-one_value v text empty = cond text (Ok (cond empty None (Some v))) (Err (bad_request reason.MalformedRequest))
+no_text : (v : List ℕ) → (IsUtf8 v → ⊥) → is_utf8 v ≡ false
+no_text v bad = false_from_ne_true (is_utf8 v) (λ is. bad (IsUtf8-from_is_utf8 v is))
 
-pub token_asked-no_text : (vs : List (List ℕ)) (v : List ℕ) → vs ≡ v ∷ [] → (IsUtf8 v → ⊥) → token_asked vs ≡ Err (bad_request reason.MalformedRequest)
-token_asked-no_text vs v one bad =
-    ap token_asked one ∙ ap (λ (b : Bool). one_value v b (length v == 0)) (false_from_ne_true (is_utf8 v) (λ is. bad (IsUtf8-from_is_utf8 v is)))
+-- ---- fields
 
-pub token_asked-text : (vs : List (List ℕ)) (v : List ℕ) (empty : Bool) → vs ≡ v ∷ [] → IsUtf8 v → (length v == 0) ≡ empty
-    → token_asked vs ≡ Ok (cond empty None (Some v))
-token_asked-text vs v empty one text is =
-    ap token_asked one ∙ ap (λ (b : Bool). one_value v b (length v == 0)) (is_utf8-from_IsUtf8 v text)
-    ∙ ap (λ (b : Bool). one_value v true b) is
+pub value_asked-no_text : (vs : List (List ℕ)) (v : List ℕ) → vs ≡ v ∷ [] → (IsUtf8 v → ⊥) → value_asked vs ≡ Err (bad_request reason.MalformedRequest)
+value_asked-no_text vs v one bad =
+    ap value_asked one ∙ ap (λ (b : Bool). cond b (Ok (Some v)) (Err (bad_request reason.MalformedRequest))) (no_text v bad)
+
+pub value_asked-text : (vs : List (List ℕ)) (v : List ℕ) → vs ≡ v ∷ [] → IsUtf8 v → value_asked vs ≡ Ok (Some v)
+value_asked-text vs v one text =
+    ap value_asked one ∙ ap (λ (b : Bool). cond b (Ok (Some v)) (Err (bad_request reason.MalformedRequest))) (is_utf8-from_IsUtf8 v text)
+
+-- ---- the path
+
+pub HasNoEscape-drop : (n : ℕ) (bytes : List ℕ) → HasNoEscape bytes → HasNoEscape (drop n bytes)
+HasNoEscape-drop n bytes plain = All-drop (λ b. b ≢ percent_sign) n bytes plain
+
+pub path_read-no_text : (bytes : List ℕ) → (IsUtf8 bytes → ⊥) → path_read bytes ≡ Err (bad_request reason.InvalidPath)
+path_read-no_text bytes bad =
+    ap (λ (b : Bool). cond (b && is_path (without_slash bytes)) (Ok (without_slash bytes)) (Err (bad_request reason.InvalidPath))) (no_text bytes bad)
+
+pub path_read-path : (bytes : List ℕ) → IsUtf8 bytes → is_path (without_slash bytes) ≡ true → path_read bytes ≡ Ok (without_slash bytes)
+path_read-path bytes text good =
+    ap (λ (b : Bool). cond (b && is_path (without_slash bytes)) (Ok (without_slash bytes)) (Err (bad_request reason.InvalidPath))) (is_utf8-from_IsUtf8 bytes text)
+    ∙ ap (λ (b : Bool). cond b (Ok (without_slash bytes)) (Err (bad_request reason.InvalidPath))) good

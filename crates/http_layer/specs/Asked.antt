@@ -1,8 +1,12 @@
 -- What a whole request asks (RFC 9110, sections 5 and 9; Vault's documentation, "HTTP API").
-use Rattle.std.specs.Prelude.{ℕ, Bool, ◌==◌, ◌||◌, List, [], ◌∷◌, take, drop, length, codes, bytes_eq, Option, Some}
-use Rattle.std.specs.Prelude.{None, Result, Ok, Err, if◌then◌else◌, true, false}
-use Rattle.std.specs.List.{list_any}
+use Rattle.std.specs.Prelude.{◌≢◌, ℕ, Bool, ◌==◌, ◌||◌, ◌&&◌, List, [], ◌∷◌, All, take, drop, length, min, codes}
+use Rattle.std.specs.Prelude.{bytes_eq, Option, Some, None, option_and_then, Result, Ok, Err, if◌then◌else◌, true, false}
+use Rattle.std.specs.List.{prefix_len, before_first, after_first}
+use Rattle.std.specs.Option.{option_or, option_map_or}
 use Rattle.std.specs.Str.{is_utf8}
+use Rattle.percent_encoding.specs.Percent.{percent_sign, percent_decode}
+use Rattle.broker_types.specs.Duration.{duration_of}
+use Rattle.broker_types.specs.Limits.{longest_ttl}
 use Rattle.broker_types.specs.Text.{Text}
 use Rattle.broker_types.specs.Path.{is_path, without_slash}
 use Rattle.broker_types.specs.Refusal.{reason_opening}
@@ -12,9 +16,9 @@ use Rattle.broker_types.specs.declared.refusal.Reason.TheVariants as reason
 use Rattle.broker_types.specs.declared.ask.Ask.{Ask}
 use Rattle.broker_types.specs.declared.ask.Verb.{Verb}
 use Rattle.broker_types.specs.declared.ask.Verb.TheVariants as verb
-use Rattle.http_layer.specs.HeadParts.{HeadParts, values_named}
+use Rattle.http_layer.specs.HeadParts.{HeadField, HeadParts, same_in_any_case, values_named}
 use Rattle.http_layer.specs.Query.{target_path, target_query, lists, version_asked}
-use Rattle.http_layer.specs.Refusing.{RefusalParts}
+use Rattle.http_layer.specs.Refusing.{◌>>=◌, RefusalParts}
 
 -- ---- the refusals
 
@@ -30,7 +34,7 @@ unknown_target = record { status = status.NotFound; text = None; close = false }
 abbrev pub bad_request : Reason → RefusalParts
 bad_request r = record { status = status.BadRequest; text = Some (reason_opening r); close = false }
 
--- ---- the parts of the ask, each with its refusal
+-- ---- the verb
 
 -- What a method asks for; POST and PUT ask for the same (RFC 9110, section 9). A GET whose query has `list=true` asks
 -- for a list, as LIST does (Vault's documentation, "HTTP API").
@@ -42,47 +46,95 @@ verb_asked method query =
     else if bytes_eq method (codes "DELETE") then Ok verb.Delete
     else Err unknown_method
 
--- The client token, from the values of X-Vault-Token (Vault's documentation, "HTTP API", authentication):
--- at most one value, in UTF-8. An empty value is no token.
-abbrev pub token_asked : List (List ℕ) → Result (Option Text) RefusalParts
-token_asked [] = Ok None
-token_asked (v ∷ []) =
-    if is_utf8 v then Ok (if length v == 0 then None else Some v)
-    else Err (bad_request reason.MalformedRequest)
-token_asked (v ∷ w ∷ vs) = Err (bad_request reason.MalformedRequest)
+-- ---- the fields
 
--- `%`, which begins an encoded byte (RFC 3986, section 2.1)
-abbrev pub is_escape : ℕ → Bool
-is_escape b = b == 37
+-- the only value of a field, in UTF-8, if the field is there
+abbrev pub value_asked : List (List ℕ) → Result (Option Text) RefusalParts
+value_asked [] = Ok None
+value_asked (v ∷ []) = if is_utf8 v then Ok (Some v) else Err (bad_request reason.MalformedRequest)
+value_asked (v ∷ w ∷ vs) = Err (bad_request reason.MalformedRequest)
 
--- the path, from what follows `/v1/`: this project's rule
-abbrev pub path_read : Text → Result Text RefusalParts
-path_read text =
-    if is_path (without_slash text) then Ok (without_slash text) else Err (bad_request reason.InvalidPath)
+-- the text, unless it is empty
+abbrev pub not_empty : Text → Option Text
+not_empty text = if length text == 0 then None else Some text
 
--- The path that a target names: what follows `/v1/` (Vault's documentation, "HTTP API") up to the query. So far no
--- encoded byte is read, so a target that has one, in its path or its query, is refused.
+-- whether the byte is a space
+abbrev pub is_space : ℕ → Bool
+is_space b = b == 32
+
+-- the text without the spaces at its beginning
+abbrev pub without_spaces : Text → Text
+without_spaces text = drop (prefix_len is_space text) text
+
+-- The token of credentials: what follows `Bearer`, in any case (RFC 9110, section 11.1), and one or more spaces (RFC
+-- 6750, section 2.1), unless nothing does. Credentials of another scheme have none.
+abbrev pub bearer_token : Text → Option Text
+bearer_token credentials =
+    if same_in_any_case (before_first is_space credentials) (codes "bearer")
+    then not_empty (without_spaces (after_first is_space credentials))
+    else None
+
+-- The client token (Vault's documentation, "HTTP API", authentication): X-Vault-Token unless it is empty, else the token
+-- of Authorization.
+abbrev pub client_token : Option Text → Option Text → Option Text
+client_token vault authorization =
+    option_or (option_and_then not_empty vault) (option_and_then bearer_token authorization)
+
+-- the client token, from the fields
+abbrev pub token_asked : List HeadField → Result (Option Text) RefusalParts
+token_asked fields = do
+  vault ← value_asked (values_named (codes "x-vault-token") fields)
+  authorization ← value_asked (values_named (codes "authorization") fields)
+  Ok (client_token vault authorization)
+
+-- the text of the wrap TTL (Vault's documentation, "Response wrapping"): so far the field is not read
+abbrev pub wrap_ttl_asked : List HeadField → Result (Option Text) RefusalParts
+wrap_ttl_asked fields = Ok None
+
+-- For how many seconds a reply waits for its wrapping token: a duration, at most 32 days. Without one the reply is not
+-- wrapped.
+abbrev pub wrap_ttl_read : Option Text → Result ℕ RefusalParts
+wrap_ttl_read None = Ok 0
+wrap_ttl_read (Some text) =
+    option_map_or (λ n. Ok (min n longest_ttl)) (duration_of text) (Err (bad_request reason.InvalidDuration))
+
+-- ---- the path
+
+-- no byte is `%`, which begins an encoded byte (RFC 3986, section 2.1)
+abbrev pub HasNoEscape : List ℕ → Type 0
+HasNoEscape bytes = All (λ b. b ≢ percent_sign) bytes
+
+-- the path that these bytes are, without a final `/`, if they are UTF-8: this project's rule
+abbrev pub path_read : List ℕ → Result Text RefusalParts
+path_read bytes =
+    if is_utf8 bytes && is_path (without_slash bytes)
+    then Ok (without_slash bytes)
+    else Err (bad_request reason.InvalidPath)
+
+-- The path that a target names: what follows `/v1/` (Vault's documentation, "HTTP API") up to the query, with each
+-- encoded byte read (RFC 3986, section 2.1). A `%` that begins none stays.
 abbrev pub path_asked : List ℕ → Result Text RefusalParts
 path_asked target =
     if bytes_eq (take 4 target) (codes "/v1/")
-    then (if list_any is_escape target then Err (bad_request reason.InvalidPath)
-    else path_read (drop 4 (target_path target)))
+    then path_read (percent_decode (drop 4 (target_path target)))
     else Err unknown_target
 
 -- ---- the ask
 
--- the ask of a verb, a token, a path, a version and a body, or the first refusal of the first three
-abbrev pub ask_or_refusal : Result Verb RefusalParts → Result (Option Text) RefusalParts → Result Text RefusalParts
-    → List ℕ → List ℕ → Result Ask RefusalParts
-ask_or_refusal (Ok verb) (Ok token) (Ok path) version body =
-    Ok (record { verb = verb; path = path; version = version; token = token; wrap_ttl = 0; body = body })
-ask_or_refusal (Err r) token path version body = Err r
-ask_or_refusal (Ok verb) (Err r) path version body = Err r
-ask_or_refusal (Ok verb) (Ok token) (Err r) version body = Err r
-
--- What a request asks, or its first refusal: of its method, its token or its target. The order is this project's.
+-- What a request asks, or its first refusal: of its method, of a field that is not one text, of its target, or of a wrap
+-- TTL that is no duration. The order is this project's.
 unfoldable pub asked : HeadParts → List ℕ → Result Ask RefusalParts
-asked head body =
-    ask_or_refusal (verb_asked head.method (target_query head.target))
-    (token_asked (values_named (codes "x-vault-token") head.fields)) (path_asked head.target)
-    (version_asked (target_query head.target)) body
+asked head body = do
+  verb ← verb_asked head.method (target_query head.target)
+  token ← token_asked head.fields
+  ttl ← wrap_ttl_asked head.fields
+  path ← path_asked head.target
+  wrap_ttl ← wrap_ttl_read ttl
+  Ok (record {
+    verb = verb;
+    path = path;
+    version = version_asked (target_query head.target);
+    token = token;
+    wrap_ttl = wrap_ttl;
+    body = body;
+  })

@@ -1,24 +1,22 @@
 -- Laws of refusals: what is refused without asking the broker is listed.
-use Rattle.std.proofs.Common.{ℕ, ◌+◌, Option, ◌||◌, Bool, true, false, cond, List, [], ◌∷◌, length, take, drop}
+use Rattle.std.proofs.Common.{ℕ, ◌+◌, ◌||◌, ◌&&◌, Bool, true, false, cond, List, [], ◌∷◌, length, take, drop}
 use Rattle.std.proofs.Common.{codes, bytes_eq, slice_range, Result, Ok, Err, IfErr, nat_le, nat_lt, refl, sym, subst}
 use Rattle.std.proofs.Common.{inl, inr, lit<}
-use Rattle.std.specs.List.{list_any}
 use Rattle.std.specs.Str.{is_utf8}
 use Rattle.std.specs.Str.Parse.{digits_value}
+use Rattle.percent_encoding.specs.Percent.{percent_decode}
 use Rattle.broker_types.specs.Limits.{longest_body}
 use Rattle.broker_types.specs.Path.{is_path, without_slash}
-use Rattle.broker_types.specs.Text.{Text}
 use Rattle.broker_types.specs.declared.status.Status.{Status}
 use Rattle.broker_types.specs.declared.status.Status.TheVariants.{BadRequest, PayloadTooLarge, NotImplemented}
-use Rattle.broker_types.specs.declared.ask.Verb.{Verb}
 use Rattle.http_layer.specs.Front.{Front, need, refused_with, whole, HeadFront, unended, too_long, malformed, read}
 use Rattle.http_layer.specs.Front.{front_of_body, front_of_head, content_length, body_length, may_have_hosts, is_number}
-use Rattle.http_layer.specs.HeadParts.{HeadParts, values_named}
-use Rattle.http_layer.specs.Asked.{asked, verb_asked, token_asked, path_asked, ask_or_refusal, is_escape}
-use Rattle.http_layer.specs.Query.{target_path, target_query, version_asked}
+use Rattle.http_layer.specs.HeadParts.{HeadField, HeadParts, values_named}
+use Rattle.http_layer.specs.Asked.{asked, verb_asked, value_asked, token_asked, path_asked}
+use Rattle.http_layer.specs.Query.{target_path, target_query}
 use Rattle.http_layer.specs.Laws.{FrontRefusalIsListed, AskRefusalIsListed}
 use Rattle.http_layer.specs.Listed.{IsFrontRefusal, IsAskRefusal}
-use Rattle.http_layer.specs.Refusing.{RefusalParts}
+use Rattle.http_layer.specs.Refusing.{◌>>=◌, RefusalParts}
 
 -- ---- refusals of two cases
 
@@ -89,32 +87,36 @@ verb_refuses method query =
     (cond_refuses IsAskRefusal (bytes_eq method (codes "POST") || bytes_eq method (codes "PUT")) _ _ tt
     (cond_refuses IsAskRefusal (bytes_eq method (codes "DELETE")) _ _ tt (inl (inl refl)))))
 
-token_refuses : (vs : List (List ℕ)) → IfErr (token_asked vs) IsAskRefusal
-token_refuses [] = tt
-token_refuses (v ∷ []) = cond_refuses IsAskRefusal (is_utf8 v) _ _ tt (inr (inl refl))
-token_refuses (v ∷ w ∷ vs) = inr (inl refl)
+-- a step, and the next one
+step_refuses : {A B : Type 0} (step : Result A RefusalParts) (next : A → Result B RefusalParts)
+    → IfErr step IsAskRefusal → ((x : A) → IfErr (next x) IsAskRefusal) → IfErr (step >>= next) IsAskRefusal
+step_refuses (Ok x) next first then = then x
+step_refuses (Err r) next first then = first
+
+value_refuses : (vs : List (List ℕ)) → IfErr (value_asked vs) IsAskRefusal
+value_refuses [] = tt
+value_refuses (v ∷ []) = cond_refuses IsAskRefusal (is_utf8 v) _ _ tt (inr (inl refl))
+value_refuses (v ∷ w ∷ vs) = inr (inl refl)
+
+token_refuses : (fields : List HeadField) → IfErr (token_asked fields) IsAskRefusal
+token_refuses fields =
+    step_refuses (value_asked (values_named (codes "x-vault-token") fields)) _
+    (value_refuses (values_named (codes "x-vault-token") fields))
+    (λ vault. step_refuses (value_asked (values_named (codes "authorization") fields)) _
+    (value_refuses (values_named (codes "authorization") fields)) (λ authorization. tt))
 
 path_refuses : (target : List ℕ) → IfErr (path_asked target) IsAskRefusal
 path_refuses target =
+    let bytes = percent_decode (drop 4 (target_path target)) in
     cond_refuses IsAskRefusal (bytes_eq (take 4 target) (codes "/v1/")) _ _
-    (cond_refuses IsAskRefusal (list_any is_escape target) _ _ (inr (inr refl))
-    (cond_refuses IsAskRefusal (is_path (without_slash (drop 4 (target_path target)))) _ _ tt (inr (inr refl))))
+    (cond_refuses IsAskRefusal (is_utf8 bytes && is_path (without_slash bytes)) _ _ tt (inr (inr refl)))
     (inl (inr refl))
-
-first_refuses : (verb : Result Verb RefusalParts) (token : Result (Option Text) RefusalParts)
-    (path : Result Text RefusalParts) (version body : List ℕ)
-    → IfErr verb IsAskRefusal → IfErr token IsAskRefusal → IfErr path IsAskRefusal
-    → IfErr (ask_or_refusal verb token path version body) IsAskRefusal
-first_refuses (Ok v) (Ok t) (Ok p) version body x y z = tt
-first_refuses (Err r) token path version body x y z = x
-first_refuses (Ok v) (Err r) path version body x y z = y
-first_refuses (Ok v) (Ok t) (Err r) version body x y z = z
 
 -- the refusal of a request that asks nothing is listed
 pub ask_refuses : AskRefusalIsListed
 unfolding asked
 ask_refuses head body =
-    let tokens = values_named (codes "x-vault-token") head.fields in
-    let query = target_query head.target in
-    first_refuses (verb_asked head.method query) (token_asked tokens) (path_asked head.target) (version_asked query)
-    body (verb_refuses head.method query) (token_refuses tokens) (path_refuses head.target)
+    step_refuses (verb_asked head.method (target_query head.target)) _
+    (verb_refuses head.method (target_query head.target))
+    (λ verb. step_refuses (token_asked head.fields) _ (token_refuses head.fields)
+    (λ token. step_refuses (path_asked head.target) _ (path_refuses head.target) (λ path. tt)))

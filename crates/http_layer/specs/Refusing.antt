@@ -17,6 +17,12 @@ pub record RefusalParts : Type 0 where
   pub text : Option Text
   pub close : Bool
 
+infixl 10 ◌>>=◌
+-- the next step, unless this one was refused: the first refusal is the answer
+abbrev pub ◌>>=◌ : {A B : Type 0} → Result A RefusalParts → (A → Result B RefusalParts) → Result B RefusalParts
+(Ok x) >>= next = next x
+(Err r) >>= next = Err r
+
 -- the refusal that a value of the code is
 abbrev pub parts_of_refusal : HttpRefusal → RefusalParts
 parts_of_refusal r = record { status = r.status; text = option_map (λ s. s.now) r.text; close = r.close }

@@ -1,31 +1,40 @@
-ghost use Rattle.std.specs.Prelude.{◌≡◌, MatchResult, Ok, Err, codes};
-ghost use Rattle.std.specs.List.{list_any};
+ghost use Rattle.std.specs.Prelude.{◌≡◌, ◌≢◌, MatchResult, Ok, Err, codes, option_map};
 ghost use Rattle.http_layer.specs.HeadParts.{values_named};
-ghost use Rattle.http_layer.specs.Asked.{asked, verb_asked, token_asked, path_asked, path_read, is_escape};
+ghost use Rattle.http_layer.specs.Query.{target_path};
+ghost use Rattle.http_layer.specs.Asked.{asked, verb_asked, value_asked, not_empty, without_spaces, bearer_token};
+ghost use Rattle.http_layer.specs.Asked.{client_token, token_asked, HasNoEscape, path_read, path_asked};
 ghost use Rattle.http_layer.specs.Refusing.{Agrees, parts_of_refusal};
+ghost use Rattle.percent_encoding.specs.Percent.{percent_decode};
 
 use crate::fields::Named;
 use crate::head::Head;
 use crate::query::{lists, split_target, version_asked};
 use crate::refusal::{AskError, HttpRefusal};
-use broker_types::{Ask, BodyBytes, CowBytes, CowText, Path, Reason, Seconds, Verb, WrapTtl};
+use broker_types::{
+    Ask, BodyBytes, CowBytes, CowText, Fault, Path, Reason, Seconds, Verb, WrapTtl,
+};
+use percent_encoding::{DecodeError, percent_decode};
 use std::alloc::Global;
 use std::borrow::{CowSlice, CowStr};
 use std::str;
 
 /// What a whole request asks (RFC 9110, section 9; Vault's documentation, "HTTP API"), or the first
 /// refusal, in this order: 501 for a method that is not GET, LIST, POST, PUT or DELETE; 400 for more
-/// than one X-Vault-Token field, or one that is not UTF-8; 404 for a target that does not begin with
-/// `/v1/`; 400 for a target with `%`, or whose rest up to its first `?` is not a valid path. Of the
-/// query, `list=true` makes a GET a LIST, and the first `version=` is the version asked for. Other
-/// parts of the query and other fields are ignored. The only fault is running out of memory.
+/// than one X-Vault-Token or Authorization field, or one that is not UTF-8; 404 for a target that does
+/// not begin with `/v1/`; 400 for a target whose rest up to its first `?`, percent-decoded (RFC 3986,
+/// section 2.1), is not a valid path. The client token is X-Vault-Token unless it is empty, else the
+/// Bearer token of Authorization (RFC 6750, section 2.1). Of the query, which is not decoded,
+/// `list=true` makes a GET a LIST, and the first `version=` is the version asked for. Other parts of
+/// the query and other fields are ignored. The only fault is running out of memory, where the path has
+/// an encoded byte: without one the ask borrows all its texts.
 #[tactic(auto, unfolding(crate::specs::Asked::asked))]
 pub fn ask_of<'b>(alloc: Global, head: &Head<'b>, body: BodyBytes<'b>) -> Result<Ask<'b>, AskError>
-    ensures { Agrees (asked head.now body.entry) result }
+    ensures ask { Agrees (asked head.now body.entry) result }
+    ensures no_memory { HasNoEscape (target_path head.now.target) → result ≢ Err (AskError.Fault Fault.Memory) }
 {
     let (_, query) = split_target(head.target());
     let verb = verb_of(head.method(), query)?;
-    let token = token_of(alloc, head)?;
+    let token = token_of(head)?;
     let path = path_of(alloc, head.target())?;
     Ok(Ask {
         verb,
@@ -58,49 +67,96 @@ fn verb_of(method: &[u8], query: &[u8]) -> Result<Verb, HttpRefusal>
     Err(HttpRefusal::unknown_method())
 }
 
-/// The client token: the value of X-Vault-Token, unless it is empty.
-fn token_of<'b>(alloc: Global, head: &Head<'b>) -> Result<Option<CowText<'b>>, AskError>
-    ensures { Agrees (token_asked (values_named (codes "x-vault-token") head.now.fields)) result }
+/// The client token, from X-Vault-Token and Authorization.
+fn token_of<'b>(head: &Head<'b>) -> Result<Option<CowText<'b>>, HttpRefusal>
+    ensures { MatchResult result
+        (λ token. token_asked head.now.fields ≡ Ok token)
+        (λ refusal. token_asked head.now.fields ≡ Err (parts_of_refusal refusal)) }
 {
-    let value = match head.named(b"x-vault-token") {
+    let vault = value_of(head, b"x-vault-token")?;
+    let authorization = value_of(head, b"authorization")?;
+    match client_token(vault, authorization) {
+        Some(token) => Ok(Some(CowText::new(CowStr::Borrowed(token)))),
+        None => Ok(None),
+    }
+}
+
+/// The only value of a field, if the field is there.
+fn value_of<'b>(head: &Head<'b>, name: &[u8]) -> Result<Option<&'b str>, HttpRefusal>
+    ensures { MatchResult result
+        (λ value. value_asked (values_named name.now head.now.fields) ≡ Ok (option_map (λ text. text.now) value))
+        (λ refusal. value_asked (values_named name.now head.now.fields) ≡ Err (parts_of_refusal refusal)) }
+{
+    let value = match head.named(name) {
         Named::Absent => return Ok(None),
         Named::Once(value) => value,
-        Named::Several => return Err(HttpRefusal::bad_request(Reason::MalformedRequest).into()),
+        Named::Several => return Err(HttpRefusal::bad_request(Reason::MalformedRequest)),
     };
-    let Ok(token) = str::from_utf8(value) else {
-        return Err(HttpRefusal::bad_request(Reason::MalformedRequest).into());
-    };
-    if token.is_empty() {
-        return Ok(None);
+    match str::from_utf8(value) {
+        Ok(text) => Ok(Some(text)),
+        Err(_) => Err(HttpRefusal::bad_request(Reason::MalformedRequest)),
     }
-    Ok(Some(CowText::new(CowStr::Owned(String::from_str(alloc, token)?))))
+}
+
+/// The client token, from the values of X-Vault-Token and Authorization.
+fn client_token<'b>(vault: Option<&'b str>, authorization: Option<&'b str>) -> Option<&'b str>
+    ensures { option_map (λ text. text.now) result
+        ≡ client_token (option_map (λ text. text.now) vault.entry)
+        (option_map (λ text. text.now) authorization.entry) }
+{
+    match vault {
+        Some(token) if !token.is_empty() => Some(token),
+        _ => bearer_token(authorization?),
+    }
+}
+
+/// The token of credentials of the scheme Bearer.
+fn bearer_token<'b>(credentials: &'b str) -> Option<&'b str>
+    ensures { option_map (λ text. text.now) result ≡ bearer_token credentials.now }
+{
+    let (scheme, rest) = credentials.split_once(' ')?;
+    let token = without_spaces(rest);
+    if !scheme.eq_ignore_ascii_case("bearer") || token.is_empty() {
+        return None;
+    }
+    Some(token)
+}
+
+/// The text without the spaces at its beginning.
+fn without_spaces<'b>(mut text: &'b str) -> &'b str
+    ensures { result.now ≡ without_spaces text.now }
+{
+    while text.starts_with(' ') {
+        text = &text[1..];
+    }
+    text
 }
 
 /// The path that a target names.
 fn path_of<'b>(alloc: Global, target: &'b str) -> Result<Path<'b>, AskError>
-    ensures { Agrees (path_asked target.now) result }
+    ensures path { Agrees (path_asked target.now) result }
+    ensures no_memory { HasNoEscape (target_path target.now) → result ≢ Err (AskError.Fault Fault.Memory) }
 {
     if !target.starts_with("/v1/") {
         return Err(HttpRefusal::unknown_target().into());
-    }
-    if has_escape(target.as_bytes()) {
-        return Err(HttpRefusal::bad_request(Reason::InvalidPath).into());
     }
     let (path, _) = split_target(target);
     read_path(alloc, &path[4..])
 }
 
-fn has_escape(target: &[u8]) -> bool
-    ensures { result ≡ list_any is_escape target.now }
+/// The path, from what follows `/v1/`, percent-decoded. It takes no memory where no byte is encoded.
+fn read_path<'b>(alloc: Global, encoded: &'b str) -> Result<Path<'b>, AskError>
+    ensures path { Agrees (path_read (percent_decode encoded.now)) result }
+    ensures no_memory { HasNoEscape encoded.now → result ≢ Err (AskError.Fault Fault.Memory) }
 {
-    target.contains(&b'%')
-}
-
-/// The path, from what follows `/v1/`.
-fn read_path<'b>(alloc: Global, text: &'b str) -> Result<Path<'b>, AskError>
-    ensures { Agrees (path_read text.now) result }
-{
-    match Path::read(CowStr::Owned(String::from_str(alloc, text)?)) {
+    let text = match percent_decode(encoded.as_bytes()).decode_utf8(alloc) {
+        Ok(text) => text,
+        Err(DecodeError::OutOfMemory) => return Err(AskError::Fault(Fault::Memory)),
+        Err(DecodeError::Utf8(_)) => {
+            return Err(HttpRefusal::bad_request(Reason::InvalidPath).into());
+        }
+    };
+    match Path::read(text) {
         Ok(path) => Ok(path),
         Err(_) => Err(HttpRefusal::bad_request(Reason::InvalidPath).into()),
     }
