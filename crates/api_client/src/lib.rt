@@ -8,10 +8,13 @@ mod escaping;
 mod mistake;
 mod no_command;
 mod parsing;
+mod reply;
+mod reply_head;
 mod requesting;
 
 pub use argument::{FieldText, ShortText};
 pub use command::{Command, Request};
 pub use no_command::NoCommand;
 pub use parsing::command_of;
+pub use reply::{Reply, ReplyError};
 pub use requesting::request_of;
