@@ -1,1 +1,2 @@
 pub mod EscapingLemmas
+pub mod ReplyLemmas

@@ -5,4 +5,5 @@ pub mod Meaning
 pub mod Refusing
 pub mod Replies
 pub mod ReplyHeads
+pub mod ReplyReads
 pub mod Requests

@@ -10,6 +10,7 @@ mod no_command;
 mod parsing;
 mod reply;
 mod reply_head;
+mod replying;
 mod requesting;
 
 pub use argument::{FieldText, ShortText};
@@ -17,4 +18,5 @@ pub use command::{Command, Request};
 pub use no_command::NoCommand;
 pub use parsing::command_of;
 pub use reply::{Reply, ReplyError};
+pub use replying::reply_of;
 pub use requesting::request_of;

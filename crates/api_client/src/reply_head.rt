@@ -67,7 +67,11 @@ fn first_length<'b>(bytes: &'b [u8], headers: &[HeaderSpan]) -> Option<&'b [u8]>
         ≡ slice_get (values_named (codes "content-length") (map (header_bytes bytes.now) headers.now)) 0 }
 {
     for header in headers {
-        if header.name.of(bytes).eq_ignore_ascii_case(b"content-length") {
+        if header
+            .name
+            .of(bytes)
+            .eq_ignore_ascii_case(b"content-length")
+        {
             return Some(header.value.of(bytes));
         }
     }
