@@ -5,6 +5,8 @@ mod argument;
 mod command;
 mod command_line;
 mod escaping;
+mod exchanging;
+mod failure;
 mod mistake;
 mod no_command;
 mod parsing;
@@ -15,6 +17,8 @@ mod requesting;
 
 pub use argument::{FieldText, ShortText};
 pub use command::{Command, Request};
+pub use exchanging::{Peer, exchange};
+pub use failure::Failure;
 pub use no_command::NoCommand;
 pub use parsing::command_of;
 pub use reply::{Reply, ReplyError};
