@@ -9,11 +9,12 @@ use clap::Arg;
 use std::alloc::{AllocError, Global};
 
 const AFTER_HELP: &str =
-    "Exit status: 0 after a reply with the status 200 or 204; 1 after any other reply, or \
-    if there is none; 2 if the command line is wrong. The body of the reply goes to standard output. A script reads \
-    it so:\n\n    \
-    if body=$(client --addr 127.0.0.1:8200 --token \"$TOKEN\" read secret/data/app); then\n        \
-    echo \"$body\"\n    \
+    "The body of the reply goes to standard output. The exit status is 0 after a reply\n\
+    with the status 200 or 204; 1 after any other reply, or if there is none, which\n\
+    standard error explains; 2 if the command line is wrong. A script reads it so:\n\n    \
+    if body=$(client --addr 127.0.0.1:8200 --token \"$TOKEN\" read secret/data/app)\n    \
+    then echo \"$body\"\n    \
+    else echo \"no secret\" >&2\n    \
     fi";
 
 /// The parser of the command line.

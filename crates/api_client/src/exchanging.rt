@@ -85,8 +85,8 @@ fn status_after(code: u16) -> u8
     }
 }
 
-/// Tells a failure, as far as it can be written, and answers the exit status.
-fn tell<E: Sink>(failure: Failure, err: &mut E) -> u8
+/// Tells a failure in a line, unless it cannot be written, and answers the exit status, 1.
+pub fn tell<E: Sink>(failure: Failure, err: &mut E) -> u8
     ensures told { IsTold failure (E.written err.old) (E.written err.new) (E.has_failed err.new) }
     ensures status { result ≡ 1 }
 {

@@ -17,7 +17,7 @@ mod requesting;
 
 pub use argument::{FieldText, ShortText};
 pub use command::{Command, Request};
-pub use exchanging::{Peer, exchange};
+pub use exchanging::{Peer, exchange, tell};
 pub use failure::Failure;
 pub use no_command::NoCommand;
 pub use parsing::command_of;

@@ -1,4 +1,4 @@
-ghost use Rattle.std.specs.Prelude.{◌≡◌, ◌++◌, IfOk, OnOk, Some, length, option_map, string_bytes};
+ghost use Rattle.std.specs.Prelude.{◌≡◌, ◌++◌, IfErr, IfOk, OnOk, Some, length, option_map, string_bytes};
 ghost use Rattle.serde_json.specs.Read.{read};
 ghost use Rattle.serde_json.specs.View.{view};
 ghost use Rattle.serde_json.specs.Written.{compact_text};
@@ -16,7 +16,8 @@ use std::borrow::CowSlice;
 /// The bytes of the request that a command sends (RFC 9112). The only fault is running out of memory.
 #[tactic(auto, unfolding(crate::specs::Requests::sent))]
 pub fn request_of(alloc: Global, command: &Command<'_>) -> Result<Vec<u8>, Fault>
-    ensures { IfOk result (λ bytes. bytes.items ≡ sent command.now) }
+    ensures ok { IfOk result (λ bytes. bytes.items ≡ sent command.now) }
+    ensures err { IfErr result (λ fault. fault ≡ Fault.Memory) }
 {
     match body_of(alloc, &command.request)? {
         Some(body) => {
