@@ -1,2 +1,5 @@
 pub mod EscapingLemmas
+pub mod PathLemmas
 pub mod ReplyLemmas
+pub mod SentLemmas
+pub mod TextLemmas

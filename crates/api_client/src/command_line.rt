@@ -69,9 +69,7 @@ fn wrap_ttl<'a>(alloc: Global) -> Arg<'a>
     Arg::new(alloc, "wrap-ttl")
         .long("wrap-ttl")
         .value_name("D")
-        .help(
-            "Wrap the reply: the server keeps it this long, as 60 or 1h30m, and answers with a token that unwraps it",
-        )
+        .help("Wrap the reply: keep it so long, as 60 or 1h30m, for a token")
 }
 
 fn read<'a>(alloc: Global) -> Result<clap::Command<'a>, AllocError>
