@@ -1,3 +1,4 @@
+pub mod AskedLemmas
 pub mod EscapingLemmas
 pub mod PathLemmas
 pub mod ReplyLemmas

@@ -2,6 +2,7 @@
 #![tactic(auto)]
 
 mod argument;
+mod asking;
 mod command;
 mod command_line;
 mod escaping;

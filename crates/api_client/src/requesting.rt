@@ -2,10 +2,12 @@ ghost use Rattle.std.specs.Prelude.{◌≡◌, ◌++◌, IfErr, IfOk, OnOk, Some
 ghost use Rattle.serde_json.specs.Read.{read};
 ghost use Rattle.serde_json.specs.View.{view};
 ghost use Rattle.serde_json.specs.Written.{compact_text};
+ghost use Rattle.api_client.specs.Asking.{Asks};
 ghost use Rattle.api_client.specs.Requests.{body_of, field_line, head_lines, length_line, method_of, optional_line};
 ghost use Rattle.api_client.specs.Requests.{path_of, request_line, sent, unwrap_object};
 
 use crate::argument::{FieldText, ShortText};
+use crate::asking::is_read_as_meant;
 use crate::command::{Command, Request};
 use crate::escaping::push_escaped;
 use broker_types::{CowBytes, Fault};
@@ -13,9 +15,20 @@ use serde_json::{Value, json};
 use std::alloc::{AllocError, Global};
 use std::borrow::CowSlice;
 
-/// The bytes of the request that a command sends (RFC 9112). The only fault is running out of memory.
-#[tactic(auto, unfolding(crate::specs::Requests::sent))]
+/// The bytes of the request that a command sends (RFC 9112). They are one whole request with nothing
+/// after it, and a server reads it as the command means it. The only fault is running out of memory.
 pub fn request_of(alloc: Global, command: &Command<'_>) -> Result<Vec<u8>, Fault>
+    ensures ok { IfOk result (λ bytes. bytes.items ≡ sent command.now) }
+    ensures asks { IfOk result (λ bytes. Asks bytes.items command.now) }
+    ensures err { IfErr result (λ fault. fault ≡ Fault.Memory) }
+{
+    is_read_as_meant(command);
+    bytes_of(alloc, command)
+}
+
+/// The bytes of the request.
+#[tactic(auto, unfolding(crate::specs::Requests::sent))]
+fn bytes_of(alloc: Global, command: &Command<'_>) -> Result<Vec<u8>, Fault>
     ensures ok { IfOk result (λ bytes. bytes.items ≡ sent command.now) }
     ensures err { IfErr result (λ fault. fault ≡ Fault.Memory) }
 {
