@@ -1,12 +1,9 @@
 ghost use Rattle.std.specs.Prelude.{◌≡◌, ◌+◌, ◌≤◌, ◌||◌, ℕ, Bool, List, Option, length, IfOk, OnOk, OnErr};
 ghost use Rattle.std.specs.Prelude.{is_err, false};
-ghost use Rattle.std.specs.Io.KnownBytes.{ReadConsumes, Appends};
+ghost use Rattle.std.specs.Io.KnownBytes.{ReadConsumes};
 
-use std::io::{Read, Write};
-
-/// A reader or a writer failed.
-#[derive(Clone, Copy, Debug, PartialEq, Eq)]
-pub struct Failed;
+use crate::Failed;
+use std::io::Read;
 
 /// Where bytes are pulled from.
 pub trait Source {
@@ -30,24 +27,6 @@ pub trait Source {
         ensures failing { has_failed self.new ≡ (has_failed self.old || is_err result) };
 
     /// Whether a pull failed.
-    fn failed(&self) -> bool
-        ensures { result ≡ has_failed self.now };
-}
-
-/// Where bytes are pushed to.
-pub trait Sink {
-    /// The bytes that were pushed, if they are known.
-    ghost written: { Self → Option (List ℕ) };
-
-    /// Whether a push failed.
-    ghost has_failed: { Self → Bool };
-
-    /// Adds the bytes to what was pushed. After an `Err` some of them may have been.
-    fn push(&mut self, bytes: &[u8]) -> Result<(), Failed>
-        ensures ok { OnOk result (Appends (written self.old) (written self.new) bytes.now) }
-        ensures failing { has_failed self.new ≡ (has_failed self.old || is_err result) };
-
-    /// Whether a push failed.
     fn failed(&self) -> bool
         ensures { result ≡ has_failed self.now };
 }
@@ -76,7 +55,7 @@ impl<R: Read> Reading<R> {
 }
 
 impl<R: Read> Source for Reading<R> {
-    ghost use Rattle.hub.specs.Endpoints.{reader_of, pulls_of, read_failed};
+    ghost use Rattle.endpoints.specs.Reading.{reader_of, pulls_of, read_failed};
 
     ghost left = { λ source. R.remaining (reader_of source) };
 
@@ -95,48 +74,6 @@ impl<R: Read> Source for Reading<R> {
                 self.pulls += 1;
                 Ok(count)
             }
-            Err(_) => {
-                self.failed = true;
-                Err(Failed)
-            }
-        }
-    }
-
-    fn failed(&self) -> bool {
-        self.failed
-    }
-}
-
-/// A writer as a sink.
-#[derive(Drop)]
-pub struct Writing<W: Write> {
-    writer: W,
-    failed: bool,
-}
-
-impl<W: Write> Writing<W> {
-    /// A sink that adds to what the writer has. Nothing has failed.
-    pub fn new(writer: W) -> Writing<W>
-        ensures written { ⟦<Writing<W> as Sink>⟧.written result ≡ W.contents writer }
-        ensures failed { ⟦<Writing<W> as Sink>⟧.has_failed result ≡ false }
-    {
-        Writing {
-            writer,
-            failed: false,
-        }
-    }
-}
-
-impl<W: Write> Sink for Writing<W> {
-    ghost use Rattle.hub.specs.Endpoints.{writer_of, write_failed};
-
-    ghost written = { λ sink. W.contents (writer_of sink) };
-
-    ghost has_failed = { write_failed };
-
-    fn push(&mut self, bytes: &[u8]) -> Result<(), Failed> {
-        match self.writer.write_all(bytes) {
-            Ok(()) => Ok(()),
             Err(_) => {
                 self.failed = true;
                 Err(Failed)
