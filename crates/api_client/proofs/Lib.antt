@@ -4,3 +4,4 @@ pub mod PathLemmas
 pub mod ReplyLemmas
 pub mod SentLemmas
 pub mod TextLemmas
+pub mod WrittenLemmas

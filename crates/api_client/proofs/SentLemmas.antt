@@ -51,7 +51,7 @@ sent_fields c len =
 
 -- ---- the bytes of the head
 
-print_one : (name value : List ℕ) → print_field (field name value) ≡ field_line name value
+pub print_one : (name value : List ℕ) → print_field (field name value) ≡ field_line name value
 print_one name value = simp append_assoc
 
 print_optional : (name : List ℕ) (o : Option (List ℕ)) → flat_map print_field (optional_field name o) ≡ optional_line name o
@@ -96,7 +96,7 @@ printed c len =
 abbrev pub values_in : List ℕ → List Field → List (List ℕ)
 values_in name fields = values_named name (map name_and_value fields)
 
-values_in-append : (name : List ℕ) (fs gs : List Field) → values_in name (fs ++ gs) ≡ values_in name fs ++ values_in name gs
+pub values_in-append : (name : List ℕ) (fs gs : List Field) → values_in name (fs ++ gs) ≡ values_in name fs ++ values_in name gs
 values_in-append name fs gs =
     ap (values_named name) (map-append name_and_value fs gs)
     ∙ ap (map (λ (f : HeadField). f.1)) (filter-append (is_named name) (map name_and_value fs) (map name_and_value gs))
@@ -271,7 +271,7 @@ few c len =
       length_count len,
     )
 
-length-field_line : (name value : List ℕ) → length (field_line name value) ≡ length name + 2 + length value + 2
+pub length-field_line : (name value : List ℕ) → length (field_line name value) ≡ length name + 2 + length value + 2
 length-field_line name value = simp length-append
 
 optional_short : (name : List ℕ) (o : Option (List ℕ)) → IsOptionalField o → length (optional_line name o) ≤ length name + 1028

@@ -3,6 +3,7 @@ pub mod CommandLine
 pub mod Commands
 pub mod Escaping
 pub mod Exchanges
+pub mod Laws
 pub mod Meaning
 pub mod Refusing
 pub mod Replies

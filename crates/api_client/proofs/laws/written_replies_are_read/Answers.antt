@@ -1,0 +1,7 @@
+use Rattle.api_client.proofs.laws.written_replies_are_read.Goals as goal
+
+pub returns-clause-unique : goal.returns-clause-unique
+returns-clause-unique c = ?
+
+pub returns-clause-read : goal.returns-clause-read
+returns-clause-read c = ?
