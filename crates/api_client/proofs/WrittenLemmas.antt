@@ -1,9 +1,14 @@
 -- The bytes that a server writes for a response, as the client reads them.
-use Rattle.std.proofs.Common.{◌≡◌, ℕ, zero, suc, ◌+◌, ◌-◌, ◌*◌, ◌/◌, ◌%◌, ◌^◌, ◌<◌, ◌≤◌, ◌==◌, ◌&&◌, ◌||◌, nat_le, nat_lt, Bool, true, false, cond, List, [], ◌∷◌, ◌++◌, length, map, All, Option, Some, None, codes, decimal, refl, sym, ap, ap₂, ◌∙◌, subst, arith, lit<, append_assoc, append-nil, length-append}
+use Rattle.std.proofs.Common.{◌≡◌, ℕ, zero, suc, ◌+◌, ◌-◌, ◌*◌, ◌/◌, ◌%◌, ◌^◌, ◌<◌, ◌≤◌, ◌==◌, ◌&&◌, ◌||◌, nat_le, nat_lt, Bool, true, false, cond, List, [], ◌∷◌, ◌++◌, length, take, map, All, Option, Some, None, codes, decimal, refl, sym, ap, ap₂, ◌∙◌, subst, arith, lit<, append_assoc, append-nil, length-append}
 use Rattle.std.specs.List.{flat_map, list_all, slice_index_or}
-use Rattle.std.specs.Char.{is_ascii_digit}
-use Rattle.std.specs.Str.Parse.{digits_value}
-use Rattle.std.proofs.lemmas.Bool.{and_parts, leb-true}
+use Rattle.std.specs.Char.{digit_value, is_ascii_digit}
+use Rattle.std.specs.Str.Parse.{AllDigits, digits_value}
+use Rattle.std.proofs.lemmas.Bool.{and_from, and_parts, le-leb, leb-true}
+use Rattle.std.proofs.lemmas.Option.{same_Some}
+use Rattle.std.proofs.Math.Seq.{take-append_seam}
+use Rattle.http_layer.specs.Front.{is_number}
+use Rattle.httparse.proofs.GrammarLemmas.{response_unique}
+use Rattle.api_client.specs.Commands.{is_visible}
 use Rattle.std.proofs.lemmas.Bool.Decides.{nat_tests}
 use Rattle.std.proofs.lemmas.Fmt.{decimal_is_IsNumeral, length-decimal-le}
 use Rattle.std.proofs.lemmas.Grind.{flat_map-append}
@@ -26,7 +31,7 @@ use Rattle.http_layer.specs.Reply.{IsReply, allow_line, body_lines, cache_line, 
 use Rattle.api_client.specs.Laws.{ReplyIsUnique, WrittenReplyIsRead, reply_with}
 use Rattle.api_client.specs.Replies.{BeginsWithReply, first_length, length_told, longest_reply_body, longest_reply_head, most_fields, reply_length}
 use Rattle.api_client.specs.declared.reply.Reply.{Reply}
-use Rattle.api_client.proofs.SentLemmas.{field, values_in}
+use Rattle.api_client.proofs.SentLemmas.{field, values_in, values_in-append}
 use Rattle.api_client.proofs.TextLemmas.{AreVisible, decimal_visible, field_raw, trim_visible}
 
 -- ---- the date
@@ -86,10 +91,10 @@ date_values d =
     let blank = literal (codes " ") refl in
     let colon = literal (codes ":") refl in
     let begun = three_values (day_name p.wday) (two_digits p.day) (month_name p.mon) (codes ", ") (codes " ") (named days (p.wday - 1) (literals days refl))
-        (two_values p.day day) (named months (p.mon - 1) (literals months refl)) (literal (codes ", ") refl) blank in
+    (two_values p.day day) (named months (p.mon - 1) (literals months refl)) (literal (codes ", ") refl) blank in
     let year = joined (two_digits (p.year / 100)) (two_digits (p.year % 100)) (two_values (p.year / 100) (omega (arith, d.civil.0.1))) (two_values (p.year % 100) (omega arith)) in
     let time = three_values (two_digits p.hour) (two_digits p.min) (two_digits p.sec) (codes ":") (codes ":") (two_values p.hour (omega (arith, d.time.0)))
-        (two_values p.min (omega (arith, d.time.1))) (two_values p.sec (omega (arith, d.time.2))) colon colon in
+    (two_values p.min (omega (arith, d.time.1))) (two_values p.sec (omega (arith, d.time.2))) colon colon in
     let dated = day_name p.wday ++ codes ", " ++ two_digits p.day ++ codes " " ++ month_name p.mon in
     joined (dated ++ codes " " ++ four_digits p.year ++ codes " " ++ time_of_day p) (codes " GMT")
     (three_values dated (four_digits p.year) (time_of_day p) (codes " ") (codes " ") begun year time blank blank) (literal (codes " GMT") refl)
@@ -333,7 +338,7 @@ head_valid r d close small =
 allow_short : (s : Status) (m : Methods) → length (allow_line s m) ≤ 60
 allow_short status.MethodNotAllowed m =
     let joined_length = leb-true (length (comma_joined (method_names m))) 40
-        (and_parts (list_all is_value_byte (comma_joined (method_names m))) (nat_le (length (comma_joined (method_names m))) 40) (names m.get m.list m.write m.delete)).1 in
+    (and_parts (list_all is_value_byte (comma_joined (method_names m))) (nat_le (length (comma_joined (method_names m))) 40) (names m.get m.list m.write m.delete)).1 in
     omega (arith, line (comma_joined (method_names m)), joined_length)
   where
     line : (t : List ℕ) → length (codes "Allow: " ++ t ++ (13 ∷ 10 ∷ [])) ≡ length t + 9
@@ -370,3 +375,172 @@ body_lines_short status.MethodNotAllowed len small = typed_short len small
 body_lines_short status.PayloadTooLarge len small = typed_short len small
 body_lines_short status.HeaderFieldsTooLarge len small = typed_short len small
 body_lines_short status.InternalServerError len small = typed_short len small
+
+status_short : (d p : List ℕ) → length (codes "HTTP/1.1 " ++ d ++ codes " " ++ p ++ (13 ∷ 10 ∷ [])) ≡ length d + length p + 12
+status_short d p = simp length-append (omega arith)
+
+date_line_short : (t : List ℕ) → length (date_line t) ≡ length t + 8
+date_line_short t = simp length-append (omega arith)
+
+lines_length : (a b d e f g : List ℕ) → length (a ++ b ++ d ++ e ++ f ++ g ++ (13 ∷ 10 ∷ [])) ≡ length a + length b + length d + length e + length f + length g + 2
+lines_length a b d e f g = simp length-append
+
+head_short : (r : Response) (d : HttpDate) (close : Bool) → length r.text ≤ longest_reply_body → length (reply_head r (date_text d) close) ≤ longest_reply_head
+head_short r d close small =
+    let p = printable r.status in
+    let phrase = leb-true (length (phrase_of r.status)) 40 (and_parts (list_all is_value_byte (phrase_of r.status)) (nat_le (length (phrase_of r.status)) 40) p.1).1 in
+    omega (
+      arith,
+      lines_length (status_line r.status) (date_line (date_text d)) (allow_line r.status r.methods) cache_line (connection_line close) (body_lines r.status (length r.text)),
+      status_short (code_digits (status_code r.status)) (phrase_of r.status),
+      phrase,
+      date_line_short (date_text d),
+      date_short d,
+      allow_short r.status r.methods,
+      connection_short close,
+      body_lines_short r.status (length r.text) small,
+    )
+
+allow_few : (s : Status) (m : Methods) → length (allow_fields s m) ≤ 1
+allow_few status.MethodNotAllowed m = omega arith
+allow_few status.Success m = omega arith
+allow_few status.NoContent m = omega arith
+allow_few status.BadRequest m = omega arith
+allow_few status.Forbidden m = omega arith
+allow_few status.NotFound m = omega arith
+allow_few status.PayloadTooLarge m = omega arith
+allow_few status.HeaderFieldsTooLarge m = omega arith
+allow_few status.InternalServerError m = omega arith
+allow_few status.NotImplemented m = omega arith
+
+connection_few : (close : Bool) → length (connection_fields close) ≤ 1
+connection_few true = omega arith
+connection_few false = omega arith
+
+body_few : (s : Status) (len : ℕ) → length (body_fields s len) ≤ 2
+body_few status.MethodNotAllowed len = omega arith
+body_few status.Success len = omega arith
+body_few status.NoContent len = omega arith
+body_few status.BadRequest len = omega arith
+body_few status.Forbidden len = omega arith
+body_few status.NotFound len = omega arith
+body_few status.PayloadTooLarge len = omega arith
+body_few status.HeaderFieldsTooLarge len = omega arith
+body_few status.InternalServerError len = omega arith
+body_few status.NotImplemented len = omega arith
+
+few : (r : Response) (date : List ℕ) (close : Bool) → length (reply_fields r date close) ≤ most_fields
+few r date close =
+    let allow = allow_fields r.status r.methods in
+    let cache : Field = field (codes "Cache-Control") (codes "no-store") in
+    let connection = connection_fields close in
+    let body = body_fields r.status (length r.text) in
+    omega (
+      arith,
+      length-append allow (cache ∷ (connection ++ body)),
+      length-append connection body,
+      allow_few r.status r.methods,
+      connection_few close,
+      body_few r.status (length r.text),
+    )
+
+-- ---- the length that is told
+
+digit_is : (c : ℕ) → digit_value c < 10 → is_ascii_digit c ≡ true
+digit_is c small = grind (arith, nat_tests)
+
+digits_are : (s : List ℕ) → AllDigits 10 s → list_all is_ascii_digit s ≡ true
+digits_are [] h = refl
+digits_are (c ∷ cs) h = ap (λ (b : Bool). b && list_all is_ascii_digit cs) (digit_is c h.0) ∙ digits_are cs h.1
+
+-- a length in decimal digits is read again
+length_told-decimal : (n : ℕ) → n ≤ longest_reply_body → length_told (decimal n) ≡ Some n
+length_told-decimal n small =
+    let is = decimal_is_IsNumeral n (omega arith) in
+    let number : is_number (decimal n) ≡ true = and_from (nat_lt 0 (length (decimal n))) (list_all is_ascii_digit (decimal n)) (some (length (decimal n)) is.0.0) (digits_are (decimal n) is.0.1) in
+    ap (λ (b : Bool). cond (b && nat_le (digits_value 10 (decimal n)) longest_reply_body) (Some (digits_value 10 (decimal n))) None) number
+    ∙ ap (λ (k : ℕ). cond (nat_le k longest_reply_body) (Some k) None) is.1
+    ∙ ap (λ (b : Bool). cond b (Some n) None) (le-leb n longest_reply_body small)
+  where
+    some : (m : ℕ) → 0 < m → nat_lt 0 m ≡ true
+    some m less = grind (arith, nat_tests)
+
+told_typed : (n : ℕ) → n ≤ longest_reply_body
+    → first_length (values_in (codes "content-length") (field (codes "Content-Type") (codes "application/json") ∷ field (codes "Content-Length") (decimal n) ∷ [])) ≡ Some n
+told_typed n small = ap length_told (trim_visible (decimal n) (decimal_visible n (omega arith))) ∙ length_told-decimal n small
+
+body_told : (s : Status) (t : List ℕ) → length t ≤ longest_reply_body → first_length (values_in (codes "content-length") (body_fields s (length t))) ≡ Some (length (reply_body s t))
+body_told status.NoContent t small = refl
+body_told status.NotImplemented t small = ap length_told (trim_visible (codes "0") (AllPass-from_list_all is_visible (codes "0") refl))
+body_told status.Success t small = told_typed (length t) small
+body_told status.BadRequest t small = told_typed (length t) small
+body_told status.Forbidden t small = told_typed (length t) small
+body_told status.NotFound t small = told_typed (length t) small
+body_told status.MethodNotAllowed t small = told_typed (length t) small
+body_told status.PayloadTooLarge t small = told_typed (length t) small
+body_told status.HeaderFieldsTooLarge t small = told_typed (length t) small
+body_told status.InternalServerError t small = told_typed (length t) small
+
+allow_other : (s : Status) (m : Methods) → values_in (codes "content-length") (allow_fields s m) ≡ []
+allow_other status.MethodNotAllowed m = refl
+allow_other status.Success m = refl
+allow_other status.NoContent m = refl
+allow_other status.BadRequest m = refl
+allow_other status.Forbidden m = refl
+allow_other status.NotFound m = refl
+allow_other status.PayloadTooLarge m = refl
+allow_other status.HeaderFieldsTooLarge m = refl
+allow_other status.InternalServerError m = refl
+allow_other status.NotImplemented m = refl
+
+connection_other : (close : Bool) → values_in (codes "content-length") (connection_fields close) ≡ []
+connection_other true = refl
+connection_other false = refl
+
+-- only the fields of the body tell a length
+values_written : (r : Response) (date : List ℕ) (close : Bool)
+    → values_in (codes "content-length") (reply_fields r date close) ≡ values_in (codes "content-length") (body_fields r.status (length r.text))
+values_written r date close =
+    let name = codes "content-length" in
+    let allow = allow_fields r.status r.methods in
+    let cache : List Field = field (codes "Cache-Control") (codes "no-store") ∷ [] in
+    let connection = connection_fields close in
+    let body = body_fields r.status (length r.text) in
+    values_in-append name allow (cache ++ (connection ++ body))
+    ∙ ap (λ (vs : List (List ℕ)). vs ++ values_in name (connection ++ body)) (allow_other r.status r.methods)
+    ∙ values_in-append name connection body
+    ∙ ap (λ (vs : List (List ℕ)). vs ++ values_in name body) (connection_other close)
+
+-- ---- the laws
+
+pub written : WrittenReplyIsRead
+written r moment close bytes after is small =
+    let date = date_text is.date in
+    let head = written_head r date close in
+    let body = reply_body r.status r.text in
+    record {
+      head = head;
+      after = after;
+      reads = (
+        head_valid r is.date close (omega arith),
+        ap (λ (l : List ℕ). l ++ after) is.bytes_are ∙ append_assoc (reply_head r date close) body after
+            ∙ ap (λ (l : List ℕ). l ++ (body ++ after)) (sym (printed r date close)),
+      );
+      short = subst (λ (l : List ℕ). length l ≤ longest_reply_head) (sym (printed r date close)) (head_short r is.date close small);
+      few = few r date close;
+      status = sym (printable r.status).2;
+      told = ap first_length (values_written r date close) ∙ body_told r.status r.text small;
+    }
+
+pub unique : ReplyIsUnique
+unique bytes a b x y =
+    let same = response_unique bytes x.head y.head (a.body ++ x.after) (b.body ++ y.after) x.reads y.reads in
+    let len : length a.body ≡ length b.body =
+    same_Some _ _ (sym x.told ∙ ap (λ (h : ResponseHead). reply_length (map name_and_value h.fields)) same.0 ∙ y.told) in
+    let body : a.body ≡ b.body =
+    sym (take-append_seam a.body x.after) ∙ ap (take (length a.body)) same.1 ∙ ap (λ (n : ℕ). take n (b.body ++ y.after)) len ∙ take-append_seam b.body y.after in
+    let code : a.status ≡ b.status = x.status ∙ ap head_code same.0 ∙ sym y.status in
+    same_reply a b code body
+  where
+    same_reply : (a b : Reply) → a.status ≡ b.status → a.body ≡ b.body → a ≡ b
+    same_reply a b e f = ap₂ (λ (s : ℕ) (t : List ℕ). record { status = s; body = t }) e f
