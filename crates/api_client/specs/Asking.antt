@@ -1,5 +1,6 @@
 -- What the requests of the client ask (Vault's documentation, "HTTP API" and "Response wrapping").
-use Rattle.std.specs.Prelude.{◌≡◌, ℕ, ◌<◌, ◌≤◌, true, List, [], length, unwrap_or, Option, None, IfSome, All, IsUtf8, Result, Ok}
+use Rattle.std.specs.Prelude.{◌≡◌, ℕ, ◌<◌, ◌≤◌, true, List, [], length, unwrap_or, Option, None, IfSome, All, IsUtf8}
+use Rattle.std.specs.Prelude.{Result, Ok}
 use Rattle.broker_types.specs.Limits.{longest_body}
 use Rattle.broker_types.specs.Path.{is_path}
 use Rattle.broker_types.specs.Text.{Text}

@@ -1,7 +1,8 @@
 ghost use Rattle.std.specs.Prelude.{◌≡◌, map, option_map, string_bytes, MatchResult, Some};
 ghost use Rattle.clap.specs.Words.{first_of, found_of, rows_of, subcommand_rows_of};
-ghost use Rattle.api_client.specs.Meaning.{address_in, client_token_in, wrap_ttl_in, path_in, body_in, wrapping_token_in};
-ghost use Rattle.api_client.specs.Meaning.{field_text, optional, request_in, command_in, command_meant, IsNoCommand};
+ghost use Rattle.api_client.specs.Meaning.{address_in, client_token_in, wrap_ttl_in, path_in, body_in};
+ghost use Rattle.api_client.specs.Meaning.{wrapping_token_in, field_text, optional, request_in, command_in};
+ghost use Rattle.api_client.specs.Meaning.{command_meant, IsNoCommand};
 
 use crate::argument::{FieldText, ShortText};
 use crate::command::{Command, Request};
