@@ -1,7 +1,8 @@
 -- The bytes of the client's requests (RFC 9112, sections 2.1, 3 and 5; Vault's documentation, "HTTP API" and "Response
 -- wrapping"). Which fields are sent, and their order, are this project's.
-use Rattle.std.specs.Prelude.{ℕ, List, [], ◌++◌, Option, Some, None, codes, decimal, length, option_map, unwrap_or}
+use Rattle.std.specs.Prelude.{◌≡◌, ⊤, ℕ, List, [], ◌++◌, Option, Some, None, codes, decimal, length, option_map, unwrap_or}
 use Rattle.serde_json.specs.Data.{Data, object, member, no_members, string}
+use Rattle.serde_json.specs.Read.{read}
 use Rattle.serde_json.specs.Written.{compact_text}
 use Rattle.broker_types.specs.Text.{Text}
 use Rattle.http_layer.specs.Reply.{crlf}
@@ -38,6 +39,15 @@ abbrev pub body_of : Request → Option (List ℕ)
 body_of (request.Write path body) = Some body
 body_of (request.Unwrap token) = Some (compact_text (unwrap_object token))
 body_of _ = None
+
+-- the compact text of a JSON value is read as that value (RFC 8259)
+abbrev pub IsReadBack : Data → Type 0
+IsReadBack d = read (compact_text d) ≡ Some d
+
+-- the body of a request that names a wrapping token is read as the object that names it
+abbrev pub NamesToken : Request → Type 0
+NamesToken (request.Unwrap token) = IsReadBack (unwrap_object token)
+NamesToken _ = ⊤
 
 -- ---- its lines
 

@@ -1,10 +1,9 @@
 ghost use Rattle.std.specs.Prelude.{◌≡◌, ◌++◌, IfErr, IfOk, OnOk, Some, length, option_map, string_bytes};
-ghost use Rattle.serde_json.specs.Read.{read};
 ghost use Rattle.serde_json.specs.View.{view};
 ghost use Rattle.serde_json.specs.Written.{compact_text};
 ghost use Rattle.api_client.specs.Asking.{Asks};
 ghost use Rattle.api_client.specs.Requests.{body_of, field_line, head_lines, length_line, method_of, optional_line};
-ghost use Rattle.api_client.specs.Requests.{path_of, request_line, sent, unwrap_object};
+ghost use Rattle.api_client.specs.Requests.{path_of, request_line, sent, unwrap_object, IsReadBack, NamesToken};
 
 use crate::argument::{FieldText, ShortText};
 use crate::asking::is_read_as_meant;
@@ -20,6 +19,7 @@ use std::borrow::CowSlice;
 pub fn request_of(alloc: Global, command: &Command<'_>) -> Result<Vec<u8>, Fault>
     ensures ok { IfOk result (λ bytes. bytes.items ≡ sent command.now) }
     ensures asks { IfOk result (λ bytes. Asks bytes.items command.now) }
+    ensures named { OnOk result (NamesToken command.now.request) }
     ensures err { IfErr result (λ fault. fault ≡ Fault.Memory) }
 {
     is_read_as_meant(command);
@@ -30,6 +30,7 @@ pub fn request_of(alloc: Global, command: &Command<'_>) -> Result<Vec<u8>, Fault
 #[tactic(auto, unfolding(crate::specs::Requests::sent))]
 fn bytes_of(alloc: Global, command: &Command<'_>) -> Result<Vec<u8>, Fault>
     ensures ok { IfOk result (λ bytes. bytes.items ≡ sent command.now) }
+    ensures named { OnOk result (NamesToken command.now.request) }
     ensures err { IfErr result (λ fault. fault ≡ Fault.Memory) }
 {
     match body_of(alloc, &command.request)? {
@@ -126,16 +127,25 @@ fn push_length(alloc: Global, text: &mut String, body_len: Option<usize>) -> Res
 
 /// The body of a request, if it has one.
 fn body_of<'c>(alloc: Global, request: &'c Request<'_>) -> Result<Option<CowBytes<'c>>, AllocError>
-    ensures { IfOk result (λ body. body ≡ body_of request.now) }
+    ensures body { IfOk result (λ body. body ≡ body_of request.now) }
+    ensures named { OnOk result (NamesToken request.now) }
 {
     match request {
         Request::Write(_, body) => Ok(Some(CowBytes::new(CowSlice::Borrowed(body.as_slice())))),
         Request::Unwrap(token) => {
-            let text = unwrap_object(alloc, token)?.to_string(alloc)?;
+            let text = unwrap_text(alloc, token)?;
             Ok(Some(CowBytes::new(CowSlice::Owned(text.into_bytes()))))
         }
         _ => Ok(None),
     }
+}
+
+/// The JSON text of the object that names a wrapping token.
+fn unwrap_text(alloc: Global, token: &Option<ShortText<'_>>) -> Result<String, AllocError>
+    ensures text { IfOk result (λ text. string_bytes text ≡ compact_text (unwrap_object token.now)) }
+    ensures named { OnOk result (IsReadBack (unwrap_object token.now)) }
+{
+    unwrap_object(alloc, token)?.to_string(alloc)
 }
 
 /// The object that names a wrapping token.
