@@ -1,27 +1,21 @@
 -- What is sent for a command asks what the command means.
-use Rattle.std.proofs.Common.{◌≡◌, ◌&&◌, ◌==◌, ◌<◌, ℕ, Bool, true, false, cond, List, [], ◌∷◌, ◌++◌, length, take, drop, map, IsUtf8, Option, Some, None, Result, Ok, Err, codes, option_map, unwrap_or, refl, sym, ap, ◌∙◌, subst, arith}
+use Rattle.std.proofs.Common.{◌≡◌, ◌&&◌, ◌==◌, ◌<◌, ℕ, Bool, true, false, cond, List, [], ◌++◌, length, drop, map, Option, Some, None, Ok, Err, codes, option_map, unwrap_or, refl, ap, ◌∙◌, subst, arith}
 use Rattle.std.specs.Option.{option_or}
 use Rattle.std.specs.Str.{is_utf8}
 use Rattle.std.proofs.lemmas.Bool.Decides.{nat_tests}
 use Rattle.std.proofs.lemmas.Str.{is_utf8-from_IsUtf8}
-use Rattle.httparse.specs.Grammar.{print_request}
 use Rattle.httparse.specs.Spans.{name_and_value}
 use Rattle.percent_encoding.specs.Percent.{percent_decode}
 use Rattle.broker_types.specs.Path.{is_path, without_slash}
-use Rattle.broker_types.specs.Text.{Text}
-use Rattle.broker_types.specs.declared.ask.Ask.{Ask}
 use Rattle.broker_types.specs.declared.refusal.Reason.TheVariants as reason
-use Rattle.http_layer.specs.Asked.{asked, bad_request, client_token, not_empty, path_asked, path_read, token_asked, value_asked, verb_asked, wrap_ttl_asked, wrap_ttl_read}
+use Rattle.http_layer.specs.Asked.{asked, bad_request, client_token, path_asked, path_read, token_asked, value_asked, verb_asked}
 use Rattle.http_layer.specs.Front.{IsFront, whole}
-use Rattle.http_layer.specs.HeadParts.{HeadField, HeadParts, parts_of}
+use Rattle.http_layer.specs.HeadParts.{parts_of}
 use Rattle.http_layer.specs.Laws.{PrintedLengthIsRead, PrintedRequestIsFront}
 use Rattle.http_layer.specs.Printed.{printed_head}
-use Rattle.http_layer.specs.Query.{target_path, target_query, version_asked}
-use Rattle.http_layer.specs.Refusing.{RefusalParts, ◌>>=◌}
-use Rattle.api_client.specs.Asking.{Asks, IsOptionalField, IsPathText, IsSendable, ask_meant, verb_of}
+use Rattle.api_client.specs.Asking.{Asks, IsOptionalField, IsPathText, IsSendable, verb_of}
 use Rattle.api_client.specs.Commands.{is_field_text}
-use Rattle.api_client.specs.Escaping.{escaped}
-use Rattle.api_client.specs.Requests.{body_of, head_lines, method_of, path_of, sent}
+use Rattle.api_client.specs.Requests.{body_of, method_of, path_of, sent}
 use Rattle.api_client.specs.declared.command.Command.{Command}
 use Rattle.api_client.specs.declared.command.Request.{Request}
 use Rattle.api_client.specs.declared.command.Request.TheVariants as request

@@ -1,14 +1,13 @@
 -- What was read of a reply, and what is left to read.
-use Rattle.std.proofs.Common.{◌≡◌, ℕ, ◌-◌, ◌<◌, ◌≤◌, List, [], ◌∷◌, ◌++◌, length, take, drop, map, min, Option, Some, None, refl, sym, ap, ◌∙◌, subst, inl, inr, arith, append_assoc, length-append, length-take, length-drop}
-use Rattle.std.proofs.Math.Nat.{min-le_left}
-use Rattle.std.proofs.Math.Seq.{drop-append_seam, take-append_seam}
+use Rattle.std.proofs.Common.{◌≡◌, ℕ, ◌-◌, ◌<◌, ◌≤◌, List, ◌++◌, length, take, drop, map, Option, Some, None, refl, sym, ap, ◌∙◌, subst, inl, inr, arith, append_assoc, length-append, length-take, length-drop}
+use Rattle.std.proofs.Math.Seq.{take-append_seam}
 use Rattle.std.proofs.lemmas.List.{take-append-drop, take-append-le, take_all}
 use Rattle.std.proofs.lemmas.Option.{same_Some, none-some}
 use Rattle.std.specs.Io.KnownBytes.{Consumes}
 use Rattle.httparse.specs.Grammar.{ResponseHead, ReadsResponse, HasNoResponse, print_response}
 use Rattle.httparse.specs.Spans.{name_and_value}
 use Rattle.httparse.proofs.GrammarLemmas.{response_unique, ReadsResponse-append}
-use Rattle.api_client.specs.Replies.{BeginsWithReply, longest_reply_head, most_fields, reply_length}
+use Rattle.api_client.specs.Replies.{BeginsWithReply, longest_reply_head, reply_length}
 use Rattle.api_client.specs.ReplyHeads.{BeginsWithHead}
 use Rattle.api_client.specs.ReplyReads.{EndsInBody, HasNoReply, HasNoReplyHead, IsReplyError, ReadsBody, ReadsHead}
 use Rattle.api_client.specs.declared.reply.Reply.{Reply}

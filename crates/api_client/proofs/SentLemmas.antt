@@ -1,16 +1,15 @@
 -- What is sent for a command is a request of the grammar of HTTP, with its body.
-use Rattle.std.proofs.Common.{◌≡◌, ℕ, ◌+◌, ◌*◌, ◌/◌, ◌%◌, ◌^◌, nat_lt, ◌<◌, ◌≤◌, Bool, true, false, cond, List, [], ◌∷◌, ◌++◌, length, map, All, IsUtf8, IfSome, Option, Some, None, Ok, codes, decimal, option_map, unwrap_or, refl, sym, ap, ap₂, ◌∙◌, subst, arith, lit<, append_assoc, append-nil, length-append}
+use Rattle.std.proofs.Common.{◌≡◌, ℕ, ◌+◌, ◌*◌, ◌/◌, ◌%◌, nat_lt, ◌<◌, ◌≤◌, Bool, true, false, cond, List, [], ◌∷◌, ◌++◌, length, map, All, IfSome, Option, Some, None, Ok, codes, decimal, option_map, unwrap_or, refl, sym, ap, ap₂, ◌∙◌, subst, arith, lit<, append_assoc, append-nil, length-append}
 use Rattle.std.specs.Prelude.{filter}
 use Rattle.std.specs.List.{flat_map}
 use Rattle.std.proofs.lemmas.List.{map-append}
-use Rattle.std.proofs.lemmas.List.Elements.{filter-append, All-append, All-cons, All-head, All-nil, All-tail, All-weaker}
+use Rattle.std.proofs.lemmas.List.Elements.{filter-append, All-append, All-cons, All-nil, All-weaker}
 use Rattle.std.proofs.lemmas.List.Sums.{AllPass-from_list_all}
 use Rattle.std.proofs.lemmas.Bool.Decides.{nat_tests}
 use Rattle.std.proofs.lemmas.Fmt.{length-decimal-le}
 use Rattle.std.proofs.lemmas.Grind.{flat_map-append}
-use Rattle.httparse.specs.Grammar.{AllPass, Field, IsField, IsRequestHead, IsToken, crlf, is_token_byte, is_uri_byte, is_value_byte, print_field, print_request, print_section, trim_ows}
+use Rattle.httparse.specs.Grammar.{Field, IsField, IsToken, crlf, is_token_byte, is_uri_byte, print_field, print_request, trim_ows}
 use Rattle.httparse.specs.Spans.{name_and_value}
-use Rattle.httparse.proofs.GrammarLemmas.{print_request-append}
 use Rattle.std.specs.Char.{digit_char}
 use Rattle.std.proofs.lemmas.Bool.{leb-true}
 use Rattle.json.specs.Print.{escape, escape_byte, escape_letter}
@@ -23,7 +22,7 @@ use Rattle.http_layer.specs.Printed.{CanBeSent, printed_head}
 use Rattle.api_client.specs.Asking.{IsOptionalField, IsPathText, IsSendable}
 use Rattle.api_client.specs.Commands.{is_field_text, is_short_text, is_visible}
 use Rattle.api_client.specs.Escaping.{escaped}
-use Rattle.api_client.specs.Requests.{body_of, field_line, head_lines, length_line, method_of, optional_line, path_of, request_line, sent, unwrap_object}
+use Rattle.api_client.specs.Requests.{body_of, field_line, head_lines, length_line, method_of, optional_line, path_of, request_line, unwrap_object}
 use Rattle.api_client.specs.declared.command.Command.{Command}
 use Rattle.api_client.specs.declared.command.Request.{Request}
 use Rattle.api_client.specs.declared.command.Request.TheVariants as request

@@ -1,5 +1,5 @@
 -- The bytes that a server writes for a response, as the client reads them.
-use Rattle.std.proofs.Common.{◌≡◌, ℕ, zero, suc, ◌+◌, ◌-◌, ◌*◌, ◌/◌, ◌%◌, ◌^◌, ◌<◌, ◌≤◌, ◌==◌, ◌&&◌, ◌||◌, nat_le, nat_lt, Bool, true, false, cond, List, [], ◌∷◌, ◌++◌, length, take, map, All, Option, Some, None, codes, decimal, refl, sym, ap, ap₂, ◌∙◌, subst, arith, lit<, append_assoc, append-nil, length-append}
+use Rattle.std.proofs.Common.{◌≡◌, ℕ, zero, suc, ◌+◌, ◌-◌, ◌/◌, ◌%◌, ◌^◌, ◌<◌, ◌≤◌, ◌==◌, ◌&&◌, ◌||◌, nat_le, nat_lt, Bool, true, false, cond, List, [], ◌∷◌, ◌++◌, length, take, map, All, Some, None, codes, decimal, refl, sym, ap, ap₂, ◌∙◌, subst, arith, lit<, append_assoc, append-nil, length-append}
 use Rattle.std.specs.List.{flat_map, list_all, slice_index_or}
 use Rattle.std.specs.Char.{digit_value, is_ascii_digit}
 use Rattle.std.specs.Str.Parse.{AllDigits, digits_value}
@@ -17,19 +17,18 @@ use Rattle.std.proofs.lemmas.List.Sums.{AllPass-from_list_all}
 use Rattle.http.specs.StatusCode.{code_digits}
 use Rattle.httpdate.specs.Calendar.{days_in_month, is_leap_year}
 use Rattle.httpdate.specs.Date.{date_text}
-use Rattle.httpdate.specs.Text.{day_name, four_digits, imf_fixdate, month_name, time_of_day, two_digits}
+use Rattle.httpdate.specs.Text.{day_name, four_digits, month_name, time_of_day, two_digits}
 use Rattle.httpdate.specs.declared.date.HttpDate.{HttpDate}
-use Rattle.httpdate.specs.declared.parts.Parts.{Parts}
-use Rattle.httparse.specs.Grammar.{Field, IsField, IsResponseHead, IsToken, ReadsResponse, ResponseHead, crlf, is_token_byte, is_value_byte, print_field, print_response, status_code as head_code}
+use Rattle.httparse.specs.Grammar.{Field, IsField, IsResponseHead, ResponseHead, crlf, is_token_byte, is_value_byte, print_field, print_response, status_code as head_code}
 use Rattle.httparse.specs.Spans.{name_and_value}
 use Rattle.broker_types.specs.Answer.{Response}
 use Rattle.broker_types.specs.Status.{status_code}
 use Rattle.broker_types.specs.declared.status.Methods.{Methods}
 use Rattle.broker_types.specs.declared.status.Status.{Status}
 use Rattle.broker_types.specs.declared.status.Status.TheVariants as status
-use Rattle.http_layer.specs.Reply.{IsReply, allow_line, body_lines, cache_line, comma_joined, connection_line, date_line, method_names, phrase_of, reply_body, reply_head, status_line}
-use Rattle.api_client.specs.Laws.{ReplyIsUnique, WrittenReplyIsRead, reply_with}
-use Rattle.api_client.specs.Replies.{BeginsWithReply, first_length, length_told, longest_reply_body, longest_reply_head, most_fields, reply_length}
+use Rattle.http_layer.specs.Reply.{allow_line, body_lines, cache_line, comma_joined, connection_line, date_line, method_names, phrase_of, reply_body, reply_head, status_line}
+use Rattle.api_client.specs.Laws.{ReplyIsUnique, WrittenReplyIsRead}
+use Rattle.api_client.specs.Replies.{first_length, length_told, longest_reply_body, longest_reply_head, most_fields, reply_length}
 use Rattle.api_client.specs.declared.reply.Reply.{Reply}
 use Rattle.api_client.proofs.SentLemmas.{field, values_in, values_in-append}
 use Rattle.api_client.proofs.TextLemmas.{AreVisible, decimal_visible, field_raw, trim_visible}

@@ -1,4 +1,4 @@
-use Rattle.std.proofs.Common.{◌≡◌, ℕ, List, true, sym, subst, All, IsUtf8, ◌<◌, ◌∙◌}
+use Rattle.std.proofs.Common.{◌≡◌, ℕ, List, true, subst, All, IsUtf8, ◌<◌, ◌∙◌}
 use Rattle.broker_types.specs.Path.{is_path}
 use Rattle.api_client.proofs.asking.is_path_text.Goals as goal
 

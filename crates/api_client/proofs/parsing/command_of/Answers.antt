@@ -1,8 +1,8 @@
-use Rattle.std.proofs.Common.{◌≡◌, ◌≢◌, ◌∙◌, List, [], ◌∷◌, Some, None, Ok, Err, Result, IsErrAnd, MatchResult, Option, map, string_bytes, refl, sym, ap, ap₂, subst, true, inl, inr}
-use Rattle.clap.specs.Words.{App, HasKind, IsAmong, Kinds, Row, Text, app_of, fault_of, found_of, is_simple, is_simple_and_free, kind_of, matches_of, rows_of, subcommand_of, subcommand_rows_of}
+use Rattle.std.proofs.Common.{◌≡◌, ◌∙◌, List, [], ◌∷◌, None, Ok, Err, Result, IsErrAnd, MatchResult, Option, map, string_bytes, refl, sym, ap, ap₂, subst, true, inl, inr}
+use Rattle.clap.specs.Words.{App, HasKind, IsAmong, Kinds, Row, Text, fault_of, found_of, is_simple, is_simple_and_free, kind_of, matches_of, rows_of, subcommand_of, subcommand_rows_of}
 use Rattle.clap.specs.declared.error.Error.{Error}
 use Rattle.clap.specs.declared.error.kind.ErrorKind.{ErrorKind}
-use Rattle.clap.specs.declared.error.kind.ErrorKind.TheVariants.{OutOfMemory, ValueValidation}
+use Rattle.clap.specs.declared.error.kind.ErrorKind.TheVariants.{ValueValidation}
 use Rattle.clap.proofs.OnLiterals.{clap_on_literals}
 use Rattle.api_client.specs.CommandLine.{client_app}
 use Rattle.api_client.specs.Meaning.{IsNoCommand, command_in, command_meant, unless_refused, without_mistake}

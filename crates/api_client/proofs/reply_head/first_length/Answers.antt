@@ -1,4 +1,4 @@
-use Rattle.std.proofs.Common.{◌≡◌, ◌∙◌, ◌<◌, ◌+◌, ◌++◌, ◌∷◌, [], Bool, true, false, cond, codes, drop, length, Some, refl, sym, ap, subst, map, take, get_or, List, ℕ, add-one}
+use Rattle.std.proofs.Common.{◌≡◌, ◌∙◌, ◌<◌, ◌+◌, ◌++◌, ◌∷◌, [], Bool, true, false, cond, codes, drop, length, Some, sym, ap, map, take, get_or, List, ℕ, add-one}
 use Rattle.std.specs.Prelude.{filter, slice_get}
 use Rattle.std.specs.Char.{to_ascii_lowercase}
 use Rattle.std.proofs.Math.Seq.{drop-cons}

@@ -1,6 +1,5 @@
 use Rattle.std.proofs.Common.{◌≡◌, ℕ, List, Result, Ok, Err, IfErr, IsErrAnd, inr, sym, subst}
 use Rattle.api_client.specs.Replies.{BeginsWithReply}
-use Rattle.api_client.specs.ReplyReads.{IsReplyError}
 use Rattle.api_client.proofs.ReplyLemmas.{error_weaker, no_reply, no_length, no_end, reply_read, rest_of}
 use Rattle.api_client.proofs.replying.reply_of.Goals as goal
 
