@@ -12,7 +12,7 @@ mod command;
 
 use clap::error::{Error, ErrorKind};
 use command::{Command, command_of};
-use hub::{Reading, Writing};
+use endpoints::{Reading, Writing};
 use replay::{Exit, replay};
 use server::serve_in_memory;
 use std::io::{Eprint, Print};

@@ -3,7 +3,6 @@
 
 mod buffer;
 mod connection;
-mod endpoints;
 mod event;
 mod hub;
 mod laws;
@@ -12,7 +11,6 @@ mod serve;
 mod serving;
 mod table;
 
-pub use endpoints::{Failed, Reading, Sink, Source, Writing};
 pub use event::Event;
 pub use hub::Hub;
 pub use laws::{asking_laws, run_laws};

@@ -9,10 +9,10 @@ ghost use Rattle.hub.specs.Serving.{longest_piece, most_reads};
 ghost use Rattle.hub.specs.World.{Connections, World};
 ghost use Rattle.hub.specs.declared.serve.ConnectionFault.TheVariants.{Broker, Read, Write};
 
-use crate::endpoints::{Failed, Sink, Source};
 use crate::hub::Hub;
 use broker::Store;
 use broker_types::{Fault, Moment, Words};
+use endpoints::{Failed, Sink, Source};
 use std::fmt;
 
 /// How many bytes are read at once at most.

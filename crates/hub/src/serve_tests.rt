@@ -1,11 +1,10 @@
 //! Connections that are served between a reader and a writer in memory, or ones that fail.
 
 use crate::tests::started;
-use crate::{
-    Clock, ConnectionFault, Hub, Reading, Sink, Source, WordSource, Writing, serve_connection,
-};
+use crate::{Clock, ConnectionFault, Hub, WordSource, serve_connection};
 use broker::ListStore;
 use broker_types::{Moment, Words};
+use endpoints::{Reading, Sink, Source, Writing};
 use std::alloc::Global;
 use std::io;
 use std::test::Fail;
@@ -88,7 +87,7 @@ fn moment() -> Result<Moment, Fail> {
 }
 
 /// How serving the connection ends, with words from 16 on.
-fn served<R: Source, W: Sink>(
+fn served<R: Source + Drop, W: Sink + Drop>(
     hub: &mut Hub<ListStore>,
     conn: u64,
     mut reader: R,

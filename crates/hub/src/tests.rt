@@ -1,10 +1,9 @@
-//! Streams of pieces over a store that fails, and readers and writers that fail.
+//! Streams of pieces over a store that fails.
 
-use crate::{Event, Failed, Hub, Reading, Sink, Source, Writing, run};
+use crate::{Event, Hub, run};
 use broker::{ListStore, Store};
 use broker_types::{Answer, Ask, Bytes, Fault, Moment, Words};
 use std::alloc::Global;
-use std::io;
 use std::test::Fail;
 
 const NOT_FOUND: &str = "HTTP/1.1 404 Not Found\r\n\
@@ -133,95 +132,4 @@ fn a_fault_closes_its_connection_alone(rt: HostRuntime) -> Result<(), Fail> {
         assert_eq!(rt; bytes.as_slice(), reply.as_bytes(), "connection {conn}");
     }
     Ok(())
-}
-
-/// A reader or a writer that takes three bytes at its first call, and fails at its second alone.
-#[derive(Drop)]
-struct Stumbling {
-    calls: usize,
-}
-
-impl Stumbling {
-    fn take(&mut self, len: usize) -> io::Result<usize> {
-        self.calls = self.calls.saturating_add(1);
-        if self.calls == 2 {
-            return Err(io::Error::from(io::ErrorKind::TimedOut));
-        }
-        Ok(len.min(3))
-    }
-}
-
-impl io::Read for Stumbling {
-    fn read(&mut self, buffer: &mut [u8]) -> io::Result<usize> {
-        let count = self.take(buffer.len())?;
-        Ok(count.min(buffer.len()))
-    }
-}
-
-impl io::Write for Stumbling {
-    fn write(&mut self, bytes: &[u8]) -> io::Result<usize> {
-        let count = self.take(bytes.len())?;
-        Ok(count.min(bytes.len()))
-    }
-
-    fn flush(&mut self) -> io::Result<()> {
-        Ok(())
-    }
-}
-
-/// What a pull gives, and whether one has failed by then.
-fn pulled<S: Source>(source: &mut S, buffer: &mut [u8]) -> (Option<usize>, bool) {
-    let count = source.pull(buffer).ok();
-    (count, source.failed())
-}
-
-/// Whether a push succeeds, and whether one has failed by then.
-fn pushed<S: Sink>(sink: &mut S, bytes: &[u8]) -> (bool, bool) {
-    let done = match sink.push(bytes) {
-        Ok(()) => true,
-        Err(Failed) => false,
-    };
-    (done, sink.failed())
-}
-
-/// Computes `reader_of`, `pulls_of`, `read_failed`, `writer_of`, `write_failed`.
-#[test]
-fn bytes_are_pulled_in_order(rt: HostRuntime) {
-    let mut source = Reading::new(b"abc".as_slice());
-    let mut buffer = [b'.'; 2];
-    assert_eq!(rt; pulled(&mut source, &mut buffer), (Some(2), false));
-    assert_eq!(rt; buffer, [b'a', b'b']);
-    assert_eq!(rt; pulled(&mut source, &mut buffer), (Some(1), false));
-    assert_eq!(rt; buffer[0], b'c');
-    assert_eq!(rt; pulled(&mut source, &mut buffer), (Some(0), false));
-}
-
-/// Computes `reader_of`, `pulls_of`, `read_failed`, `writer_of`, `write_failed`.
-#[test]
-fn a_failed_pull_is_remembered(rt: HostRuntime) {
-    let mut source = Reading::new(Stumbling { calls: 0 });
-    let mut buffer = [0; 8];
-    assert_eq!(rt; pulled(&mut source, &mut buffer), (Some(3), false));
-    assert_eq!(rt; pulled(&mut source, &mut buffer), (None, true));
-    assert_eq!(rt; pulled(&mut source, &mut buffer), (Some(3), true));
-}
-
-/// Computes `reader_of`, `pulls_of`, `read_failed`, `writer_of`, `write_failed`.
-#[test]
-fn bytes_are_pushed_in_order(rt: HostRuntime) {
-    let mut bytes = Vec::new(rt.alloc());
-    let mut sink = Writing::new(&mut bytes);
-    assert_eq!(rt; pushed(&mut sink, b"ab"), (true, false));
-    assert_eq!(rt; pushed(&mut sink, b"c"), (true, false));
-    drop(sink);
-    assert_eq!(rt; bytes.as_slice(), b"abc".as_slice());
-}
-
-/// Computes `reader_of`, `pulls_of`, `read_failed`, `writer_of`, `write_failed`.
-#[test]
-fn a_failed_push_is_remembered(rt: HostRuntime) {
-    let mut sink = Writing::new(Stumbling { calls: 0 });
-    assert_eq!(rt; pushed(&mut sink, b"abc"), (true, false));
-    assert_eq!(rt; pushed(&mut sink, b"abc"), (false, true));
-    assert_eq!(rt; pushed(&mut sink, b"abc"), (true, true));
 }

@@ -48,8 +48,8 @@ const ASKS: [(&str, (Verb, &str, &str, Option<&str>, &str)); 5] = [
         (Verb::Get, "a", "", Some("c d"), "{}"),
     ),
     (
-        "POST /v1/a/ HTTP/1.1\r\nHost: b\r\nx-vault-token:\r\nContent-Length: 2\r\n\r\n{}",
-        (Verb::Write, "a", "", None, "{}"),
+        "POST /v1/a%20b%2F HTTP/1.1\r\nHost: b\r\nx-vault-token:\r\nAuthorization: bEARER  c d\r\n\r\n",
+        (Verb::Write, "a b", "", Some("c d"), ""),
     ),
     (
         "LIST /v1/a HTTP/1.1\r\nHost: b\r\nX-Vault-Wrap-TTL: 1d\r\nX-Vault-Wrap-TTL: 5\r\n\r\n",
@@ -66,8 +66,8 @@ const ASKS: [(&str, (Verb, &str, &str, Option<&str>, &str)); 5] = [
 ];
 
 /// Computes `HeadParts`, `parts_of`, `same_in_any_case`, `is_named`, `values_named`, `verb_asked`,
-/// `target_path`, `target_query`, `query_parts`, `lists`, `version_asked`, `token_asked`, `path_asked`, `path_read`,
-/// `asked`, `AreNamed`.
+/// `target_path`, `target_query`, `query_parts`, `lists`, `version_asked`, `value_asked`, `bearer_token`,
+/// `client_token`, `token_asked`, `path_asked`, `path_read`, `asked`, `AreNamed`.
 #[test]
 fn reads_asks(rt: HostRuntime) -> Result<(), Fail> {
     for (piece, (verb, path, version, token, want)) in ASKS {
@@ -98,7 +98,7 @@ const REFUSED_ASKS: [(&str, (Status, &str, bool)); 3] = [
         (Status::NotFound, "{\"errors\":[]}\n", false),
     ),
     (
-        "GET /v1/ HTTP/1.1\r\nHost: b\r\n\r\n",
+        "GET /v1/a%0A HTTP/1.1\r\nHost: b\r\n\r\n",
         (
             Status::BadRequest,
             "{\"errors\":[\"invalid path\"]}\n",

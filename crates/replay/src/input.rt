@@ -1,7 +1,7 @@
 ghost use Rattle.std.specs.Prelude.{◌≡◌, ◌⊎◌, ◌+◌, ◌≤◌, IfOk, IfErr, IsTrue};
 ghost use Rattle.std.specs.Io.KnownBytes.{Consumes, IsAtEnd};
 
-use hub::Source;
+use endpoints::Source;
 use std::alloc::{AllocError, Global};
 
 /// Why the input was not read to its end.

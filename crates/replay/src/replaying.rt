@@ -11,7 +11,8 @@ use crate::input::{Unread, read_to_end};
 use crate::script::{Script, read_script};
 use broker::ListStore;
 use broker_types::Fault;
-use hub::{Failed, Hub, Sink, Source, run};
+use endpoints::{Failed, Sink, Source};
+use hub::{Hub, run};
 use std::alloc::Global;
 
 /// How a replay ended.

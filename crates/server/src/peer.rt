@@ -2,7 +2,7 @@ ghost use Rattle.std.specs.Prelude.{◌≡◌, ◌≤◌, ◌++◌, length, take
 ghost use Rattle.server.specs.Pieces.{at_most_one};
 
 use crate::waiting::{Wait, patience};
-use hub::{Failed, Reading, Sink};
+use endpoints::{Failed, Reading, Sink};
 use std::cell::Cell;
 use std::io;
 use std::io::{ErrorKind, Read, Write};

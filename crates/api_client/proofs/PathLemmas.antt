@@ -1,0 +1,150 @@
+-- Paths as they are sent in a target.
+use Rattle.std.proofs.Common.{◌≡◌, ◌≢◌, ℕ, suc, ◌+◌, ◌-◌, ◌*◌, ◌<◌, ◌≤◌, ◌==◌, ◌&&◌, Bool, true, false, not, cond, List, [], ◌∷◌, ◌++◌, length, take, drop, All, refl, sym, ap, ◌∙◌, subst, arith, length-append, nat_lt, nat_le, slice_index}
+use Rattle.std.specs.List.{list_all, position_or_len}
+use Rattle.std.proofs.Math.ListN.{drop_of_length-le}
+use Rattle.std.proofs.lemmas.Bool.{and_parts, leb-true, ltb-true, false≢true}
+use Rattle.std.proofs.lemmas.Bool.Decides.{nat_tests}
+use Rattle.std.proofs.lemmas.List.{take_all}
+use Rattle.std.proofs.lemmas.List.Elements.{All-append, All-cons, All-head, All-nil, All-tail, All-weaker}
+use Rattle.percent_encoding.specs.Percent.{percent_decode, percent_encode_byte}
+use Rattle.percent_encoding.proofs.PercentLemmas.{All-percent_encode_byte, IsEscapeByte, percent_decode-nil, percent_decode_not_percent, percent_decode-percent_encode_byte}
+use Rattle.broker_types.specs.Path.{is_path, is_path_byte, is_segment, segments, without_slash}
+use Rattle.http_layer.specs.Query.{is_query_mark, target_path, target_query}
+use Rattle.api_client.specs.Commands.{is_visible}
+use Rattle.api_client.specs.Escaping.{escaped, escaped_byte, is_plain}
+use Rattle.api_client.proofs.TextLemmas.{AreVisible}
+
+-- ---- a path has no slash at its end
+
+list_all-cons : (t : List ℕ) (ts : List (List ℕ)) → list_all is_segment (t ∷ ts) ≡ true → list_all is_segment ts ≡ true
+list_all-cons t ts h = (and_parts (is_segment t) (list_all is_segment ts) h).1
+
+-- no part after the last slash
+ends_empty : (c : ℕ) (begun : List ℕ) → (c == 47) ≡ true → list_all is_segment (segments begun (c ∷ [])) ≡ false
+ends_empty c begun slash =
+    ap (λ (b : Bool). list_all is_segment (cond b (begun ∷ [] ∷ []) ((begun ++ c ∷ []) ∷ []))) slash ∙ no (is_segment begun)
+  where
+    no : (b : Bool) → (b && false) ≡ false
+    no true = refl
+    no false = refl
+
+last_of : (s : List ℕ) (begun : List ℕ) → 0 < length s → list_all is_segment (segments begun s) ≡ true → (slice_index s (length s - 1) == 47) ≡ false
+last_of [] begun some h = absurd (omega arith)
+last_of (c ∷ []) begun some h = by (c == 47) refl
+  where
+    by : (b : Bool) → (c == 47) ≡ b → (c == 47) ≡ false
+    by false e = e
+    by true e = absurd (false≢true (sym (ends_empty c begun e) ∙ h))
+last_of (c ∷ d ∷ ds) begun some h =
+    let here : length (c ∷ d ∷ ds) - 1 ≡ suc (length ds) = omega arith in
+    let next : length (d ∷ ds) - 1 ≡ length ds = omega arith in
+    ap (λ (k : ℕ). slice_index (c ∷ d ∷ ds) k == 47) here ∙ ap (λ (k : ℕ). slice_index (d ∷ ds) k == 47) (sym next)
+    ∙ by (c == 47) (last_of (d ∷ ds) [] (omega arith)) (last_of (d ∷ ds) (begun ++ c ∷ []) (omega arith)) h
+  where
+    by : (b : Bool) → (list_all is_segment (segments [] (d ∷ ds)) ≡ true → (slice_index (d ∷ ds) (length (d ∷ ds) - 1) == 47) ≡ false)
+        → (list_all is_segment (segments (begun ++ c ∷ []) (d ∷ ds)) ≡ true → (slice_index (d ∷ ds) (length (d ∷ ds) - 1) == 47) ≡ false)
+        → list_all is_segment (cond b (begun ∷ segments [] (d ∷ ds)) (segments (begun ++ c ∷ []) (d ∷ ds))) ≡ true
+        → (slice_index (d ∷ ds) (length (d ∷ ds) - 1) == 47) ≡ false
+    by true at_slash at_other h = at_slash (list_all-cons begun (segments [] (d ∷ ds)) h)
+    by false at_slash at_other h = at_other h
+
+-- what a path is
+pub path_parts : (p : List ℕ) → is_path p ≡ true → (0 < length p) × (length p ≤ 512) × (list_all is_segment (segments [] p) ≡ true)
+path_parts p good =
+    let a = and_parts ((nat_lt 0 (length p) && nat_le (length p) 512) && list_all is_path_byte p) (list_all is_segment (segments [] p)) good in
+    let b = and_parts (nat_lt 0 (length p) && nat_le (length p) 512) (list_all is_path_byte p) a.0 in
+    let c = and_parts (nat_lt 0 (length p)) (nat_le (length p) 512) b.0 in
+    (ltb-true 0 (length p) c.0, leb-true (length p) 512 c.1, a.1)
+
+pub without_slash-path : (p : List ℕ) → is_path p ≡ true → without_slash p ≡ p
+without_slash-path p good =
+    let parts = path_parts p good in
+    ap (λ (b : Bool). cond b (take (length p - 1) p) p) (last_of p [] parts.0 parts.2)
+
+-- ---- an escaped path
+
+escape_visible : (b : ℕ) → IsEscapeByte b → (is_visible b ≡ true) × (is_query_mark b ≡ false)
+escape_visible b h = (visible b h, other b h)
+  where
+    visible : (b : ℕ) → IsEscapeByte b → is_visible b ≡ true
+    visible b h = grind (arith, nat_tests)
+
+    other : (b : ℕ) → IsEscapeByte b → is_query_mark b ≡ false
+    other b h = grind (arith, nat_tests)
+
+plain_visible : (b : ℕ) → is_plain b ≡ true → is_visible b ≡ true
+plain_visible b plain = grind (arith, nat_tests)
+
+plain_other : (b : ℕ) → is_plain b ≡ true → is_query_mark b ≡ false
+plain_other b plain = grind (arith, nat_tests)
+
+plain_no_percent : (b : ℕ) → is_plain b ≡ true → b ≢ 37
+plain_no_percent b plain = λ e. false≢true (subst (λ (c : ℕ). is_plain c ≡ true) e plain)
+
+-- what holds of each plain byte and of each byte of an escape holds of an escaped path
+All-escaped : (P : ℕ → Type 0) (bs : List ℕ) → ((b : ℕ) → is_plain b ≡ true → P b) → ((b : ℕ) → IsEscapeByte b → P b) → All P (escaped bs)
+unfolding escaped
+All-escaped P [] plain escape = All-nil P
+All-escaped P (b ∷ bs) plain escape = All-append P (escaped_byte b) (escaped bs) (by (is_plain b) refl) (All-escaped P bs plain escape)
+  where
+    by : (t : Bool) → is_plain b ≡ t → All P (cond t (b ∷ []) (percent_encode_byte b))
+    by true e = All-cons P b [] (plain b e) (All-nil P)
+    by false e = All-weaker IsEscapeByte P escape (percent_encode_byte b) (All-percent_encode_byte b)
+
+pub escaped_visible : (bs : List ℕ) → AreVisible (escaped bs)
+escaped_visible bs = All-escaped (λ b. is_visible b ≡ true) bs plain_visible (λ b h. (escape_visible b h).0)
+
+escaped_no_query : (bs : List ℕ) → All (λ b. is_query_mark b ≡ false) (escaped bs)
+escaped_no_query bs = All-escaped (λ b. is_query_mark b ≡ false) bs plain_other (λ b h. (escape_visible b h).1)
+
+pub length-escaped : (bs : List ℕ) → length (escaped bs) ≤ 3 * length bs
+unfolding escaped percent_encode_byte
+length-escaped [] = omega arith
+length-escaped (b ∷ bs) = omega (arith, length-append (escaped_byte b) (escaped bs), by (is_plain b), length-escaped bs)
+  where
+    by : (t : Bool) → length (cond t (b ∷ []) (percent_encode_byte b)) ≤ 3
+    by true = omega arith
+    by false = omega arith
+
+-- an escaped path is read again
+pub percent_decode-escaped : (bs : List ℕ) → All (λ b. b < 256) bs → percent_decode (escaped bs) ≡ bs
+unfolding escaped
+percent_decode-escaped [] small = percent_decode-nil
+percent_decode-escaped (b ∷ bs) small =
+    by (is_plain b) refl (percent_decode-escaped bs (All-tail (λ c. c < 256) b bs small))
+  where
+    by : (t : Bool) → is_plain b ≡ t → percent_decode (escaped bs) ≡ bs → percent_decode (cond t (b ∷ []) (percent_encode_byte b) ++ escaped bs) ≡ b ∷ bs
+    by true e rest = percent_decode_not_percent b (escaped bs) (plain_no_percent b e) ∙ ap (λ (l : List ℕ). b ∷ l) rest
+    by false e rest = percent_decode-percent_encode_byte b (escaped bs) (All-head (λ c. c < 256) b bs small) ∙ ap (λ (l : List ℕ). b ∷ l) rest
+
+-- ---- a target without a query
+
+all_before : (t : List ℕ) → All (λ b. is_query_mark b ≡ false) t → position_or_len is_query_mark t ≡ length t
+all_before [] none = refl
+all_before (b ∷ bs) none =
+    ap (λ (q : Bool). cond (not q) (1 + position_or_len is_query_mark bs) 0) (All-head (λ c. is_query_mark c ≡ false) b bs none)
+    ∙ ap (λ (n : ℕ). 1 + n) (all_before bs (All-tail (λ c. is_query_mark c ≡ false) b bs none)) ∙ one_more (length bs)
+  where
+    one_more : (n : ℕ) → 1 + n ≡ suc n
+    one_more n = omega arith
+
+-- the target of a path
+abbrev pub target_of : List ℕ → List ℕ
+target_of path = 47 ∷ 118 ∷ 49 ∷ 47 ∷ escaped path
+
+no_query : (path : List ℕ) → All (λ b. is_query_mark b ≡ false) (target_of path)
+no_query path =
+    more 47 (118 ∷ 49 ∷ 47 ∷ escaped path) refl (more 118 (49 ∷ 47 ∷ escaped path) refl (more 49 (47 ∷ escaped path) refl (more 47 (escaped path) refl (escaped_no_query path))))
+  where
+    more : (b : ℕ) (bs : List ℕ) → is_query_mark b ≡ false → All (λ c. is_query_mark c ≡ false) bs → All (λ c. is_query_mark c ≡ false) (b ∷ bs)
+    more b bs is rest = All-cons (λ c. is_query_mark c ≡ false) b bs is rest
+
+pub target_path-target : (path : List ℕ) → target_path (target_of path) ≡ target_of path
+target_path-target path =
+    let t = target_of path in
+    ap (λ (n : ℕ). take n t) (all_before t (no_query path)) ∙ take_all (length t) t (omega arith)
+
+pub target_query-target : (path : List ℕ) → target_query (target_of path) ≡ []
+target_query-target path =
+    let t = target_of path in
+    ap (λ (n : ℕ). drop (n + 1) t) (all_before t (no_query path)) ∙ drop_of_length-le t (omega arith)

@@ -1,0 +1,67 @@
+-- What the requests of the client ask (Vault's documentation, "HTTP API" and "Response wrapping").
+use Rattle.std.specs.Prelude.{◌≡◌, ℕ, ◌<◌, ◌≤◌, true, List, [], length, unwrap_or, Option, None, IfSome, All, IsUtf8, Result, Ok}
+use Rattle.broker_types.specs.Limits.{longest_body}
+use Rattle.broker_types.specs.Path.{is_path}
+use Rattle.broker_types.specs.Text.{Text}
+use Rattle.broker_types.specs.declared.ask.Ask.{Ask}
+use Rattle.broker_types.specs.declared.ask.Verb.{Verb}
+use Rattle.broker_types.specs.declared.ask.Verb.TheVariants as verb
+use Rattle.http_layer.specs.Asked.{asked, wrap_ttl_read}
+use Rattle.http_layer.specs.Front.{IsFront, whole}
+use Rattle.http_layer.specs.HeadParts.{HeadParts}
+use Rattle.http_layer.specs.Refusing.{RefusalParts, ◌>>=◌}
+use Rattle.api_client.specs.Commands.{is_field_text, is_short_text}
+use Rattle.api_client.specs.Requests.{body_of, path_of}
+use Rattle.api_client.specs.declared.command.Command.{Command}
+use Rattle.api_client.specs.declared.command.Request.{Request}
+use Rattle.api_client.specs.declared.command.Request.TheVariants as request
+
+-- ---- what a command means
+
+abbrev pub verb_of : Request → Verb
+verb_of (request.Read path) = verb.Get
+verb_of (request.Write path body) = verb.Write
+verb_of (request.List path) = verb.List
+verb_of (request.Delete path) = verb.Delete
+verb_of (request.Unwrap token) = verb.Write
+
+-- the text of the wrap TTL that a server reads: so far none, since it does not read the field
+abbrev pub wrap_ttl_meant : Option Text → Option Text
+wrap_ttl_meant ttl = None
+
+-- the ask that a command means, or the refusal of its wrap TTL
+abbrev pub ask_meant : Command → Result Ask RefusalParts
+ask_meant c = do
+  wrap_ttl ← wrap_ttl_read (wrap_ttl_meant c.wrap_ttl)
+  Ok (record {
+    verb = verb_of c.request;
+    path = path_of c.request;
+    version = [];
+    token = c.token;
+    wrap_ttl = wrap_ttl;
+    body = unwrap_or (body_of c.request) [];
+  })
+
+-- The bytes are one whole request with nothing after it, and what it asks is what the command means.
+pub record Asks (bytes : List ℕ) (c : Command) : Type 0 where
+  pub head : HeadParts
+  pub body : List ℕ
+  pub front : IsFront bytes (whole (length bytes) head body)
+  pub asks : asked head body ≡ ask_meant c
+
+-- ---- what the types of a command keep true
+
+pub record IsPathText (path : List ℕ) : Type 0 where
+  pub good : is_path path ≡ true
+  pub text : IsUtf8 path
+  pub bytes : All (λ b. b < 256) path
+
+abbrev pub IsSendable : Request → Type 0
+IsSendable (request.Read path) = IsPathText path
+IsSendable (request.Write path body) = IsPathText path × (length body ≤ longest_body)
+IsSendable (request.List path) = IsPathText path
+IsSendable (request.Delete path) = IsPathText path
+IsSendable (request.Unwrap token) = IfSome token (λ t. is_short_text t ≡ true)
+
+abbrev pub IsOptionalField : Option Text → Type 0
+IsOptionalField o = IfSome o (λ t. is_field_text t ≡ true)

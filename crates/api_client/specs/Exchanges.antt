@@ -1,0 +1,52 @@
+-- What an exchange with a server sends, prints and answers (this project's definition).
+use Rattle.std.specs.Prelude.{◌≡◌, ◌⊎◌, ◌==◌, ◌||◌, ℕ, Bool, IsTrue, List, [], ◌∷◌, ◌++◌, codes, if◌then◌else◌, Option, Some}
+use Rattle.std.specs.Prelude.{Result, Ok, Err, ⊤}
+use Rattle.std.specs.Io.KnownBytes.{Appends}
+use Rattle.broker_types.specs.Text.{Text}
+use Rattle.api_client.specs.Replies.{BeginsWithReply}
+use Rattle.api_client.specs.ReplyReads.{HasNoReply}
+use Rattle.api_client.specs.Requests.{sent}
+use Rattle.api_client.specs.declared.command.Command.{Command}
+use Rattle.api_client.specs.declared.failure.Failure.{Failure}
+use Rattle.api_client.specs.declared.failure.Failure.TheVariants.{Memory, Unreached, Unwritten, BadReply}
+use Rattle.api_client.specs.declared.reply.Reply.{Reply}
+
+-- the line that tells a failure
+abbrev pub failure_line : Failure → Text
+failure_line Memory = codes "fault 1" ++ 10 ∷ []
+failure_line Unreached = codes "fault 5" ++ 10 ∷ []
+failure_line Unwritten = codes "fault 6" ++ 10 ∷ []
+failure_line BadReply = codes "bad reply" ++ 10 ∷ []
+
+-- the exit status after a reply: 0 for 200 (OK) and 204 (No Content), else 1
+abbrev pub status_after : ℕ → ℕ
+status_after code = if (code == 200) || (code == 204) then 0 else 1
+
+-- if it is known what is left to read, it begins with the reply
+abbrev pub HasReply : Option (List ℕ) → Reply → Type 0
+HasReply left reply = (input : List ℕ) → left ≡ Some input → BeginsWithReply input reply
+
+-- The answer of a server, by what was written to it before and after, whether a write failed, what was left to read, and
+-- whether a read failed: the reply to the command's bytes, or why there is none.
+abbrev pub IsAnswer : Command → Option (List ℕ) → Option (List ℕ) → Bool → Option (List ℕ) → Bool → Result Reply Failure → Type 0
+IsAnswer command before after write_failed left read_failed (Ok reply) =
+    Appends before after (sent command) × HasReply left reply
+IsAnswer command before after write_failed left read_failed (Err BadReply) =
+    Appends before after (sent command) × (IsTrue read_failed ⊎ HasNoReply left)
+IsAnswer command before after write_failed left read_failed (Err Unwritten) = IsTrue write_failed
+IsAnswer command before after write_failed left read_failed (Err Memory) = ⊤
+IsAnswer command before after write_failed left read_failed (Err Unreached) = ⊥
+
+-- the line of the failure was written, or a write failed
+abbrev pub IsTold : Failure → Option (List ℕ) → Option (List ℕ) → Bool → Type 0
+IsTold failure before after failed = Appends before after (failure_line failure) ⊎ IsTrue failed
+
+-- What is printed of an answer, on standard output and on standard error, each by what was written there before and after
+-- and whether a write failed; and the exit status.
+abbrev pub IsReport : Result Reply Failure → Option (List ℕ) → Option (List ℕ) → Bool → Option (List ℕ) → Option (List ℕ) → Bool
+    → ℕ → Type 0
+IsReport (Ok reply) out_before out out_failed err_before err err_failed status =
+    (Appends out_before out reply.body × Appends err_before err [] × (status ≡ status_after reply.status))
+    ⊎ (IsTrue out_failed × IsTold Unwritten err_before err err_failed × (status ≡ 1))
+IsReport (Err failure) out_before out out_failed err_before err err_failed status =
+    Appends out_before out [] × IsTold failure err_before err err_failed × (status ≡ 1)

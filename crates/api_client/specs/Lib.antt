@@ -1,0 +1,12 @@
+pub mod Asking
+pub mod CommandLine
+pub mod Commands
+pub mod Escaping
+pub mod Exchanges
+pub mod Laws
+pub mod Meaning
+pub mod Refusing
+pub mod Replies
+pub mod ReplyHeads
+pub mod ReplyReads
+pub mod Requests
