@@ -56,7 +56,7 @@ ask() {
     status=$(curl -s -m 20 -o "$found/body" -w '%{http_code}' -H "X-Vault-Token: $token" "$@")
     if [ "$status" != "$wanted" ]; then
         fail "$name" "status $status in place of $wanted: $(head -c 200 "$found/body")"
-    elif ! grep -qF -- "$text" "$found/body"; then
+    elif [ -n "$text" ] && ! grep -qF -- "$text" "$found/body"; then
         fail "$name" "no $text in $(head -c 200 "$found/body")"
     else
         pass
@@ -155,8 +155,8 @@ if kill -0 "$pid" 2> /dev/null && [ ! -s "$found/served.err" ]; then pass; else 
 stop
 
 run "no address" 2 '--listen <ADDR>' serve
-run "no connections" 2 'Usage' serve --listen 127.0.0.1:0 --connections 0
-run "too many connections" 2 'Usage' serve --listen 127.0.0.1:0 --connections 4294967296
+run "no connections" 2 '--connections <N>' serve --listen 127.0.0.1:0 --connections 0
+run "too many connections" 2 '--connections <N>' serve --listen 127.0.0.1:0 --connections 4294967296
 run "another machine's address" 1 'fault 5' serve --listen 192.0.2.1:8200
 run "no address at all" 1 'fault 5' serve --listen nowhere
 output=/dev/full run "a token that cannot be printed" 1 'fault 6' serve --listen 127.0.0.1:0

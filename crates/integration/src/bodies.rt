@@ -10,7 +10,8 @@ use api_json::{
     token, token_creation, token_object, token_renewal, version_object, versions,
 };
 use broker_types::{Field, Moment, Reason, Refusal, Reply, RequestError, TextBuf};
-use std::alloc::{AllocError, Global};
+use std::alloc::{AllocError, AllocGlobal, Global};
+use std::process::Abort;
 use std::test::Fail;
 
 #[derive(Clone, Copy, Debug, PartialEq, Eq)]
@@ -54,16 +55,37 @@ fn outcome(error: Option<RequestError>, field: Field) -> u8 {
     }
 }
 
+/// The values that each reader meets in the place of each of its members.
+const VALUES: &str = "null|true|false|\"true\"|\"false\"|\"True\"|0|1|-1|18446744073709551615|4294967296|\
+    \"\"|\"x\"|\"service\"|\"0s\"|\"1h30m\"|\"1d\"|\"000000000000000007\"|\
+    \"0000000000000000007\"|\" a, ,b \"|[]|[\"a\"]|[\"1\",2]|[null]|{}|{\"a\":\"b\"}|\
+    {\"a\":null}";
+
+/// Reads a body for each value, which takes the place of `@`, and compares the outcomes.
+fn expect_kinds(
+    rt: &(impl Abort + AllocGlobal),
+    rows: &[(Route, Field, &str, &str)],
+) -> Result<(), Fail> {
+    let alloc = rt.alloc();
+    for (route, field, template, outcomes) in rows.iter() {
+        let mut found = String::new(alloc);
+        let (before, after) = template.split_once('@').ok_or("no place")?;
+        for value in VALUES.split('|') {
+            let body = read_body(
+                alloc,
+                format!(in alloc; "{before}{value}{after}")?.as_bytes(),
+            )?;
+            found.push(char::from(outcome(refused(alloc, *route, &body), *field)))?;
+        }
+        assert_eq!(rt; found.as_str(), *outcomes, "{template}");
+    }
+    Ok(())
+}
+
 /// Each reader on each kind of value of each of its members.
 #[test]
 fn kinds_of_members(rt: HostRuntime) -> Result<(), Fail> {
-    let alloc = rt.alloc();
-    let values =
-        "null|true|false|\"true\"|\"false\"|\"True\"|0|1|-1|18446744073709551615|4294967296|\
-        \"\"|\"x\"|\"service\"|\"0s\"|\"1h30m\"|\"1d\"|\"000000000000000007\"|\
-        \"0000000000000000007\"|\" a, ,b \"|[]|[\"a\"]|[\"1\",2]|[null]|{}|{\"a\":\"b\"}|\
-        {\"a\":null}";
-    let rows = [
+    expect_kinds(&rt, &[
         (
             Route::Creation,
             Field::Policies,
@@ -208,18 +230,29 @@ fn kinds_of_members(rt: HostRuntime) -> Result<(), Fail> {
             "{\"policy\":@}",
             "mii...iiiii.........iiiiiii",
         ),
-    ];
-    for (route, field, template, outcomes) in rows {
-        let mut found = String::new(alloc);
-        let (before, after) = template.split_once('@').ok_or("no place")?;
-        for value in values.split('|') {
-            let body = read_body(
-                alloc,
-                format!(in alloc; "{before}{value}{after}")?.as_bytes(),
-            )?;
-            found.push(char::from(outcome(refused(alloc, route, &body), field)))?;
+    ])
+}
+
+/// Reads each text as a body, and compares what it is read as; none where it is refused.
+fn expect_bodies(
+    rt: &(impl Abort + AllocGlobal),
+    texts: &[(&str, Option<&str>)],
+) -> Result<(), Fail> {
+    let alloc = rt.alloc();
+    for (text, want) in texts.iter() {
+        match (read_body(alloc, text.as_bytes()), *want) {
+            (Ok(body), Some(want)) => {
+                assert!(rt; body.has_members() == (want != "{}"), "{text}");
+                assert_eq!(rt; body.into_text(alloc)?.as_str(), want);
+            }
+            (Err(error), None) => {
+                assert!(rt;
+                    error == RequestError::Refused(Refusal::BadRequest(Reason::InvalidJson)),
+                    "{text}"
+                );
+            }
+            _ => Err("another outcome")?,
         }
-        assert_eq!(rt; found.as_str(), outcomes, "{template}");
     }
     Ok(())
 }
@@ -228,8 +261,7 @@ fn kinds_of_members(rt: HostRuntime) -> Result<(), Fail> {
 /// reader itself refuses is refused there too.
 #[test]
 fn bodies(rt: HostRuntime) -> Result<(), Fail> {
-    let alloc = rt.alloc();
-    let texts = [
+    expect_bodies(&rt, &[
         ("", Some("{}")),
         (" null\n", Some("{}")),
         (" ", None),
@@ -252,22 +284,8 @@ fn bodies(rt: HostRuntime) -> Result<(), Fail> {
                 "{\"10\":null,\"2\":\"é\\u0001/\",\"b\":[18446744073709551615,-9223372036854775808]}",
             ),
         ),
-    ];
-    for (text, want) in texts {
-        match (read_body(alloc, text.as_bytes()), want) {
-            (Ok(body), Some(want)) => {
-                assert!(rt; body.has_members() == (want != "{}"), "{text}");
-                assert_eq!(rt; body.into_text(alloc)?.as_str(), want);
-            }
-            (Err(error), None) => {
-                assert!(rt;
-                    error == RequestError::Refused(Refusal::BadRequest(Reason::InvalidJson)),
-                    "{text}"
-                );
-            }
-            _ => Err("another outcome")?,
-        }
-    }
+    ])?;
+    let alloc = rt.alloc();
     assert!(rt; read_body(alloc, b"{\"a\":\"\xff\"}").is_err());
     assert!(rt; read_body(alloc, nested(alloc, 126)?.as_bytes()).is_ok());
     assert!(rt; read_body(alloc, nested(alloc, 127)?.as_bytes()).is_err());

@@ -113,7 +113,7 @@ allowed Storage is other = refl
 allowed Damaged is other = absurd is
 allowed BadStart is other = absurd is
 
-pub leaves_connection : {A B S : Type 0} (seen : S → Kept) (conn : ℕ) (Reads Writes : List ℕ → Type 0)
+pub leaves_connection : {A B S : Type 0} (seen : S → Kept) (conn gone : ℕ) (Reads Writes : List ℕ → Type 0)
     (end : Result A ConnectionFault) (r : Result B Fault) (old mid new : Hub S)
     → MatchResult end (λ _. Proceeds seen conn Reads Writes old mid) (λ fault. Stops seen conn Reads Writes fault old mid)
     → (IsHonestStore (hub_store seen mid) → (w : World) → HubRepresents seen old w → IfErr end IsAllowed)
@@ -123,9 +123,9 @@ pub leaves_connection : {A B S : Type 0} (seen : S → Kept) (conn : ℕ) (Reads
     (λ fault. fault ≢ Broker Storage → (hub_store seen mid).is_open ≡ (hub_store seen old).is_open))
     → IsLater (hub_store seen old) (hub_store seen mid)
     → ((all : Connections) → ConnectionsRepresent mid all
-    → (after : Connections) × ConnectionsRepresent new after × LeavesClosed all conn after)
+    → (after : Connections) × ConnectionsRepresent new after × LeavesClosed all gone after)
     → hub_store seen new ≡ hub_store seen mid → IsUnskipped end r → LeavesServed seen r old new
-leaves_connection {A = A} {B = B} seen conn Reads Writes end r old mid new served wants storage stays later closed same is =
+leaves_connection {A = A} {B = B} seen conn gone Reads Writes end r old mid new served wants storage stays later closed same is =
     let honest_mid : IsHonestStore (hub_store seen new) → IsHonestStore (hub_store seen mid) = subst IsHonestStore same in
     record {
       skipped = skipped_by end r is;
@@ -149,11 +149,11 @@ leaves_connection {A = A} {B = B} seen conn Reads Writes end r old mid new serve
         → IsUnskipped end r → MatchResult r (λ _. RepresentsSome seen new) (λ fault. fault ≡ Storage)
     world (Ok a) (Ok b) honest open_ w represents proceeds want stays is =
         let answer = proceeds.answers honest w represents in
-        closing seen conn mid new answer.after closed same answer.represents
+        closing seen gone mid new answer.after closed same answer.represents
     world (Err fault) (Ok b) honest open_ w represents stops want stays is =
         let still = subst IsTrue (sym (stays (skipped_other fault is))) open_ in
         let until = stops.answers honest (known fault (hub_store seen mid) still) w represents in
-        closing seen conn mid new (record until.before { connections = until.after }) closed same until.represents
+        closing seen gone mid new (record until.before { connections = until.after }) closed same until.represents
     world (Ok a) (Err fault) honest open_ w represents proceeds want stays is = cc is.0
     world (Err end) (Err fault) honest open_ w represents stops want stays is =
         let e : end ≡ Broker fault = cc is.0 in

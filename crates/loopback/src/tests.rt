@@ -1,0 +1,83 @@
+//! The request of a command line is sent over the loopback address and served, and its reply is read.
+
+use api_client::{command_of, reply_of, request_of};
+use broker::ListStore;
+use broker_types::{Moment, Words};
+use endpoints::Reading;
+use hub::{Clock, Hub, WordSource};
+use server::serve;
+use std::alloc::{AllocError, Global};
+use std::io::Write;
+use std::net::{TcpListener, TcpStream};
+use std::test::Fail;
+
+/// What a broker replies that was just started, in an event whose first word is 32.
+const SETTINGS: &str =
+    "{\"auth\":null,\"data\":{\"cas_required\":false,\"delete_version_after\":\"0s\",\"max_versions\":0},\
+    \"lease_duration\":0,\"lease_id\":\"\",\"renewable\":false,\
+    \"request_id\":\"00000000-0000-0000-0000-000000000020\",\"warnings\":null,\"wrap_info\":null}\n";
+
+/// A clock that stands still.
+#[derive(Drop)]
+struct Fixed(Moment);
+
+impl Clock for Fixed {
+    fn now(&mut self) -> Moment {
+        self.0
+    }
+}
+
+/// The same words for each event.
+#[derive(Drop)]
+struct Same(Words);
+
+impl WordSource for Same {
+    fn words(&mut self) -> Words {
+        self.0
+    }
+}
+
+/// The words of a command line. The first is the name of the program.
+fn words(alloc: Global, line: &[&str]) -> Result<Vec<String>, AllocError> {
+    let mut words = Vec::new(alloc);
+    for word in line {
+        words.push(String::from_str(alloc, word)?)?;
+    }
+    Ok(words)
+}
+
+/// The request of a command is sent and served, and its reply is read.
+#[test]
+fn a_read_over_the_loopback(rt: HostRuntime) -> Result<(), Fail> {
+    let alloc = rt.alloc();
+    let moment = Moment::new(1_700_000_000).ok_or("the moment is in range")?;
+    let mut store = ListStore::new(alloc);
+    let root = store.start(moment, &Words([0, 1, 2, 3, 4, 5, 6, 7]))?;
+    let mut hub = Hub::new(alloc, store);
+    let line = words(
+        alloc,
+        &[
+            "client",
+            "--addr",
+            "127.0.0.1:8200",
+            "--token",
+            root.as_str(),
+            "read",
+            "secret/config",
+        ],
+    )?;
+    let Ok(command) = command_of(alloc, line.as_slice()) else {
+        return Err(Fail::from("the words have no command"));
+    };
+    let listener = TcpListener::bind(&rt, "127.0.0.1:0")?;
+    let mut stream = TcpStream::connect(&rt, listener.local_addr()?)?;
+    stream.write_all(request_of(alloc, &command)?.as_slice())?;
+    let mut same = Same(Words([32, 33, 34, 35, 36, 37, 38, 39]));
+    serve(&rt, &mut hub, &listener, 1, &mut Fixed(moment), &mut same)?;
+    let Ok(reply) = reply_of(alloc, &mut Reading::new(&stream)) else {
+        return Err(Fail::from("there is no reply"));
+    };
+    assert_eq!(rt; reply.status, 200);
+    assert_eq!(rt; reply.body.as_slice(), SETTINGS.as_bytes());
+    Ok(())
+}
