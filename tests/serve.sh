@@ -108,7 +108,7 @@ ask_by_curl() {
     ask "look-up" 200 '"policies":["app","default"]' -d "{\"token\":\"$child\"}" "$url/auth/token/lookup"
     ask "revocation" 204 '' -d "{\"token\":\"$child\"}" "$url/auth/token/revoke"
     ask "look-up of a revoked token" 403 'bad token' -d "{\"token\":\"$child\"}" "$url/auth/token/lookup"
-    ask "a body that is too long" 413 'errors' --data-binary "@$found/long" "$url/secret/data/app"
+    ask "a body that is too long" 413 'errors' -H 'Expect:' --data-binary "@$found/long" "$url/secret/data/app"
     token=hvs.00000000-0000-0000-0000-000000000000 ask "a stranger" 403 'permission denied' "$url/secret/data/app"
 }
 
@@ -161,8 +161,10 @@ run "another machine's address" 1 'fault 5' serve --listen 192.0.2.1:8200
 run "no address at all" 1 'fault 5' serve --listen nowhere
 output=/dev/full run "a token that cannot be printed" 1 'fault 6' serve --listen 127.0.0.1:0
 
+first=$token
 start 3
 token=$(sed -n 's/^root token: //p' "$found/served")
+if [ "$token" != "$first" ]; then pass; else fail "root token" "two brokers have the same"; fi
 ask "the second of three" 200 '"policies":["root"]' "http://127.0.0.1:$port/v1/auth/token/lookup-self"
 ask "the third of three" 200 '"policies":["root"]' "http://127.0.0.1:$port/v1/auth/token/lookup-self"
 wait "$pid"

@@ -23,7 +23,7 @@ use Rattle.hub.specs.World.{Connections, History, Run, World, history_at, put_hi
 use Rattle.hub.specs.declared.event.Event.{Event}
 use Rattle.hub.specs.declared.hub.Hub.{Hub}
 use Rattle.hub.specs.declared.serve.ConnectionFault.{ConnectionFault}
-use Rattle.hub.specs.declared.serve.ConnectionFault.TheVariants.{Broker as OfBroker, Write}
+use Rattle.hub.specs.declared.serve.ConnectionFault.TheVariants.{Broker as OfBroker, Read, Write}
 use Rattle.hub.proofs.AnswersLemmas.{answers_of}
 use Rattle.hub.proofs.KnownLemmas.{Appends-nil}
 
@@ -114,6 +114,7 @@ stops_on seen conn P Q R T U V fault old mid new reads writes before p s =
     record {
       exchange = exchange_on conn p.exchange s.exchange;
       last = s.last;
+      unanswered = s.unanswered;
       reads = subst R
           (sym (ap (λ (l : List ℕ). l ++ s.last) (read_on conn p.exchange s.exchange) ∙ append_assoc (read_in p.exchange) (read_in s.exchange) s.last))
           (reads (read_in p.exchange) (read_in s.exchange ++ s.last) p.reads s.reads);
@@ -171,6 +172,7 @@ stops_so seen conn P Q T fault old new reads s =
     record {
       exchange = s.exchange;
       last = s.last;
+      unanswered = s.unanswered;
       reads = reads (read_in s.exchange ++ s.last) s.reads;
       writes = s.writes;
       answers = s.answers;
@@ -237,6 +239,7 @@ stops_writing seen conn piece m ws bytes before after old mid new f c =
     record {
       exchange = exchange_fed seen conn piece m ws bytes old mid f;
       last = [];
+      unanswered = refl;
       reads = append-nil (piece ++ []) ∙ append-nil piece;
       writes = λ other. absurd (other refl);
       answers = λ honest known w represents.
@@ -250,12 +253,13 @@ stops_writing seen conn piece m ws bytes before after old mid new f c =
     }
 
 -- the connection was closed at a fault of the source
-pub stops_reading : {S : Type 0} (seen : S → Kept) (conn : ℕ) (P T : List ℕ → Type 0) (fault : ConnectionFault) (mid new : Hub S)
-    → P [] → T [] → Closes seen conn mid new → Stops seen conn P T fault mid new
-stops_reading seen conn P T fault mid new p t c =
+pub stops_reading : {S : Type 0} (seen : S → Kept) (conn : ℕ) (P T : List ℕ → Type 0) (mid new : Hub S)
+    → P [] → T [] → Closes seen conn mid new → Stops seen conn P T Read mid new
+stops_reading seen conn P T mid new p t c =
     record {
       exchange = exchange_none conn;
       last = [];
+      unanswered = refl;
       reads = p;
       writes = λ other. t;
       answers = λ honest known w represents.
@@ -276,13 +280,15 @@ leaves_closed fault all conn piece after f = at f.left
 
 -- an event had a fault
 pub stops_feeding : {S : Type 0} (seen : S → Kept) (conn : ℕ) (piece : List ℕ) (known : Option (List ℕ)) (fault : Fault) (old new : Hub S)
+    → length piece ≤ longest_piece
     → (IsHonestStore (hub_store seen new) → IsTrue (hub_store seen new).is_open → (hub_store seen new).rows ≡ (hub_store seen old).rows)
     → ((all : Connections) → ConnectionsRepresent old all → (after : Connections) × ConnectionsRepresent new after × FaultsAt fault all conn piece after)
     → Stops seen conn (λ read. read ≡ piece) (Appends known known) (OfBroker fault) old new
-stops_feeding seen conn piece known fault old new kept faults =
+stops_feeding seen conn piece known fault old new short kept faults =
     record {
       exchange = exchange_none conn;
       last = piece;
+      unanswered = short;
       reads = refl;
       writes = λ other. Appends-nil known;
       answers = λ honest is_open w represents.

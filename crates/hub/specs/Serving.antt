@@ -1,5 +1,5 @@
 -- What serving a connection between a source and a sink leaves (this project's definition).
-use Rattle.std.specs.Prelude.{◌≡◌, ◌≢◌, ◌⊎◌, ◌≤◌, ℕ, true, List, ◌++◌, Option, None, ⊤, IsTrue, length, map}
+use Rattle.std.specs.Prelude.{◌≡◌, ◌≢◌, ◌⊎◌, ◌≤◌, ℕ, true, List, [], ◌++◌, Option, None, ⊤, IsTrue, length, map}
 use Rattle.std.specs.Io.KnownBytes.{IsAtEnd}
 use Rattle.std.specs.List.{All, concat}
 use Rattle.broker_types.specs.Fault.{IsMemoryOrStorage, fault_number}
@@ -101,12 +101,20 @@ IsKnown (Broker fault) store = IsTrue store.is_open
 IsKnown Read store = ⊤
 IsKnown Write store = ⊤
 
--- The same of events before the fault. What was read is their pieces joined, and the piece of the event that had the
--- fault. Unless a write failed, what was written is their replies joined.
+-- What was read and is in no event that was answered: the piece of the event that had the fault, of at most 8,192
+-- bytes; nothing if a read or a write failed.
+abbrev pub IsUnanswered : ConnectionFault → List ℕ → Type 0
+IsUnanswered (Broker fault) last = length last ≤ longest_piece
+IsUnanswered Read last = last ≡ []
+IsUnanswered Write last = last ≡ []
+
+-- The same of events before the fault. What was read is their pieces joined, and what no event has that was answered.
+-- Unless a write failed, what was written is their replies joined.
 pub record Stops {S : Type 0} (seen : S → Kept) (conn : ℕ) (Reads Writes : List ℕ → Type 0)
     (fault : ConnectionFault) (old new : Hub S) : Type 0 where
   pub exchange : Exchange conn
   pub last : List ℕ
+  pub unanswered : IsUnanswered fault last
   pub reads : Reads (read_in exchange ++ last)
   pub writes : fault ≢ Write → Writes (sent_in exchange)
   pub answers : IsHonestStore (hub_store seen new) → IsKnown fault (hub_store seen new)

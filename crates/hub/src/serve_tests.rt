@@ -1,6 +1,6 @@
 //! Connections that are served between a reader and a writer in memory, or ones that fail.
 
-use crate::tests::started;
+use crate::tests::{NOT_FOUND, NOT_FOUND_CLOSING, started};
 use crate::{Clock, ConnectionFault, Hub, WordSource, serve_connection};
 use broker::ListStore;
 use broker_types::{Moment, Words};
@@ -29,14 +29,6 @@ const FOUND: &str = "HTTP/1.1 200 OK\r\n\
     Content-Length: 167\r\n\r\n\
     {\"auth\":null,\"data\":{\"k\":\"v\"},\"lease_duration\":0,\"lease_id\":\"\",\"renewable\":false,\
     \"request_id\":\"00000000-0000-0000-0000-000000000020\",\"warnings\":null,\"wrap_info\":null}\n";
-
-const NOT_FOUND_CLOSING: &str = "HTTP/1.1 404 Not Found\r\n\
-    Date: Tue, 14 Nov 2023 22:13:20 GMT\r\n\
-    Cache-Control: no-store\r\n\
-    Connection: close\r\n\
-    Content-Type: application/json\r\n\
-    Content-Length: 14\r\n\r\n\
-    {\"errors\":[]}\n";
 
 /// A clock that stands still.
 #[derive(Drop)]
@@ -148,7 +140,8 @@ fn nothing_is_answered_after_a_close(rt: HostRuntime) -> Result<(), Fail> {
     Ok(())
 }
 
-/// Computes `IsAllowed`, `Stops`, `LeavesClosed`, `IsGone`.
+/// Computes `IsAllowed`, `IsUnanswered`, `Stops`, `LeavesClosed`, `IsGone`. After a failed write no further request is
+/// answered.
 #[test]
 fn an_end_that_fails_closes_the_connection(rt: HostRuntime) -> Result<(), Fail> {
     let alloc = rt.alloc();
@@ -157,13 +150,16 @@ fn an_end_that_fails_closes_the_connection(rt: HostRuntime) -> Result<(), Fail> 
     let end = served(&mut hub, 1, Reading::new(Broken), Writing::new(&mut output))?;
     assert_eq!(rt; end, Err(ConnectionFault::Read));
     assert_eq!(rt; hub.open_conn(), Some(0));
+    let input = format!(in alloc; "{READ}{WRITE}")?;
     let end = served(
         &mut hub,
         2,
-        Reading::new(READ.as_bytes()),
+        Reading::new(input.as_bytes()),
         Writing::new(Broken),
     )?;
     assert_eq!(rt; end, Err(ConnectionFault::Write));
     assert!(rt; hub.is_closed(2));
+    let output = written(alloc, &mut hub, 3, READ)?;
+    assert_eq!(rt; output.as_slice(), NOT_FOUND.as_bytes());
     Ok(())
 }

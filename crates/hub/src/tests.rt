@@ -6,14 +6,14 @@ use broker_types::{Answer, Ask, Bytes, Fault, Moment, Words};
 use std::alloc::Global;
 use std::test::Fail;
 
-const NOT_FOUND: &str = "HTTP/1.1 404 Not Found\r\n\
+pub(crate) const NOT_FOUND: &str = "HTTP/1.1 404 Not Found\r\n\
     Date: Tue, 14 Nov 2023 22:13:20 GMT\r\n\
     Cache-Control: no-store\r\n\
     Content-Type: application/json\r\n\
     Content-Length: 14\r\n\r\n\
     {\"errors\":[]}\n";
 
-const NOT_FOUND_CLOSING: &str = "HTTP/1.1 404 Not Found\r\n\
+pub(crate) const NOT_FOUND_CLOSING: &str = "HTTP/1.1 404 Not Found\r\n\
     Date: Tue, 14 Nov 2023 22:13:20 GMT\r\n\
     Cache-Control: no-store\r\n\
     Connection: close\r\n\

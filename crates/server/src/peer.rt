@@ -6,7 +6,7 @@ use endpoints::{Failed, Reading, Sink};
 use std::cell::Cell;
 use std::io;
 use std::io::{ErrorKind, Read, Write};
-use std::net::TcpStream;
+use std::net::{Shutdown, TcpStream};
 use std::time::{Clock, Duration, Instant};
 
 /// A connection's stream, and what its two ends know of the peer: what it is waited for, and since when.
@@ -66,6 +66,21 @@ impl<'s, R: Clock> Peer<'s, R> {
         self.stream.set_read_timeout(Some(self.patience()?))?;
         let mut stream = self.stream;
         stream.read(buffer)
+    }
+
+    /// Ends the connection after its last reply. What the peer still sends is taken for a quarter of a second
+    /// at most: a stream that is closed with bytes unread is reset, and its peer can lose the reply (RFC 9112,
+    /// section 9.6).
+    pub(crate) fn let_go(&self) -> io::Result<()> {
+        self.stream.shutdown(Shutdown::Write)?;
+        self.await_from_now(Wait::Farewell)?;
+        let mut buffer = [0; 8_192];
+        for _ in 0..u32::MAX {
+            if self.receive(&mut buffer)? == 0 {
+                break;
+            }
+        }
+        Ok(())
     }
 
     /// Sends a whole reply; then the next request is waited for. It fails if the peer does not take the

@@ -10,12 +10,16 @@ use broker::Store;
 use broker_types::Fault;
 use hub::{ConnectionFault, Hub, WordSource, serve_connection};
 use std::net::{TcpListener, TcpStream};
-use std::time::Clock;
+use std::thread;
+use std::time::{Clock, Duration};
+
+/// How long to wait after a connection could not be accepted, in milliseconds.
+const PAUSE: u64 = 100;
 
 /// Serves so many connections of the listener, one after another. One that cannot be accepted, or ends
-/// by a fault of memory, of reading or of writing, is skipped; another fault ends the whole. A peer that
-/// is idle or slow for too long is one whose read or write failed. After a connection what waits on it is
-/// dropped.
+/// by a fault of memory, of reading or of writing, is skipped; another fault ends the whole. After one that
+/// cannot be accepted a tenth of a second passes. A peer that is idle or slow for too long is one whose read
+/// or write failed. After a connection what waits on it is dropped.
 pub fn serve<S: Store, C: hub::Clock, D: WordSource, R: Clock>(
     rt: &R,
     hub: &mut Hub<S>,
@@ -29,6 +33,8 @@ pub fn serve<S: Store, C: hub::Clock, D: WordSource, R: Clock>(
 {
     for _ in 0..connections {
         let Ok((stream, _)) = listener.accept() else {
+            // Most likely the system has too many open files. Peers wait meanwhile.
+            thread::sleep(rt, Duration::from_millis(PAUSE));
             continue;
         };
         serve_stream(rt, hub, &stream, clock, words)?;
@@ -62,6 +68,9 @@ fn serve_stream<S: Store, C: hub::Clock, D: WordSource, R: Clock>(
         words,
     );
     hub.close(conn);
+    if end.is_ok() {
+        let _ = peer.let_go();
+    }
     unskipped(end)
 }
 

@@ -88,6 +88,8 @@ fn how_long_a_peer_is_waited_for(rt: HostRuntime) {
         left
     );
     assert_eq!(rt; patience(Wait::Progress, Duration::from_secs(20)), None);
+    assert_eq!(rt; patience(Wait::Farewell, Duration::from_millis(249)), left);
+    assert_eq!(rt; patience(Wait::Farewell, Duration::from_millis(250)), None);
 }
 
 #[test]
@@ -95,6 +97,7 @@ fn words_differ(rt: HostRuntime) -> Result<(), Fail> {
     let mut words = seeded(&rt)?;
     let first = words.words();
     assert!(rt; first != words.words());
+    assert!(rt; first != seeded(&rt)?.words());
     assert!(rt; SystemClock::new(&rt).now().seconds() > 1_700_000_000);
     Ok(())
 }

@@ -1,6 +1,6 @@
-ghost use Rattle.std.specs.Prelude.{◌≡◌, ◌<◌, IfSome, option_map};
+ghost use Rattle.std.specs.Prelude.{◌≡◌, ◌*◌, ◌<◌, IfSome, option_map};
 ghost use Rattle.std.specs.Duration.{as_nanos};
-ghost use Rattle.server.specs.Patience.{patience};
+ghost use Rattle.server.specs.Patience.{left_of, patience};
 
 use std::time::Duration;
 
@@ -11,9 +11,11 @@ pub(crate) enum Wait {
     NextRequest,
     /// The rest of a request, or all of the first one; or that a reply is taken.
     Progress,
+    /// The end of what it still sends, after its last reply.
+    Farewell,
 }
 
-/// How long a peer may take to ask again.
+/// How long a peer may take to ask again, or to end after its last reply.
 const LONGEST_PAUSE: u64 = 250;
 
 /// How long a peer may neither send nor take a byte.
@@ -30,15 +32,18 @@ pub(crate) fn patience(wait: Wait, age: Duration) -> Option<Duration>
     match wait {
         Wait::NextRequest => Some(Duration::from_millis(LONGEST_PAUSE)),
         Wait::Progress => {
-            let left = Duration::from_millis(LONGEST_EXCHANGE).checked_sub(age)?;
+            let left = left_of(LONGEST_EXCHANGE, age)?;
             let silence = Duration::from_millis(LONGEST_SILENCE);
-            if left.is_zero() {
-                None
-            } else if left < silence {
-                Some(left)
-            } else {
-                Some(silence)
-            }
+            Some(if left < silence { left } else { silence })
         }
+        Wait::Farewell => left_of(LONGEST_PAUSE, age),
     }
+}
+
+/// What is left of a limit in milliseconds, if anything is.
+fn left_of(limit: u64, age: Duration) -> Option<Duration>
+    ensures { option_map as_nanos result ≡ left_of (limit * 1_000_000) (as_nanos age) }
+{
+    let left = Duration::from_millis(limit).checked_sub(age)?;
+    if left.is_zero() { None } else { Some(left) }
 }

@@ -29,7 +29,7 @@ returns-in_err-bytes-clause-served g c =
     let fed = c.in_err-bytes.ensures in
     rw (p.1 ∙ ap Err p.2)
     (stops_feeding g.S.Store.seen c.args.conn c.args.piece.now (g.W.Sink.written c.args.writer.now) c.in_err-bytes.field-0.0 c.args.hub.now
-    c.feed.new.self fed.keeps.kept fed.connections)
+    c.feed.new.self c.requires fed.keeps.kept fed.connections)
 
 pub returns-in_err-bytes-clause-others : goal.returns-in_err-bytes-clause-others
 returns-in_err-bytes-clause-others g c = λ all each.

@@ -145,7 +145,7 @@ returns-clause-served g c =
     stops_on seen c.args.conn (Consumes was left) (Consumes left left) (Consumes was left) (Appends start now) (Appends now now)
     (Appends start now) Read c.args.hub.now c.loop.hub c.close.new.self (Consumes-append was left left) (Appends-append start now now)
     (λ honest. subst IsHonestStore c.close.ensures.store honest) c.loop.invariant.proceeds
-    (stops_reading seen c.args.conn (Consumes left left) (Appends now now) Read c.loop.hub c.close.new.self (Consumes-nil left) (Appends-nil now)
+    (stops_reading seen c.args.conn (Consumes left left) (Appends now now) c.loop.hub c.close.new.self (Consumes-nil left) (Appends-nil now)
     (record { store = c.close.ensures.store; connections = c.close.ensures.connections }))
 
 pub returns-clause-others : goal.returns-clause-others

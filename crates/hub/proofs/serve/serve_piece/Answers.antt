@@ -12,7 +12,7 @@ use Rattle.hub.proofs.serve.serve_piece.Goals as goal
 
 pub returns-in_default-clause-served : goal.returns-in_default-clause-served
 returns-in_default-clause-served g c =
-    stops_reading g.S.Store.seen c.args.conn _ _ _ c.args.hub.now c.close.new.self (Consumes-kept _ _ c.in_default.ensures.bytes) (Appends-nil _)
+    stops_reading g.S.Store.seen c.args.conn _ _ c.args.hub.now c.close.new.self (Consumes-kept _ _ c.in_default.ensures.bytes) (Appends-nil _)
     (record { store = c.close.ensures.store; connections = c.close.ensures.connections })
 
 pub returns-in_default-clause-others : goal.returns-in_default-clause-others
