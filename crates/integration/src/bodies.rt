@@ -56,7 +56,8 @@ fn outcome(error: Option<RequestError>, field: Field) -> u8 {
 }
 
 /// The values that each reader meets in the place of each of its members.
-const VALUES: &str = "null|true|false|\"true\"|\"false\"|\"True\"|0|1|-1|18446744073709551615|4294967296|\
+const VALUES: &str =
+    "null|true|false|\"true\"|\"false\"|\"True\"|0|1|-1|18446744073709551615|4294967296|\
     \"\"|\"x\"|\"service\"|\"0s\"|\"1h30m\"|\"1d\"|\"000000000000000007\"|\
     \"0000000000000000007\"|\" a, ,b \"|[]|[\"a\"]|[\"1\",2]|[null]|{}|{\"a\":\"b\"}|\
     {\"a\":null}";
@@ -85,152 +86,155 @@ fn expect_kinds(
 /// Each reader on each kind of value of each of its members.
 #[test]
 fn kinds_of_members(rt: HostRuntime) -> Result<(), Fail> {
-    expect_kinds(&rt, &[
-        (
-            Route::Creation,
-            Field::Policies,
-            "{\"policies\":@}",
-            ".ii...iiiii...........iiiii",
-        ),
-        (
-            Route::Creation,
-            Field::Meta,
-            "{\"meta\":@}",
-            ".iiiiiiiiiiiiiiiiiiiiiii..i",
-        ),
-        (
-            Route::Creation,
-            Field::Ttl,
-            "{\"ttl\":@}",
-            ".iiiii..iii.ii..i..iiiiiiii",
-        ),
-        (
-            Route::Creation,
-            Field::ExplicitMaxTtl,
-            "{\"explicit_max_ttl\":@}",
-            ".iiiii..iii.ii..i..iiiiiiii",
-        ),
-        (
-            Route::Creation,
-            Field::NumUses,
-            "{\"num_uses\":@}",
-            ".iiiii..i..iiiiii.iiiiiiiii",
-        ),
-        (
-            Route::Creation,
-            Field::NoParent,
-            "{\"no_parent\":@}",
-            ".....iiiiiiiiiiiiiiiiiiiiii",
-        ),
-        (
-            Route::Creation,
-            Field::NoDefaultPolicy,
-            "{\"no_default_policy\":@}",
-            ".....iiiiiiiiiiiiiiiiiiiiii",
-        ),
-        (
-            Route::Creation,
-            Field::Period,
-            "{\"period\":@}",
-            ".iiiii.iiii.ii.iiiiiiiiiiii",
-        ),
-        (
-            Route::Creation,
-            Field::Renewable,
-            "{\"renewable\":@}",
-            "..i.iiiiiiiiiiiiiiiiiiiiiii",
-        ),
-        (
-            Route::Creation,
-            Field::Id,
-            "{\"id\":@}",
-            ".iiiiiiiiii.iiiiiiiiiiiiiii",
-        ),
-        (
-            Route::Creation,
-            Field::TypeName,
-            "{\"type\":@}",
-            ".iiiiiiiiii.i.iiiiiiiiiiiii",
-        ),
-        (
-            Route::Token,
-            Field::Token,
-            "{\"token\":@}",
-            "mii...iiiii.........iiiiiii",
-        ),
-        (
-            Route::Accessor,
-            Field::Accessor,
-            "{\"accessor\":@}",
-            "mii...iiiii.........iiiiiii",
-        ),
-        (
-            Route::Increment,
-            Field::Increment,
-            "{\"increment\":@}",
-            ".iiiii..iii.ii..i..iiiiiiii",
-        ),
-        (
-            Route::TokenRenewal,
-            Field::Token,
-            "{\"token\":@}",
-            "mii...iiiii.........iiiiiii",
-        ),
-        (
-            Route::TokenRenewal,
-            Field::Increment,
-            "{\"token\":\"t\",\"increment\":@}",
-            ".iiiii..iii.ii..i..iiiiiiii",
-        ),
-        (
-            Route::Settings,
-            Field::CasRequired,
-            "{\"cas_required\":@}",
-            ".....iiiiiiiiiiiiiiiiiiiiii",
-        ),
-        (
-            Route::Settings,
-            Field::MaxVersions,
-            "{\"max_versions\":@}",
-            ".iiiii..i..iiiiii.iiiiiiiii",
-        ),
-        (
-            Route::Settings,
-            Field::DeleteVersionAfter,
-            "{\"delete_version_after\":@}",
-            ".iiiiiiiiiiiii.iiiiiiiiiiii",
-        ),
-        (
-            Route::Secret,
-            Field::Options,
-            "{\"data\":@}",
-            "dddddddddddddddddddddddd...",
-        ),
-        (
-            Route::Secret,
-            Field::Options,
-            "{\"data\":{},\"options\":@}",
-            ".iiiiiiiiiiiiiiiiiiiiiii...",
-        ),
-        (
-            Route::Secret,
-            Field::Cas,
-            "{\"data\":{},\"options\":{\"cas\":@}}",
-            ".iiiii..i..iiiiii.iiiiiiiii",
-        ),
-        (
-            Route::Versions,
-            Field::Versions,
-            "{\"versions\":@}",
-            "miiiiiiiiiimiiiii.iimi.iiii",
-        ),
-        (
-            Route::Policy,
-            Field::Policy,
-            "{\"policy\":@}",
-            "mii...iiiii.........iiiiiii",
-        ),
-    ])
+    expect_kinds(
+        &rt,
+        &[
+            (
+                Route::Creation,
+                Field::Policies,
+                "{\"policies\":@}",
+                ".ii...iiiii...........iiiii",
+            ),
+            (
+                Route::Creation,
+                Field::Meta,
+                "{\"meta\":@}",
+                ".iiiiiiiiiiiiiiiiiiiiiii..i",
+            ),
+            (
+                Route::Creation,
+                Field::Ttl,
+                "{\"ttl\":@}",
+                ".iiiii..iii.ii..i..iiiiiiii",
+            ),
+            (
+                Route::Creation,
+                Field::ExplicitMaxTtl,
+                "{\"explicit_max_ttl\":@}",
+                ".iiiii..iii.ii..i..iiiiiiii",
+            ),
+            (
+                Route::Creation,
+                Field::NumUses,
+                "{\"num_uses\":@}",
+                ".iiiii..i..iiiiii.iiiiiiiii",
+            ),
+            (
+                Route::Creation,
+                Field::NoParent,
+                "{\"no_parent\":@}",
+                ".....iiiiiiiiiiiiiiiiiiiiii",
+            ),
+            (
+                Route::Creation,
+                Field::NoDefaultPolicy,
+                "{\"no_default_policy\":@}",
+                ".....iiiiiiiiiiiiiiiiiiiiii",
+            ),
+            (
+                Route::Creation,
+                Field::Period,
+                "{\"period\":@}",
+                ".iiiii.iiii.ii.iiiiiiiiiiii",
+            ),
+            (
+                Route::Creation,
+                Field::Renewable,
+                "{\"renewable\":@}",
+                "..i.iiiiiiiiiiiiiiiiiiiiiii",
+            ),
+            (
+                Route::Creation,
+                Field::Id,
+                "{\"id\":@}",
+                ".iiiiiiiiii.iiiiiiiiiiiiiii",
+            ),
+            (
+                Route::Creation,
+                Field::TypeName,
+                "{\"type\":@}",
+                ".iiiiiiiiii.i.iiiiiiiiiiiii",
+            ),
+            (
+                Route::Token,
+                Field::Token,
+                "{\"token\":@}",
+                "mii...iiiii.........iiiiiii",
+            ),
+            (
+                Route::Accessor,
+                Field::Accessor,
+                "{\"accessor\":@}",
+                "mii...iiiii.........iiiiiii",
+            ),
+            (
+                Route::Increment,
+                Field::Increment,
+                "{\"increment\":@}",
+                ".iiiii..iii.ii..i..iiiiiiii",
+            ),
+            (
+                Route::TokenRenewal,
+                Field::Token,
+                "{\"token\":@}",
+                "mii...iiiii.........iiiiiii",
+            ),
+            (
+                Route::TokenRenewal,
+                Field::Increment,
+                "{\"token\":\"t\",\"increment\":@}",
+                ".iiiii..iii.ii..i..iiiiiiii",
+            ),
+            (
+                Route::Settings,
+                Field::CasRequired,
+                "{\"cas_required\":@}",
+                ".....iiiiiiiiiiiiiiiiiiiiii",
+            ),
+            (
+                Route::Settings,
+                Field::MaxVersions,
+                "{\"max_versions\":@}",
+                ".iiiii..i..iiiiii.iiiiiiiii",
+            ),
+            (
+                Route::Settings,
+                Field::DeleteVersionAfter,
+                "{\"delete_version_after\":@}",
+                ".iiiiiiiiiiiii.iiiiiiiiiiii",
+            ),
+            (
+                Route::Secret,
+                Field::Options,
+                "{\"data\":@}",
+                "dddddddddddddddddddddddd...",
+            ),
+            (
+                Route::Secret,
+                Field::Options,
+                "{\"data\":{},\"options\":@}",
+                ".iiiiiiiiiiiiiiiiiiiiiii...",
+            ),
+            (
+                Route::Secret,
+                Field::Cas,
+                "{\"data\":{},\"options\":{\"cas\":@}}",
+                ".iiiii..i..iiiiii.iiiiiiiii",
+            ),
+            (
+                Route::Versions,
+                Field::Versions,
+                "{\"versions\":@}",
+                "miiiiiiiiiimiiiii.iimi.iiii",
+            ),
+            (
+                Route::Policy,
+                Field::Policy,
+                "{\"policy\":@}",
+                "mii...iiiii.........iiiiiii",
+            ),
+        ],
+    )
 }
 
 /// Reads each text as a body, and compares what it is read as; none where it is refused.
@@ -261,30 +265,33 @@ fn expect_bodies(
 /// reader itself refuses is refused there too.
 #[test]
 fn bodies(rt: HostRuntime) -> Result<(), Fail> {
-    expect_bodies(&rt, &[
-        ("", Some("{}")),
-        (" null\n", Some("{}")),
-        (" ", None),
-        ("[]", None),
-        ("1", None),
-        ("\"{}\"", None),
-        ("{\"a\":1}x", None),
-        ("{\"a\":-0}", None),
-        ("{\"a\":1.0}", None),
-        ("{\"a\":1e2}", None),
-        ("{\"a\":18446744073709551616}", None),
-        ("{\"a\":-9223372036854775809}", None),
-        ("{\"a\":[{\"b\":1.5}]}", None),
-        ("{\"a\":1.5,\"a\":2}", Some("{\"a\":2}")),
-        ("{\"a\":1e999,\"a\":2}", None),
-        ("\u{feff}{}", None),
-        (
-            " {\"b\":[18446744073709551615, -9223372036854775808],\"10\":null,\"2\":\"\\u00e9\\u0001\\/\"} ",
-            Some(
-                "{\"10\":null,\"2\":\"é\\u0001/\",\"b\":[18446744073709551615,-9223372036854775808]}",
+    expect_bodies(
+        &rt,
+        &[
+            ("", Some("{}")),
+            (" null\n", Some("{}")),
+            (" ", None),
+            ("[]", None),
+            ("1", None),
+            ("\"{}\"", None),
+            ("{\"a\":1}x", None),
+            ("{\"a\":-0}", None),
+            ("{\"a\":1.0}", None),
+            ("{\"a\":1e2}", None),
+            ("{\"a\":18446744073709551616}", None),
+            ("{\"a\":-9223372036854775809}", None),
+            ("{\"a\":[{\"b\":1.5}]}", None),
+            ("{\"a\":1.5,\"a\":2}", Some("{\"a\":2}")),
+            ("{\"a\":1e999,\"a\":2}", None),
+            ("\u{feff}{}", None),
+            (
+                " {\"b\":[18446744073709551615, -9223372036854775808],\"10\":null,\"2\":\"\\u00e9\\u0001\\/\"} ",
+                Some(
+                    "{\"10\":null,\"2\":\"é\\u0001/\",\"b\":[18446744073709551615,-9223372036854775808]}",
+                ),
             ),
-        ),
-    ])?;
+        ],
+    )?;
     let alloc = rt.alloc();
     assert!(rt; read_body(alloc, b"{\"a\":\"\xff\"}").is_err());
     assert!(rt; read_body(alloc, nested(alloc, 126)?.as_bytes()).is_ok());
