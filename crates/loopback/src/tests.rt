@@ -2,7 +2,7 @@
 
 use api_client::{command_of, reply_of, request_of};
 use broker::ListStore;
-use broker_types::{Moment, Words};
+use broker_types::{Bytes, Fault, Moment, Words};
 use endpoints::Reading;
 use hub::{Clock, Hub, WordSource};
 use server::serve;
@@ -46,14 +46,8 @@ fn words(alloc: Global, line: &[&str]) -> Result<Vec<String>, AllocError> {
     Ok(words)
 }
 
-/// The request of a command is sent and served, and its reply is read.
-#[test]
-fn a_read_over_the_loopback(rt: HostRuntime) -> Result<(), Fail> {
-    let alloc = rt.alloc();
-    let moment = Moment::new(1_700_000_000).ok_or("the moment is in range")?;
-    let mut store = ListStore::new(alloc);
-    let root = store.start(moment, &Words([0, 1, 2, 3, 4, 5, 6, 7]))?;
-    let mut hub = Hub::new(alloc, store);
+/// The bytes that the client sends to read the settings of the mount.
+fn request_by(alloc: Global, token: &str) -> Result<Vec<u8>, Fail> {
     let line = words(
         alloc,
         &[
@@ -61,23 +55,50 @@ fn a_read_over_the_loopback(rt: HostRuntime) -> Result<(), Fail> {
             "--addr",
             "127.0.0.1:8200",
             "--token",
-            root.as_str(),
+            token,
             "read",
             "secret/config",
         ],
     )?;
-    let Ok(command) = command_of(alloc, line.as_slice()) else {
-        return Err(Fail::from("the words have no command"));
-    };
+    match command_of(alloc, line.as_slice()) {
+        Ok(command) => Ok(request_of(alloc, &command)?),
+        Err(_) => Err(Fail::from("the words have no command")),
+    }
+}
+
+/// Serves one connection of the listener at the moment, with the same words for each event.
+fn serve_one(
+    rt: &HostRuntime,
+    store: ListStore,
+    listener: &TcpListener,
+    moment: Moment,
+) -> Result<(), Fault> {
+    let mut hub = Hub::new(rt.alloc(), store);
+    let mut same = Same(Words([32, 33, 34, 35, 36, 37, 38, 39]));
+    serve(rt, &mut hub, listener, 1, &mut Fixed(moment), &mut same)
+}
+
+/// The status and the body of the reply that comes on the stream.
+fn reply_on(alloc: Global, stream: &TcpStream) -> Result<(u16, Bytes), Fail> {
+    match reply_of(alloc, &mut Reading::new(stream)) {
+        Ok(reply) => Ok((reply.status, reply.body)),
+        Err(_) => Err(Fail::from("there is no reply")),
+    }
+}
+
+/// The request of a command is sent and served, and its reply is read.
+#[test]
+fn a_read_over_the_loopback(rt: HostRuntime) -> Result<(), Fail> {
+    let alloc = rt.alloc();
+    let moment = Moment::new(1_700_000_000).ok_or("the moment is in range")?;
+    let mut store = ListStore::new(alloc);
+    let root = store.start(moment, &Words([0, 1, 2, 3, 4, 5, 6, 7]))?;
     let listener = TcpListener::bind(&rt, "127.0.0.1:0")?;
     let mut stream = TcpStream::connect(&rt, listener.local_addr()?)?;
-    stream.write_all(request_of(alloc, &command)?.as_slice())?;
-    let mut same = Same(Words([32, 33, 34, 35, 36, 37, 38, 39]));
-    serve(&rt, &mut hub, &listener, 1, &mut Fixed(moment), &mut same)?;
-    let Ok(reply) = reply_of(alloc, &mut Reading::new(&stream)) else {
-        return Err(Fail::from("there is no reply"));
-    };
-    assert_eq!(rt; reply.status, 200);
-    assert_eq!(rt; reply.body.as_slice(), SETTINGS.as_bytes());
+    stream.write_all(request_by(alloc, root.as_str())?.as_slice())?;
+    serve_one(&rt, store, &listener, moment)?;
+    let (status, body) = reply_on(alloc, &stream)?;
+    assert_eq!(rt; status, 200);
+    assert_eq!(rt; body.as_slice(), SETTINGS.as_bytes());
     Ok(())
 }
