@@ -1,6 +1,8 @@
 //! Requests over a tree of tokens: who is served, what a request spends, and what is left afterwards.
 
-use super::{NOT_FOUND, PERMISSION_DENIED, asked, counted, expect, first_rows, moment, words};
+use super::{
+    NOT_FOUND, PERMISSION_DENIED, asked, counted, expect, expect_only, first_rows, moment, words,
+};
 use broker::handle;
 use broker_types::{Answer, Bytes, Status, TextBuf, TokenText, Verb, id_text};
 use records::{Due, Holder, Kind, ListTx, RecordsTx, Row, write_accessor};
@@ -12,6 +14,10 @@ const START: u64 = 1_700_000_000;
 
 /// Where each token of the tree keeps an object.
 const KEPT: &str = "cubbyhole/a";
+
+const LOOKUP: &str = "auth/token/lookup-self";
+
+const RENEW: &str = "auth/token/renew-self";
 
 /// The reply to a read of that object.
 const GIVEN: &str =
@@ -289,6 +295,75 @@ fn refused_last_use(rt: HostRuntime) -> Result<(), Fail> {
     Ok(())
 }
 
+/// What the token 0xf reads of itself.
+fn expect_looked_up<R: Abort>(
+    rt: &R,
+    alloc: Global,
+    tx: &mut ListTx,
+    seconds: u64,
+    uses: u64,
+    ttl: u64,
+) -> Result<(), Fail> {
+    let text = format!(in alloc;
+        "{{\"auth\":null,\"data\":{{\"accessor\":\"00000000-0000-0000-0000-00000000010f\",\
+        \"creation_time\":1700000000,\"creation_ttl\":1000,\"expire_time\":\"2023-11-14T22:30:00Z\",\
+        \"explicit_max_ttl\":0,\"id\":\"hvs.00000000-0000-0000-0000-00000000000f\",\
+        \"issue_time\":\"2023-11-14T22:13:20Z\",\"meta\":null,\"num_uses\":{uses},\"orphan\":true,\
+        \"policies\":[\"default\"],\"renewable\":true,\"ttl\":{ttl},\"type\":\"service\"}},\
+        \"lease_duration\":0,\"lease_id\":\"\",\"renewable\":false,\
+        \"request_id\":\"00000000-0000-0000-0000-000000000020\",\"warnings\":null,\"wrap_info\":null}}\n"
+    )?;
+    let answer = answered(alloc, tx, seconds, Verb::Get, LOOKUP, 0xf, "")?;
+    expect(rt, &answer, Status::Success, text.as_str());
+    Ok(())
+}
+
+/// An unknown token spends nobody's use and moves the clock on. The uses shown are those that are left after this one.
+#[test]
+fn unknown_tokens_move_the_clock(rt: HostRuntime) -> Result<(), Fail> {
+    let alloc = rt.alloc();
+    let mut tx = tree(alloc)?;
+    for (verb, body, moved, earlier, uses, ttl) in [
+        (Verb::Get, "", 7, 3, 4, 993),
+        (Verb::Write, "{", 9, 4, 3, 991),
+    ] {
+        let answer = answered(alloc, &mut tx, moved, verb, KEPT, 0x99, body)?;
+        expect(&rt, &answer, Status::Forbidden, PERMISSION_DENIED);
+        expect_looked_up(&rt, alloc, &mut tx, earlier, uses, ttl)?;
+    }
+    let clock = [1, 0, 0, 0, 0, 0x65, 0x53, 0xf1, 9];
+    expect_only(&rt, &mut tx, Kind::Clock, "", "", clock.as_slice())?;
+    Ok(())
+}
+
+/// Three paths are for the root token alone. Others get 403 there, whatever the verb; the root token gets what the path
+/// and the verb give.
+#[test]
+fn paths_of_the_root_token(rt: HostRuntime) -> Result<(), Fail> {
+    let alloc = rt.alloc();
+    let mut tx = tree(alloc)?;
+    let list = Status::Success;
+    let other = Status::MethodNotAllowed;
+    for (path, statuses) in [
+        ("auth/token/accessors", [other, list, other, other]),
+        (
+            "auth/token/revoke-orphan",
+            [other, other, Status::BadRequest, other],
+        ),
+        ("sys/leases/revoke-prefix/x", [Status::NotFound; 4]),
+    ] {
+        let verbs = [Verb::Get, Verb::List, Verb::Write, Verb::Delete];
+        for (verb, status) in verbs.into_iter().zip(statuses) {
+            let denied = answered(alloc, &mut tx, 0, verb, path, 0xd, "{}")?;
+            expect(&rt, &denied, Status::Forbidden, PERMISSION_DENIED);
+            let answer = answered(alloc, &mut tx, 0, verb, path, 1, "{}")?;
+            assert_eq!(rt; answer.status, status);
+        }
+    }
+    expect_left(&rt, alloc, &mut tx, &[0xa, 0xb, 0xc, 0xd, 0xe, 0xf, 0x10])?;
+    Ok(())
+}
+
 /// Only the token itself ends; its child is an orphan then, which the end of the token does not concern.
 #[test]
 fn freed_children(rt: HostRuntime) -> Result<(), Fail> {
@@ -394,5 +469,36 @@ fn revoked_generations(rt: HostRuntime) -> Result<(), Fail> {
     )?;
     expect(&rt, &answer, Status::NoContent, "");
     expect_left(&rt, alloc, &mut tx, &without_a)?;
+    Ok(())
+}
+
+/// A renewal without a time asks for the ttl of the creation; none goes past the explicit maximum, at second 250.
+#[test]
+fn renewals_to_the_maximum(rt: HostRuntime) -> Result<(), Fail> {
+    let alloc = rt.alloc();
+    let mut tx = tree(alloc)?;
+    for (seconds, body, left) in [
+        (50, "", 100),
+        (50, "{\"increment\":150}", 150),
+        (50, "{\"increment\":\"1h\"}", 200),
+        (200, "", 50),
+    ] {
+        let text = format!(in alloc;
+            "{{\"auth\":{{\"accessor\":\"00000000-0000-0000-0000-00000000010a\",\
+            \"client_token\":\"hvs.00000000-0000-0000-0000-00000000000a\",\"entity_id\":\"\",\
+            \"lease_duration\":{left},\"metadata\":null,\"num_uses\":0,\"orphan\":true,\
+            \"policies\":[\"default\"],\"renewable\":true,\"token_policies\":[\"default\"],\
+            \"token_type\":\"service\"}},\"data\":null,\"lease_duration\":0,\"lease_id\":\"\",\"renewable\":false,\
+            \"request_id\":\"00000000-0000-0000-0000-000000000020\",\"warnings\":null,\"wrap_info\":null}}\n"
+        )?;
+        let answer = answered(alloc, &mut tx, seconds, Verb::Write, RENEW, 0xa, body)?;
+        expect(&rt, &answer, Status::Success, text.as_str());
+    }
+    expect_left(&rt, alloc, &mut tx, &[0xa, 0xd, 0xf, 0x10])?;
+    let answer = answered(alloc, &mut tx, 249, Verb::Get, KEPT, 0xa, "")?;
+    expect(&rt, &answer, Status::Success, GIVEN);
+    let answer = answered(alloc, &mut tx, 250, Verb::Get, KEPT, 0xa, "")?;
+    expect(&rt, &answer, Status::Forbidden, PERMISSION_DENIED);
+    expect_left(&rt, alloc, &mut tx, &[0xd, 0xf, 0x10])?;
     Ok(())
 }
