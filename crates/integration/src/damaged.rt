@@ -2,11 +2,14 @@
 
 use broker_types::{Bytes, Fault, Moment, RequestError, TextBuf, Verb};
 use records::{Kind, ListRecords, ListTx, RecordsTx, Row};
-use std::alloc::Global;
+use std::alloc::{AllocGlobal, Global};
+use std::process::Abort;
 use std::test::Fail;
 
-/// The bodies of no row: that without bytes, and one of a format that there is not.
-const BODIES: [&str; 2] = ["", "\t"];
+/// Two bodies of no row: that without bytes, and one of a format that there is not.
+const EMPTY: &str = "";
+
+const OTHER_FORMAT: &str = "\t";
 
 /// A transaction with one row, which has this body.
 fn with_row(alloc: Global, kind: Kind, key: &str, body: &str) -> Result<ListTx, Fault> {
@@ -22,63 +25,79 @@ fn with_row(alloc: Global, kind: Kind, key: &str, body: &str) -> Result<ListTx, 
     Ok(tx)
 }
 
+/// Calls that read a row of tokens with this body.
+fn expect_damaged_tokens(rt: &(impl Abort + AllocGlobal), body: &str) -> Result<(), Fail> {
+    let alloc = rt.alloc();
+    let mut tx = with_row(alloc, Kind::Token, "t", body)?;
+    assert!(rt; matches!(token_tree::find(alloc, &mut tx, "t"), Err(Fault::Damaged)));
+    assert!(rt; matches!(token_tree::spend(alloc, &mut tx, "t"), Err(Fault::Damaged)));
+    assert!(rt; matches!(token_tree::revoke(alloc, &mut tx, "t"), Err(Fault::Damaged)));
+    let mut alone = with_row(alloc, Kind::Token, "t", body)?;
+    assert!(rt;
+        matches!(
+            token_tree::revoke_one(alloc, &mut alone, "t"),
+            Err(Fault::Damaged)
+        )
+    );
+    Ok(())
+}
+
 #[test]
 fn rows_of_tokens(rt: HostRuntime) -> Result<(), Fail> {
+    expect_damaged_tokens(&rt, EMPTY)?;
+    expect_damaged_tokens(&rt, OTHER_FORMAT)
+}
+
+/// Calls that read a row of accessors with this body.
+fn expect_damaged_accessors(rt: &(impl Abort + AllocGlobal), body: &str) -> Result<(), Fail> {
     let alloc = rt.alloc();
-    for body in BODIES {
-        let mut tx = with_row(alloc, Kind::Token, "t", body)?;
-        assert!(rt; matches!(token_tree::find(alloc, &mut tx, "t"), Err(Fault::Damaged)));
-        assert!(rt; matches!(token_tree::spend(alloc, &mut tx, "t"), Err(Fault::Damaged)));
-        assert!(rt; matches!(token_tree::revoke(alloc, &mut tx, "t"), Err(Fault::Damaged)));
-        let mut alone = with_row(alloc, Kind::Token, "t", body)?;
-        assert!(rt;
-            matches!(
-                token_tree::revoke_one(alloc, &mut alone, "t"),
-                Err(Fault::Damaged)
-            )
-        );
-    }
+    let mut tx = with_row(alloc, Kind::Accessor, "a", body)?;
+    assert!(rt; matches!(token_tree::find_accessor(&mut tx, "a"), Err(Fault::Damaged)));
+    assert!(rt; matches!(token_tree::accessors(alloc, &mut tx), Err(Fault::Damaged)));
     Ok(())
 }
 
 #[test]
 fn rows_of_accessors(rt: HostRuntime) -> Result<(), Fail> {
+    expect_damaged_accessors(&rt, EMPTY)?;
+    expect_damaged_accessors(&rt, OTHER_FORMAT)
+}
+
+/// Calls that read a row of mounts with this body.
+fn expect_damaged_mounts(rt: &(impl Abort + AllocGlobal), body: &str) -> Result<(), Fail> {
     let alloc = rt.alloc();
-    for body in BODIES {
-        let mut tx = with_row(alloc, Kind::Accessor, "a", body)?;
-        assert!(rt; matches!(token_tree::find_accessor(&mut tx, "a"), Err(Fault::Damaged)));
-        assert!(rt; matches!(token_tree::accessors(alloc, &mut tx), Err(Fault::Damaged)));
-    }
+    let mut tx = with_row(alloc, Kind::Mount, "team", body)?;
+    let found = mounts::route(alloc, &mut tx, Verb::Get, "team/data/a");
+    assert!(rt; matches!(found, Err(RequestError::Fault(Fault::Damaged))));
+    assert!(rt; matches!(mounts::list(alloc, &mut tx), Err(Fault::Damaged)));
+    assert!(rt; matches!(kv2::config(&mut tx, "team"), Err(Fault::Damaged)));
+    let set = kv2::set_config(alloc, &mut tx, "team", None, Some(3));
+    assert!(rt; matches!(set, Err(Fault::Damaged)));
+    let now = Moment::new(1000).ok_or("no moment")?;
+    let written = kv2::write(alloc, &mut tx, now, "team", "a", None, "{}");
+    assert!(rt; matches!(written, Err(RequestError::Fault(Fault::Damaged))));
     Ok(())
 }
 
 #[test]
 fn rows_of_mounts(rt: HostRuntime) -> Result<(), Fail> {
+    expect_damaged_mounts(&rt, EMPTY)?;
+    expect_damaged_mounts(&rt, OTHER_FORMAT)
+}
+
+/// Calls that read a row of policies with this body.
+fn expect_damaged_policies(rt: &(impl Abort + AllocGlobal), body: &str) -> Result<(), Fail> {
     let alloc = rt.alloc();
-    for body in BODIES {
-        let mut tx = with_row(alloc, Kind::Mount, "team", body)?;
-        let found = mounts::route(alloc, &mut tx, Verb::Get, "team/data/a");
-        assert!(rt; matches!(found, Err(RequestError::Fault(Fault::Damaged))));
-        assert!(rt; matches!(mounts::list(alloc, &mut tx), Err(Fault::Damaged)));
-        assert!(rt; matches!(kv2::config(&mut tx, "team"), Err(Fault::Damaged)));
-        let set = kv2::set_config(alloc, &mut tx, "team", None, Some(3));
-        assert!(rt; matches!(set, Err(Fault::Damaged)));
-        let now = Moment::new(1000).ok_or("no moment")?;
-        let written = kv2::write(alloc, &mut tx, now, "team", "a", None, "{}");
-        assert!(rt; matches!(written, Err(RequestError::Fault(Fault::Damaged))));
-    }
+    let mut tx = with_row(alloc, Kind::Policy, "p", body)?;
+    assert!(rt; matches!(policies::get(alloc, &mut tx, "p"), Err(Fault::Damaged)));
+    let names = [TextBuf::copied(alloc, "p")?];
+    let rules = policies::rules_of(alloc, &mut tx, &names, Verb::Get);
+    assert!(rt; matches!(rules, Err(Fault::Damaged)));
     Ok(())
 }
 
 #[test]
 fn rows_of_policies(rt: HostRuntime) -> Result<(), Fail> {
-    let alloc = rt.alloc();
-    for body in BODIES {
-        let mut tx = with_row(alloc, Kind::Policy, "p", body)?;
-        assert!(rt; matches!(policies::get(alloc, &mut tx, "p"), Err(Fault::Damaged)));
-        let names = [TextBuf::copied(alloc, "p")?];
-        let rules = policies::rules_of(alloc, &mut tx, &names, Verb::Get);
-        assert!(rt; matches!(rules, Err(Fault::Damaged)));
-    }
-    Ok(())
+    expect_damaged_policies(&rt, EMPTY)?;
+    expect_damaged_policies(&rt, OTHER_FORMAT)
 }

@@ -19,18 +19,15 @@ fn kept(rt: &HostRuntime, policies: &[(&str, &str)]) -> Result<ListTx, Fail> {
     Ok(tx)
 }
 
+fn is_policy(rt: &HostRuntime, text: &str) -> bool {
+    Policy::from_json(rt.alloc(), text).is_ok()
+}
+
 #[test]
 fn texts_are_policies(rt: HostRuntime) {
-    for (text, is_policy) in [
-        ("{\"path\":{}}", true),
-        ("{\"path\":{\"a/+*\":{\"capabilities\":[\"read\"]}}}", true),
-        ("{\"path\":{\"a/+\":{\"capabilities\":[\"read\"]}}}", false),
-    ] {
-        assert!(rt;
-            Policy::from_json(rt.alloc(), text).is_ok() == is_policy,
-            "{text}"
-        );
-    }
+    assert!(rt; is_policy(&rt, "{\"path\":{}}"));
+    assert!(rt; is_policy(&rt, "{\"path\":{\"a/+*\":{\"capabilities\":[\"read\"]}}}"));
+    assert!(rt; !is_policy(&rt, "{\"path\":{\"a/+\":{\"capabilities\":[\"read\"]}}}"));
 }
 
 /// A caller with the policies `p` and `absent` may read some paths and others not.
@@ -46,14 +43,10 @@ fn the_exact_pattern_and_then_the_longest_prefix(rt: HostRuntime) -> Result<(), 
         TextBuf::copied(alloc, "absent")?,
     ];
     let rules = rules_of(alloc, &mut tx, &names, Verb::Get)?;
-    for (path, may) in [
-        ("d/x", true),
-        ("d/ab", true),
-        ("d/a", false),
-        ("d/c*d", false),
-    ] {
-        assert!(rt; allows(&rules, path, Capability::Read) == may, "{path}");
-    }
+    assert!(rt; allows(&rules, "d/x", Capability::Read));
+    assert!(rt; allows(&rules, "d/ab", Capability::Read));
+    assert!(rt; !allows(&rules, "d/a", Capability::Read));
+    assert!(rt; !allows(&rules, "d/c*d", Capability::Read));
     Ok(())
 }
 

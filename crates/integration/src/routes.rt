@@ -1,8 +1,8 @@
 use broker_types::Verb::{self, Delete, Get, List, Write};
 use broker_types::{Methods, Reason, Refusal, RequestError};
 use mounts::{
-    Cubbyhole, MountType, Operation, PolicyOperation, SecretOperation, TokenOperation, disable,
-    enable, list, route,
+    Cubbyhole, MountType, NamedMount, Operation, PolicyOperation, SecretOperation, TokenOperation,
+    disable, enable, list, route,
 };
 use records::{ListRecords, ListTx};
 use std::process::Abort;
@@ -262,54 +262,77 @@ fn a_route_has_its_mount_and_its_parameter(rt: HostRuntime) -> Result<(), Fail> 
     Ok(())
 }
 
-#[test]
-fn mounts_are_refused_in_order(rt: HostRuntime) -> Result<(), Fail> {
-    let alloc = rt.alloc();
-    let mut tx = with_mounts(&rt)?;
-    for (name, mount_type, version, reason) in [
-        ("a:b", "x", None, Some(Reason::InvalidName)),
-        ("", "kv-v2", None, Some(Reason::InvalidName)),
-        ("db", "x", None, Some(Reason::PathInUse)),
-        ("identity", "kv-v2", None, Some(Reason::PathInUse)),
-        ("new", "kv", None, Some(Reason::UnsupportedMount)),
-        ("new", "kv", Some(1), Some(Reason::UnsupportedMount)),
-        ("new", "kv-v2", Some(1), None),
-        ("new", "kv-v2", None, Some(Reason::PathInUse)),
-    ] {
-        let refused = enable(alloc, &mut tx, name, mount_type, version).err();
+/// Mounts in turn, by name, type and version, and why each is refused, if it is.
+fn expect_mounts(
+    rt: &(impl Abort + AllocGlobal),
+    tx: &mut ListTx,
+    mounts: &[(&str, &str, Option<u64>, Option<Reason>)],
+) {
+    for (name, mount_type, version, reason) in mounts.iter() {
+        let refused = enable(rt.alloc(), tx, name, mount_type, *version).err();
         let wanted = reason.map(|reason| RequestError::Refused(Refusal::BadRequest(reason)));
         assert!(rt; refused == wanted, "{name}");
     }
+}
+
+#[test]
+fn mounts_are_refused_in_order(rt: HostRuntime) -> Result<(), Fail> {
+    let mut tx = with_mounts(&rt)?;
+    expect_mounts(
+        &rt,
+        &mut tx,
+        &[
+            ("a:b", "x", None, Some(Reason::InvalidName)),
+            ("", "kv-v2", None, Some(Reason::InvalidName)),
+            ("db", "x", None, Some(Reason::PathInUse)),
+            ("identity", "kv-v2", None, Some(Reason::PathInUse)),
+            ("new", "kv", None, Some(Reason::UnsupportedMount)),
+            ("new", "kv", Some(1), Some(Reason::UnsupportedMount)),
+            ("new", "kv-v2", Some(1), None),
+            ("new", "kv-v2", None, Some(Reason::PathInUse)),
+        ],
+    );
     let fixed = RequestError::Refused(Refusal::BadRequest(Reason::MountFixed));
     assert!(rt; disable(&mut tx, "cubbyhole") == Err(fixed));
-    for name in ["identity", "new"] {
-        assert!(rt; disable(&mut tx, name) == Ok(()));
-    }
-    assert!(rt; enable(alloc, &mut tx, "new", "issued", None) == Ok(()));
+    assert!(rt; disable(&mut tx, "identity") == Ok(()));
+    assert!(rt; disable(&mut tx, "new") == Ok(()));
+    expect_mounts(&rt, &mut tx, &[("new", "issued", None, None)]);
     Ok(())
+}
+
+/// Whether these mounts are listed, by name and type.
+fn are_listed(mounts: &[NamedMount], expected: &[(&str, MountType)]) -> bool {
+    mounts.len() == expected.len()
+        && mounts.iter().zip(expected).all(|(found, wanted)| found.name.as_str() == wanted.0
+            && found.mount_type == wanted.1)
 }
 
 #[test]
 fn all_mounts_are_listed_in_order(rt: HostRuntime) -> Result<(), Fail> {
-    let alloc = rt.alloc();
     let mut tx = with_mounts(&rt)?;
-    for (name, mount_type) in [("a", "kv-v2"), ("z", "issued"), ("db-2", "kv-v2")] {
-        assert!(rt; enable(alloc, &mut tx, name, mount_type, None) == Ok(()));
-    }
-    let mounts = list(alloc, &mut tx)?;
-    let expected = [
-        ("a/", MountType::Kv),
-        ("cubbyhole/", MountType::Cubbyhole),
-        ("db-2/", MountType::Kv),
-        ("db/", MountType::Issued),
-        ("secret/", MountType::Kv),
-        ("sys/", MountType::System),
-        ("z/", MountType::Issued),
-    ];
-    assert!(rt; mounts.len() == expected.len());
+    expect_mounts(
+        &rt,
+        &mut tx,
+        &[
+            ("a", "kv-v2", None, None),
+            ("z", "issued", None, None),
+            ("db-2", "kv-v2", None, None),
+        ],
+    );
+    let mounts = list(rt.alloc(), &mut tx)?;
     assert!(rt;
-        mounts.iter().zip(&expected).all(|(found, wanted)| found.name.as_str() == wanted.0
-            && found.mount_type == wanted.1)
+        are_listed(
+            mounts.as_slice(),
+            &[
+                ("a/", MountType::Kv),
+                ("cubbyhole/", MountType::Cubbyhole),
+                ("db-2/", MountType::Kv),
+                ("db/", MountType::Issued),
+                ("secret/", MountType::Kv),
+                ("sys/", MountType::System),
+                ("z/", MountType::Issued),
+            ]
+        )
     );
     Ok(())
 }

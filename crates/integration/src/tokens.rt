@@ -2,7 +2,8 @@
 
 use broker_types::{Bytes, Fault, Moment, TextBuf};
 use records::{Due, Kind, ListRecords, ListTx, RecordsTx, Row, read_token};
-use std::alloc::Global;
+use std::alloc::{AllocGlobal, Global};
+use std::process::Abort;
 use std::test::Fail;
 use token_tree::{
     accessors, create, find, find_accessor, renew, revoke, revoke_one, spend, sweep_tokens,
@@ -44,48 +45,65 @@ fn left(alloc: Global, tx: &mut ListTx) -> Result<(usize, usize), Fault> {
     Ok((tokens.len(), names.len()))
 }
 
-#[test]
-fn a_token_ends_with_all_under_it(rt: HostRuntime) -> Result<(), Fail> {
+/// How many tokens the revocation of each of these ends, and how many stay.
+fn expect_revoked(
+    rt: &(impl Abort + AllocGlobal),
+    revoked: &[(&str, usize, usize)],
+) -> Result<(), Fail> {
     let alloc = rt.alloc();
-    for (token, ended, stay) in [
-        ("top", 3, 2),
-        ("mid", 2, 3),
-        ("low", 1, 4),
-        ("odd", 2, 3),
-        ("", 0, 5),
-        ("not", 0, 5),
-    ] {
+    for (token, ended, stay) in revoked.iter() {
         let mut tx = tree(alloc)?;
         let list = revoke(alloc, &mut tx, token)?;
-        assert!(rt; list.len() == ended);
-        assert!(rt; left(alloc, &mut tx)? == (stay, stay));
+        assert!(rt; list.len() == *ended);
+        assert!(rt; left(alloc, &mut tx)? == (*stay, *stay));
+    }
+    Ok(())
+}
+
+#[test]
+fn a_token_ends_with_all_under_it(rt: HostRuntime) -> Result<(), Fail> {
+    expect_revoked(
+        &rt,
+        &[
+            ("top", 3, 2),
+            ("mid", 2, 3),
+            ("low", 1, 4),
+            ("odd", 2, 3),
+            ("", 0, 5),
+            ("not", 0, 5),
+        ],
+    )
+}
+
+/// How many tokens have expired at each of these moments, and how many stay.
+fn expect_swept(
+    rt: &(impl Abort + AllocGlobal),
+    moments: &[(u64, usize, usize)],
+) -> Result<(), Fail> {
+    let alloc = rt.alloc();
+    for (clock, ended, stay) in moments.iter() {
+        let mut tx = tree(alloc)?;
+        let clock = Moment::new(*clock).ok_or("no moment")?;
+        let list = sweep_tokens(alloc, &mut tx, clock)?;
+        assert!(rt; list.len() == *ended);
+        assert!(rt; left(alloc, &mut tx)? == (*stay, *stay));
     }
     Ok(())
 }
 
 #[test]
 fn an_expired_parent_takes_its_children(rt: HostRuntime) -> Result<(), Fail> {
-    let alloc = rt.alloc();
-    for (clock, ended, stay) in [(6, 0, 5), (7, 2, 3), (100, 5, 0)] {
-        let mut tx = tree(alloc)?;
-        if let Some(clock) = Moment::new(clock) {
-            let list = sweep_tokens(alloc, &mut tx, clock)?;
-            assert!(rt; list.len() == ended);
-        }
-        assert!(rt; left(alloc, &mut tx)? == (stay, stay));
-    }
-    Ok(())
+    expect_swept(&rt, &[(6, 0, 5), (7, 2, 3), (100, 5, 0)])
 }
 
 #[test]
 fn children_of_a_token_that_ends_alone_are_orphans(rt: HostRuntime) -> Result<(), Fail> {
     let alloc = rt.alloc();
     let mut tx = tree(alloc)?;
-    for (token, ended, stay) in [("", 0, 5), ("mid", 1, 4), ("mid", 0, 4)] {
-        let list = revoke_one(alloc, &mut tx, token)?;
-        assert!(rt; list.len() == ended);
-        assert!(rt; left(alloc, &mut tx)? == (stay, stay));
-    }
+    assert!(rt; revoke_one(alloc, &mut tx, "")?.is_empty());
+    assert!(rt; revoke_one(alloc, &mut tx, "mid")?.len() == 1);
+    assert!(rt; revoke_one(alloc, &mut tx, "mid")?.is_empty());
+    assert!(rt; left(alloc, &mut tx)? == (4, 4));
     assert!(rt; find(alloc, &mut tx, "mid")?.is_none());
     assert!(rt; find(alloc, &mut tx, "low")?.is_some_and(|x| x.parent.is_none()));
     assert!(rt; find(alloc, &mut tx, "kid")?.is_some_and(|x| x.parent.is_some()));
