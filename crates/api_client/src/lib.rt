@@ -27,6 +27,3 @@ pub use parsing::command_of;
 pub use reply::{Reply, ReplyError};
 pub use replying::reply_of;
 pub use requesting::request_of;
-
-#[cfg(test)]
-mod tests;

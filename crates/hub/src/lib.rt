@@ -16,10 +16,3 @@ pub use hub::Hub;
 pub use laws::{asking_laws, run_laws};
 pub use running::run;
 pub use serve::{Clock, ConnectionFault, WordSource, serve_connection};
-
-#[cfg(test)]
-mod rows;
-#[cfg(test)]
-mod serve_tests;
-#[cfg(test)]
-mod tests;

@@ -7,6 +7,3 @@ mod replaying;
 mod script;
 
 pub use replaying::{Exit, replay};
-
-#[cfg(test)]
-mod tests;

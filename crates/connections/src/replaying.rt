@@ -1,7 +1,7 @@
 //! Readers and writers that fail: the rows of `tests/rows` compare what is replayed.
 
-use crate::{Exit, replay};
 use endpoints::{Reading, Writing};
+use replay::{Exit, replay};
 use std::io;
 
 /// A start, an event that has a reply, and a bad line.

@@ -1,10 +1,10 @@
 //! Connections that are served between a reader and a writer in memory, or ones that fail.
 
-use crate::tests::{NOT_FOUND, NOT_FOUND_CLOSING, started};
-use crate::{Clock, ConnectionFault, Hub, WordSource, serve_connection};
+use crate::streams::{NOT_FOUND, NOT_FOUND_CLOSING, started};
 use broker::ListStore;
 use broker_types::{Moment, Words};
 use endpoints::{Reading, Sink, Source, Writing};
+use hub::{Clock, ConnectionFault, Hub, WordSource, serve_connection};
 use std::alloc::Global;
 use std::io;
 use std::test::Fail;

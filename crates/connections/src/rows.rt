@@ -9,9 +9,9 @@
 //! it tells: data, `made` with the token that was made, `version` with the version that was written, or the text of a
 //! refusal. `close` before it says that the connection closes.
 
-use crate::tests::started;
-use crate::{Event, run};
+use crate::streams::started;
 use broker_types::{Bytes, Moment, Words};
+use hub::{Event, run};
 use std::alloc::{AllocError, Global};
 use std::process::Abort;
 use std::test::Fail;

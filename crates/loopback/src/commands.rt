@@ -1,13 +1,14 @@
 //! Command lines, and exchanges over streams in memory.
 
-use crate::{
+use api_client::{
     Command, NoCommand, Peer, ReplyError, command_of, exchange, reply_of, request_of,
     written_replies_are_read,
 };
 use endpoints::{Reading, Writing};
 use http_layer::{Cut, ask_of, cut};
-use std::alloc::{AllocError, Global};
+use std::alloc::{AllocError, AllocGlobal, Global};
 use std::io;
+use std::process::Abort;
 use std::test::Fail;
 
 const SECRET: &str = "HTTP/1.1 200 OK\r\n\
@@ -102,86 +103,78 @@ fn a_path_with_a_space(rt: HostRuntime) -> Result<(), Fail> {
     Ok(())
 }
 
+/// The request of a command with a TTL for wrapping: its first line, and what stands behind the name of its length.
+fn expect_request(
+    rt: &(impl Abort + AllocGlobal),
+    verb: &str,
+    operand: &str,
+    begins: &str,
+    ends: &str,
+) -> Result<(), Fail> {
+    let alloc = rt.alloc();
+    let line = words(
+        alloc,
+        &["client", "--addr", "b", "--wrap-ttl", "60", verb, operand],
+    )?;
+    let bytes = request_of(alloc, &command(alloc, line.as_slice())?)?;
+    let text = format!(in alloc;
+        "{begins}Host: b\r\nX-Vault-Wrap-TTL: 60\r\nConnection: close\r\nContent-Length: {ends}"
+    )?;
+    assert_eq!(rt; bytes.as_slice(), text.as_str().as_bytes());
+    Ok(())
+}
+
 /// Computes `sent`, `unwrap_object`.
 #[test]
 fn bodies(rt: HostRuntime) -> Result<(), Fail> {
-    let alloc = rt.alloc();
-    let rows = [
-        (
-            ["write", "cubbyhole/a"],
-            "POST /v1/cubbyhole/a HTTP/1.1\r\n",
-            "2\r\n\r\n{}",
-        ),
-        (
-            ["unwrap", "a\"b"],
-            "POST /v1/sys/wrapping/unwrap HTTP/1.1\r\n",
-            "16\r\n\r\n{\"token\":\"a\\\"b\"}",
-        ),
-    ];
-    for (request, begins, ends) in rows {
-        let line = words(
-            alloc,
-            &[
-                "client",
-                "--addr",
-                "b",
-                "--wrap-ttl",
-                "60",
-                request[0],
-                request[1],
-            ],
-        )?;
-        let bytes = request_of(alloc, &command(alloc, line.as_slice())?)?;
-        let text = format!(in alloc;
-            "{begins}Host: b\r\nX-Vault-Wrap-TTL: 60\r\nConnection: close\r\nContent-Length: {ends}"
-        )?;
-        assert_eq!(rt; bytes.as_slice(), text.as_str().as_bytes());
-    }
-    Ok(())
+    expect_request(
+        &rt,
+        "write",
+        "cubbyhole/a",
+        "POST /v1/cubbyhole/a HTTP/1.1\r\n",
+        "2\r\n\r\n{}",
+    )?;
+    expect_request(
+        &rt,
+        "unwrap",
+        "a\"b",
+        "POST /v1/sys/wrapping/unwrap HTTP/1.1\r\n",
+        "16\r\n\r\n{\"token\":\"a\\\"b\"}",
+    )
+}
+
+/// Whether the words are no command, and are told to the user.
+fn is_usage(alloc: Global, line: &[&str]) -> Result<bool, Fail> {
+    let line = words(alloc, line)?;
+    Ok(matches!(command_of(alloc, line.as_slice()), Err(NoCommand::Usage(_))))
 }
 
 /// Computes `command_meant`, `IsNoCommand`.
 #[test]
 fn wrong_command_lines(rt: HostRuntime) -> Result<(), Fail> {
     let alloc = rt.alloc();
-    let lines: [&[&str]; 6] = [
-        &["client", "read", "cubbyhole/a"],
-        &["client", "--addr", "b"],
-        &["client", "--addr", "", "read", "a"],
-        &["client", "--addr", "b", "--token", "a b", "read", "a"],
-        &["client", "--addr", "b", "read", "a//b"],
-        &["client", "--addr", "b", "read", "a", "b"],
-    ];
-    for (place, line) in lines.iter().enumerate() {
-        let line = words(alloc, line)?;
-        let told = matches!(command_of(alloc, line.as_slice()), Err(NoCommand::Usage(_)));
-        assert!(rt; told, "line {place}");
-    }
+    assert!(rt; is_usage(alloc, &["client", "read", "cubbyhole/a"])?);
+    assert!(rt; is_usage(alloc, &["client", "--addr", "b"])?);
+    assert!(rt; is_usage(alloc, &["client", "--addr", "", "read", "a"])?);
+    assert!(rt;
+        is_usage(
+            alloc,
+            &["client", "--addr", "b", "--token", "a b", "read", "a"]
+        )?
+    );
+    assert!(rt; is_usage(alloc, &["client", "--addr", "b", "read", "a//b"])?);
+    assert!(rt; is_usage(alloc, &["client", "--addr", "b", "read", "a", "b"])?);
     Ok(())
 }
 
-/// Computes `BeginsWithReply`, `IsReplyError`.
-#[test]
-fn replies(rt: HostRuntime) -> Result<(), Fail> {
-    written_replies_are_read();
-    let rows = [
-        (
-            "HTTP/1.1 204 No Content\r\nDate: x\r\n\r\n",
-            Some((204, "")),
-        ),
-        (
-            "HTTP/1.1 404 Not Found\r\nContent-Length: 2\r\nContent-Length: 9\r\n\r\nabc",
-            Some((404, "ab")),
-        ),
-        ("HTTP/1.1 200 OK\r\nContent-Length: 2\r\n\r\na", None),
-        ("HTTP/1.1 200 OK\r\nContent-Length: 16777217\r\n\r\n", None),
-        ("HTTP/1.1 200 OK\r\nContent-Length: +2\r\n\r\nab", None),
-        ("HTTP/1.1 200 OK\r\nContent-", None),
-        ("200 OK\r\n\r\n", None),
-    ];
-    for (input, expected) in rows {
+/// Bytes with the status and the body of the reply that they begin with, if they do.
+fn expect_replies(
+    rt: &(impl Abort + AllocGlobal),
+    rows: &[(&str, Option<(u16, &str)>)],
+) -> Result<(), Fail> {
+    for (input, expected) in rows.iter() {
         let mut reader = Reading::new(input.as_bytes());
-        match (reply_of(rt.alloc(), &mut reader), expected) {
+        match (reply_of(rt.alloc(), &mut reader), *expected) {
             (Ok(reply), Some((status, body))) => {
                 assert_eq!(rt; reply.status, status, "{input}");
                 assert_eq!(rt; reply.body.as_slice(), body.as_bytes(), "{input}");
@@ -191,6 +184,30 @@ fn replies(rt: HostRuntime) -> Result<(), Fail> {
         }
     }
     Ok(())
+}
+
+/// Computes `BeginsWithReply`, `IsReplyError`.
+#[test]
+fn replies(rt: HostRuntime) -> Result<(), Fail> {
+    written_replies_are_read();
+    expect_replies(
+        &rt,
+        &[
+            (
+                "HTTP/1.1 204 No Content\r\nDate: x\r\n\r\n",
+                Some((204, "")),
+            ),
+            (
+                "HTTP/1.1 404 Not Found\r\nContent-Length: 2\r\nContent-Length: 9\r\n\r\nabc",
+                Some((404, "ab")),
+            ),
+            ("HTTP/1.1 200 OK\r\nContent-Length: 2\r\n\r\na", None),
+            ("HTTP/1.1 200 OK\r\nContent-Length: 16777217\r\n\r\n", None),
+            ("HTTP/1.1 200 OK\r\nContent-Length: +2\r\n\r\nab", None),
+            ("HTTP/1.1 200 OK\r\nContent-", None),
+            ("200 OK\r\n\r\n", None),
+        ],
+    )
 }
 
 /// Computes `IsAnswer`, `IsReport`.

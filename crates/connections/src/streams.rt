@@ -1,8 +1,8 @@
 //! Streams of pieces over a store that fails.
 
-use crate::{Event, Hub, run};
 use broker::{ListStore, Store};
 use broker_types::{Answer, Ask, Bytes, Fault, Moment, Words};
+use hub::{Event, Hub, run};
 use std::alloc::Global;
 use std::test::Fail;
 

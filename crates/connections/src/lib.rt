@@ -1,0 +1,12 @@
+//! Tests of connections: of the bytes that come and the replies to them, of connections that are served, and of runs that
+//! are replayed. They are here because a crate with tests is proved once more for them.
+#![tactic(auto)]
+
+#[cfg(test)]
+mod replaying;
+#[cfg(test)]
+mod rows;
+#[cfg(test)]
+mod served;
+#[cfg(test)]
+mod streams;
