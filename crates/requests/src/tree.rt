@@ -1,6 +1,6 @@
 //! Requests over a tree of tokens: who is served, what a request spends, and what is left afterwards.
 
-use super::{NOT_FOUND, PERMISSION_DENIED, asked, counted, expect, first_rows, moment, words};
+use crate::start::{NOT_FOUND, PERMISSION_DENIED, asked, expect, first_rows, moment, words};
 use broker::handle;
 use broker_types::Status::{BadRequest, Forbidden, MethodNotAllowed, NoContent, Success};
 use broker_types::Verb::{Get, List, Write};
@@ -107,6 +107,14 @@ fn tree(alloc: Global) -> Result<ListTx, Fail> {
             Planted(0x10, 0xf, 1_000, 0, 0),
         ],
     )
+}
+
+/// How many tokens there are, how many accessors, and how many objects.
+fn counted(tx: &mut ListTx) -> Result<(usize, usize, usize), Fail> {
+    let tokens = tx.under(Kind::Token, "")?.len();
+    let accessors = tx.under(Kind::Accessor, "")?.len();
+    let objects = tx.under(Kind::Cubby, "")?.len();
+    Ok((tokens, accessors, objects))
 }
 
 /// The tokens that are left beside the root token, each with its accessor and its object.

@@ -1,0 +1,16 @@
+//! Tests of the calls on rows of one part each: cubbyholes, tokens, mounts, secrets and policies. They are here because a
+//! crate with tests is proved once more for them.
+#![tactic(auto)]
+
+#[cfg(test)]
+mod cubbyholes;
+#[cfg(test)]
+mod damaged;
+#[cfg(test)]
+mod permissions;
+#[cfg(test)]
+mod routes;
+#[cfg(test)]
+mod secrets;
+#[cfg(test)]
+mod tokens;
