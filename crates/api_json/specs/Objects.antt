@@ -64,8 +64,8 @@ version_object v =
     ∷ [])
 
 -- a version that is read: its object, which is compact JSON already, and its metadata
-unfoldable pub read_object : Option Text → VersionObject → Text
-read_object object v =
+unfoldable pub secret_object : Option Text → VersionObject → Text
+secret_object object v =
     object_of (name.Payload ⟼ or_null object ∷ name.Metadata ⟼ version_object v ∷ [])
 
 -- one kept version of a key, by its number in digits

@@ -62,7 +62,6 @@ impl FromMember for bool {
     }
 }
 
-#[tactic(auto, unfolding(broker_types::specs::Text::same))]
 fn flag_text(name: &str) -> Option<bool>
     ensures { result ≡ flag_text name.now }
 {
@@ -129,7 +128,6 @@ impl FromMember for DeletionTime {
     }
 }
 
-#[tactic(auto, unfolding(broker_types::specs::Text::same))]
 fn deletion_time(text: &str) -> Option<DeletionTime>
     ensures { result ≡ kind.deletion_time_text text.now }
 {

@@ -1,10 +1,11 @@
 //! Bodies of requests read into their members, and the objects and bodies of replies printed (RFC 8259).
-#![tactic(auto)]
+#![tactic(auto, unfolding(broker_types::specs::Text::same))]
 
 mod by_name;
 mod end_time;
 mod from_member;
 mod laws;
+mod list_objects;
 mod lists;
 mod member_lists;
 mod members;
@@ -23,6 +24,7 @@ mod version_list;
 
 pub use end_time::EndTime;
 pub use laws::{kept_objects, objects_are_json};
+pub use list_objects::keys_object;
 pub use lists::{Counts, Listed, Pairs, Texts};
 pub use parsed::{Body, Tree};
 pub use policy_bodies::policy_text;
@@ -32,9 +34,7 @@ pub use reply::{plain_reply, reply_text};
 pub use secret_bodies::{
     MountSettings, SecretWrite, mount_settings, secret_write, version_number, versions,
 };
-pub use secret_objects::{
-    KeyObject, key_object, keys_object, read_object, settings_object, version_object,
-};
+pub use secret_objects::{KeyObject, key_object, secret_object, settings_object, version_object};
 pub use token_bodies::{
     TokenCreation, TokenRenewal, accessor, increment, token, token_creation, token_renewal,
 };

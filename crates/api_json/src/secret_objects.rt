@@ -1,7 +1,7 @@
 //! The objects that replies about secrets have (Vault's documentation, "KV secrets engine - version 2 (API)").
-ghost use Rattle.std.specs.Prelude.{◌≡◌, IfOk, option_map};
-ghost use Rattle.api_json.specs.Objects.{version_object, version_entry, versions_object, key_object, keys_object};
-ghost use Rattle.api_json.specs.Objects.{read_object, settings_object};
+ghost use Rattle.std.specs.Prelude.{◌≡◌, IfOk};
+ghost use Rattle.api_json.specs.Objects.{version_object, version_entry, versions_object, key_object};
+ghost use Rattle.api_json.specs.Objects.{secret_object, settings_object};
 
 use crate::by_name::ByName;
 use crate::name::Name;
@@ -26,13 +26,13 @@ pub fn version_object(alloc: Global, version: &VersionObject) -> Result<TextBuf,
 
 /// Prints a version that is read: its object, a compact JSON text, and its metadata. The object of a deleted or
 /// destroyed version prints as null. The only error is running out of memory.
-#[tactic(auto, unfolding(crate::specs::Objects::read_object))]
-pub fn read_object(
+#[tactic(auto, unfolding(crate::specs::Objects::secret_object))]
+pub fn secret_object(
     alloc: Global,
     object: &Option<TextBuf>,
     version: &VersionObject,
 ) -> Result<TextBuf, AllocError>
-    ensures { IfOk result (λ t. t ≡ read_object object.now version.now) }
+    ensures { IfOk result (λ t. t ≡ secret_object object.now version.now) }
 {
     let metadata = version_object(alloc, version)?;
     ObjectText::new(alloc)?
@@ -102,14 +102,6 @@ fn version_entry(alloc: Global, version: &VersionObject) -> Result<TextBuf, Allo
         .time_or_empty(Name::DeletionTime, version.deleted)?
         .flag(Name::Destroyed, version.destroyed)?
         .finish()
-}
-
-/// Prints a list of keys, in the order in which they are given. The only error is running out of memory.
-#[tactic(auto, unfolding(crate::specs::Objects::keys_object))]
-pub fn keys_object(alloc: Global, keys: &[TextBuf]) -> Result<TextBuf, AllocError>
-    ensures { IfOk result (λ t. t ≡ keys_object keys.now) }
-{
-    ObjectText::new(alloc)?.texts(Name::Keys, keys)?.finish()
 }
 
 /// Prints the settings of a mount of secrets. The only error is running out of memory.

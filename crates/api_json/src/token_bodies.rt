@@ -88,7 +88,6 @@ fn is_empty(text: &Option<TextBuf>) -> bool
     }
 }
 
-#[tactic(auto, unfolding(broker_types::specs::Text::same))]
 fn is_service(type_name: &Option<TextBuf>) -> bool
     ensures { result ≡ is_service type_name.now }
 {

@@ -1,6 +1,6 @@
 -- The use that a caller spends, and its end: from the rows to the broker.
-use Rattle.std.specs.Prelude.{◌≡◌, ◌≢◌, ◌==◌, Bool, true, false, not, take, drop, ◌+◌, if◌then◌else◌, List}
-use Rattle.std.specs.Prelude.{Option, Some, None, option_map, option_and_then, Result, Ok, Err, OnOk}
+use Rattle.std.specs.Prelude.{◌≡◌, ◌==◌, Bool, true, false, not, take, drop, ◌+◌, if◌then◌else◌, List}
+use Rattle.std.specs.Prelude.{Option, Some, None, option_map, option_and_then}
 use Rattle.std.specs.Option.{option_map_or}
 use Rattle.std.proofs.Common.{refl, sym, ◌∙◌, ap, subst}
 use Rattle.std.proofs.lemmas.Bool.{false≢true}
@@ -11,7 +11,7 @@ use Rattle.broker_types.specs.Token.{Token}
 use Rattle.broker_types.specs.Broker.{Broker, revoke}
 use Rattle.broker_types.specs.Lineage.{is_under, without_descendants}
 use Rattle.broker_types.specs.MapLaws.{get-change}
-use Rattle.broker_types.specs.OptionLaws.{mapped, mapped_none}
+use Rattle.broker_types.specs.OptionLaws.{mapped}
 use Rattle.broker_types.specs.SearchLaws.{kept_get}
 use Rattle.broker_types.specs.Spending.{spend, one_less, is_spent, end_spent}
 use Rattle.broker_types.specs.SpendingLaws.{spend_sound, end_spent_sound}
@@ -24,13 +24,12 @@ use Rattle.records.specs.Table.{Table, table_of}
 use Rattle.records.specs.TokenEntry.{TokenEntry, token_entry}
 use Rattle.records.specs.Transaction.{Rows}
 use Rattle.token_tree.specs.Tokens.{AreEnded}
-use Rattle.cubbyhole.specs.Laws.{without_owners}
+use Rattle.cubbyhole.specs.Laws.{without_cubbyholes}
 use Rattle.broker.specs.Ending.{AreTokenLong, LosesObjects, HaveNoLeases}
 use Rattle.broker.specs.Forms.{forms}
 use Rattle.broker.specs.Representing.{AsServed, Represents}
-use Rattle.broker.proofs.Ended.{neither, others_kept, KeepCubbyholes, other_tokens, ended_long, objects_lost, rows_left}
-use Rattle.broker.proofs.Expired.{no_token, tokens_long}
-use Rattle.broker.proofs.Serving.{tells_part}
+use Rattle.broker.specs.EndingLaws.{neither, others_kept, KeepCubbyholes, other_tokens, ended_long, objects_lost, rows_left, no_token}
+use Rattle.broker.specs.RepresentingLaws.{tells_part, tokens_long}
 
 -- ---- a use is spent
 
@@ -62,10 +61,6 @@ module _ (b : Broker) (c : Text) where
       leases : (v : Bool) (x : Token) → (if v then one_less x else x).leases ≡ x.leases
       leases true x = refl
       leases false x = refl
-
-  -- and the caller is still there
-  pub spent_here : get b.tokens c ≢ None → get (spend b c).tokens c ≢ None
-  spent_here here none = here (mapped_none _ (get b.tokens c) (sym (get-change b.tokens c one_less c) ∙ none))
 
   served-spend : AsServed b → AsServed (spend b c)
   served-spend s = record {
@@ -118,7 +113,7 @@ module _ (b : Broker) (c : Text) (old : Rows) (st : Represents (Some c) old b) w
   -- it is revoked, and the cubbyholes are dropped
   pub represents-revoked : (mid new : Rows) (ended : List Text) (v : Bool) → IsSpent v → v ≡ true → AreEnded b (revoke b c) ended
       → Tells of_tokens (table_of mid) (revoke b c) → KeepsOthers of_tokens (table_of old) (table_of mid)
-      → table_of new ≡ without_owners (table_of mid) ended → Tells of_cubbyholes (table_of new) (revoke b c)
+      → table_of new ≡ without_cubbyholes (table_of mid) ended → Tells of_cubbyholes (table_of new) (revoke b c)
       → Represents None new (end_spent b (Some c))
   represents-revoked mid new ended v told is are tells others dropped objects =
       let us = without_descendants b.tokens c in
@@ -154,9 +149,3 @@ pub limit_told : (o : Option Token) (found : Option TokenEntry) (entry : TokenEn
 limit_told None found entry v e some is = absurd (none-some _ (sym e ∙ some))
 limit_told (Some x) found entry v e some is =
     is ∙ ap (λ (z : TokenEntry). option_map_or (λ n. n == 0) z.uses_left false) (sym (same_Some _ _ (sym e ∙ some)))
-
--- ---- two facts of a call that did not fail
-
-pub on_both : {T E P Q R : Type 0} (r : Result T E) → (P → Q → R) → OnOk r P → OnOk r Q → OnOk r R
-on_both (Ok x) f p q = f p q
-on_both (Err e) f p q = tt

@@ -1,14 +1,14 @@
 -- What a command reads: what an ask means, whether it may be asked, and the rows when it is carried out.
 use Rattle.serde_json.specs.Data.{Members}
-use Rattle.std.specs.Prelude.{◌≡◌, ◌≢◌, ◌⊎◌, ◌&&◌, ◌||◌, not, ℕ, List, [], ◌∷◌, nat_eq, Bool, true, false, cond, T}
-use Rattle.std.specs.Prelude.{if◌then◌else◌, is_some, Option, Some, None, option_map, Result, Ok, Err, IfOk, OnOk, ⊤}
+use Rattle.std.specs.Prelude.{◌≡◌, ◌⊎◌, ◌&&◌, ◌||◌, not, ℕ, List, [], ◌∷◌, Bool, true, false, cond}
+use Rattle.std.specs.Prelude.{if◌then◌else◌, Option, Some, None, option_map, Result, Ok, Err, IfOk, OnOk, ⊤}
 use Rattle.std.specs.FinMap.{find}
 use Rattle.std.specs.Ordering.{is_eq}
 use Rattle.std.proofs.Common.{refl, sym, ◌∙◌, ap, subst, inl, inr}
-use Rattle.std.proofs.lemmas.Bool.{true≢false, false≢true}
-use Rattle.std.proofs.lemmas.Option.{none-some, same_Some}
+use Rattle.std.proofs.lemmas.Bool.{true≢false}
+use Rattle.std.proofs.lemmas.Option.{none-some}
 use Rattle.broker_types.specs.Text.{Text, text_cmp, same}
-use Rattle.broker_types.specs.TextLaws.{same_self, same_true, same-text_cmp}
+use Rattle.broker_types.specs.TextLaws.{same_true, same-text_cmp}
 use Rattle.broker_types.specs.Answer.{response_of, refused}
 use Rattle.broker_types.specs.Broker.{Mount}
 use Rattle.broker_types.specs.Refuse.{◌>>=◌}
@@ -16,7 +16,6 @@ use Rattle.broker_types.specs.RequestError.{EndsRefused}
 use Rattle.broker_types.specs.declared.answer.Answer.{Answer}
 use Rattle.broker_types.specs.declared.ask.Ask.{Ask}
 use Rattle.broker_types.specs.declared.ask.Verb.{Verb}
-use Rattle.broker_types.specs.declared.fault.Fault.{Fault}
 use Rattle.broker_types.specs.declared.refusal.Refusal.{Refusal}
 use Rattle.broker_types.specs.declared.request_error.RequestError.{RequestError}
 use Rattle.broker_types.specs.declared.request_error.RequestError.TheVariants.{Refused, Fault as Given}
@@ -24,23 +23,22 @@ use Rattle.records.specs.declared.kind.Kind.TheVariants as kind
 use Rattle.records.specs.declared.row.Row.{Row}
 use Rattle.records.specs.Children.{has}
 use Rattle.records.specs.Kind.{RowKey}
-use Rattle.records.specs.ListedLaws.{named, listed-sorted, find-listed}
-use Rattle.records.specs.Ranges.{IsTokenInRange}
-use Rattle.records.specs.Reading.{IsSomeIn}
+use Rattle.records.specs.ListedLaws.{named, find-listed}
+use Rattle.records.specs.Parts.{KeepsOthers, of_tokens}
 use Rattle.records.specs.RowForms.{entry_row}
 use Rattle.records.specs.Table.{Table, table_of}
+use Rattle.records.specs.TableLaws.{with_row_keeps}
 use Rattle.records.specs.TokenEntry.{TokenEntry}
 use Rattle.records.specs.Transaction.{Rows, rows_under}
 use Rattle.records.specs.ValueLaws.{ok_inj}
-use Rattle.token_tree.specs.Ended.{AllStay, goes, is_named, of_owner}
+use Rattle.token_tree.specs.Ended.{AllStay, is_named, of_owner}
 use Rattle.api_json.specs.Json.{body_members}
 use Rattle.api_json.specs.Readers.{token_creation}
 use Rattle.api_json.specs.declared.token_bodies.TokenCreation.{TokenCreation}
 use Rattle.records.specs.Calls.{OnAnswer}
 use Rattle.mounts.specs.MountRows.{IsKnownAt, IsReadableAt}
 use Rattle.mounts.specs.Route.{Route, cut, route_at}
-use Rattle.mounts.specs.declared.operation.Cubbyhole.{Cubbyhole}
-use Rattle.mounts.specs.declared.operation.Cubbyhole.TheVariants as cubbyhole
+use Rattle.mounts.specs.declared.operation.CubbyholeOperation.{CubbyholeOperation}
 use Rattle.mounts.specs.declared.operation.Operation.TheVariants.{Cubbyholes, Tokens, Secrets, Policies}
 use Rattle.mounts.specs.declared.operation.PolicyOperation.{PolicyOperation}
 use Rattle.mounts.specs.declared.operation.SecretOperation.{SecretOperation}
@@ -48,32 +46,26 @@ use Rattle.mounts.specs.declared.operation.TokenOperation.{TokenOperation}
 use Rattle.broker.specs.Command.{Command, on_cubbyhole, on_token, on_secret, on_policy, command_for, place_of}
 use Rattle.broker.specs.Order.{permission_denied}
 use Rattle.broker.proofs.CubbyholeAnswers.{meant_there}
-use Rattle.broker.proofs.Ended.{neither, others_kept}
-use Rattle.broker.proofs.Expired.{readable_gone}
+use Rattle.broker.specs.EndingLaws.{others_kept}
 use Rattle.broker.proofs.Routes.{known_still, meant_on_tokens, meant_on_policies}
 use Rattle.broker.proofs.SecretRoutes.{meant_on_secrets}
-use Rattle.broker.proofs.TokenAnswers.{ok_step}
 use Rattle.std.specs.FinMap as map
+use Rattle.broker_types.specs.RefuseLaws.{ok_step}
 use Rattle.cubbyhole.specs.Objects.{object_key}
-use Rattle.token_tree.specs.Endings.{AreTokenRows, EndsAlone, without_tokens}
-use Rattle.token_tree.specs.TokenRows.{ChangesToken, IsTokenAt, spent_entry, with_entry}
-use Rattle.broker.specs.Ending.{EndsCaller, Expires, HasEnded, IsSpentAt}
-use Rattle.broker.specs.ReadableRow.{IsReadableObject, IsReadableToken, IsDenied}
-use Rattle.broker.specs.PermittedRows.{IsPermittedAt, IsToldForbidden}
-use Rattle.broker.specs.Reads.{AreAtCommand, AreReadable, AreReadableObjects, AreReadablePolicies, AreReadableTokens, AreReadableSecrets, Asks}
-use Rattle.broker.specs.Reads.{IsForbidden}
+use Rattle.token_tree.specs.Endings.{without_tokens}
+use Rattle.token_tree.specs.TokenRows.{ChangesToken, spent_entry, with_entry}
+use Rattle.broker.specs.Ending.{EndsCaller, Expires, EndsBelow, IsSpentAt}
+use Rattle.broker.specs.ReadableRow.{IsReadableObject, IsDenied}
+use Rattle.broker.specs.PermittedRows.{IsPermittedAt}
+use Rattle.broker.specs.Reads.{AreAtCommand, IsReadableCommand, AreReadableObjects, AreReadablePolicies, AreReadableTokens, AreReadableSecrets, Asks}
+use Rattle.broker.specs.Reads.{IsForbidden, IsCarriedOutOrForbidden, MayBeDone}
 use Rattle.broker.specs.parts.Cubbyholes.{CubbyholeCommand, cubbyhole_command}
-use Rattle.broker.specs.parts.PolicyCommands.{PolicyCommand, policy_command}
+use Rattle.broker.specs.parts.AclPolicyCommands.{PolicyCommand, policy_command}
 use Rattle.broker.specs.parts.SecretCommands.{Place, SecretCommand, secret_command}
 use Rattle.broker.specs.parts.TokenCommands.{TokenCommand, token_command, read_as, read_none}
+use Rattle.broker.specs.ReadableLaws.{unspent_gone}
 
 -- ---- what an ask means
-
--- what follows from a fact holds as it does
-pub on_answer_weaker : {A P Q : Type 0} (result : Result A RequestError) → (P → Q) → OnAnswer result P → OnAnswer result Q
-on_answer_weaker (Ok x) f p = f p
-on_answer_weaker (Err (Refused r)) f p = f p
-on_answer_weaker (Err (Given f)) g p = tt
 
 -- an ask means the same as long as the row of its mount stays
 pub asks_still : (old new : Rows) (a : Ask) (c : Command) → table_of new kind.Mount (cut a.path).0 ≡ table_of old kind.Mount (cut a.path).0
@@ -105,35 +97,35 @@ known_by rows a c path at asks = subst (λ q. IsKnownAt (table_of rows) (cut q).
 
 module _ {A : Type 0} (rows : Rows) (caller : Text) (a : Ask) (r : Route) (result : Result A RequestError) where
   -- what an operation promises of each command that it can be, it promises of the one that is meant
-  pub cubbyholes_read : (op : Cubbyhole) (path : Text) (body : List ℕ) → r.operation ≡ Cubbyholes op → r.parameter ≡ path → body ≡ a.body
+  pub cubbyholes_read : (op : CubbyholeOperation) (path : Text) (body : List ℕ) → r.operation ≡ Cubbyholes op → r.parameter ≡ path → body ≡ a.body
       → ((c : CubbyholeCommand) → cubbyhole_command op path body ≡ Ok c → OnAnswer result (AreReadableObjects rows caller c))
-      → (c : Command) → command_for r a ≡ Ok c → OnAnswer result (AreReadable rows caller c)
+      → (c : Command) → command_for r a ≡ Ok c → OnAnswer result (IsReadableCommand rows caller c)
   cubbyholes_read op path body is there given promised c meant =
       let s = ok_step (cubbyhole_command op path body) (λ x. Ok (on_cubbyhole x)) c (sym (meant_there r a op path body is there given) ∙ meant) in
-      subst (λ x. OnAnswer result (AreReadable rows caller x)) (ok_inj s.2) (promised s.0 s.1)
+      subst (λ x. OnAnswer result (IsReadableCommand rows caller x)) (ok_inj s.2) (promised s.0 s.1)
 
   pub tokens_read : (op : TokenOperation) (body : List ℕ) → r.operation ≡ Tokens op → body ≡ a.body
       → ((c : TokenCommand) → token_command op body ≡ Ok c → OnAnswer result (AreReadableTokens rows caller c))
-      → (c : Command) → command_for r a ≡ Ok c → OnAnswer result (AreReadable rows caller c)
+      → (c : Command) → command_for r a ≡ Ok c → OnAnswer result (IsReadableCommand rows caller c)
   tokens_read op body is given promised c meant =
       let s = ok_step (token_command op body) (λ x. Ok (on_token x)) c (sym (meant_on_tokens r a op body is given) ∙ meant) in
-      subst (λ x. OnAnswer result (AreReadable rows caller x)) (ok_inj s.2) (promised s.0 s.1)
+      subst (λ x. OnAnswer result (IsReadableCommand rows caller x)) (ok_inj s.2) (promised s.0 s.1)
 
   pub secrets_read : (op : SecretOperation) (place : Place) (version body : List ℕ) → r.operation ≡ Secrets op → place_of r ≡ place
       → version ≡ a.version → body ≡ a.body
       → ((c : SecretCommand) → secret_command op version body ≡ Ok c → OnAnswer result (AreReadableSecrets rows place c))
-      → (c : Command) → command_for r a ≡ Ok c → OnAnswer result (AreReadable rows caller c)
+      → (c : Command) → command_for r a ≡ Ok c → OnAnswer result (IsReadableCommand rows caller c)
   secrets_read op place version body is there asked given promised c meant =
       let s = ok_step (secret_command op version body) (λ x. Ok (on_secret place x)) c
       (sym (meant_on_secrets r a op place version body is there asked given) ∙ meant) in
-      subst (λ x. OnAnswer result (AreReadable rows caller x)) (ok_inj s.2) (promised s.0 s.1)
+      subst (λ x. OnAnswer result (IsReadableCommand rows caller x)) (ok_inj s.2) (promised s.0 s.1)
 
   pub policies_read : (op : PolicyOperation) (name : Text) (body : List ℕ) → r.operation ≡ Policies op → r.parameter ≡ name → body ≡ a.body
       → ((c : PolicyCommand) → policy_command op name body ≡ Ok c → OnAnswer result (AreReadablePolicies rows c))
-      → (c : Command) → command_for r a ≡ Ok c → OnAnswer result (AreReadable rows caller c)
+      → (c : Command) → command_for r a ≡ Ok c → OnAnswer result (IsReadableCommand rows caller c)
   policies_read op name body is there given promised c meant =
       let s = ok_step (policy_command op name body) (λ x. Ok (on_policy x)) c (sym (meant_on_policies r a op name body is there given) ∙ meant) in
-      subst (λ x. OnAnswer result (AreReadable rows caller x)) (ok_inj s.2) (promised s.0 s.1)
+      subst (λ x. OnAnswer result (IsReadableCommand rows caller x)) (ok_inj s.2) (promised s.0 s.1)
 
 -- ---- tokens
 
@@ -153,27 +145,6 @@ stays_named t ended (e ∷ es) all row found =
       | false ↦ λ _ later. stays_named t ended es all.1 row later
     ] refl found
 
--- a row that is read where the token ends can be read
-readable_if_ended : (rows : Rows) (t : Text) (ended : List Text) → AreTokenRows ended (table_of rows)
-    → ((row : Row) → table_of rows kind.Token t ≡ Some row → has ended t ≡ true) → IsReadableToken rows t
-readable_if_ended rows t ended are among = at (table_of rows kind.Token t) refl
-  where
-    at : (o : Option Row) → table_of rows kind.Token t ≡ o → IsReadableToken rows t
-    at None none = readable_gone rows t none
-    at (Some row) some =
-        let is = are t row (among row some) some in
-        (Some is.0, (λ x e. subst IsTokenInRange (same_Some _ _ e) is.1), some ∙ ap Some is.2)
-
--- a token that is not there has not spent its uses
-pub unspent_gone : (rows : Rows) (t : Text) → table_of rows kind.Token t ≡ None → IsSpentAt rows t false
-unspent_gone rows t none = (None, (λ x e. absurd (none-some _ e)), none, refl)
-
--- so can that of one that has ended alone
-pub readable_alone : (t : Text) (old : Rows) (ended : List Text) (new : Rows) → EndsAlone t old ended new → IsReadableToken old t
-readable_alone t old ended new ends =
-    readable_if_ended old t ended ends.readable
-    (λ row some. ap (λ ts. has ts t) (ends.ends ∙ ap (λ o. if is_some o then t ∷ [] else []) some) ∙ ap (λ v. v || false) (same_self t))
-
 -- by its row a caller that ends, or stays, has uses left afterwards or is not there
 pub ended_or_unspent : (t : Text) (old new : Rows) → EndsCaller t old new → IsSpentAt new t false
 ended_or_unspent t old new e =
@@ -182,14 +153,14 @@ ended_or_unspent t old new e =
       | true ↦ λ spent. gone (e.ends spent) (table_of old kind.Token t) refl
     ] refl
   where
-    left : (h : HasEnded t old new) → table_of new kind.Token t ≡ (if has h.0 t then None else table_of old kind.Token t)
+    left : (h : EndsBelow t old new) → table_of new kind.Token t ≡ (if has h.0 t then None else table_of old kind.Token t)
     left h = ap (λ (z : Table). z kind.Token t) h.3 ∙ others_kept h.0 (without_tokens h.0 (table_of old)) kind.Token t refl
 
     none_either : (v : Bool) (o : Option Row) → o ≡ None → (if v then None else o) ≡ None
     none_either true o is = refl
     none_either false o is = is
 
-    gone : (h : HasEnded t old new) → (o : Option Row) → table_of old kind.Token t ≡ o → IsSpentAt new t false
+    gone : (h : EndsBelow t old new) → (o : Option Row) → table_of old kind.Token t ≡ o → IsSpentAt new t false
     gone h None none = unspent_gone new t (left h ∙ none_either (has h.0 t) (table_of old kind.Token t) none)
     gone h (Some row) some =
         let among = stays_named t h.0 (rows_under old kind.Token []) h.1.stay row (find-listed kind.Token [] old t ∙ some) in
@@ -197,15 +168,22 @@ ended_or_unspent t old new e =
 
 -- ---- when it is read
 
--- a use is spent, and a cubbyhole stays
-pub objects_unspent : (old new : Rows) (t path : Text) → ChangesToken t spent_entry (table_of old) (table_of new) → IsReadableObject new t path
-    → IsReadableObject old t path
-objects_unspent old new t path spent r = (r.0, r.1, sym (kept spent.entry spent.is) ∙ r.2)
+-- a use is spent, and no row changes but that of the token
+pub others_unspent : (old new : Rows) (t : Text) → ChangesToken t spent_entry (table_of old) (table_of new)
+    → KeepsOthers of_tokens (table_of old) (table_of new)
+others_unspent old new t spent = kept spent.entry spent.is
   where
     kept : (o : Option TokenEntry) → table_of new ≡ with_entry (table_of old) t (option_map spent_entry o)
-        → table_of new kind.Cubby (object_key t path) ≡ table_of old kind.Cubby (object_key t path)
-    kept None is = ap (λ (z : Table). z kind.Cubby (object_key t path)) is
-    kept (Some x) is = ap (λ (z : Table). z kind.Cubby (object_key t path)) is
+        → KeepsOthers of_tokens (table_of old) (table_of new)
+    kept None is k q h = ap (λ (z : Table). z k q) is
+    kept (Some x) is k q h =
+        ap (λ (z : Table). z k q) is ∙ with_row_keeps of_tokens (table_of old) kind.Token t (entry_row (spent_entry x)) refl k q h
+
+-- so a cubbyhole stays
+pub objects_unspent : (old new : Rows) (t path : Text) → ChangesToken t spent_entry (table_of old) (table_of new) → IsReadableObject new t path
+    → IsReadableObject old t path
+objects_unspent old new t path spent r =
+    (r.0, r.1, sym (others_unspent old new t spent kind.Cubby (object_key t path) refl) ∙ r.2)
 
 module _ (moment now : ℕ) (t u : Text) (old expired new : Rows) (caller : t ≡ u) (same_rows : new ≡ expired) (expires : Expires moment now old expired) where
   -- tokens have expired, and the caller has spent a use
@@ -249,10 +227,11 @@ module _ (old new : Rows) (t : Text) (ask : Ask) where
   refusal_in (Err (Refused r)) = r
   refusal_in _ = permission_denied
 
-  -- who is refused for that is told so, and ends then if it has no uses left
-  pub may_refused : {P A : Type 0} (final : Rows) (r : Refusal) (a : Answer) → (P ⊎ IsForbidden {A = A} old new t ask (Err (Refused r)))
-      → response_of a ≡ refused r → EndsCaller t new final → P ⊎ IsToldForbidden old final t ask (response_of a)
-  may_refused final r a (inl p) is ends = inl p
+  -- who is refused for that is told so; either way it ends then if it has no uses left
+  pub may_refused : {A : Type 0} (final : Rows) (r : Refusal) (a : Answer)
+      → (MayBeDone old t ask ⊎ IsForbidden {A = A} old new t ask (Err (Refused r)))
+      → response_of a ≡ refused r → EndsCaller t new final → IsCarriedOutOrForbidden old final t ask (response_of a)
+  may_refused final r a (inl may) is ends = inl (record { may = may; done = new; ends = ends })
   may_refused final r a (inr forbidden) is ends = inr (record {
     response = is ∙ ap refused (ap refusal_in forbidden.refused);
     forbidden = forbidden.forbidden;
@@ -284,19 +263,7 @@ permitted_before old new t u path q verb found v w same_rows at same_path is rea
 -- a use is spent, and an ask means the same
 pub asks_spent : (old new : Rows) (t : Text) (a : Ask) (c : Command) → ChangesToken t spent_entry (table_of old) (table_of new) → Asks old a c
     → Asks new a c
-asks_spent old new t a c spent asks = asks_still old new a c (kept spent.entry spent.is) asks
-  where
-    name : Text
-    name = (cut a.path).0
-
-    kept : (o : Option TokenEntry) → table_of new ≡ with_entry (table_of old) t (option_map spent_entry o)
-        → table_of new kind.Mount name ≡ table_of old kind.Mount name
-    kept None is = ap (λ (z : Table). z kind.Mount name) is
-    kept (Some x) is = ap (λ (z : Table). z kind.Mount name) is
-
--- a caller that was found has a row
-pub caller_here : (rows : Rows) (t u : Text) → t ≡ u → is_some (table_of rows kind.Token u) ≡ true → table_of rows kind.Token t ≢ None
-caller_here rows t u caller some none = false≢true (ap is_some (sym none) ∙ ap (λ v. is_some (table_of rows kind.Token v)) caller ∙ some)
+asks_spent old new t a c spent asks = asks_still old new a c (others_unspent old new t spent kind.Mount (cut a.path).0 refl) asks
 
 -- ---- what a body means
 

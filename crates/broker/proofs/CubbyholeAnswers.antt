@@ -1,6 +1,6 @@
 -- The part of cubbyholes: from the rows of a broker to the caller's cubbyhole, and back; what is answered; what is given out.
-use Rattle.std.specs.Prelude.{◌≡◌, ◌≢◌, ℕ, List, [], length, Bool, true, false, if◌then◌else◌, Option, Some, None, Result, Ok, Err}
-use Rattle.std.proofs.Common.{refl, sym, ◌∙◌, ap, subst, inl, inr}
+use Rattle.std.specs.Prelude.{◌≡◌, ℕ, List, Bool, true, false, if◌then◌else◌, Option, Some, None, Result, Ok, Err}
+use Rattle.std.proofs.Common.{refl, sym, ◌∙◌, ap, subst}
 use Rattle.std.proofs.lemmas.Bool.{false≢true}
 use Rattle.serde_json.specs.Data as json
 use Rattle.serde_json.specs.Written.{compact_text}
@@ -11,12 +11,9 @@ use Rattle.broker_types.specs.Broker.{Broker}
 use Rattle.broker_types.specs.Names.{Names}
 use Rattle.broker_types.specs.Operation.{nothing, reply, Done, plainly}
 use Rattle.broker_types.specs.Refuse.{◌>>=◌, some_or}
-use Rattle.broker_types.specs.SpendingLaws.{evolves_self}
 use Rattle.broker_types.specs.Fault.{IsMemoryOrStorage}
-use Rattle.broker_types.specs.declared.reply.Reply.{Reply}
 use Rattle.broker_types.specs.declared.request_error.RequestError.{RequestError}
 use Rattle.broker_types.specs.declared.request_error.RequestError.TheVariants.{Refused, Fault}
-use Rattle.broker_types.specs.RequestError.{Ends}
 use Rattle.api_json.specs.Reads.{IsReadErr}
 use Rattle.broker_types.specs.declared.ask.Ask.{Ask}
 use Rattle.broker_types.specs.declared.refusal.Refusal.{Refusal}
@@ -24,32 +21,28 @@ use Rattle.broker_types.specs.declared.refusal.Refusal.TheVariants as refusal
 use Rattle.broker_types.specs.declared.refusal.Reason.TheVariants as reason
 use Rattle.broker_types.specs.Sound.{IsPathText, IsObjectText}
 use Rattle.broker_types.specs.MapLaws.{get-change}
-use Rattle.broker_types.specs.OptionLaws.{found_or_not, mapped}
-use Rattle.records.specs.CubbyKeyLaws.{length-token}
+use Rattle.broker_types.specs.OptionLaws.{mapped}
 use Rattle.records.specs.Parts.{Tells}
-use Rattle.records.specs.Rows.{token_len}
-use Rattle.records.specs.ValueLaws.{ok_inj}
 use Rattle.records.specs.Table.{table_of}
 use Rattle.records.specs.Transaction.{Rows}
 use Rattle.cubbyhole.specs.Cubbyhole.{object_at, with_cubbyhole, write}
-use Rattle.cubbyhole.specs.SoundLaws.{write_sound, write_evolves}
+use Rattle.cubbyhole.specs.SoundLaws.{write_sound}
 use Rattle.mounts.specs.Route.{Route}
-use Rattle.mounts.specs.declared.operation.Cubbyhole.{Cubbyhole}
-use Rattle.mounts.specs.declared.operation.Cubbyhole.TheVariants as operation
+use Rattle.mounts.specs.declared.operation.CubbyholeOperation.{CubbyholeOperation}
+use Rattle.mounts.specs.declared.operation.CubbyholeOperation.TheVariants as operation
 use Rattle.mounts.specs.declared.operation.Operation.TheVariants.{Cubbyholes}
 use Rattle.api_json.specs.Json.{body_members, has_members}
 use Rattle.api_json.specs.Reply.{plain_reply}
 use Rattle.broker.specs.Command.{on_cubbyhole, on_cubbyholes, command_by, command_for}
-use Rattle.broker.specs.parts.Cubbyholes.{CubbyholeCommand, read_object, write_object, full, act_on_cubbyhole}
+use Rattle.broker.specs.parts.Cubbyholes.{read_object, write_object, full}
 use Rattle.broker.specs.Forms.{forms}
-use Rattle.broker.specs.Order.{IsProper}
 use Rattle.broker.specs.Representing.{AsServed, Represents}
 use Rattle.broker.specs.Serving.{acted}
-use Rattle.broker.specs.Stages.{IsDone}
+use Rattle.broker.specs.Stages.{answered_of}
 use Rattle.broker.specs.declared.answered.Answered as Code
-use Rattle.broker.specs.declared.answered.Answered.TheVariants.{Nothing, Given}
-use Rattle.broker.proofs.Operations.{no_ok, plainly_proper}
-use Rattle.broker.proofs.Serving.{everything}
+use Rattle.broker.specs.declared.answered.Answered.TheVariants.{Nothing}
+use Rattle.broker.specs.RepresentingLaws.{everything}
+use Rattle.broker.specs.Operating.{ActsAs}
 
 -- ---- a write leaves what the requests served so far can leave
 
@@ -70,14 +63,6 @@ served-write b t path object s =
 
 -- ---- from the rows of a broker, and back
 
--- the token of a caller that is there has forty bytes
-pub caller_len : {who : Option Text} (b : Broker) (rows : Rows) (t : Text) → Represents who rows b → get b.tokens t ≢ None → length t ≡ token_len
-caller_len b rows t st here =
-    elim (found_or_not (get b.tokens t)) [
-      | inl none ↦ absurd (here none)
-      | inr some ↦ length-token t (st.sound.tokens.each t some.0 some.1).name
-    ]
-
 -- the write of an object to the caller's cubbyhole, on the rows
 pub represents-write : {who : Option Text} (b : Broker) (old new : Rows) (t path object : Text) → Represents who old b → IsPathText path
     → IsObjectText forms object → Tells everything (table_of new) (write b t path object) → Represents who new (write b t path object)
@@ -91,26 +76,19 @@ represents-write {who} b old new t path object st is_path is_object tells =
 -- ---- the operation of a route
 
 -- what a route to an operation on a cubbyhole means
-pub meant_there : (r : Route) (a : Ask) (op : Cubbyhole) (path : Text) (body : List ℕ) → r.operation ≡ Cubbyholes op → r.parameter ≡ path → body ≡ a.body
+pub meant_there : (r : Route) (a : Ask) (op : CubbyholeOperation) (path : Text) (body : List ℕ) → r.operation ≡ Cubbyholes op → r.parameter ≡ path → body ≡ a.body
     → command_for r a ≡ on_cubbyholes op path body
 meant_there r a op path body is there given = ap (λ o. command_by o r a) is ∙ (λ i. on_cubbyholes op (there i) (sym given i))
-
--- ---- how an operation of the caller c ends
-
--- the code's answer beside what the command does
-abbrev pub ActsAs : Text → Broker → Rows → Result Code.Answered RequestError → Result Done Refusal → Type 0
-ActsAs c b rows result m = Ends (IsDone c rows) (Represents (Some c) rows b) result m
 
 -- ---- a read
 
 abbrev told : Broker → Names → Option Text → Result Done Refusal
 told b names o = some_or refusal.NotFound o >>= (λ kept. Ok (plainly (reply (plain_reply names.request kept) None) b))
 
-pub acts_read : (b : Broker) (rows : Rows) (c path request o : Text) (names : Names) (r : Reply) → Represents (Some c) rows b → names.request ≡ request
-    → Some o ≡ object_at b c path → r ≡ plain_reply request o
-    → ActsAs c b rows (Ok (Given r)) (acted b c names (Ok (on_cubbyhole (read_object path))))
-acts_read b rows c path request o names r st id e is =
-    subst (λ o. ActsAs c b rows (Ok (Given r)) (told b names o)) e (ap (λ r. reply r None) (is ∙ ap (λ q. plain_reply q o) (sym id)), st)
+pub acts_read : (b : Broker) (rows : Rows) (c path o : Text) (names : Names) (a : Code.Answered) → Represents (Some c) rows b
+    → Some o ≡ object_at b c path → answered_of a ≡ reply (plain_reply names.request o) None
+    → ActsAs c b rows (Ok a) (acted b c names (Ok (on_cubbyhole (read_object path))))
+acts_read b rows c path o names a st e is = subst (λ o. ActsAs c b rows (Ok a) (told b names o)) e (is, st)
 
 pub acts_no_object : (b : Broker) (rows : Rows) (c path : Text) (names : Names) → Represents (Some c) rows b → None ≡ object_at b c path
     → ActsAs c b rows (Err (Refused refusal.NotFound)) (acted b c names (Ok (on_cubbyhole (read_object path))))
@@ -154,19 +132,3 @@ acts_written b rows c path text body names ms e some f st =
     subst (λ read. ActsAs c b rows (Ok Nothing) (wrote b c names path read)) (sym e)
     (subst (λ read. ActsAs c b rows (Ok Nothing) (wrote_full b c path read)) (sym (full_of ms some))
     (refl, subst (λ (z : Text). Represents (Some c) rows (write b c path z)) f st))
-
--- ---- what a command gives out
-
-pub acts : (b : Broker) (c : Text) (names : Names) (command : CubbyholeCommand) (d : Done) → act_on_cubbyhole b c names command ≡ Ok d → IsProper b [] d
-acts b c names (read_object path) d e = found (object_at b c path) e
-  where
-    found : (o : Option Text) → (some_or refusal.NotFound o >>= (λ kept. Ok (plainly (reply (plain_reply names.request kept) None) b))) ≡ Ok d → IsProper b [] d
-    found None e = no_ok e
-    found (Some kept) e =
-        subst (IsProper b []) (ok_inj e)
-        (plainly_proper b b (reply (plain_reply names.request kept) None) refl (λ r n. absurd (cc)) (λ t n. absurd (cc)) (evolves_self b))
-acts b c names (write_object path json.no_members) d e = no_ok e
-acts b c names (write_object path (json.member name value rest)) d e =
-    let text = compact_text (json.object (json.member name value rest)) in
-    subst (IsProper b []) (ok_inj e)
-    (plainly_proper b (write b c path text) nothing refl (λ r n. absurd (cc)) (λ t n. absurd (cc)) (write_evolves b c path text))

@@ -18,47 +18,33 @@ use Rattle.broker_types.specs.Broker.{Broker, at_moment}
 use Rattle.broker_types.specs.RemovalLaws.{at_moment_sound}
 use Rattle.broker_types.specs.TreeLaws.{alive_is}
 use Rattle.broker_types.specs.Lineage.{alive_at}
-use Rattle.records.specs.declared.kind.Kind.{Kind}
 use Rattle.records.specs.declared.kind.Kind.TheVariants as kind
 use Rattle.records.specs.declared.row.Row.{Row}
 use Rattle.records.specs.Children.{has}
 use Rattle.records.specs.ClockLaws.{with_clock}
-use Rattle.records.specs.CubbyKeyLaws.{length-token}
 use Rattle.records.specs.KeyLaws.{same_kind}
 use Rattle.records.specs.Kind.{RowKey, key_cmp, kind_number, is_of_kind}
 use Rattle.records.specs.Ranges.{IsTokenInRange}
 use Rattle.records.specs.Parts.{Tells, KeepsOthers, of_clock, of_tokens, of_cubbyholes}
 use Rattle.records.specs.Rows.{rows_of, token_len}
 use Rattle.records.specs.Table.{Table, table_of}
-use Rattle.records.specs.TableLaws.{met-is_at}
+use Rattle.records.specs.RowForms.{clock_row}
+use Rattle.records.specs.TableLaws.{met-is_at, with_row_keeps}
 use Rattle.records.specs.Transaction.{Rows, rows_under}
-use Rattle.token_tree.specs.Ended.{Start, has_key}
+use Rattle.token_tree.specs.Ended.{Start, has_key, has_come}
 use Rattle.token_tree.specs.Endings.{EndsDescent}
-use Rattle.token_tree.specs.Tokens.{AreEnded, RepresentsTokens, without_expired}
-use Rattle.cubbyhole.specs.Laws.{without_owners}
+use Rattle.token_tree.specs.Tokens.{AreEnded, without_expired}
+use Rattle.cubbyhole.specs.Laws.{without_cubbyholes}
 use Rattle.cubbyhole.specs.Objects.{object_key}
-use Rattle.broker.specs.Ending.{of_ended, of_expired, AreTokenLong, HasTokenKeys, KeepsCubbyholes, LosesObjects}
+use Rattle.broker.specs.Ending.{of_ended, of_expired, AreTokenLong, Expires, HasTokenKeys, KeepsCubbyholes, LosesObjects}
 use Rattle.broker.specs.Forms.{forms}
-use Rattle.broker.specs.ReadableRow.{IsReadableObject, IsReadableToken, KeepsDamaged}
+use Rattle.broker.specs.ReadableRow.{IsReadableToken, KeepsDamaged}
 use Rattle.broker.specs.Representing.{Represents}
 use Rattle.broker.proofs.Clocks.{expired_is, served-at_moment}
-use Rattle.broker.proofs.Ended.{others_kept, neither, left_alone, KeepCubbyholes, ended_long, objects_lost, rows_left}
-use Rattle.broker.proofs.Serving.{tells_part}
+use Rattle.broker.specs.EndingLaws.{others_kept, neither, left_alone, KeepCubbyholes, ended_long, objects_lost, rows_left, no_token}
+use Rattle.broker.specs.RepresentingLaws.{tells_part, tokens_long}
 
 -- ---- on the rows of a broker
-
--- rows that represent a broker represent its tokens
-pub represents_tokens : {who : Option Text} (b : Broker) (rows : Rows) → Represents who rows b → RepresentsTokens forms (table_of rows) b
-represents_tokens b rows st = record {
-  sound = st.sound.tokens;
-  one_place = st.sound.identifiers.one_place;
-  tells = tells_part of_tokens b rows st;
-}
-
--- the tokens of a broker have the length of tokens
-pub tokens_long : {who : Option Text} (b : Broker) (rows : Rows) → Represents who rows b → (t : Text) (x : Token)
-    → get b.tokens t ≡ Some x → length t ≡ token_len
-tokens_long b rows st t x is = length-token t (st.sound.tokens.each t x is).name
 
 alive_keep : (b : Broker) (n : ℕ) → KeepCubbyholes b.tokens (alive_at n b.tokens)
 alive_keep b n t y is =
@@ -78,10 +64,6 @@ pub record IsSwept (b : Broker) (old mid new : Rows) (ended : List Text) (n : �
   pub others : KeepsOthers of_tokens (table_of old) (table_of mid)
   pub drops : Drops mid new ended (with_clock b n) (without_expired (with_clock b n) n)
   pub kept : KeepsOthers of_cubbyholes (table_of mid) (table_of new)
-
-pub no_token : (k : Kind) → of_cubbyholes k ≡ true → of_tokens k ≡ false
-no_token kind.Cubby h = refl
-no_token _ h = absurd (false≢true h)
 
 -- then the rows are those of the broker at the moment
 pub represents-expired : (b : Broker) (first old mid new : Rows) (m n : ℕ) (ended : List Text) → Represents None first b → n ≡ max b.clock m
@@ -138,7 +120,7 @@ listed rows u h none = walk u (entries rows) h (sym (get-entries rows (kind.Toke
 
 -- the cubbyhole of a token that is left is as it was
 pub left_expired : (old mid swept new : Rows) (s : Start) (ended : List Text) → KeepsOthers of_clock (table_of old) (table_of mid)
-    → EndsDescent s mid ended swept → table_of new ≡ without_owners (table_of swept) ended → HasTokenKeys old → KeepsCubbyholes old new
+    → EndsDescent s mid ended swept → table_of new ≡ without_cubbyholes (table_of swept) ended → HasTokenKeys old → KeepsCubbyholes old new
 left_expired old mid swept new s ended clock ends dropped keys t path here =
     let at_t : table_of new kind.Token t ≡ (if has ended t then None else table_of mid kind.Token t) =
     ap (λ (z : Table). z kind.Token t) dropped ∙ others_kept ended (table_of swept) kind.Token t refl ∙ ap (λ (z : Table). z kind.Token t) ends.rows in
@@ -160,7 +142,7 @@ others_expired old mid swept new clock tokens objects k q h =
 
 -- a row of a token that can be read then could be read before, and so could that of a token that ended
 pub damaged_still : (old mid swept new : Rows) (s : Start) (ended : List Text) → KeepsOthers of_clock (table_of old) (table_of mid)
-    → EndsDescent s mid ended swept → table_of new ≡ without_owners (table_of swept) ended → KeepsDamaged old new
+    → EndsDescent s mid ended swept → table_of new ≡ without_cubbyholes (table_of swept) ended → KeepsDamaged old new
 damaged_still old mid swept new s ended clock ends dropped t readable =
     elim (has ended t) as (λ v. has ended t ≡ v → IsReadableToken old t) [
       | true ↦ λ gone. was gone (table_of mid kind.Token t) refl
@@ -182,22 +164,24 @@ damaged_still old mid swept new s ended clock ends dropped t readable =
         let is = ends.readable t row gone some in
         (Some is.0, (λ x e. subst IsTokenInRange (same_Some _ _ e) is.1), sym (clock kind.Token t refl) ∙ some ∙ ap Some is.2)
 
--- a text without a row has none that is damaged
-pub readable_gone : (rows : Rows) (t : Text) → map.get rows (kind.Token, t) ≡ None → IsReadableToken rows t
-readable_gone rows t none = (None, (λ x e. absurd (none-some _ e)), none)
+-- ---- the same, as it is said of a request
 
--- a row of a token that can be read once tokens have expired could be read before
-pub readable_token_before : (old expired new : Rows) (t u : Text) → KeepsDamaged old expired → new ≡ expired → t ≡ u → IsReadableToken new u
-    → IsReadableToken old t
-readable_token_before old expired new t u keeps same caller readable =
-    keeps t (subst (λ rows. IsReadableToken rows t) same (subst (IsReadableToken new) (sym caller) readable))
+module _ (moment now : ℕ) (old expired : Rows) (e : Expires moment now old expired) where
+  clock_alone : KeepsOthers of_clock (table_of old) (table_of e.timed)
+  clock_alone =
+      subst (KeepsOthers of_clock (table_of old)) (sym e.advances.is)
+      (with_row_keeps of_clock (table_of old) kind.Clock [] (clock_row now) refl)
 
--- a row of a cubbyhole that can be read once tokens have expired can be read before
-pub readable_before : (old expired new : Rows) (t u path : Text) → KeepsCubbyholes old expired → map.get expired (kind.Token, t) ≢ None
-    → new ≡ expired → t ≡ u → IsReadableObject new u path → IsReadableObject old t path
-readable_before old expired new t u path left here same caller readable =
-    let at_t = subst (λ u. IsReadableObject new u path) (sym caller) readable in (
-      at_t.0,
-      at_t.1,
-      sym (left t path here) ∙ ap (λ (rows : Rows). table_of rows kind.Cubby (object_key t path)) (sym same) ∙ at_t.2,
-    )
+  -- a row of a token that can be read then could be read before
+  pub damaged_before : KeepsDamaged old expired
+  damaged_before = damaged_still old e.timed e.swept expired (has_come now) e.ended clock_alone e.ends e.rows
+
+  -- the cubbyhole of a token that is left is as it was
+  pub objects_before : HasTokenKeys old → KeepsCubbyholes old expired
+  objects_before = left_expired old e.timed e.swept expired (has_come now) e.ended clock_alone e.ends e.rows
+
+  -- and so is the row of a mount
+  pub mount_before : (name : Text) → table_of expired kind.Mount name ≡ table_of old kind.Mount name
+  mount_before name =
+      ap (λ (z : Table). z kind.Mount name) e.rows ∙ others_kept e.ended (table_of e.swept) kind.Mount name refl
+      ∙ ap (λ (z : Table). z kind.Mount name) e.ends.rows ∙ clock_alone kind.Mount name refl

@@ -1,17 +1,13 @@
 -- The end of a request: from what was served or refused to the outcome.
-use Rattle.std.specs.Prelude.{◌≡◌, Some, None, Result, Ok, Err, IfOk, OnOk}
-use Rattle.std.proofs.Common.{refl, sym, ◌∙◌, ap}
+use Rattle.std.specs.Prelude.{◌≡◌, Some, None, Result, Ok, Err, IfOk}
+use Rattle.std.proofs.Common.{◌∙◌, ap}
 use Rattle.broker_types.specs.Text.{Text}
 use Rattle.broker_types.specs.Answer.{response_of, refused}
 use Rattle.broker_types.specs.Broker.{Broker}
 use Rattle.broker_types.specs.Spending.{end_spent}
 use Rattle.broker_types.specs.declared.answer.Answer.{Answer}
 use Rattle.broker_types.specs.declared.refusal.Refusal.{Refusal}
-use Rattle.records.specs.declared.kind.Kind.TheVariants as kind
-use Rattle.records.specs.Parts.{KeepsOthers, of_tokens}
-use Rattle.records.specs.Table.{table_of}
 use Rattle.records.specs.Transaction.{Rows}
-use Rattle.cubbyhole.specs.Objects.{object_key}
 use Rattle.broker.specs.Order.{Wrapped, finish, response_to}
 use Rattle.broker.specs.Representing.{Represents, Gives}
 use Rattle.broker.specs.Stages.{answered_of, counted, HasServed}
@@ -43,8 +39,3 @@ module _ (c : Text) (old new : Rows) (b : Broker)
 pub if_ok : {T E P : Type 0} (r : Result T E) → P → IfOk r (λ _. P)
 if_ok (Ok x) p = p
 if_ok (Err e) p = tt
-
--- a fact that does not depend on the answer
-pub on_ok : {T E P : Type 0} (r : Result T E) → P → OnOk r P
-on_ok (Ok x) p = p
-on_ok (Err e) p = tt

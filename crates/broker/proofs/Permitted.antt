@@ -3,32 +3,23 @@ use Rattle.std.specs.Prelude.{◌≡◌, Bool, false, List, All, Any, Option, So
 use Rattle.std.specs.Option.{option_map_or}
 use Rattle.std.proofs.Common.{refl, sym, ◌∙◌, ap, subst, inr}
 use Rattle.std.proofs.lemmas.Option.{none-some, same_Some}
-use Rattle.broker_types.specs.Broker.{Broker}
 use Rattle.broker_types.specs.Map.{Map}
 use Rattle.broker_types.specs.Text.{Text}
 use Rattle.broker_types.specs.Token.{Token}
 use Rattle.broker_types.specs.declared.ask.Verb.{Verb}
-use Rattle.records.specs.Parts.{of_policies}
 use Rattle.records.specs.Table.{table_of}
 use Rattle.records.specs.TokenEntry.{TokenEntry, token_entry}
 use Rattle.records.specs.Transaction.{Rows}
 use Rattle.token_tree.specs.TokenRows.{IsTokenAt}
 use Rattle.policies.specs.Grants.{rules_of}
-use Rattle.policies.specs.PolicyLaws.{readable_policies, told_at}
+use Rattle.policies.specs.PolicyLaws.{readable_policies}
 use Rattle.policies.specs.PolicyRows.{ArePoliciesAt, IsReadable, IsUnreadable}
 use Rattle.policies.specs.Rules.{Rules}
 use Rattle.policies.specs.declared.capability.Capability.{Capability}
 use Rattle.broker.specs.Permission.{may}
 use Rattle.broker.specs.PermittedRows.{IsAllowedAt, IsUntold}
-use Rattle.broker.specs.Representing.{Represents}
-use Rattle.broker.proofs.Serving.{tells_part}
 
 -- ---- the policies
-
--- the rows that a broker has are those of its policies
-pub policies_there : {who : Option Text} (b : Broker) (rows : Rows) (names : List Text) → Represents who rows b
-    → ArePoliciesAt (table_of rows) names b.policies
-policies_there b rows names st = told_at (table_of rows) b names (tells_part of_policies b rows st)
 
 -- ---- what they allow
 

@@ -15,7 +15,6 @@ use Rattle.broker_types.specs.declared.request_error.RequestError.TheVariants.{R
 use Rattle.records.specs.Rows.{version_key}
 use Rattle.records.specs.Table.{Table}
 use Rattle.records.specs.ValueLaws.{ok_inj}
-use Rattle.kv2.specs.SecretRows as kv2
 use Rattle.kv2.specs.SecretRows.{AreChanged, AreReadableVersions, is_key_of}
 use Rattle.kv2.specs.Versions.{is_among}
 use Rattle.records.specs.Calls.{OnAnswer}
@@ -68,4 +67,4 @@ among_is_key name (m ∷ ms) n h = elim (or_cases _ _ h) [
 -- the rows of versions that were changed are not damaged
 pub changed_readable : (f : Version → Version) (ns : List ℕ) (name : Text) (old new : Table) → AreChanged f ns name old new
     → AreReadableVersions old name ns
-changed_readable f ns name old new changed n small among = changed.undamaged n (among_is_key name ns n among)
+changed_readable f ns name old new changed n small among = changed.readable n (among_is_key name ns n among)

@@ -13,8 +13,8 @@ use Rattle.broker_types.specs.declared.ask.Ask.{Ask}
 use Rattle.broker_types.specs.declared.ask.Verb.{Verb}
 use Rattle.records.specs.Rows.{or_else}
 use Rattle.mounts.specs.Route.{Route, cut, route_of}
-use Rattle.mounts.specs.Row.{Row}
-use Rattle.mounts.specs.Table.{rows_of}
+use Rattle.mounts.specs.RouteRow.{RouteRow}
+use Rattle.mounts.specs.Table.{route_rows}
 use Rattle.mounts.specs.Types.{fixed_type, type_at}
 use Rattle.mounts.specs.declared.mount_type.MountType.{MountType}
 use Rattle.mounts.specs.declared.mount_type.MountType.TheVariants as mount
@@ -34,7 +34,7 @@ is_elsewhere (Policies operation) = true
 
 -- only mounts of secrets have such operations
 elsewhere : (type : MountType) (r : Route) (op : SecretOperation) → r.operation ≡ Secrets op
-    → ((q : Operation → Bool) → list_all (λ (x : Row). q x.operation) (rows_of type) ≡ true → q r.operation ≡ true) → type ≡ mount.Kv
+    → ((q : Operation → Bool) → list_all (λ (x : RouteRow). q x.operation) (route_rows type) ≡ true → q r.operation ≡ true) → type ≡ mount.Kv
 unfolding is_elsewhere
 elsewhere mount.Kv r op is passes = refl
 elsewhere mount.Token r op is passes = absurd (false≢true (sym (ap is_elsewhere is) ∙ passes is_elsewhere refl))

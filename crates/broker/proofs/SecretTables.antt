@@ -1,6 +1,6 @@
 -- The part of secrets: from rows that a call on secrets left to the broker that they represent.
-use Rattle.std.specs.Prelude.{◌≡◌, ◌==◌, ◌&&◌, ℕ, List, true, false, Option, Some, None}
-use Rattle.std.proofs.Common.{refl, sym, ◌∙◌}
+use Rattle.std.specs.Prelude.{◌≡◌, ◌==◌, ◌&&◌, ℕ, List, true, false, Option}
+use Rattle.std.proofs.Common.{refl}
 use Rattle.std.proofs.lemmas.Bool.{true≢false, false≢true}
 use Rattle.broker_types.specs.Broker.{Broker, Mount}
 use Rattle.broker_types.specs.Map.{Map}

@@ -1,10 +1,10 @@
 -- A creation beside its definition: what is refused, and what is made.
-use Rattle.std.specs.Prelude.{◌≡◌, ◌≢◌, ◌||◌, List, [], ◌∷◌, Bool, true, codes}
+use Rattle.std.specs.Prelude.{◌≡◌, ◌≢◌, ◌||◌, List, [], ◌∷◌, Bool, true}
 use Rattle.std.specs.Prelude.{false, if◌then◌else◌, Option, Some, None, option_map, Result, Ok, Err, ⊤}
 use Rattle.std.specs.Prelude.{All}
 use Rattle.std.specs.Option.{option_map_or}
 use Rattle.std.specs.List.{AllByRecursion}
-use Rattle.std.proofs.Common.{refl, sym, ◌∙◌, ap, subst}
+use Rattle.std.proofs.Common.{sym, ◌∙◌, ap, subst}
 use Rattle.std.proofs.lemmas.List.Elements.{All-nil, All-cons}
 use Rattle.std.proofs.lemmas.Option.{none-some, same_Some}
 use Rattle.broker_types.specs.Broker.{Broker}
@@ -31,8 +31,8 @@ use Rattle.policies.specs.PolicyRows.{IsReadable}
 use Rattle.policies.specs.declared.capability.Capability.TheVariants.{Sudo}
 use Rattle.broker.specs.PermittedRows.{IsSudoAt}
 use Rattle.broker.specs.ReadableRow.{HasReadablePolicies}
-use Rattle.broker.specs.parts.TokenCreation.{Making, of_caller, without_parent, makes_orphans, making_path, is_privileged}
-use Rattle.broker.specs.parts.TokenCreation.{new_policies, may_make, new_parent, new_token}
+use Rattle.broker.specs.declared.parts.tokens.making.Making.{Making}
+use Rattle.broker.specs.parts.TokenCreation.{makes_orphans, making_path, is_privileged, new_policies, may_make, new_parent, new_token}
 use Rattle.broker.specs.parts.TokenEntries.{token_told}
 use Rattle.broker.specs.parts.TokenRanges.{IsTextPair}
 use Rattle.broker.specs.parts.Tokens.{create, create_with, made}
@@ -43,9 +43,9 @@ each_pair [] h = All-nil IsTextPair
 each_pair (e ∷ es) h = All-cons IsTextPair e es h.0 (each_pair es h.1)
 
 -- no token has an empty parent
-pub parent_named : (c : Text) (orphans : Bool) (asked : TokenCreation) (parent : Option Text) → parent ≡ new_parent c orphans asked → c ≢ []
+pub parent_named : (c : Text) (making : Making) (asked : TokenCreation) (parent : Option Text) → parent ≡ new_parent c making asked → c ≢ []
     → parent ≢ Some []
-parent_named c orphans asked parent is named empty = by (orphans || asked.no_parent) (sym is ∙ empty)
+parent_named c making asked parent is named empty = by (makes_orphans making || asked.no_parent) (sym is ∙ empty)
   where
     by : (v : Bool) → (if v then None else Some c) ≡ Some [] → ⊥
     by true e = none-some _ e
@@ -64,73 +64,54 @@ readable_by old new t u o e names at same range token some named all =
       subst (All (IsReadable (table_of old))) own (subst (λ rows. All (IsReadable (table_of rows)) names) same all),
     )
 
--- the path of the route, by whether it makes orphans alone
-pub path_of_making : (m : Making) (v : Bool) → makes_orphans m ≡ v
-    → (if v then codes "auth/token/create-orphan" else codes "auth/token/create") ≡ making_path m
-path_of_making m v is = ap path (sym is) ∙ by m
-  where
-    path : Bool → Text
-    path w = if w then codes "auth/token/create-orphan" else codes "auth/token/create"
-
-    by : (m : Making) → path (makes_orphans m) ≡ making_path m
-    by of_caller = refl
-    by without_parent = refl
-
--- one of the two routes makes orphans alone
-pub making_for : (v : Bool) → (m : Making) × (makes_orphans m ≡ v)
-making_for false = (of_caller, refl)
-making_for true = (without_parent, refl)
-
 -- what the rows say of policies once the caller is found, they say before of its own
 pub sudo_before : (old new : Rows) (names own : List Text) (path : Text) (v : Bool) → new ≡ old → names ≡ own → IsSudoAt new names path v
     → IsSudoAt old own path v
 sudo_before old new names own path v same named sudo =
     subst (λ rows. IsSudoAt rows own path v) same (subst (λ ns. IsSudoAt new ns path v) named sudo)
 
-module _ (b : Broker) (c : Text) (names : Names) (m : Making) (asked : TokenCreation) where
+module _ (b : Broker) (c : Text) (names : Names) (making : Making) (asked : TokenCreation) where
   abbrev made_by : Option Token → Result Done Refusal
-  made_by o = some_or (refusal.Forbidden denial.BadToken) o >>= (λ x. create_with b c x names m (is_privileged b (making_path m) x)
-      (new_policies (is_privileged b (making_path m) x) x asked) asked)
+  made_by o = some_or (refusal.Forbidden denial.BadToken) o >>= (λ x. create_with b c x names making (is_privileged b (making_path making) x)
+      (new_policies (is_privileged b (making_path making) x) x asked) asked)
 
   -- a caller that has no row is refused
-  pub create_unknown : None ≡ option_map token_entry (get b.tokens c) → create b c names m asked ≡ Err (refusal.Forbidden denial.BadToken)
+  pub create_unknown : None ≡ option_map token_entry (get b.tokens c) → create b c names making asked ≡ Err (refusal.Forbidden denial.BadToken)
   create_unknown none = ap made_by (mapped_none token_entry (get b.tokens c) (sym none))
 
   module _ (x : Token) (here : get b.tokens c ≡ Some x) where
     abbrev privileged : Bool
-    privileged = is_privileged b (making_path m) x
+    privileged = is_privileged b (making_path making) x
 
     abbrev policies : List Text
     policies = new_policies privileged x asked
 
     abbrev may : Result ⊤ Refusal
-    may = may_make privileged (makes_orphans m) x policies asked
+    may = may_make privileged making x policies asked
 
     abbrev new : Token
-    new = new_token b.clock (new_parent c (makes_orphans m) asked) names.accessor policies asked
+    new = new_token b.clock (new_parent c making asked) names.accessor policies asked
 
     -- one that may not is refused
-    pub create_refused : (r : Refusal) → may ≡ Err r → create b c names m asked ≡ Err r
+    pub create_refused : (r : Refusal) → may ≡ Err r → create b c names making asked ≡ Err r
     create_refused r denied = ap made_by here ∙ ap (λ (v : Result ⊤ Refusal). v >>= (λ _. Ok (made b names new))) denied
 
     -- and one that may makes the token
-    pub create_made : (u : ⊤) → may ≡ Ok u → create b c names m asked ≡ Ok (made b names new)
+    pub create_made : (u : ⊤) → may ≡ Ok u → create b c names making asked ≡ Ok (made b names new)
     create_made u granted = ap made_by here ∙ ap (λ (v : Result ⊤ Refusal). v >>= (λ _. Ok (made b names new))) granted
 
     -- ---- by the row of the caller
 
     module _ (e : TokenEntry) (told : e ≡ token_entry x) (p : Bool)
-        (sudo : p ≡ grants b.policies e.policies verb.Write (making_path m) Sudo) (ps : List Text)
+        (sudo : p ≡ grants b.policies e.policies verb.Write (making_path making) Sudo) (ps : List Text)
         (given : ps ≡ new_policies p (token_told e) asked) where
       same_sudo : p ≡ privileged
-      same_sudo = sudo ∙ ap (λ (e : TokenEntry). grants b.policies e.policies verb.Write (making_path m) Sudo) told
+      same_sudo = sudo ∙ ap (λ (e : TokenEntry). grants b.policies e.policies verb.Write (making_path making) Sudo) told
 
       -- the policies are those of the definition
       pub same_policies_told : ps ≡ policies
       same_policies_told = given ∙ (λ i. new_policies (same_sudo i) (token_told (told i)) asked)
 
       -- and so are the tests
-      pub same_may : (orphans : Bool) → makes_orphans m ≡ orphans → (r : Result ⊤ Refusal)
-          → r ≡ may_make p orphans (token_told e) ps asked → may ≡ r
-      same_may orphans of r is =
-          sym (is ∙ (λ i. may_make (same_sudo i) (sym of i) (token_told (told i)) (same_policies_told i) asked))
+      pub same_may : (r : Result ⊤ Refusal) → r ≡ may_make p making (token_told e) ps asked → may ≡ r
+      same_may r is = sym (is ∙ (λ i. may_make (same_sudo i) making (token_told (told i)) (same_policies_told i) asked))

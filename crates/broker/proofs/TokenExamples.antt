@@ -36,6 +36,8 @@ use Rattle.api_json.specs.Reply.{reply_text}
 use Rattle.api_json.specs.declared.token_bodies.TokenCreation.{TokenCreation}
 use Rattle.policies.specs.Allows.{allows}
 use Rattle.policies.specs.Grants.{rules_of}
+use Rattle.broker.specs.declared.parts.tokens.making.Making.{Making}
+use Rattle.broker.specs.declared.parts.tokens.making.Making.TheVariants.{OfCaller, WithoutParent}
 use Rattle.broker.specs.parts.TokenCreation.{new_token, new_policies, may_make}
 use Rattle.broker.specs.parts.TokenReplies.{seconds_left, looked_up, auth_reply}
 use Rattle.broker.specs.parts.TokenCommands.{create_token, renew_self, revoke_self, create_meant, revoke_meant, revoke_self_meant}
@@ -104,37 +106,37 @@ caller policies uses ends = record (root_token 1000 (codes "c")) { policies = po
 abbrev default_and_n : List Text
 default_and_n = codes "default" ∷ n ∷ []
 
-abbrev refused : Bool → Bool → Token → List Text → TokenCreation → Reason → Type 0
-refused privileged orphans x policies a why = may_make privileged orphans x policies a ≡ Err (refusal.BadRequest why)
+abbrev refused : Bool → Making → Token → List Text → TokenCreation → Reason → Type 0
+refused privileged making x policies a why = may_make privileged making x policies a ≡ Err (refusal.BadRequest why)
 
 all_at_once : TokenCreation
 all_at_once = asked (codes "a b" ∷ codes "root" ∷ codes "x" ∷ []) 0 0 true false
 
-limited : refused false false (caller default_and_n (Some 8) (Some 2765800)) [] all_at_once reason.RestrictedToken
+limited : refused false OfCaller (caller default_and_n (Some 8) (Some 2765800)) [] all_at_once reason.RestrictedToken
 unfolding caller same
 limited = refl
 
-no_name : refused false false (caller default_and_n None (Some 2765800)) [] all_at_once reason.InvalidName
+no_name : refused false OfCaller (caller default_and_n None (Some 2765800)) [] all_at_once reason.InvalidName
 unfolding all_at_once asked caller same
 no_name = refl
 
-no_root : refused false false (caller default_and_n None (Some 2765800)) [] (asked (codes "root" ∷ codes "x" ∷ []) 0 0 true false) reason.RootByRootAlone
+no_root : refused false OfCaller (caller default_and_n None (Some 2765800)) [] (asked (codes "root" ∷ codes "x" ∷ []) 0 0 true false) reason.RootByRootAlone
 unfolding asked caller same
 no_root = refl
 
-beyond : refused false false (caller default_and_n None (Some 2765800)) [] (asked (codes "x" ∷ []) 0 0 true false) reason.PoliciesBeyondParent
+beyond : refused false OfCaller (caller default_and_n None (Some 2765800)) [] (asked (codes "x" ∷ []) 0 0 true false) reason.PoliciesBeyondParent
 unfolding asked caller same
 beyond = refl
 
-no_orphan : refused false false (caller default_and_n None (Some 2765800)) [] (asked (n ∷ []) 0 0 true false) reason.OrphanNeedsSudo
+no_orphan : refused false OfCaller (caller default_and_n None (Some 2765800)) [] (asked (n ∷ []) 0 0 true false) reason.OrphanNeedsSudo
 unfolding asked caller same
 no_orphan = refl
 
-by_its_own_route : may_make false true (caller default_and_n None (Some 2765800)) default_and_n (asked (n ∷ []) 0 0 true false) ≡ Ok tt
+by_its_own_route : may_make false WithoutParent (caller default_and_n None (Some 2765800)) default_and_n (asked (n ∷ []) 0 0 true false) ≡ Ok tt
 unfolding asked caller same
 by_its_own_route = refl
 
-expiring : refused true false (caller (codes "root" ∷ []) None (Some 1100)) (codes "root" ∷ []) (asked [] 0 0 false false) reason.ExpiringRoot
+expiring : refused true OfCaller (caller (codes "root" ∷ []) None (Some 1100)) (codes "root" ∷ []) (asked [] 0 0 false false) reason.ExpiringRoot
 unfolding asked caller same
 expiring = refl
 

@@ -13,14 +13,11 @@ use Rattle.broker_types.specs.declared.refusal.Refusal.{Refusal}
 use Rattle.broker_types.specs.declared.refusal.Refusal.TheVariants as refusal
 use Rattle.broker_types.specs.declared.refusal.Denial.TheVariants as denial
 use Rattle.broker_types.specs.declared.refusal.Reason.TheVariants as reason
-use Rattle.broker_types.specs.declared.reply.Reply.{Reply}
 use Rattle.broker_types.specs.declared.request_error.RequestError.{RequestError}
 use Rattle.broker_types.specs.declared.request_error.RequestError.TheVariants.{Refused}
 use Rattle.serde_json.specs.Data as json
 use Rattle.api_json.specs.Json.{body_members}
-use Rattle.api_json.specs.Objects.{keys_object}
 use Rattle.api_json.specs.Readers as reader
-use Rattle.api_json.specs.Reply.{plain_reply}
 use Rattle.records.specs.TokenEntry.{TokenEntry, token_entry}
 use Rattle.records.specs.Transaction.{Rows}
 use Rattle.token_tree.specs.Tokens as tree
@@ -28,12 +25,12 @@ use Rattle.mounts.specs.declared.operation.TokenOperation.TheVariants as operati
 use Rattle.broker.specs.Command.{on_token, on_tokens}
 use Rattle.broker.specs.Representing.{Represents}
 use Rattle.broker.specs.Serving.{acted}
+use Rattle.broker.specs.Stages.{answered_of}
 use Rattle.broker.specs.declared.answered.Answered as Code
-use Rattle.broker.specs.declared.answered.Answered.TheVariants.{Given}
 use Rattle.broker.specs.parts.TokenReplies.{token_reply}
-use Rattle.broker.specs.parts.TokenCommands.{lookup_accessor, list_accessors}
+use Rattle.broker.specs.parts.TokenCommands.{lookup_accessor}
 use Rattle.broker.specs.parts.Tokens.{look_up, look_up_accessor}
-use Rattle.broker.proofs.CubbyholeAnswers.{ActsAs}
+use Rattle.broker.specs.Operating.{ActsAs}
 
 -- what a look-up answers of a token that may be there
 abbrev shown_as : Broker → Names → Text → Option Token → Result Done Refusal
@@ -44,14 +41,13 @@ shown_as b names id o =
 module _ (b : Broker) (rows : Rows) (c t id : Text) (names : Names) (found : Option TokenEntry) (st : Represents (Some c) rows b)
     (told : found ≡ option_map token_entry (get b.tokens t)) where
   -- a token that was found is shown
-  pub acts_look_up : (request : Text) (now : ℕ) (entry : TokenEntry) (r : Reply) → names.request ≡ request → b.clock ≡ now → found ≡ Some entry
-      → r ≡ token_reply request now id entry → ActsAs c b rows (Ok (Given r)) (look_up b names t id)
-  acts_look_up request now entry r named clock some is = by (get b.tokens t) told
+  pub acts_look_up : (now : ℕ) (entry : TokenEntry) (a : Code.Answered) → b.clock ≡ now → found ≡ Some entry
+      → answered_of a ≡ reply (token_reply names.request now id entry) None → ActsAs c b rows (Ok a) (look_up b names t id)
+  acts_look_up now entry a clock some is = by (get b.tokens t) told
     where
-      by : (o : Option Token) → found ≡ option_map token_entry o → ActsAs c b rows (Ok (Given r)) (shown_as b names id o)
+      by : (o : Option Token) → found ≡ option_map token_entry o → ActsAs c b rows (Ok a) (shown_as b names id o)
       by None e = absurd (none-some _ (sym e ∙ some))
-      by (Some x) e =
-          (ap (λ r. reply r None) (is ∙ (λ i. token_reply (sym named i) (sym clock i) id (same_Some _ _ (sym some ∙ e) i))), st)
+      by (Some x) e = (is ∙ (λ i. reply (token_reply names.request (sym clock i) id (same_Some _ _ (sym some ∙ e) i)) None), st)
 
   -- and one that was not is refused
   pub acts_unknown : found ≡ None → ActsAs c b rows (Err (Refused (refusal.Forbidden denial.BadToken))) (look_up b names t id)
@@ -94,11 +90,3 @@ module _ (b : Broker) (rows : Rows) (c : Text) (names : Names) (body : List ℕ)
       by_accessor (Err (Refused (refusal.BadRequest reason.InvalidAccessor)))
       (subst (λ o. ActsAs c b rows (Err (Refused (refusal.BadRequest reason.InvalidAccessor)))
       (some_or (refusal.BadRequest reason.InvalidAccessor) o >>= (λ t. look_up b names t []))) (sym is) (refl, st))
-
--- ---- the accessors of all tokens
-
-pub acts_list : (b : Broker) (rows : Rows) (c request : Text) (names : Names) (keys : List Text) (r : Reply) → Represents (Some c) rows b
-    → names.request ≡ request → keys ≡ tree.accessors_of b → r ≡ plain_reply request (keys_object keys)
-    → ActsAs c b rows (Ok (Given r)) (acted b c names (Ok (on_token list_accessors)))
-acts_list b rows c request names keys r st named all is =
-    (ap (λ r. reply r None) (is ∙ (λ i. plain_reply (sym named i) (keys_object (all i)))), st)

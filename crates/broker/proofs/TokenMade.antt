@@ -30,7 +30,7 @@ use Rattle.broker.specs.Stages.{IsDone}
 use Rattle.broker.specs.declared.answered.Answered.TheVariants.{Made}
 use Rattle.broker.specs.parts.TokenReplies.{auth_reply}
 use Rattle.broker.specs.parts.Tokens.{made}
-use Rattle.broker.proofs.Expired.{tokens_long}
+use Rattle.broker.specs.RepresentingLaws.{tokens_long}
 use Rattle.broker.proofs.TokenSound.{IsLeft, served_tokens, no_leases_put}
 use Rattle.broker.proofs.TokenTables.{represents-created}
 

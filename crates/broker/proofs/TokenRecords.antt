@@ -15,6 +15,7 @@ use Rattle.records.specs.RangeLaws.{identifier_short, name_short}
 use Rattle.records.specs.Ranges.{IsTokenInRange}
 use Rattle.records.specs.Reading.{IsSomeIn, IsWide}
 use Rattle.records.specs.TokenEntry.{TokenEntry, token_entry}
+use Rattle.broker.specs.declared.parts.tokens.making.Making.{Making}
 use Rattle.broker.specs.parts.TokenCreation.{new_token, new_policies, may_make, has_no_end, asked_ttl}
 use Rattle.broker.specs.parts.TokenEntries.{token_told, new_entry}
 use Rattle.broker.specs.parts.TokenRanges.{IsInRange}
@@ -28,9 +29,9 @@ pub same_policies : (privileged : Bool) (x : Token) (asked : TokenCreation)
     → new_policies privileged x asked ≡ new_policies privileged (token_told (token_entry x)) asked
 same_policies privileged x asked = refl
 
-pub same_leave : (privileged orphans : Bool) (x : Token) (ps : List Text) (asked : TokenCreation)
-    → may_make privileged orphans x ps asked ≡ may_make privileged orphans (token_told (token_entry x)) ps asked
-same_leave privileged orphans x ps asked = refl
+pub same_leave : (privileged : Bool) (making : Making) (x : Token) (ps : List Text) (asked : TokenCreation)
+    → may_make privileged making x ps asked ≡ may_make privileged making (token_told (token_entry x)) ps asked
+same_leave privileged making x ps asked = refl
 
 -- the row of a new token, whose metadata is in order
 pub same_new : (now : ℕ) (parent : Option Text) (accessor : Text) (ps : List Text) (asked : TokenCreation) → IsInRange asked

@@ -29,7 +29,7 @@ use Rattle.broker.specs.declared.answered.Answered.TheVariants.{Given}
 use Rattle.broker.specs.parts.TokenCreation.{or_longest}
 use Rattle.broker.specs.parts.TokenReplies.{auth_reply}
 use Rattle.broker.specs.parts.Tokens.{renew, new_end}
-use Rattle.broker.proofs.CubbyholeAnswers.{ActsAs}
+use Rattle.broker.specs.Operating.{ActsAs}
 
 -- ---- the new end
 

@@ -8,7 +8,9 @@ use Rattle.std.proofs.lemmas.Bool.{false≢true, and_parts, or_cases, or_right}
 use Rattle.broker_types.specs.Text.{Text, same}
 use Rattle.broker_types.specs.Map.{keys}
 use Rattle.broker_types.specs.Name.{is_name}
+use Rattle.broker_types.specs.OptionLaws.{is_nothing}
 use Rattle.broker_types.specs.Refuse.{unless}
+use Rattle.broker_types.specs.RefuseLaws.{ok_step}
 use Rattle.broker_types.specs.TextLaws.{same_true}
 use Rattle.broker_types.specs.Token.{Token}
 use Rattle.broker_types.specs.declared.refusal.Refusal.{Refusal}
@@ -16,8 +18,8 @@ use Rattle.broker_types.specs.declared.refusal.Refusal.TheVariants as refusal
 use Rattle.broker_types.specs.declared.refusal.Reason.TheVariants as reason
 use Rattle.api_json.specs.declared.token_bodies.TokenCreation.{TokenCreation}
 use Rattle.records.specs.Children.{has, set_of}
-use Rattle.broker.specs.parts.TokenCreation.{default_name, have_root, policies_given, without_default, new_policies, has_no_end, may_make}
-use Rattle.broker.proofs.TokenAnswers.{ok_step, is_nothing}
+use Rattle.broker.specs.declared.parts.tokens.making.Making.{Making}
+use Rattle.broker.specs.parts.TokenCreation.{makes_orphans, default_name, have_root, policies_given, without_default, new_policies, has_no_end, may_make}
 use Rattle.broker.proofs.TokenLists.{has_set}
 
 -- ---- what a creation that is not refused passed
@@ -27,17 +29,17 @@ passed true u r e = refl
 passed false u r e = absurd (cc)
 
 -- each test of the creation, in its order
-pub record IsAllowed (privileged orphans : Bool) (x : Token) (ps : List Text) (asked : TokenCreation) : Type 0 where
+pub record IsAllowed (privileged : Bool) (making : Making) (x : Token) (ps : List Text) (asked : TokenCreation) : Type 0 where
   pub unlimited : x.uses_left ≡ None
   pub named : list_all is_name asked.policies ≡ true
   pub root : (have_root x.policies || not (have_root asked.policies)) ≡ true
   pub had : (privileged || list_all (has x.policies) asked.policies) ≡ true
-  pub parted : (privileged || (orphans || not asked.no_parent)) ≡ true
+  pub parted : (privileged || (makes_orphans making || not asked.no_parent)) ≡ true
   pub ends : (is_none x.ends || not (has_no_end ps asked)) ≡ true
 
-module _ (privileged orphans : Bool) (x : Token) (ps : List Text) (asked : TokenCreation) where
+module _ (privileged : Bool) (making : Making) (x : Token) (ps : List Text) (asked : TokenCreation) where
   -- a creation that is not refused passed them all
-  pub allowed : (u : ⊤) → may_make privileged orphans x ps asked ≡ Ok u → IsAllowed privileged orphans x ps asked
+  pub allowed : (u : ⊤) → may_make privileged making x ps asked ≡ Ok u → IsAllowed privileged making x ps asked
   allowed u e =
       let one = ok_step (unless (is_none x.uses_left) (refusal.BadRequest reason.RestrictedToken)) _ u e in
       let two = ok_step (unless (list_all is_name asked.policies) (refusal.BadRequest reason.InvalidName)) _ u one.2 in
@@ -45,7 +47,7 @@ module _ (privileged orphans : Bool) (x : Token) (ps : List Text) (asked : Token
       ok_step (unless (have_root x.policies || not (have_root asked.policies)) (refusal.BadRequest reason.RootByRootAlone)) _ u two.2 in
       let four =
       ok_step (unless (privileged || list_all (has x.policies) asked.policies) (refusal.BadRequest reason.PoliciesBeyondParent)) _ u three.2 in
-      let five = ok_step (unless (privileged || (orphans || not asked.no_parent)) (refusal.BadRequest reason.OrphanNeedsSudo)) _ u four.2 in
+      let five = ok_step (unless (privileged || (makes_orphans making || not asked.no_parent)) (refusal.BadRequest reason.OrphanNeedsSudo)) _ u four.2 in
       record {
         unlimited = is_nothing x.uses_left (passed _ one.0 _ one.1);
         named = passed _ two.0 _ two.1;
@@ -115,17 +117,17 @@ module _ (x : Token) (asked : TokenCreation) (all : list_all (has x.policies) as
       by false root g = chosen_within asked.no_default_policy q g
 
 -- so a token that such a caller makes has no policy that its parent has not
-pub child_has_no_more : (orphans : Bool) (x : Token) (asked : TokenCreation) (u : ⊤)
-    → may_make false orphans x (new_policies false x asked) asked ≡ Ok u → (q : Text) → has (new_policies false x asked) q ≡ true → has x.policies q ≡ true
-child_has_no_more orphans x asked u e = no_more_policies x asked (allowed false orphans x (new_policies false x asked) asked u e).had
+pub child_has_no_more : (making : Making) (x : Token) (asked : TokenCreation) (u : ⊤)
+    → may_make false making x (new_policies false x asked) asked ≡ Ok u → (q : Text) → has (new_policies false x asked) q ≡ true → has x.policies q ≡ true
+child_has_no_more making x asked u e = no_more_policies x asked (allowed false making x (new_policies false x asked) asked u e).had
 
 -- ---- ends
 
 -- a token with an end makes none without
-pub no_endless_child : (privileged orphans : Bool) (x : Token) (ps : List Text) (asked : TokenCreation) (u : ⊤)
-    → may_make privileged orphans x ps asked ≡ Ok u → has_no_end ps asked ≡ true → x.ends ≡ None
-no_endless_child privileged orphans x ps asked u e endless =
-    is_nothing x.ends (by (is_none x.ends) (allowed privileged orphans x ps asked u e).ends)
+pub no_endless_child : (privileged : Bool) (making : Making) (x : Token) (ps : List Text) (asked : TokenCreation) (u : ⊤)
+    → may_make privileged making x ps asked ≡ Ok u → has_no_end ps asked ≡ true → x.ends ≡ None
+no_endless_child privileged making x ps asked u e endless =
+    is_nothing x.ends (by (is_none x.ends) (allowed privileged making x ps asked u e).ends)
   where
     by : (v : Bool) → (v || not (has_no_end ps asked)) ≡ true → v ≡ true
     by true h = refl

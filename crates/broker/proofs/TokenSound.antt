@@ -12,18 +12,20 @@ use Rattle.broker_types.specs.Moment.{greatest_moment}
 use Rattle.broker_types.specs.Limits.{longest_ttl}
 use Rattle.broker_types.specs.Lineage.{is_under, without_descendants, without_parent}
 use Rattle.broker_types.specs.Names.{Names}
-use Rattle.broker_types.specs.OptionLaws.{mapped}
+use Rattle.broker_types.specs.OptionLaws.{mapped, is_nothing}
 use Rattle.broker_types.specs.Token.{Token, Tokens}
 use Rattle.broker_types.specs.TokenText.{token_text}
 use Rattle.broker_types.specs.Broker.{Broker}
 use Rattle.broker_types.specs.Operation.{Done}
 use Rattle.broker_types.specs.Refuse.{unless, some_or}
+use Rattle.broker_types.specs.RefuseLaws.{ok_step}
 use Rattle.broker_types.specs.RemovalLaws.{revoke_sound, revoke_orphan_sound}
 use Rattle.broker_types.specs.SearchLaws.{kept_get}
 use Rattle.broker_types.specs.Sound.{Forms, Sound, IsSoundToken, IsEnd, IsShortText}
 use Rattle.broker_types.specs.TreeLaws.{orphaned_is}
 use Rattle.broker_types.specs.Used.{are_new, use_up}
 use Rattle.broker_types.specs.TextLaws.{same_self}
+use Rattle.broker_types.specs.UsedLaws.{first_new}
 use Rattle.broker_types.specs.declared.refusal.Denial.TheVariants as denial
 use Rattle.broker_types.specs.declared.refusal.Refusal.TheVariants as refusal
 use Rattle.broker_types.specs.declared.refusal.Reason.TheVariants as reason
@@ -39,11 +41,12 @@ use Rattle.broker.specs.Stages.{counted}
 use Rattle.broker.specs.parts.TokenCommands.{TokenCommand, create_token, create_orphan, lookup_token, lookup_accessor, lookup_self}
 use Rattle.broker.specs.parts.TokenCommands.{renew_token, renew_self, revoke_token, revoke_orphan, revoke_accessor, revoke_self, list_accessors}
 use Rattle.broker.specs.parts.TokenCommands.{token_names, token_traits}
-use Rattle.broker.specs.parts.TokenCreation.{Making, of_caller, without_parent as as_orphan, makes_orphans, making_path, is_privileged, may_make}
+use Rattle.broker.specs.declared.parts.tokens.making.Making.{Making}
+use Rattle.broker.specs.declared.parts.tokens.making.Making.TheVariants.{OfCaller, WithoutParent}
+use Rattle.broker.specs.parts.TokenCreation.{makes_orphans, making_path, is_privileged, may_make}
 use Rattle.broker.specs.parts.TokenCreation.{new_policies, new_token, new_parent, or_longest, asked_ttl, has_no_end, use_limit}
 use Rattle.broker.specs.parts.TokenRanges.{IsInRange, IsCommandInRange, AreTokenNames}
 use Rattle.broker.specs.parts.Tokens.{act_on_tokens, known, named, create, look_up, renew, new_end, revoke, revoke_alone}
-use Rattle.broker.proofs.TokenAnswers.{ok_step, is_nothing, first_new}
 use Rattle.broker.proofs.TokenRules.{allowed}
 use Rattle.broker.proofs.TokenPolicies.{ArePolicies, IsPolicyName, each_passes, each_listed, few_listed, new_policies_are}
 
@@ -175,15 +178,15 @@ module _ (forms : Forms) (who : Option Text) (b : Broker) (sound : Sound forms w
   parent_stands c false p here e = subst (λ q. get b.tokens q ≢ None) (same_Some _ _ e) here
 
   -- a token with good policies may be made
-  pub may_be_made : (c : Text) (orphans : Bool) (ps : List Text) (asked : TokenCreation) → IsInRange asked → get b.tokens c ≢ None
+  pub may_be_made : (c : Text) (making : Making) (ps : List Text) (asked : TokenCreation) → IsInRange asked → get b.tokens c ≢ None
       → ArePolicies IsPolicyName ps
-      → MayBeMade forms b (token_text names.token) (new_token b.clock (new_parent c orphans asked) names.accessor ps asked)
-  may_be_made c orphans ps asked range here are = record {
-    sound = new_sound forms names good b.clock sound.clock asked range (new_parent c orphans asked) ps are;
+      → MayBeMade forms b (token_text names.token) (new_token b.clock (new_parent c making asked) names.accessor ps asked)
+  may_be_made c making ps asked range here are = record {
+    sound = new_sound forms names good b.clock sound.clock asked range (new_parent c making asked) ps are;
     token_is_new = first_new b.used names.token names.accessor new;
     accessor_is_new = is_nothing (get b.used names.accessor) (and_parts (is_none (get b.used names.accessor)) true rest_new.1).0;
     differ = differ;
-    parent = λ p e. parent_stands c (orphans || asked.no_parent) p here e;
+    parent = λ p e. parent_stands c (makes_orphans making || asked.no_parent) p here e;
     no_lease = refl;
     unspent = new_unspent asked.num_uses;
   }
@@ -196,12 +199,12 @@ module _ (forms : Forms) (who : Option Text) (b : Broker) (sound : Sound forms w
       let is = known_is b c x.0 x.1 in
       let privileged = is_privileged b (making_path making) x.0 in
       let ps = new_policies privileged x.0 asked in
-      let may = ok_step (may_make privileged (makes_orphans making) x.0 ps asked) _ d x.2 in
+      let may = ok_step (may_make privileged making x.0 ps asked) _ d x.2 in
       let are = new_policies_are IsPolicyName refl refl privileged x.0 asked (sound_policies forms c x.0 (sound.tokens.each c x.0 is))
-      (each_passes asked.policies (allowed privileged (makes_orphans making) x.0 ps asked may.0 may.1).named) range.kept.few_policies in
+      (each_passes asked.policies (allowed privileged making x.0 ps asked may.0 may.1).named) range.kept.few_policies in
       let t = token_text names.token in
-      let y = new_token b.clock (new_parent c (makes_orphans making) asked) names.accessor ps asked in
-      let can = may_be_made c (makes_orphans making) ps asked range (λ none. none-some _ (sym none ∙ is)) are in
+      let y = new_token b.clock (new_parent c making asked) names.accessor ps asked in
+      let can = may_be_made c making ps asked range (λ none. none-some _ (sym none ∙ is)) are in
       subst (λ d. IsLeft forms who (counted d)) (ok_inj may.2)
       (record {
         sound = create_sound b t y forms who sound can;
@@ -252,8 +255,8 @@ module _ (forms : Forms) (who : Option Text) (b : Broker) (left : IsLeft forms w
   -- what a command of a caller leaves, whoever may have spent its last use
   pub leave : (c : Text) (names : Names) (command : TokenCommand) (d : Done) → AreTokenNames names → IsCommandInRange command
       → are_new b.used ((token_traits command).own names) ≡ true → act_on_tokens b c names command ≡ Ok d → IsLeft forms who (counted d)
-  leave c names (create_token asked) d good range new e = left_by_creation forms who b left.sound names good new c of_caller asked d left.served range e
-  leave c names (create_orphan asked) d good range new e = left_by_creation forms who b left.sound names good new c as_orphan asked d left.served range e
+  leave c names (create_token asked) d good range new e = left_by_creation forms who b left.sound names good new c OfCaller asked d left.served range e
+  leave c names (create_orphan asked) d good range new e = left_by_creation forms who b left.sound names good new c WithoutParent asked d left.served range e
   leave c names (lookup_token t) d good range new e = looked_up names t t d e
   leave c names (lookup_accessor accessor) d good range new e =
       let t = ok_step (named b accessor) _ d e in

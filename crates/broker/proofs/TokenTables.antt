@@ -23,13 +23,12 @@ use Rattle.records.specs.Rows.{rows_of, token_len, has_slash, object_row}
 use Rattle.records.specs.Table.{Table, table_of}
 use Rattle.records.specs.Transaction.{Rows}
 use Rattle.token_tree.specs.Tokens.{AreEnded, MayBeMade, created, with_token, with_end, renew}
-use Rattle.cubbyhole.specs.Laws.{without_owners}
+use Rattle.cubbyhole.specs.Laws.{without_cubbyholes}
 use Rattle.broker.specs.Ending.{AreTokenLong, LosesObjects, HaveNoLeases}
 use Rattle.broker.specs.Forms.{forms}
 use Rattle.broker.specs.Representing.{Represents}
-use Rattle.broker.proofs.Ended.{neither, others_kept, KeepCubbyholes, other_tokens, ended_long, objects_lost, rows_left}
-use Rattle.broker.proofs.Expired.{no_token, tokens_long}
-use Rattle.broker.proofs.Serving.{tells_part}
+use Rattle.broker.specs.EndingLaws.{neither, others_kept, KeepCubbyholes, other_tokens, ended_long, objects_lost, rows_left, no_token}
+use Rattle.broker.specs.RepresentingLaws.{tells_part, tokens_long}
 use Rattle.broker.proofs.TokenSound.{IsLeft, left_by_revocation, left_by_one_revocation, left_by_renewal}
 
 -- rows that represent a broker, which is sound then, and one that the requests served so far can leave
@@ -63,7 +62,7 @@ module _ {who : Option Text} (b : Broker) (us : Tokens) (old : Rows) (st : Repre
   -- the cubbyholes of the ended were dropped, and the rows represent what is left
   pub represents-gone : (mid new : Rows) (ended : List Text) → IsLeft forms who (record b { tokens = us })
       → AreEnded b (record b { tokens = us }) ended → Tells of_tokens (table_of mid) (record b { tokens = us })
-      → KeepsOthers of_tokens (table_of old) (table_of mid) → table_of new ≡ without_owners (table_of mid) ended
+      → KeepsOthers of_tokens (table_of old) (table_of mid) → table_of new ≡ without_cubbyholes (table_of mid) ended
       → Tells of_cubbyholes (table_of new) (record b { tokens = us }) → Represents who new (record b { tokens = us })
   represents-gone mid new ended left are tells others dropped objects =
       let kept = subst (KeepsOthers of_cubbyholes (table_of mid)) (sym dropped) (others_kept ended (table_of mid)) in
@@ -75,7 +74,7 @@ module _ {who : Option Text} (b : Broker) (us : Tokens) (old : Rows) (st : Repre
       }
 
 module _ {who : Option Text} (b : Broker) (t : Text) (old mid new : Rows) (ended : List Text) (st : Represents who old b)
-    (others : KeepsOthers of_tokens (table_of old) (table_of mid)) (dropped : table_of new ≡ without_owners (table_of mid) ended) where
+    (others : KeepsOthers of_tokens (table_of old) (table_of mid)) (dropped : table_of new ≡ without_cubbyholes (table_of mid) ended) where
   -- a token was revoked with all under it, and their cubbyholes were dropped
   pub represents-revoked : AreEnded b (revoke b t) ended → Tells of_tokens (table_of mid) (revoke b t)
       → Tells of_cubbyholes (table_of new) (revoke b t) → Represents who new (revoke b t)

@@ -1,5 +1,5 @@
 -- The row of the clock: a store that was started has it (this project's definition).
-use Rattle.std.specs.Prelude.{◌≡◌, ◌≢◌, ◌≤◌, ◌⊎◌, ℕ, [], Some, None, Result, Err, IfOk, IfErr}
+use Rattle.std.specs.Prelude.{◌≡◌, ◌≤◌, ◌⊎◌, ℕ, [], Some, None, Result, Err, IfOk, IfErr}
 use Rattle.std.specs.FinMap as map
 use Rattle.broker_types.specs.Moment.{greatest_moment}
 use Rattle.broker_types.specs.Fault.{IsMemoryOrStorage}
@@ -16,10 +16,6 @@ HasClock rows = (m : ℕ) × (m ≤ greatest_moment) × (map.get rows (kind.Cloc
 -- no row is the clock's: the store was not started
 abbrev pub HasNoClock : Rows → Type 0
 HasNoClock rows = map.get rows (kind.Clock, []) ≡ None
-
--- not that the store was not started
-abbrev pub IsNotBadStart : Fault → Type 0
-IsNotBadStart fault = fault ≢ BadStart
 
 -- What a request answers over rows, whatever else they are.
 pub record NeedsClock {A : Type 0} (rows : Rows) (result : Result A Fault) : Type 0 where

@@ -22,7 +22,7 @@ use Rattle.token_tree.specs.Ended.{IsDescent, has_come, is_named}
 use Rattle.token_tree.specs.Endings.{AreTokenRows, EndsAlone, EndsDescent, without_tokens}
 use Rattle.token_tree.specs.TokenRows.{IsTokenAt}
 use Rattle.cubbyhole.specs.Cubbyhole.{object_at}
-use Rattle.cubbyhole.specs.Laws.{without_owners}
+use Rattle.cubbyhole.specs.Laws.{without_cubbyholes}
 use Rattle.cubbyhole.specs.Objects.{object_key}
 
 -- tokens, their accessors and their cubbyholes
@@ -74,7 +74,7 @@ pub record Expires (moment now : ℕ) (old new : Rows) : Type 0 where
   pub ended : List Text
   pub advances : Advances moment now old timed
   pub ends : EndsDescent (has_come now) timed ended swept
-  pub rows : table_of new ≡ without_owners (table_of swept) ended
+  pub rows : table_of new ≡ without_cubbyholes (table_of swept) ended
 
 -- ---- a caller that has spent its last use, whatever the rows are
 
@@ -90,20 +90,20 @@ IsSpentAt rows t spent =
 
 -- The rows of t and of all below it were read. They are gone, with those of their accessors and their cubbyholes. No
 -- other row has changed.
-abbrev pub HasEnded : Text → Rows → Rows → Type 0
-HasEnded t old new =
+abbrev pub EndsBelow : Text → Rows → Rows → Type 0
+EndsBelow t old new =
     (ended : List Text) × IsDescent (is_named t) (rows_under old kind.Token []) ended
-    × AreTokenRows ended (table_of old) × (table_of new ≡ without_owners (without_tokens ended (table_of old)) ended)
+    × AreTokenRows ended (table_of old) × (table_of new ≡ without_cubbyholes (without_tokens ended (table_of old)) ended)
 
 -- the token t has ended alone, and its cubbyhole has gone with it; no other row has changed but those of its children
-abbrev pub HasEndedAlone : Text → Rows → Rows → Type 0
-HasEndedAlone t old new =
+abbrev pub EndsOne : Text → Rows → Rows → Type 0
+EndsOne t old new =
     (alone : Rows) × (ended : List Text) × EndsAlone t old ended alone
-    × (table_of new ≡ without_owners (table_of alone) ended)
+    × (table_of new ≡ without_cubbyholes (table_of alone) ended)
 
 -- if the token t has no uses left, then it has ended; else no row has changed
 pub record EndsCaller (t : Text) (old new : Rows) : Type 0 where
   pub spent : Bool
   pub told : IsSpentAt old t spent
   pub stays : spent ≡ false → new ≡ old
-  pub ends : spent ≡ true → HasEnded t old new
+  pub ends : spent ≡ true → EndsBelow t old new

@@ -4,6 +4,7 @@ pub mod ClockRow
 pub mod Command
 pub mod Context
 pub mod Ending
+pub mod EndingLaws
 pub mod Forms
 pub mod Kept
 pub mod Laws
@@ -13,9 +14,11 @@ pub mod Operating
 pub mod Order
 pub mod Permission
 pub mod PermittedRows
+pub mod ReadableLaws
 pub mod ReadableRow
 pub mod Reads
 pub mod Representing
+pub mod RepresentingLaws
 pub mod Request
 pub mod Responses
 pub mod Safely

@@ -7,6 +7,7 @@ use Rattle.broker_types.specs.Names.{names_of}
 use Rattle.broker_types.specs.Operation.{Done}
 use Rattle.broker_types.specs.Path.{is_path}
 use Rattle.broker_types.specs.RequestError.{Ends}
+use Rattle.broker_types.specs.Text.{Text}
 use Rattle.broker_types.specs.declared.refusal.Refusal.{Refusal}
 use Rattle.broker_types.specs.declared.request_error.RequestError.{RequestError}
 use Rattle.records.specs.Transaction.{Seen, Rows, IsHonest}
@@ -22,7 +23,7 @@ use Rattle.broker.specs.Stages.{IsDone}
 use Rattle.broker.specs.declared.answered.Answered.{Answered}
 
 -- the rows represent b, which has this clock and of which the caller is a token
-pub record Starts (x : Context) (rows : Rows) (b : Broker) : Type 0 where
+pub record Begins (x : Context) (rows : Rows) (b : Broker) : Type 0 where
   pub represents : Represents (Some x.caller) rows b
   pub here : get b.tokens x.caller ≢ None
   pub clock : b.clock ≡ x.clock
@@ -36,9 +37,13 @@ pub record IsWellFormed (r : Route) : Type 0 where
 -- the identifiers that it gave out are used.
 abbrev pub Performs : Context → Seen → Seen → (Broker → Result Done Refusal) → Result Answered RequestError → Type 0
 Performs x old new does result =
-    IsHonest new → (b : Broker) → Starts x old.rows b
+    IsHonest new → (b : Broker) → Begins x old.rows b
     → Ends (IsDone x.caller new.rows) (Represents (Some x.caller) new.rows b) result (does b)
 
 -- the call does what the command does that is meant, or there is none
 abbrev pub Operates : Context → Seen → Seen → (Broker → Result Command Refusal) → Result Answered RequestError → Type 0
 Operates x old new meant result = Performs x old new (λ b. acted b x.caller (names_of x.words) (meant b)) result
+
+-- the code's answer beside what the command does
+abbrev pub ActsAs : Text → Broker → Rows → Result Answered RequestError → Result Done Refusal → Type 0
+ActsAs c b rows result m = Ends (IsDone c rows) (Represents (Some c) rows b) result m

@@ -18,7 +18,7 @@ use Rattle.token_tree.specs.TokenRows.{IsTokenAt}
 use Rattle.cubbyhole.specs.Objects.{IsObjectAt}
 use Rattle.policies.specs.PolicyRows as policies
 use Rattle.broker_types.specs.Secret.{Version}
-use Rattle.kv2.specs.SecretRows.{IsReading}
+use Rattle.kv2.specs.SecretRows.{IsRead}
 use Rattle.kv2.specs.Secrets.{secret_name}
 use Rattle.broker.specs.parts.SecretCommands.{Place}
 use Rattle.broker.specs.Ending.{Expires}
@@ -38,7 +38,7 @@ IsReadablePolicy rows name =
 -- none; and if there is one, so it is with that of the version.
 abbrev pub IsReadableSecret : Rows → Place → ℕ → Type 0
 IsReadableSecret rows p n =
-    (o : Option (ℕ × Version)) × IsReading (table_of rows) (secret_name p.mount p.path) n o
+    (o : Option (ℕ × Version)) × IsRead (table_of rows) (secret_name p.mount p.path) n o
 
 -- the row of t is that of some token, or there is none
 abbrev pub IsReadableToken : Rows → Text → Type 0

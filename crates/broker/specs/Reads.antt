@@ -19,13 +19,13 @@ use Rattle.token_tree.specs.TokenRows.{ChangesToken, spent_entry}
 use Rattle.mounts.specs.MountRows.{IsKnownAt}
 use Rattle.mounts.specs.Route.{Route, cut, route_at}
 use Rattle.broker.specs.Command.{Command, on_cubbyhole, on_token, on_secret, on_policy, command_for}
-use Rattle.broker.specs.Ending.{Expires}
+use Rattle.broker.specs.Ending.{EndsCaller, Expires}
 use Rattle.broker.specs.Order.{permission_denied}
 use Rattle.broker.specs.PermittedRows.{IsPermittedAt, IsToldForbidden}
 use Rattle.broker.specs.ReadableRow.{IsReadableObject, IsReadablePolicy, IsReadableSecret, IsReadableToken, IsReadableDescent}
 use Rattle.broker.specs.ReadableRow.{IsDenied}
 use Rattle.broker.specs.parts.Cubbyholes.{CubbyholeCommand, read_object, write_object}
-use Rattle.broker.specs.parts.PolicyCommands.{PolicyCommand, list_policies, show_policy, set_policy, remove_policy}
+use Rattle.broker.specs.parts.AclPolicyCommands.{PolicyCommand, list_policies, show_policy, set_policy, remove_policy}
 use Rattle.broker.specs.parts.SecretCommands.{Place, SecretCommand, show_settings, set_settings, read_version}
 use Rattle.broker.specs.parts.SecretCommands.{write_version, delete_current, delete_versions, undelete_versions}
 use Rattle.broker.specs.parts.SecretCommands.{destroy_versions, show_metadata, remove_secret, list_secrets}
@@ -82,7 +82,7 @@ AreReadableSecrets rows p show_settings = kv2.IsReadableMount (table_of rows) p.
 AreReadableSecrets rows p (set_settings asked) = kv2.IsReadableMount (table_of rows) p.mount
 AreReadableSecrets rows p (read_version n) = IsReadableSecret rows p n
 AreReadableSecrets rows p (write_version asked) =
-    kv2.AreReadable (table_of rows) p.mount (secret_name p.mount p.path)
+    kv2.AreReadableToWrite (table_of rows) p.mount (secret_name p.mount p.path)
 AreReadableSecrets rows p delete_current = IsReadableCurrent rows (secret_name p.mount p.path)
 AreReadableSecrets rows p (delete_versions ns) =
     kv2.AreReadableVersions (table_of rows) (secret_name p.mount p.path) ns
@@ -106,11 +106,11 @@ AreReadablePolicies rows (remove_policy name) = ⊤
 -- ---- every part
 
 -- none of the rows that a command of the caller reads is damaged
-abbrev pub AreReadable : Rows → Text → Command → Type 0
-AreReadable rows caller (on_cubbyhole command) = AreReadableObjects rows caller command
-AreReadable rows caller (on_token command) = AreReadableTokens rows caller command
-AreReadable rows caller (on_secret place command) = AreReadableSecrets rows place command
-AreReadable rows caller (on_policy command) = AreReadablePolicies rows command
+abbrev pub IsReadableCommand : Rows → Text → Command → Type 0
+IsReadableCommand rows caller (on_cubbyhole command) = AreReadableObjects rows caller command
+IsReadableCommand rows caller (on_token command) = AreReadableTokens rows caller command
+IsReadableCommand rows caller (on_secret place command) = AreReadableSecrets rows place command
+IsReadableCommand rows caller (on_policy command) = AreReadablePolicies rows command
 
 -- The ask means this command: what is at the first segment of its path is known, and by that the route and the command
 -- are found.
@@ -142,11 +142,17 @@ pub record IsForbidden {A : Type 0} (old new : Rows) (t : Text) (ask : Ask) (res
 -- the rows say that the token t may ask, and none of those that its command reads is damaged, if the ask means one
 pub record MayBeDone (rows : Rows) (t : Text) (ask : Ask) : Type 0 where
   pub permitted : IsPermittedAt rows t ask.verb ask.path true
-  pub readable : (command : Command) → Asks rows ask command → AreReadable rows t command
+  pub readable : (command : Command) → Asks rows ask command → IsReadableCommand rows t command
+
+-- The token t may ask, and what it asks for can be read. From what was done since, t has ended, if it has no uses left.
+pub record IsCarriedOut (rows new : Rows) (t : Text) (ask : Ask) : Type 0 where
+  pub may : MayBeDone rows t ask
+  pub done : Rows
+  pub ends : EndsCaller t done new
 
 -- the token t may ask, and what it asks for can be read; or it is told that it may not ask
-abbrev pub IsDoneOrForbidden : Rows → Rows → Text → Ask → Response → Type 0
-IsDoneOrForbidden rows new t ask r = MayBeDone rows t ask ⊎ IsToldForbidden rows new t ask r
+abbrev pub IsCarriedOutOrForbidden : Rows → Rows → Text → Ask → Response → Type 0
+IsCarriedOutOrForbidden rows new t ask r = IsCarriedOut rows new t ask ⊎ IsToldForbidden rows new t ask r
 
 -- once tokens have expired and t has spent a use, it is told that it may not ask
 abbrev pub IsForbiddenThen : ℕ → Text → Rows → Rows → Ask → Response → Type 0
@@ -156,7 +162,8 @@ IsForbiddenThen moment t old new ask r =
 -- ---- what is answered, whatever the rows are
 
 -- The rows decide whether the token t may ask. If it may, its command is not answered if a row that it reads is
--- damaged; else it is told that it may not, and nothing is done. Or it is denied since it is not there any more.
+-- damaged; else it is told that it may not, and nothing is done. Either way t has ended then, if it has no uses left.
+-- Or it is denied since it is not there any more.
 abbrev pub IsAnsweredBy : ℕ → Text → Rows → Rows → Ask → Response → Type 0
 IsAnsweredBy moment t old new ask r =
-    ((rows : Rows) × AreAtCommand moment t old rows × IsDoneOrForbidden rows new t ask r) ⊎ IsDenied moment r old new t
+    ((rows : Rows) × AreAtCommand moment t old rows × IsCarriedOutOrForbidden rows new t ask r) ⊎ IsDenied moment r old new t

@@ -1,7 +1,6 @@
--- The parts of the broker: what the commands of each mean, and what they do to the maps.
+pub mod AclPolicies
+pub mod AclPolicyCommands
 pub mod Cubbyholes
-pub mod Policies
-pub mod PolicyCommands
 pub mod SecretCommands
 pub mod SecretReplies
 pub mod Secrets

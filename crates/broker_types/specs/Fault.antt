@@ -1,5 +1,5 @@
 -- Faults: why a call ended without an answer (this project's definition).
-use Rattle.std.specs.Prelude.{ℕ, ⊤, codes}
+use Rattle.std.specs.Prelude.{◌≢◌, ℕ, ⊤, codes}
 use Rattle.broker_types.specs.Text.{Text}
 use Rattle.broker_types.specs.declared.fault.Fault.{Fault}
 use Rattle.broker_types.specs.declared.fault.Fault.TheVariants as fault
@@ -17,6 +17,10 @@ IsMemoryOrStorage fault.Memory = ⊤
 IsMemoryOrStorage fault.Storage = ⊤
 IsMemoryOrStorage fault.Damaged = ⊥
 IsMemoryOrStorage fault.BadStart = ⊥
+
+-- the fault is another than that of a store that cannot be started or opened
+abbrev pub IsNotBadStart : Fault → Type 0
+IsNotBadStart f = f ≢ fault.BadStart
 
 -- what a fault prints
 abbrev pub fault_text : Fault → Text

@@ -6,6 +6,7 @@ pub mod Evolves
 pub mod EvolvesLaws
 pub mod Fault
 pub mod FewerLaws
+pub mod FieldLaws
 pub mod First
 pub mod FirstLaws
 pub mod Identifier
@@ -25,6 +26,7 @@ pub mod Path
 pub mod Places
 pub mod Refusal
 pub mod Refuse
+pub mod RefuseLaws
 pub mod RemovalLaws
 pub mod RequestError
 pub mod SearchLaws
@@ -40,3 +42,4 @@ pub mod Token
 pub mod TokenText
 pub mod TreeLaws
 pub mod Used
+pub mod UsedLaws

@@ -8,6 +8,7 @@ mod fault;
 mod identifier;
 mod laws;
 mod moment;
+mod name;
 mod path;
 mod refusal;
 mod reply;
@@ -30,6 +31,7 @@ pub use laws::{
     revocation_ends_descendants, revocation_orphans_children, spending_keeps_soundness,
 };
 pub use moment::Moment;
+pub use name::{is_name, is_reserved};
 pub use path::Path;
 pub use refusal::{Denial, Field, Reason, Refusal, cutting_text};
 pub use reply::Reply;

@@ -1,6 +1,5 @@
-//! Worked rows of `tests/rows`, each a run of events: what comes, and the reply to it. The replies were made by a
-//! reference broker that is no part of this repository. `tests/rows.sh` runs these rows and all others through
-//! `brokerd replay`.
+//! Worked rows of `tests/rows`, each a run of events: what comes, and the reply to it. The replies were made by the
+//! reference broker of `tests/reference`. `tests/rows.sh` runs these rows and all others through `brokerd replay`.
 //!
 //! The texts are short, since the prover reads them. In each of them `'` is a quotation mark, a grave accent one with
 //! a backslash before it, `#012` the identifier that ends in these digits, and `@` the time of the moment 1000.

@@ -15,7 +15,7 @@ use Rattle.records.specs.Rows.{rows_of, token_len}
 use Rattle.records.specs.Table.{Table, without_under}
 use Rattle.cubbyhole.specs.Cubbyhole.{object_at, drop_owner}
 use Rattle.cubbyhole.specs.CubbyholeLaws.{object_at-drop_owner}
-use Rattle.cubbyhole.specs.Laws.{without_owners}
+use Rattle.cubbyhole.specs.Laws.{without_cubbyholes}
 use Rattle.cubbyhole.specs.Objects.{object_key}
 use Rattle.cubbyhole.proofs.Edits.{tells_edited}
 use Rattle.cubbyhole.proofs.ObjectRows.{objects_row, rows_of-objects, cubby-drop_owner}
@@ -46,7 +46,7 @@ one_more true false o = refl
 one_more false more o = refl
 
 pub ended_left : (b c : Broker) (ended : List Text) (rows : Table) → ((t : Text) → has ended t ≡ true → length t ≡ token_len) → Tells of_cubbyholes rows b
-    → ((t path : Text) → object_at c t path ≡ (if has ended t then None else object_at b t path)) → Tells of_cubbyholes (without_owners rows ended) c
+    → ((t path : Text) → object_at c t path ≡ (if has ended t then None else object_at b t path)) → Tells of_cubbyholes (without_cubbyholes rows ended) c
 ended_left b c [] rows lens told objects = λ k q h.
     told k q h ∙ ap (λ k. rows_of b k q) (part_cubby k h) ∙ same_rows b c objects q ∙ ap (λ k. rows_of c k q) (sym (part_cubby k h))
 ended_left b c (t ∷ ended) rows lens told objects =

@@ -48,9 +48,9 @@ DropEvolves = (b : Broker) (t : Text) → Evolves b (drop_owner b t)
 -- ---- tokens that ended
 
 -- the table without the rows of the cubbyholes of tokens
-abbrev pub without_owners : Table → List Text → Table
-without_owners rows [] = rows
-without_owners rows (t ∷ owners) = without_owners (without_under rows kind.Cubby (object_key t [])) owners
+abbrev pub without_cubbyholes : Table → List Text → Table
+without_cubbyholes rows [] = rows
+without_cubbyholes rows (t ∷ owners) = without_cubbyholes (without_under rows kind.Cubby (object_key t [])) owners
 
 -- If tokens of b have ended in c, and each one's cubbyhole was dropped from the rows of b, the rows are those of c.
 abbrev pub EndedLeaveNothing : Type 0
@@ -59,4 +59,4 @@ EndedLeaveNothing =
     → ((t : Text) → has ended t ≡ true → length t ≡ token_len)
     → Tells of_cubbyholes rows b
     → ((t path : Text) → object_at c t path ≡ (if has ended t then None else object_at b t path))
-    → Tells of_cubbyholes (without_owners rows ended) c
+    → Tells of_cubbyholes (without_cubbyholes rows ended) c

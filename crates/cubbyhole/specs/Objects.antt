@@ -10,12 +10,8 @@ use Rattle.records.specs.Reading.{IsSomeIn}
 use Rattle.records.specs.RowForms.{cubby_row}
 use Rattle.records.specs.Rows.{token_len}
 use Rattle.records.specs.Splits.{slash}
-use Rattle.records.specs.Table.{Table, table_of, has_prefix}
-use Rattle.records.specs.Transaction.{Seen, Rows}
-
--- the rows that a transaction shows, as a table
-abbrev pub table : Seen → Table
-table s = table_of s.rows
+use Rattle.records.specs.Table.{Table, has_prefix}
+use Rattle.records.specs.Transaction.{Rows}
 
 -- the key of the object's row: the token, a slash and the path
 abbrev pub object_key : Text → Text → Text

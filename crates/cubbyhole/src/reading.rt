@@ -1,19 +1,20 @@
 //! Cubbyholes, read.
 
-ghost use Rattle.std.specs.Prelude.{◌≡◌, length, is_some, IfOk, IfErr, OnOk};
+ghost use Rattle.std.specs.Prelude.{◌≡◌, length, is_some, IfOk, IfErr};
 ghost use Rattle.broker_types.specs.Broker.{Broker};
 ghost use Rattle.broker_types.specs.Fault.{IsMemoryOrStorage};
 ghost use Rattle.broker_types.specs.Sound.{Forms, SoundTokens, IsShortText};
 ghost use Rattle.records.specs.declared.kind.Kind.TheVariants as kind;
-ghost use Rattle.records.specs.Calls.{IsReadFault};
+ghost use Rattle.records.specs.Calls.{IsReadFault, IsReading};
 ghost use Rattle.records.specs.Parts.{of_cubbyholes, Tells};
 ghost use Rattle.records.specs.Reading.{IsSomeIn, Reads, shown};
 ghost use Rattle.records.specs.RowForms.{cubby_row};
 ghost use Rattle.records.specs.Rows.{token_len};
-ghost use Rattle.records.specs.Transaction.{IsHonest, GoesOn, IsCall, is_storage};
+ghost use Rattle.records.specs.Table.{table};
+ghost use Rattle.records.specs.Transaction.{IsHonest};
 ghost use Rattle.cubbyhole.specs.Cubbyhole as cubbyhole;
 ghost use Rattle.cubbyhole.specs.Objects as objects;
-ghost use Rattle.cubbyhole.specs.Objects.{table, children_in, IsObjectAt, IsDamagedAt};
+ghost use Rattle.cubbyhole.specs.Objects.{children_in, IsObjectAt, IsDamagedAt};
 
 use crate::keys::{folder_key, object_key};
 use broker_types::{Fault, TextBuf};
@@ -45,13 +46,11 @@ pub fn read<T: RecordsTx>(
     ensures short { IfOk result (IsSomeIn IsShortText) }
     ensures told { IsHonest (T.seen tx.new) → (b : Broker) → Tells of_cubbyholes (table (T.seen tx.old)) b
         → length token.now ≡ token_len → IfOk result (λ object. object ≡ cubbyhole.object_at b token.now path.now) }
-    ensures same { IsHonest (T.seen tx.new) → OnOk result ((T.seen tx.new).rows ≡ (T.seen tx.old).rows) }
-    ensures faults { IfErr result
-        (IsReadFault (IsHonest (T.seen tx.new) → IsDamagedAt (table (T.seen tx.old)) token.now path.now)) }
-    ensures undamaged { IsHonest (T.seen tx.new) → (forms : Forms) (b : Broker) → SoundTokens forms b.tokens
+    ensures wants { IsHonest (T.seen tx.new) → (forms : Forms) (b : Broker) → SoundTokens forms b.tokens
         → Tells of_cubbyholes (table (T.seen tx.old)) b → length token.now ≡ token_len
         → IfErr result IsMemoryOrStorage }
-    ensures goes_on { GoesOn (T.seen tx.old) (T.seen tx.new) (is_storage result) }
+    ensures call { IsReading (T.seen tx.old) (T.seen tx.new) result
+        (IsReadFault (IsHonest (T.seen tx.new) → IsDamagedAt (table (T.seen tx.old)) token.now path.now)) }
 {
     let key = object_key(alloc, token, path)?;
     let Some(kept) = tx.get(Kind::Cubby, key.as_str())? else {
@@ -74,8 +73,7 @@ pub fn is_there<T: RecordsTx>(
         (λ v. v ≡ is_some (table (T.seen tx.old) kind.Cubby (objects.object_key token.now path.now))) }
     ensures told { IsHonest (T.seen tx.new) → (b : Broker) → Tells of_cubbyholes (table (T.seen tx.old)) b
         → length token.now ≡ token_len → IfOk result (λ v. v ≡ is_some (cubbyhole.object_at b token.now path.now)) }
-    ensures same { IsHonest (T.seen tx.new) → OnOk result ((T.seen tx.new).rows ≡ (T.seen tx.old).rows) }
-    ensures call { IsCall (T.seen tx.old) (T.seen tx.new) result }
+    ensures call { IsReading (T.seen tx.old) (T.seen tx.new) result IsMemoryOrStorage }
 {
     let place = object_key(alloc, token, path)?;
     Ok(tx.get(Kind::Cubby, place.as_str())?.is_some())
@@ -95,8 +93,7 @@ pub fn list<T: RecordsTx>(
         → IfOk result (λ names. names.items ≡ children_in (T.seen tx.old).rows token.now path.now) }
     ensures told { IsHonest (T.seen tx.new) → (b : Broker) → Tells of_cubbyholes (table (T.seen tx.old)) b
         → length token.now ≡ token_len → IfOk result (λ names. names.items ≡ cubbyhole.list b token.now path.now) }
-    ensures same { IsHonest (T.seen tx.new) → OnOk result ((T.seen tx.new).rows ≡ (T.seen tx.old).rows) }
-    ensures call { IsCall (T.seen tx.old) (T.seen tx.new) result }
+    ensures call { IsReading (T.seen tx.old) (T.seen tx.new) result IsMemoryOrStorage }
 {
     let key = folder_key(alloc, token, path)?;
     let listed = tx.under(Kind::Cubby, key.as_str())?;

@@ -6,8 +6,8 @@
 use api_json::{
     AuthObject, Body, EndTime, KeyObject, Pairs, Texts, TokenObject, Tree, VersionObject, Versions,
     accessor, auth_object, increment, key_object, keys_object, mount_settings, plain_reply,
-    policy_object, policy_text, read_body, read_object, reply_text, secret_write, settings_object,
-    token, token_creation, token_object, token_renewal, version_object, versions,
+    policy_object, policy_text, read_body, reply_text, secret_object, secret_write,
+    settings_object, token, token_creation, token_object, token_renewal, version_object, versions,
 };
 use broker_types::{Field, Moment, Reason, Refusal, Reply, RequestError, TextBuf};
 use std::alloc::{AllocError, AllocGlobal, Global};
@@ -357,7 +357,7 @@ fn printed_secrets(rt: HostRuntime) -> Result<(), Fail> {
         \"destroyed\":false,\"version\":1}"
     );
     assert_eq!(rt;
-        read_object(alloc, &None, &version(1, true)?)?.as_str(),
+        secret_object(alloc, &None, &version(1, true)?)?.as_str(),
         "{\"data\":null,\"metadata\":{\"created_time\":\"1970-01-01T00:16:40Z\",\"custom_metadata\":null,\
         \"deletion_time\":\"1970-01-01T00:16:40Z\",\"destroyed\":false,\"version\":1}}"
     );

@@ -46,7 +46,7 @@ module _ (f : Version → Version) (name : Text) where
   pub changed_nothing : (t : Table) → AreChanged f [] name t t
   changed_nothing t = record {
     numbers = λ n h. absurd (false≢true h);
-    undamaged = λ n h. absurd (false≢true h);
+    readable = λ n h. absurd (false≢true h);
     versions = λ n v h _. absurd (false≢true h);
     others = λ k q _. refl;
   }
@@ -57,7 +57,7 @@ module _ (f : Version → Version) (name : Text) where
   changed_at ns a b h n v true is has = h.versions n v is has
   changed_at ns a b h n v false is has = record {
     in_range = has.in_range;
-    row_is = h.others kind.KvVersion (version_key name n) is ∙ has.row_is;
+    row = h.others kind.KvVersion (version_key name n) is ∙ has.row;
   }
 
   -- a version that could be read before changes can be read after them
@@ -68,12 +68,12 @@ module _ (f : Version → Version) (name : Text) where
   -- a version that can be read after changes could be read before
   read_before : (ns : List ℕ) (a b : Table) → AreChanged f ns name a b → (n : ℕ) (p : Bool) → is_key_of ns name (version_key name n) ≡ p
       → IsReadableVersion b name n → IsReadableVersion a name n
-  read_before ns a b h n true is _ = h.undamaged n is
+  read_before ns a b h n true is _ = h.readable n is
   read_before ns a b h n false is has = (
     has.0,
     record {
       in_range = has.1.in_range;
-      row_is = sym (h.others kind.KvVersion (version_key name n) is) ∙ has.1.row_is;
+      row = sym (h.others kind.KvVersion (version_key name n) is) ∙ has.1.row;
     },
   )
 
@@ -84,11 +84,11 @@ module _ (f : Version → Version) (name : Text) where
       | inl l ↦ first.numbers n l
       | inr r ↦ next.numbers n r
     ];
-    undamaged = λ n h.
+    readable = λ n h.
         let key = version_key name n in
         elim (or_cases _ _ (sym (list_any-append (λ x. same key (version_key name x)) ms (m ∷ [])) ∙ h)) [
-          | inl l ↦ first.undamaged n l
-          | inr r ↦ read_before ms a b first n (is_key_of ms name key) refl (next.undamaged n r)
+          | inl l ↦ first.readable n l
+          | inr r ↦ read_before ms a b first n (is_key_of ms name key) refl (next.readable n r)
         ];
     versions = λ n v h has.
         let key = version_key name n in
@@ -129,7 +129,7 @@ module _ (f : Version → Version) (name : Text) where
     pub missing_changed : t kind.KvVersion (version_key name m) ≡ None → AreChanged f (m ∷ []) name t t
     missing_changed none = record {
       numbers = one_number;
-      undamaged = λ n h. (None, none_read IsVersionInRange version_row _ (ap (t kind.KvVersion) (its_key (version_key name n) h) ∙ none));
+      readable = λ n h. (None, none_read IsVersionInRange version_row _ (ap (t kind.KvVersion) (its_key (version_key name n) h) ∙ none));
       versions = λ n v h has.
           let gone = none_is IsVersionInRange version_row _ (ap (t kind.KvVersion) (its_key (version_key name n) h) ∙ none) v has in
           subst (HasVersion t name n) (gone ∙ sym (ap (option_map f) gone)) has;
@@ -142,13 +142,13 @@ module _ (f : Version → Version) (name : Text) where
         → AreChanged f (m ∷ []) name t (with_row t kind.KvVersion (version_key name m) (version_row w))
     row_changed r y w some range read reads keeps = record {
       numbers = one_number;
-      undamaged = λ n h. (Some y, some_read IsVersionInRange version_row _ r y (ap (t kind.KvVersion) (its_key (version_key name n) h) ∙ some) range read);
+      readable = λ n h. (Some y, some_read IsVersionInRange version_row _ r y (ap (t kind.KvVersion) (its_key (version_key name n) h) ∙ some) range read);
       versions = λ n v h has.
           let key = its_key (version_key name n) h in
           let x = some_is IsVersionInRange version_row _ r (ap (t kind.KvVersion) key ∙ some) v has in
           subst (HasVersion (with_row t kind.KvVersion (version_key name m) (version_row w)) name n) (sym (ap (option_map f) x.1)) (record {
             in_range = λ y e. subst IsVersionInRange (same_Some _ _ e) (keeps x.0 x.2);
-            row_is = ap (λ b. if b then Some (version_row w) else t kind.KvVersion (version_key name n))
+            row = ap (λ b. if b then Some (version_row w) else t kind.KvVersion (version_key name n))
                 (ap (λ z. same z (version_key name m)) key ∙ same_self (version_key name m))
                 ∙ ap (λ z. Some (version_row z)) (reads x.0 x.2 x.3);
           });
@@ -252,7 +252,7 @@ module _ (forms : Forms) (b : Broker) (sound : SoundSecrets forms b.secrets) (t 
       at_key : (m : ℕ) → is_among ns m ≡ true → is_key_of ns name (version_key name m) ≡ true
           → new kind.KvVersion (version_key name m) ≡ at_parts (version_at next.secrets) (version_key name m)
       at_key m among key =
-          (h.versions m (version_of (get b.secrets name) m) key (has_version forms b sound t told laws name m is_name (h.numbers m among))).row_is
+          (h.versions m (version_of (get b.secrets name) m) key (has_version forms b sound t told laws name m is_name (h.numbers m among))).row
           ∙ ap (option_map version_row) (ap (λ p. option_map (λ v. if p then f v else v) (version_of (get b.secrets name) m)) (sym among)
           ∙ sym (versions_after b.secrets name f ns m))
           ∙ sym (version_row_at laws next.secrets name is_name few m (h.numbers m among))

@@ -86,7 +86,7 @@ module _ (forms : Forms) (b : Broker) (sound : SoundSecrets forms b.secrets) whe
     has_key name = record {
       in_range = λ e is. let k = mapped key_entry (get b.secrets name) e is in
           subst IsKeyInRange (sym k.2) (key_in_range forms name k.0 (sound name k.0 k.1));
-      row_is = told kind.KvKey name refl ∙ key_rows b name ∙ entry_row (get b.secrets name);
+      row = told kind.KvKey name refl ∙ key_rows b name ∙ entry_row (get b.secrets name);
     }
 
     -- a version of a name
@@ -94,7 +94,7 @@ module _ (forms : Forms) (b : Broker) (sound : SoundSecrets forms b.secrets) whe
         → HasVersion t name n (version_of (get b.secrets name) n)
     has_version laws name n is_name small = record {
       in_range = λ v is. let k = key_with v is in version_in_range forms k.0 n v ((sound name k.0 k.1).versions n v k.2);
-      row_is = told kind.KvVersion (version_key name n) refl ∙ version_rows b (version_key name n)
+      row = told kind.KvVersion (version_key name n) refl ∙ version_rows b (version_key name n)
           ∙ version_row_at laws b.secrets name is_name (small_number name) n small;
     }
       where
@@ -111,5 +111,5 @@ module _ (forms : Forms) (b : Broker) (sound : SoundSecrets forms b.secrets) whe
 pub has_mount : (b : Broker) → SoundMounts b.mounts → (t : Table) → Tells of_mounts t b → (name : Text) → HasMount t name (get b.mounts name)
 has_mount b sound t told name = record {
   in_range = λ m is. (sound name m is).max_versions;
-  row_is = told kind.Mount name refl ∙ mount_rows b name;
+  row = told kind.Mount name refl ∙ mount_rows b name;
 }

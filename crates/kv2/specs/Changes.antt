@@ -1,15 +1,15 @@
 -- Changes of versions, as the code names them, and what the calls leave that make them.
-use Rattle.std.specs.Prelude.{◌≢◌, ℕ, List, ⊤, Result, OnOk, IfErr}
+use Rattle.std.specs.Prelude.{ℕ, List, ⊤, Result, OnOk, IfErr}
 use Rattle.broker_types.specs.Text.{Text}
 use Rattle.broker_types.specs.Broker.{Broker}
-use Rattle.broker_types.specs.Fault.{IsMemoryOrStorage}
+use Rattle.broker_types.specs.Fault.{IsMemoryOrStorage, IsNotBadStart}
 use Rattle.broker_types.specs.declared.fault.Fault.{Fault}
-use Rattle.broker_types.specs.declared.fault.Fault.TheVariants as fault
 use Rattle.broker_types.specs.Secret.{Version}
 use Rattle.broker_types.specs.Sound.{Forms, SoundSecrets, IsMoment, IsSecretName}
+use Rattle.records.specs.Calls.{IsCall}
 use Rattle.records.specs.Parts.{of_secrets, Tells}
-use Rattle.records.specs.Table.{table_of}
-use Rattle.records.specs.Transaction.{Seen, IsHonest, GoesOn, is_storage}
+use Rattle.records.specs.Table.{table}
+use Rattle.records.specs.Transaction.{Seen, IsHonest}
 use Rattle.kv2.specs.declared.changing.Change.{Change}
 use Rattle.kv2.specs.declared.changing.Change.TheVariants as done
 use Rattle.kv2.specs.SecretRows.{AreChanged, AreReadableVersions}
@@ -33,16 +33,15 @@ IsTimely done.Destroy = ⊤
 pub record ChangesVersions {A : Type 0} (f : Version → Version) (ns : List ℕ) (mount path : Text) (old new : Seen)
     (result : Result A Fault) : Type 0 where
   -- the versions are changed, and no other row is
-  pub rows : IsHonest new
-      → OnOk result (AreChanged f ns (secret_name mount path) (table_of old.rows) (table_of new.rows))
+  pub rows : IsHonest new → OnOk result (AreChanged f ns (secret_name mount path) (table old) (table new))
   -- if the rows are those of a broker's secrets, then they are those of the next broker's afterwards
   pub told : IsHonest new → (forms : Forms) (b : Broker) → SoundSecrets forms b.secrets
-      → Tells of_secrets (table_of old.rows) b → IsSecretName (secret_name mount path)
-      → OnOk result (Tells of_secrets (table_of new.rows) (with_versions f b mount path ns))
+      → Tells of_secrets (table old) b → IsSecretName (secret_name mount path)
+      → OnOk result (Tells of_secrets (table new) (with_versions f b mount path ns))
+  -- and then it fails only if memory runs out or the storage fails
+  pub wants : IsHonest new → (forms : Forms) (b : Broker) → SoundSecrets forms b.secrets
+      → Tells of_secrets (table old) b → IsSecretName (secret_name mount path) → IfErr result IsMemoryOrStorage
   -- it fails as damaged only if a row of these versions is
-  pub readable : IsHonest new → AreReadableVersions (table_of old.rows) (secret_name mount path) ns
+  pub faults : IsHonest new → AreReadableVersions (table old) (secret_name mount path) ns
       → IfErr result IsMemoryOrStorage
-  pub undamaged : IsHonest new → (forms : Forms) (b : Broker) → SoundSecrets forms b.secrets
-      → Tells of_secrets (table_of old.rows) b → IsSecretName (secret_name mount path) → IfErr result IsMemoryOrStorage
-  pub started : IfErr result (λ f. f ≢ fault.BadStart)
-  pub goes_on : GoesOn old new (is_storage result)
+  pub call : IsCall old new result IsNotBadStart

@@ -1,7 +1,7 @@
 -- Versioned secrets as rows: a key has one at its name, and each version one at the name, a line feed and twenty digits
 -- (this project's row format).
 use Rattle.std.specs.Prelude.{◌≡◌, ◌<◌, ◌+◌, ◌-◌, ◌^◌, ◌&&◌, ◌==◌, ◌++◌, ℕ, List, [], ◌∷◌, nat_lt, Bool, true, false}
-use Rattle.std.specs.Prelude.{◌≢◌, if◌then◌else◌, Option, Some, None, option_map, unwrap_or, Result, Ok, Err, ⊤}
+use Rattle.std.specs.Prelude.{◌≢◌, if◌then◌else◌, Option, Some, None, option_map, unwrap_or, Result, Ok}
 use Rattle.std.specs.Prelude.{◌≤◌, map, All}
 use Rattle.std.specs.List.{list_any}
 use Rattle.std.specs.Ordering.{is_le}
@@ -10,11 +10,8 @@ use Rattle.broker_types.specs.Limits.{greatest_version}
 use Rattle.broker_types.specs.Refuse.{◌>>=◌, some_or}
 use Rattle.broker_types.specs.Secret.{Version}
 use Rattle.broker_types.specs.Broker.{Mount}
-use Rattle.broker_types.specs.declared.fault.Fault.TheVariants as fault
 use Rattle.broker_types.specs.declared.refusal.Refusal.{Refusal}
 use Rattle.broker_types.specs.declared.refusal.Refusal.TheVariants as refusal
-use Rattle.broker_types.specs.declared.request_error.RequestError.{RequestError}
-use Rattle.broker_types.specs.declared.request_error.RequestError.TheVariants.{Refused, Fault as Given}
 use Rattle.records.specs.declared.kind.Kind.{Kind}
 use Rattle.records.specs.declared.kind.Kind.TheVariants as kind
 use Rattle.records.specs.declared.row.Row.{Row}
@@ -23,7 +20,7 @@ use Rattle.records.specs.Children.{children, keys_under}
 use Rattle.records.specs.KeyEntry.{KeyEntry}
 use Rattle.records.specs.ListedLaws.{named}
 use Rattle.records.specs.Ranges.{IsKeyInRange, IsVersionInRange, IsMountInRange}
-use Rattle.records.specs.Reading.{IsSomeIn}
+use Rattle.records.specs.Reading.{IsRowOf}
 use Rattle.records.specs.RowForms.{key_entry_row, version_row, mount_row}
 use Rattle.records.specs.Rows.{version_key}
 use Rattle.records.specs.Splits.{line_feed}
@@ -33,12 +30,6 @@ use Rattle.kv2.specs.Metadata.{Metadata, metadata_with}
 use Rattle.kv2.specs.Versions.{asked_number, numbered, or_if_zero, checked, new_version, is_among}
 
 -- ---- what is at a key
-
--- a row is that of a record that rows can hold, or there is none
-pub record IsRowOf {X : Type 0} (IsInRange : X → Type 0) (row_of : X → Row) (row : Option Row)
-    (o : Option X) : Type 0 where
-  pub in_range : IsSomeIn IsInRange o
-  pub row_is : row ≡ option_map row_of o
 
 -- what the row of a name says of the key without its versions
 abbrev pub HasKey : Table → Text → Option KeyEntry → Type 0
@@ -71,8 +62,8 @@ abbrev pub AreReadableVersions : Table → Text → List ℕ → Type 0
 AreReadableVersions rows name ns = (n : ℕ) → n < 2 ^ 64 → is_among ns n ≡ true → IsReadableVersion rows name n
 
 -- the rows that a write reads are not damaged: its mount's, and its key's if the mount is there
-abbrev pub AreReadable : Table → Text → Text → Type 0
-AreReadable rows mount name =
+abbrev pub AreReadableToWrite : Table → Text → Text → Type 0
+AreReadableToWrite rows mount name =
     (m : Option Mount) × HasMount rows mount m × (m ≢ None → IsReadableKey rows name)
 
 -- how the keys of a name's versions begin
@@ -84,12 +75,6 @@ abbrev pub KeepsOtherNames : Text → Table → Table → Type 0
 KeepsOtherNames name old new =
     (k : Kind) (q : Text) → is_at kind.KvKey name k q ≡ false
     → has_prefix kind.KvVersion (versions_prefix name) k q ≡ false → new k q ≡ old k q
-
--- the call did not fail since a store was never started
-abbrev pub IsStarted : {A : Type 0} → Result A RequestError → Type 0
-IsStarted (Ok x) = ⊤
-IsStarted (Err (Refused r)) = ⊤
-IsStarted (Err (Given f)) = f ≢ fault.BadStart
 
 -- ---- settings
 
@@ -105,15 +90,15 @@ KeepsOtherMounts name old new = (k : Kind) (q : Text) → is_at kind.Mount name 
 -- ---- reading
 
 -- what is read of a key that is there or not
-abbrev pub IsReadingOf : Table → Text → ℕ → Option KeyEntry → Option (ℕ × Version) → Type 0
-IsReadingOf rows name n None o = o ≡ None
-IsReadingOf rows name n (Some k) o =
+abbrev pub IsReadOf : Table → Text → ℕ → Option KeyEntry → Option (ℕ × Version) → Type 0
+IsReadOf rows name n None o = o ≡ None
+IsReadOf rows name n (Some k) o =
     let asked = asked_number k.current n in
     (v : Option Version) × HasVersion rows name asked v × (o ≡ option_map (numbered asked) v)
 
 -- what is read at a name: the version that is asked for with its number, if its rows are there
-abbrev pub IsReading : Table → Text → ℕ → Option (ℕ × Version) → Type 0
-IsReading rows name n o = (k : Option KeyEntry) × HasKey rows name k × IsReadingOf rows name n k o
+abbrev pub IsRead : Table → Text → ℕ → Option (ℕ × Version) → Type 0
+IsRead rows name n o = (k : Option KeyEntry) × HasKey rows name k × IsReadOf rows name n k o
 
 -- ---- versions listed
 
@@ -214,7 +199,7 @@ is_key_of ns name q = list_any (λ n. same q (version_key name n)) ns
 -- is damaged.
 pub record AreChanged (f : Version → Version) (ns : List ℕ) (name : Text) (old new : Table) : Type 0 where
   pub numbers : (n : ℕ) → is_among ns n ≡ true → n < 2 ^ 64
-  pub undamaged : (n : ℕ) → is_key_of ns name (version_key name n) ≡ true → IsReadableVersion old name n
+  pub readable : (n : ℕ) → is_key_of ns name (version_key name n) ≡ true → IsReadableVersion old name n
   pub versions : (n : ℕ) (v : Option Version) → is_key_of ns name (version_key name n) ≡ true
       → HasVersion old name n v → HasVersion new name n (option_map f v)
   pub others : (k : Kind) (q : Text)

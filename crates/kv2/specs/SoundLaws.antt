@@ -1,13 +1,13 @@
 -- Operations on secrets leave a sound broker sound, and let it evolve.
 use Rattle.std.specs.Prelude.{◌≡◌, ◌<◌, ◌≤◌, ◌+◌, ◌-◌, ◌==◌, ◌||◌, ◌∷◌, [], ℕ, List, Bool, true, false, cond, nat_lt}
 use Rattle.std.specs.Prelude.{◌^◌, if◌then◌else◌, Option, Some, None, is_none, option_map, unwrap_or, Result, Ok, Err}
-use Rattle.std.specs.Prelude.{is_ok, ⊤}
+use Rattle.std.specs.Prelude.{⊤}
 use Rattle.std.specs.Ordering.{nat_cmp}
 use Rattle.std.specs.FinMap as fin
-use Rattle.std.proofs.Common.{refl, sym, ◌∙◌, ap, subst, inl, append_assoc, zero-le}
+use Rattle.std.proofs.Common.{refl, sym, ◌∙◌, subst, append_assoc, zero-le}
 use Rattle.std.proofs.Math.Nat.{le_trans, le_refl, le-add_left, le-add_right}
 use Rattle.std.proofs.Math.Numerals.{add-one-le}
-use Rattle.std.proofs.lemmas.Bool.{eqb-true, false≢true, ltb-true}
+use Rattle.std.proofs.lemmas.Bool.{eqb-true, ltb-true}
 use Rattle.std.proofs.lemmas.Option.{none-some, same_Some}
 use Rattle.broker_types.specs.Text.{Text, same}
 use Rattle.broker_types.specs.TextLaws.{same_true}
@@ -19,6 +19,8 @@ use Rattle.broker_types.specs.Refuse.{◌>>=◌, some_or, unless}
 use Rattle.broker_types.specs.Secret.{Key, Version}
 use Rattle.broker_types.specs.Broker.{Broker, Mount}
 use Rattle.broker_types.specs.Evolves.{Evolves}
+use Rattle.broker_types.specs.RefuseLaws.{no_ok}
+use Rattle.broker_types.specs.FieldLaws.{sound_with, evolves_with}
 use Rattle.broker_types.specs.Sound.{Forms, Sound, SoundSecrets, IsSoundKey, IsSoundVersion, IsSecretName, IsPathText}
 use Rattle.broker_types.specs.Sound.{IsMoment, IsObjectText, IsSoundMount}
 use Rattle.broker_types.specs.declared.refusal.Refusal.{Refusal}
@@ -39,32 +41,11 @@ module _ (b : Broker) (secrets : Map Key) where
   -- sound secrets leave a sound broker sound
   pub sound_with_secrets : (forms : Forms) (who : Option Text) → SoundSecrets forms secrets → Sound forms who b
       → Sound forms who (record b { secrets = secrets })
-  sound_with_secrets forms who sound s = record {
-    clock = s.clock;
-    tokens = s.tokens;
-    secrets = sound;
-    waiting = s.waiting;
-    mounts = s.mounts;
-    roles = s.roles;
-    policies = s.policies;
-    identifiers = record {
-      used = s.identifiers.used;
-      one_place = s.identifiers.one_place;
-      all_used = s.identifiers.all_used;
-      origins_used = s.identifiers.origins_used;
-    };
-    unspent = s.unspent;
-  }
+  sound_with_secrets forms who sound s = sound_with b b.clock secrets b.mounts b.roles b.policies forms who s s.clock sound s.mounts s.roles s.policies
 
   -- any secrets let a broker evolve
   pub secrets_evolve : Evolves b (record b { secrets = secrets })
-  secrets_evolve = record {
-    used = λ i u. u;
-    tokens = λ t x is. inl (λ none. absurd (none-some _ (sym none ∙ is)));
-    leases = λ t id l is. inl (l, is, refl);
-    wrapping_tokens = λ t w is. inl (λ none. absurd (none-some _ (sym none ∙ is)));
-    waiting = λ t w is. inl (t, w, is, refl, refl);
-  }
+  secrets_evolve = evolves_with b b.clock secrets b.mounts b.roles b.policies
 
 -- ---- secrets that are sound again
 
@@ -182,9 +163,6 @@ module _ (forms : Forms) where
   }
 
 -- ---- a write
-
-no_ok : {X Y : Type 0} {e : Refusal} {x : X} → ◌≡◌ {A = Result X Refusal} (Err e) (Ok x) → Y
-no_ok h = absurd (false≢true (ap is_ok h))
 
 -- a write that passed has a number for the version
 pub room : (required : Bool) (current : ℕ) (cas : Option ℕ) → checked required current cas ≡ Ok tt
@@ -409,10 +387,4 @@ module _ (forms : Forms) (who : Option Text) (b : Broker) (sound : Sound forms w
 
 -- any settings let a broker evolve
 pub settings_evolve : (b : Broker) (mounts : Map Mount) → Evolves b (record b { mounts = mounts })
-settings_evolve b mounts = record {
-  used = λ i u. u;
-  tokens = λ t x is. inl (λ none. absurd (none-some _ (sym none ∙ is)));
-  leases = λ t id l is. inl (l, is, refl);
-  wrapping_tokens = λ t w is. inl (λ none. absurd (none-some _ (sym none ∙ is)));
-  waiting = λ t w is. inl (t, w, is, refl, refl);
-}
+settings_evolve b mounts = evolves_with b b.clock b.secrets mounts b.roles b.policies

@@ -1,14 +1,15 @@
 //! Versions deleted, restored and destroyed.
 
-ghost use Rattle.std.specs.Prelude.{◌≡◌, ◌≢◌, ◌∷◌, [], Option, OnOk, IfErr};
+ghost use Rattle.std.specs.Prelude.{◌≡◌, ◌∷◌, [], Option, OnOk, IfErr};
 ghost use Rattle.broker_types.specs.Broker.{Broker};
-ghost use Rattle.broker_types.specs.Fault.{IsMemoryOrStorage};
+ghost use Rattle.broker_types.specs.Fault.{IsMemoryOrStorage, IsNotBadStart};
 ghost use Rattle.broker_types.specs.Secret.{Version};
 ghost use Rattle.broker_types.specs.Sound.{Forms, SoundSecrets, IsSecretName};
+ghost use Rattle.records.specs.Calls.{IsCall, IsChange};
 ghost use Rattle.records.specs.KeyEntry.{KeyEntry};
 ghost use Rattle.records.specs.Parts.{of_secrets, Tells};
-ghost use Rattle.records.specs.Table.{table_of};
-ghost use Rattle.records.specs.Transaction.{IsHonest, GoesOn, is_storage};
+ghost use Rattle.records.specs.Table.{table};
+ghost use Rattle.records.specs.Transaction.{IsHonest};
 ghost use Rattle.kv2.specs.Changes.{change_of, IsTimely, ChangesVersions};
 ghost use Rattle.kv2.specs.SecretRows.{HasKey, HasVersion, AreChanged, KeepsOtherNames, current_of};
 ghost use Rattle.kv2.specs.SecretRows.{IsReadableKey, AreReadableVersions};
@@ -75,11 +76,10 @@ fn change_version<T: RecordsTx>(
     change: Change,
 ) -> Result<(), Fault>
     ensures rows { IsHonest (T.seen tx.new) → IsTimely change → OnOk result (AreChanged (change_of change)
-        (number ∷ []) name.now (table_of (T.seen tx.old).rows) (table_of (T.seen tx.new).rows)) }
-    ensures undamaged { IsHonest (T.seen tx.new) → (v : Option Version)
-        → HasVersion (table_of (T.seen tx.old).rows) name.now number v → IfErr result IsMemoryOrStorage }
-    ensures started { IfErr result (λ fault. fault ≢ Fault.BadStart) }
-    ensures goes_on { GoesOn (T.seen tx.old) (T.seen tx.new) (is_storage result) }
+        (number ∷ []) name.now (table (T.seen tx.old)) (table (T.seen tx.new))) }
+    ensures faults { IsHonest (T.seen tx.new) → (v : Option Version)
+        → HasVersion (table (T.seen tx.old)) name.now number v → IfErr result IsMemoryOrStorage }
+    ensures call { IsCall (T.seen tx.old) (T.seen tx.new) result IsNotBadStart }
 {
     let key = version_key(alloc, name, number)?;
     let Some(kept) = tx.get(Kind::KvVersion, key.as_str())? else {
@@ -100,12 +100,11 @@ fn change_versions<T: RecordsTx>(
     change: Change,
 ) -> Result<(), Fault>
     ensures rows { IsHonest (T.seen tx.new) → IsTimely change → OnOk result (AreChanged (change_of change)
-        numbers.now name.now (table_of (T.seen tx.old).rows) (table_of (T.seen tx.new).rows)) }
-    ensures undamaged { IsHonest (T.seen tx.new) → IsTimely change
-        → AreReadableVersions (table_of (T.seen tx.old).rows) name.now numbers.now
+        numbers.now name.now (table (T.seen tx.old)) (table (T.seen tx.new))) }
+    ensures faults { IsHonest (T.seen tx.new) → IsTimely change
+        → AreReadableVersions (table (T.seen tx.old)) name.now numbers.now
         → IfErr result IsMemoryOrStorage }
-    ensures started { IfErr result (λ fault. fault ≢ Fault.BadStart) }
-    ensures goes_on { GoesOn (T.seen tx.old) (T.seen tx.new) (is_storage result) }
+    ensures call { IsCall (T.seen tx.old) (T.seen tx.new) result IsNotBadStart }
 {
     for number in numbers {
         change_version(alloc, tx, name, *number, change)?;
@@ -122,18 +121,17 @@ fn change_current<T: RecordsTx>(
     change: Change,
 ) -> Result<(), Fault>
     ensures rows { IsHonest (T.seen tx.new) → IsTimely change → (k : Option KeyEntry)
-        → HasKey (table_of (T.seen tx.old).rows) name.now k → OnOk result (AreChanged (change_of change)
-        (current_of k) name.now (table_of (T.seen tx.old).rows) (table_of (T.seen tx.new).rows)) }
-    ensures damaged { IsHonest (T.seen tx.new)
-        → OnOk result (IsReadableKey (table_of (T.seen tx.old).rows) name.now) }
+        → HasKey (table (T.seen tx.old)) name.now k → OnOk result (AreChanged (change_of change)
+        (current_of k) name.now (table (T.seen tx.old)) (table (T.seen tx.new))) }
+    ensures readable { IsHonest (T.seen tx.new)
+        → OnOk result (IsReadableKey (table (T.seen tx.old)) name.now) }
     ensures others { IsHonest (T.seen tx.new) → IsTimely change → OnOk result
-        (KeepsOtherNames name.now (table_of (T.seen tx.old).rows) (table_of (T.seen tx.new).rows)) }
-    ensures undamaged { IsHonest (T.seen tx.new) → (k : Option KeyEntry)
-        → HasKey (table_of (T.seen tx.old).rows) name.now k
-        → AreReadableVersions (table_of (T.seen tx.old).rows) name.now (current_of k)
+        (KeepsOtherNames name.now (table (T.seen tx.old)) (table (T.seen tx.new))) }
+    ensures faults { IsHonest (T.seen tx.new) → (k : Option KeyEntry)
+        → HasKey (table (T.seen tx.old)) name.now k
+        → AreReadableVersions (table (T.seen tx.old)) name.now (current_of k)
         → IfErr result IsMemoryOrStorage }
-    ensures started { IfErr result (λ fault. fault ≢ Fault.BadStart) }
-    ensures goes_on { GoesOn (T.seen tx.old) (T.seen tx.new) (is_storage result) }
+    ensures call { IsCall (T.seen tx.old) (T.seen tx.new) result IsNotBadStart }
 {
     let Some(key) = find_key(tx, name)? else {
         return Ok(());
@@ -153,27 +151,25 @@ pub fn delete<T: RecordsTx>(
     path: &str,
 ) -> Result<(), Fault>
     ensures rows { IsHonest (T.seen tx.new) → (k : Option KeyEntry)
-        → HasKey (table_of (T.seen tx.old).rows) (secrets.secret_name mount.now path.now) k
+        → HasKey (table (T.seen tx.old)) (secrets.secret_name mount.now path.now) k
         → OnOk result (AreChanged (versions.soft_deleted now) (current_of k)
-        (secrets.secret_name mount.now path.now) (table_of (T.seen tx.old).rows) (table_of (T.seen tx.new).rows)) }
+        (secrets.secret_name mount.now path.now) (table (T.seen tx.old)) (table (T.seen tx.new))) }
     // Whatever the rows are: with a damaged row there is no answer. Of the version's row `rows` says so.
-    ensures damaged { IsHonest (T.seen tx.new) → OnOk result
-        (IsReadableKey (table_of (T.seen tx.old).rows) (secrets.secret_name mount.now path.now)) }
-    ensures others { IsHonest (T.seen tx.new) → OnOk result (KeepsOtherNames
-        (secrets.secret_name mount.now path.now) (table_of (T.seen tx.old).rows) (table_of (T.seen tx.new).rows)) }
+    ensures readable { IsHonest (T.seen tx.new) → OnOk result
+        (IsReadableKey (table (T.seen tx.old)) (secrets.secret_name mount.now path.now)) }
     ensures told { IsHonest (T.seen tx.new) → (forms : Forms) (b : Broker) → SoundSecrets forms b.secrets
-        → Tells of_secrets (table_of (T.seen tx.old).rows) b → now ≡ b.clock
+        → Tells of_secrets (table (T.seen tx.old)) b → now ≡ b.clock
         → IsSecretName (secrets.secret_name mount.now path.now)
-        → OnOk result (Tells of_secrets (table_of (T.seen tx.new).rows) (secrets.delete b mount.now path.now)) }
-    ensures readable { IsHonest (T.seen tx.new) → (k : Option KeyEntry)
-        → HasKey (table_of (T.seen tx.old).rows) (secrets.secret_name mount.now path.now) k
-        → AreReadableVersions (table_of (T.seen tx.old).rows) (secrets.secret_name mount.now path.now) (current_of k)
+        → OnOk result (Tells of_secrets (table (T.seen tx.new)) (secrets.delete b mount.now path.now)) }
+    ensures faults { IsHonest (T.seen tx.new) → (k : Option KeyEntry)
+        → HasKey (table (T.seen tx.old)) (secrets.secret_name mount.now path.now) k
+        → AreReadableVersions (table (T.seen tx.old)) (secrets.secret_name mount.now path.now) (current_of k)
         → IfErr result IsMemoryOrStorage }
-    ensures undamaged { IsHonest (T.seen tx.new) → (forms : Forms) (b : Broker) → SoundSecrets forms b.secrets
-        → Tells of_secrets (table_of (T.seen tx.old).rows) b
+    ensures wants { IsHonest (T.seen tx.new) → (forms : Forms) (b : Broker) → SoundSecrets forms b.secrets
+        → Tells of_secrets (table (T.seen tx.old)) b
         → IsSecretName (secrets.secret_name mount.now path.now) → IfErr result IsMemoryOrStorage }
-    ensures started { IfErr result (λ fault. fault ≢ Fault.BadStart) }
-    ensures goes_on { GoesOn (T.seen tx.old) (T.seen tx.new) (is_storage result) }
+    ensures call { IsChange (KeepsOtherNames (secrets.secret_name mount.now path.now))
+        (T.seen tx.old) (T.seen tx.new) result IsNotBadStart }
 {
     versions_have_keys();
     let now = now.seconds();

@@ -1,19 +1,19 @@
 //! Secrets without their texts, told.
 
-ghost use Rattle.std.specs.Prelude.{◌≡◌, ◌≢◌, ◌≤◌, ◌<◌, ◌^◌, ℕ, List, Option, Some, map, false};
-ghost use Rattle.std.specs.Prelude.{IfOk, IfErr, OnOk, MatchResult};
+ghost use Rattle.std.specs.Prelude.{◌≡◌, ◌≤◌, ◌<◌, ◌^◌, ℕ, List, Option, Some, map, false};
+ghost use Rattle.std.specs.Prelude.{IfOk, IfErr, MatchResult, ⊤};
 ghost use Rattle.broker_types.specs.Broker.{Broker};
-ghost use Rattle.broker_types.specs.Fault.{IsMemoryOrStorage};
+ghost use Rattle.broker_types.specs.Fault.{IsMemoryOrStorage, IsNotBadStart};
 ghost use Rattle.broker_types.specs.Limits.{greatest_version};
 ghost use Rattle.broker_types.specs.Secret.{Version};
 ghost use Rattle.broker_types.specs.Sound.{Forms, SoundSecrets};
-ghost use Rattle.records.specs.KeyEntry.{KeyEntry};
+ghost use Rattle.records.specs.Calls.{IsReading, IsDecodeFault};
 ghost use Rattle.records.specs.Parts.{of_secrets, Tells};
 ghost use Rattle.records.specs.Ranges.{IsKeyInRange};
 ghost use Rattle.records.specs.Reading.{IsSomeIn};
 ghost use Rattle.records.specs.Rows as rows;
-ghost use Rattle.records.specs.Table.{table_of};
-ghost use Rattle.records.specs.Transaction.{IsHonest, GoesOn, is_storage};
+ghost use Rattle.records.specs.Table.{table};
+ghost use Rattle.records.specs.Transaction.{IsHonest};
 ghost use Rattle.kv2.specs.InRange.{AreToldInRange, IsMetadataInRange};
 ghost use Rattle.kv2.specs.Metadata as spec;
 ghost use Rattle.kv2.specs.Metadata.{Metadata};
@@ -44,8 +44,7 @@ fn number_in(alloc: Global, name: &str, prefix: &str, key: &str) -> Result<u64, 
     ensures told { prefix.now ≡ versions_prefix name.now → (n : ℕ) → n ≤ greatest_version
         → key.now ≡ rows.version_key name.now n → MatchResult result (λ m. m ≡ n) IsMemoryOrStorage }
     ensures exact { IfOk result (λ n. (n ≤ greatest_version) × (key.now ≡ rows.version_key name.now n)) }
-    ensures started { IfErr result (λ fault. fault ≢ Fault.BadStart) }
-    ensures faults { is_storage result ≡ false }
+    ensures faults { IfErr result (IsDecodeFault ⊤) }
 {
     let Some(digits) = key.strip_prefix(prefix) else {
         return Err(Fault::Damaged);
@@ -72,8 +71,7 @@ fn version_in(
         → IsEntryOf name.now entry.now v → MatchResult result (λ m. m ≡ spec.version_metadata v) IsMemoryOrStorage }
     ensures exact { IfOk result (λ m. (v : ℕ × Version) × IsNumbered v × IsEntryOf name.now entry.now v
         × (m ≡ spec.version_metadata v)) }
-    ensures started { IfErr result (λ fault. fault ≢ Fault.BadStart) }
-    ensures faults { is_storage result ≡ false }
+    ensures faults { IfErr result (IsDecodeFault ⊤) }
 {
     let number = number_in(alloc, name, prefix, entry.key.as_str())?;
     let version = read_version(&entry.row)?;
@@ -92,8 +90,7 @@ fn versions_in(alloc: Global, name: &str, listed: &[Entry]) -> Result<Vec<Versio
         → MatchResult result (λ list. list.items ≡ map spec.version_metadata vs) IsMemoryOrStorage }
     ensures exact { IfOk result (λ list. (vs : List (ℕ × Version)) × AreEntriesOf name.now listed.now vs
         × (list.items ≡ map spec.version_metadata vs)) }
-    ensures started { IfErr result (λ fault. fault ≢ Fault.BadStart) }
-    ensures faults { is_storage result ≡ false }
+    ensures faults { IfErr result (IsDecodeFault ⊤) }
 {
     let prefix = versions_prefix(alloc, name)?;
     let mut list = Vec::new(alloc);
@@ -118,9 +115,7 @@ fn find_versions<T: RecordsTx>(
     ensures exact { IsHonest (T.seen tx.new) → IfOk result (λ list. (vs : List (ℕ × Version))
         × AreVersions (T.seen tx.old).rows name.now vs × (list.items ≡ map spec.version_metadata vs)) }
     ensures in_range { IfOk result (λ list. AreToldInRange list.items) }
-    ensures same { IsHonest (T.seen tx.new) → OnOk result ((T.seen tx.new).rows ≡ (T.seen tx.old).rows) }
-    ensures started { IfErr result (λ fault. fault ≢ Fault.BadStart) }
-    ensures goes_on { GoesOn (T.seen tx.old) (T.seen tx.new) (is_storage result) }
+    ensures call { IsReading (T.seen tx.old) (T.seen tx.new) result IsNotBadStart }
 {
     let prefix = versions_prefix(alloc, name)?;
     let listed = tx.under(Kind::KvVersion, prefix.as_str())?;
@@ -173,16 +168,14 @@ pub fn metadata<T: RecordsTx>(
     ensures found { IsHonest (T.seen tx.new) → IfOk result
         (IsMetadata (T.seen tx.old).rows (secrets.secret_name mount.now path.now)) }
     ensures told { IsHonest (T.seen tx.new) → (forms : Forms) (b : Broker) → SoundSecrets forms b.secrets
-        → Tells of_secrets (table_of (T.seen tx.old).rows) b
+        → Tells of_secrets (table (T.seen tx.old)) b
         → IfOk result (λ o. o ≡ secrets.metadata b mount.now path.now) }
     ensures in_range { IfOk result (IsSomeIn IsMetadataInRange) }
-    ensures same { IsHonest (T.seen tx.new) → OnOk result ((T.seen tx.new).rows ≡ (T.seen tx.old).rows) }
-    ensures readable { IsHonest (T.seen tx.new) → (o : Option Metadata)
+    ensures faults { IsHonest (T.seen tx.new) → (o : Option Metadata)
         → IsMetadata (T.seen tx.old).rows (secrets.secret_name mount.now path.now) o → IfErr result IsMemoryOrStorage }
-    ensures undamaged { IsHonest (T.seen tx.new) → (forms : Forms) (b : Broker) → SoundSecrets forms b.secrets
-        → Tells of_secrets (table_of (T.seen tx.old).rows) b → IfErr result IsMemoryOrStorage }
-    ensures started { IfErr result (λ fault. fault ≢ Fault.BadStart) }
-    ensures goes_on { GoesOn (T.seen tx.old) (T.seen tx.new) (is_storage result) }
+    ensures wants { IsHonest (T.seen tx.new) → (forms : Forms) (b : Broker) → SoundSecrets forms b.secrets
+        → Tells of_secrets (table (T.seen tx.old)) b → IfErr result IsMemoryOrStorage }
+    ensures call { IsReading (T.seen tx.old) (T.seen tx.new) result IsNotBadStart }
 {
     versions_have_keys();
     let name = secret_name(alloc, mount, path)?;

@@ -1,11 +1,13 @@
 //! Folders of secrets, listed.
 
-ghost use Rattle.std.specs.Prelude.{◌≡◌, IfOk, OnOk, string_bytes};
+ghost use Rattle.std.specs.Prelude.{◌≡◌, IfOk, string_bytes};
 ghost use Rattle.broker_types.specs.Broker.{Broker};
+ghost use Rattle.broker_types.specs.Fault.{IsMemoryOrStorage};
+ghost use Rattle.records.specs.Calls.{IsReading};
 ghost use Rattle.records.specs.Children.{folder};
 ghost use Rattle.records.specs.Parts.{of_secrets, Tells};
-ghost use Rattle.records.specs.Table.{table_of};
-ghost use Rattle.records.specs.Transaction.{IsHonest, IsCall};
+ghost use Rattle.records.specs.Table.{table};
+ghost use Rattle.records.specs.Transaction.{IsHonest};
 ghost use Rattle.kv2.specs.SecretRows as rows;
 ghost use Rattle.kv2.specs.Secrets as secrets;
 
@@ -38,10 +40,9 @@ pub fn list<T: RecordsTx>(
 ) -> Result<Vec<TextBuf>, Fault>
     ensures found { IsHonest (T.seen tx.new) → IfOk result (λ names. names.items
         ≡ rows.children_in (T.seen tx.old).rows (secrets.secret_name mount.now (folder path.now))) }
-    ensures told { IsHonest (T.seen tx.new) → (b : Broker) → Tells of_secrets (table_of (T.seen tx.old).rows) b
+    ensures told { IsHonest (T.seen tx.new) → (b : Broker) → Tells of_secrets (table (T.seen tx.old)) b
         → IfOk result (λ names. names.items ≡ secrets.list b mount.now path.now) }
-    ensures same { IsHonest (T.seen tx.new) → OnOk result ((T.seen tx.new).rows ≡ (T.seen tx.old).rows) }
-    ensures call { IsCall (T.seen tx.old) (T.seen tx.new) result }
+    ensures call { IsReading (T.seen tx.old) (T.seen tx.new) result IsMemoryOrStorage }
 {
     let name = folder_name(alloc, mount, path)?;
     let listed = tx.under(Kind::KvKey, name.as_str())?;

@@ -1,8 +1,10 @@
 //! Old versions of a secret, removed.
 
 ghost use Rattle.std.specs.Prelude.{◌≡◌, OnOk};
-ghost use Rattle.records.specs.Table.{table_of};
-ghost use Rattle.records.specs.Transaction.{IsHonest, IsCall};
+ghost use Rattle.broker_types.specs.Fault.{IsMemoryOrStorage};
+ghost use Rattle.records.specs.Calls.{IsCall};
+ghost use Rattle.records.specs.Table.{table};
+ghost use Rattle.records.specs.Transaction.{IsHonest};
 ghost use Rattle.kv2.specs.SecretRows as rows;
 
 use crate::keys::{version_key, versions_prefix};
@@ -13,9 +15,9 @@ use std::alloc::Global;
 /// Removes the rows of a kind whose keys begin with the prefix and are not above the last. It fails only if
 /// memory runs out or the storage fails.
 fn remove_upto<T: RecordsTx>(tx: &mut T, kind: Kind, prefix: &str, last: &str) -> Result<(), Fault>
-    ensures rows { IsHonest (T.seen tx.new) → OnOk result (table_of (T.seen tx.new).rows
-        ≡ rows.without_upto (table_of (T.seen tx.old).rows) kind prefix.now last.now) }
-    ensures call { IsCall (T.seen tx.old) (T.seen tx.new) result }
+    ensures rows { IsHonest (T.seen tx.new) → OnOk result (table (T.seen tx.new)
+        ≡ rows.without_upto (table (T.seen tx.old)) kind prefix.now last.now) }
+    ensures call { IsCall (T.seen tx.old) (T.seen tx.new) result IsMemoryOrStorage }
 {
     let list = tx.under(kind, prefix)?;
     for entry in &list {
@@ -36,9 +38,9 @@ pub(crate) fn prune<T: RecordsTx>(
     number: u64,
     limit: u64,
 ) -> Result<(), Fault>
-    ensures rows { IsHonest (T.seen tx.new) → OnOk result (table_of (T.seen tx.new).rows
-        ≡ rows.pruned (table_of (T.seen tx.old).rows) name.now number limit) }
-    ensures call { IsCall (T.seen tx.old) (T.seen tx.new) result }
+    ensures rows { IsHonest (T.seen tx.new) → OnOk result (table (T.seen tx.new)
+        ≡ rows.pruned (table (T.seen tx.old)) name.now number limit) }
+    ensures call { IsCall (T.seen tx.old) (T.seen tx.new) result IsMemoryOrStorage }
 {
     if number <= limit {
         return Ok(());

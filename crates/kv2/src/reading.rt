@@ -1,17 +1,18 @@
 //! Versions of secrets, read.
 
-ghost use Rattle.std.specs.Prelude.{◌≡◌, ◌≢◌, ℕ, Option, option_map, is_some, IfOk, IfErr, OnOk};
+ghost use Rattle.std.specs.Prelude.{◌≡◌, ℕ, Option, option_map, is_some, IfOk, IfErr};
 ghost use Rattle.broker_types.specs.Broker.{Broker};
-ghost use Rattle.broker_types.specs.Fault.{IsMemoryOrStorage};
+ghost use Rattle.broker_types.specs.Fault.{IsMemoryOrStorage, IsNotBadStart};
 ghost use Rattle.broker_types.specs.Secret.{Version};
 ghost use Rattle.broker_types.specs.Sound.{Forms, SoundSecrets};
 ghost use Rattle.records.specs.declared.kind.Kind.TheVariants as kind;
+ghost use Rattle.records.specs.Calls.{IsReading};
 ghost use Rattle.records.specs.Parts.{of_secrets, Tells};
 ghost use Rattle.records.specs.Ranges.{IsVersionInRange};
 ghost use Rattle.records.specs.Reading.{IsSomeIn};
-ghost use Rattle.records.specs.Table.{table_of};
-ghost use Rattle.records.specs.Transaction.{IsHonest, IsCall, GoesOn, is_storage};
-ghost use Rattle.kv2.specs.SecretRows.{HasVersion, IsReading};
+ghost use Rattle.records.specs.Table.{table};
+ghost use Rattle.records.specs.Transaction.{IsHonest};
+ghost use Rattle.kv2.specs.SecretRows.{HasVersion, IsRead};
 ghost use Rattle.kv2.specs.Secrets as secrets;
 ghost use Rattle.kv2.specs.Versions as versions;
 
@@ -31,17 +32,15 @@ fn find_version<T: RecordsTx>(
     number: u64,
 ) -> Result<Option<SecretVersion>, Fault>
     ensures found { IsHonest (T.seen tx.new) → (v : Option Version)
-        → HasVersion (table_of (T.seen tx.old).rows) name.now number v
+        → HasVersion (table (T.seen tx.old)) name.now number v
         → IfOk result (λ o. o ≡ option_map (versions.numbered number) v) }
     ensures exact { IsHonest (T.seen tx.new) → IfOk result (λ o. (v : Option Version)
-        × HasVersion (table_of (T.seen tx.old).rows) name.now number v
+        × HasVersion (table (T.seen tx.old)) name.now number v
         × (o ≡ option_map (versions.numbered number) v)) }
     ensures in_range { IfOk result (IsSomeIn (λ v. IsVersionInRange v.1)) }
-    ensures same { IsHonest (T.seen tx.new) → OnOk result ((T.seen tx.new).rows ≡ (T.seen tx.old).rows) }
-    ensures undamaged { IsHonest (T.seen tx.new) → (v : Option Version)
-        → HasVersion (table_of (T.seen tx.old).rows) name.now number v → IfErr result IsMemoryOrStorage }
-    ensures started { IfErr result (λ fault. fault ≢ Fault.BadStart) }
-    ensures goes_on { GoesOn (T.seen tx.old) (T.seen tx.new) (is_storage result) }
+    ensures faults { IsHonest (T.seen tx.new) → (v : Option Version)
+        → HasVersion (table (T.seen tx.old)) name.now number v → IfErr result IsMemoryOrStorage }
+    ensures call { IsReading (T.seen tx.old) (T.seen tx.new) result IsNotBadStart }
 {
     let key = version_key(alloc, name, number)?;
     let Some(kept) = tx.get(Kind::KvVersion, key.as_str())? else {
@@ -70,19 +69,17 @@ pub fn read<T: RecordsTx>(
     number: u64,
 ) -> Result<Option<SecretVersion>, Fault>
     ensures found { IsHonest (T.seen tx.new) → IfOk result
-        (IsReading (table_of (T.seen tx.old).rows) (secrets.secret_name mount.now path.now) number) }
+        (IsRead (table (T.seen tx.old)) (secrets.secret_name mount.now path.now) number) }
     ensures told { IsHonest (T.seen tx.new) → (forms : Forms) (b : Broker) → SoundSecrets forms b.secrets
-        → Tells of_secrets (table_of (T.seen tx.old).rows) b
+        → Tells of_secrets (table (T.seen tx.old)) b
         → IfOk result (λ o. o ≡ secrets.read b mount.now path.now number) }
     ensures in_range { IfOk result (IsSomeIn (λ v. IsVersionInRange v.1)) }
-    ensures same { IsHonest (T.seen tx.new) → OnOk result ((T.seen tx.new).rows ≡ (T.seen tx.old).rows) }
-    ensures readable { IsHonest (T.seen tx.new) → (o : Option (ℕ × Version))
-        → IsReading (table_of (T.seen tx.old).rows) (secrets.secret_name mount.now path.now) number o
+    ensures faults { IsHonest (T.seen tx.new) → (o : Option (ℕ × Version))
+        → IsRead (table (T.seen tx.old)) (secrets.secret_name mount.now path.now) number o
         → IfErr result IsMemoryOrStorage }
-    ensures undamaged { IsHonest (T.seen tx.new) → (forms : Forms) (b : Broker) → SoundSecrets forms b.secrets
-        → Tells of_secrets (table_of (T.seen tx.old).rows) b → IfErr result IsMemoryOrStorage }
-    ensures started { IfErr result (λ fault. fault ≢ Fault.BadStart) }
-    ensures goes_on { GoesOn (T.seen tx.old) (T.seen tx.new) (is_storage result) }
+    ensures wants { IsHonest (T.seen tx.new) → (forms : Forms) (b : Broker) → SoundSecrets forms b.secrets
+        → Tells of_secrets (table (T.seen tx.old)) b → IfErr result IsMemoryOrStorage }
+    ensures call { IsReading (T.seen tx.old) (T.seen tx.new) result IsNotBadStart }
 {
     versions_have_keys();
     let name = secret_name(alloc, mount, path)?;
@@ -104,11 +101,10 @@ pub fn is_there<T: RecordsTx>(
     path: &str,
 ) -> Result<bool, Fault>
     ensures found { IsHonest (T.seen tx.new) → IfOk result (λ v. v
-        ≡ is_some (table_of (T.seen tx.old).rows kind.KvKey (secrets.secret_name mount.now path.now))) }
-    ensures told { IsHonest (T.seen tx.new) → (b : Broker) → Tells of_secrets (table_of (T.seen tx.old).rows) b
+        ≡ is_some (table (T.seen tx.old) kind.KvKey (secrets.secret_name mount.now path.now))) }
+    ensures told { IsHonest (T.seen tx.new) → (b : Broker) → Tells of_secrets (table (T.seen tx.old)) b
         → IfOk result (λ v. v ≡ is_some (secrets.key_at b mount.now path.now)) }
-    ensures same { IsHonest (T.seen tx.new) → OnOk result ((T.seen tx.new).rows ≡ (T.seen tx.old).rows) }
-    ensures call { IsCall (T.seen tx.old) (T.seen tx.new) result }
+    ensures call { IsReading (T.seen tx.old) (T.seen tx.new) result IsMemoryOrStorage }
 {
     let name = secret_name(alloc, mount, path)?;
     Ok(tx.get(Kind::KvKey, name.as_str())?.is_some())

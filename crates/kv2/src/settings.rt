@@ -1,13 +1,14 @@
 //! Settings of mounts.
 
-ghost use Rattle.std.specs.Prelude.{◌≡◌, ◌≢◌, ◌<◌, ◌^◌, Option, option_map, unwrap_or, IfOk, IfErr, OnOk};
+ghost use Rattle.std.specs.Prelude.{◌≡◌, ◌<◌, ◌^◌, Option, option_map, unwrap_or, IfOk, IfErr, OnOk};
 ghost use Rattle.broker_types.specs.Broker.{Broker, Mount};
-ghost use Rattle.broker_types.specs.Fault.{IsMemoryOrStorage};
+ghost use Rattle.broker_types.specs.Fault.{IsMemoryOrStorage, IsNotBadStart};
 ghost use Rattle.broker_types.specs.Sound.{SoundMounts};
+ghost use Rattle.records.specs.Calls.{IsReading, IsChange};
 ghost use Rattle.records.specs.Parts.{of_mounts, Tells};
 ghost use Rattle.records.specs.Reading.{IsSomeIn, IsWide};
-ghost use Rattle.records.specs.Table.{table_of};
-ghost use Rattle.records.specs.Transaction.{IsHonest, GoesOn, is_storage};
+ghost use Rattle.records.specs.Table.{table};
+ghost use Rattle.records.specs.Transaction.{IsHonest};
 ghost use Rattle.kv2.specs.SecretRows as rows;
 ghost use Rattle.kv2.specs.SecretRows.{HasMount, IsReadableMount, KeepsOtherMounts};
 ghost use Rattle.kv2.specs.Secrets as secrets;
@@ -21,16 +22,14 @@ use std::alloc::Global;
 /// memory runs out or the storage fails (Vault's documentation, "KV secrets engine - version 2 (API)", read KV
 /// engine configuration).
 pub fn config<T: RecordsTx>(tx: &mut T, mount: &str) -> Result<Option<MountRecord>, Fault>
-    ensures found { IsHonest (T.seen tx.new) → IfOk result (HasMount (table_of (T.seen tx.old).rows) mount.now) }
+    ensures found { IsHonest (T.seen tx.new) → IfOk result (HasMount (table (T.seen tx.old)) mount.now) }
     ensures told { IsHonest (T.seen tx.new) → (b : Broker) → SoundMounts b.mounts
-        → Tells of_mounts (table_of (T.seen tx.old).rows) b → IfOk result (λ o. o ≡ secrets.config b mount.now) }
-    ensures same { IsHonest (T.seen tx.new) → OnOk result ((T.seen tx.new).rows ≡ (T.seen tx.old).rows) }
-    ensures readable { IsHonest (T.seen tx.new) → (m : Option Mount)
-        → HasMount (table_of (T.seen tx.old).rows) mount.now m → IfErr result IsMemoryOrStorage }
-    ensures undamaged { IsHonest (T.seen tx.new) → (b : Broker) → SoundMounts b.mounts
-        → Tells of_mounts (table_of (T.seen tx.old).rows) b → IfErr result IsMemoryOrStorage }
-    ensures started { IfErr result (λ fault. fault ≢ Fault.BadStart) }
-    ensures goes_on { GoesOn (T.seen tx.old) (T.seen tx.new) (is_storage result) }
+        → Tells of_mounts (table (T.seen tx.old)) b → IfOk result (λ o. o ≡ secrets.config b mount.now) }
+    ensures faults { IsHonest (T.seen tx.new) → (m : Option Mount)
+        → HasMount (table (T.seen tx.old)) mount.now m → IfErr result IsMemoryOrStorage }
+    ensures wants { IsHonest (T.seen tx.new) → (b : Broker) → SoundMounts b.mounts
+        → Tells of_mounts (table (T.seen tx.old)) b → IfErr result IsMemoryOrStorage }
+    ensures call { IsReading (T.seen tx.old) (T.seen tx.new) result IsNotBadStart }
 {
     find_mount(tx, mount)
 }
@@ -57,24 +56,21 @@ pub fn set_config<T: RecordsTx>(
     max_versions: Option<u64>,
 ) -> Result<(), Fault>
     ensures rows { IsHonest (T.seen tx.new) → (m : Option Mount)
-        → HasMount (table_of (T.seen tx.old).rows) mount.now m → OnOk result (table_of (T.seen tx.new).rows
-        ≡ rows.with_settings (table_of (T.seen tx.old).rows) mount.now
+        → HasMount (table (T.seen tx.old)) mount.now m → OnOk result (table (T.seen tx.new)
+        ≡ rows.with_settings (table (T.seen tx.old)) mount.now
         (option_map (secrets.with_settings cas_required max_versions) m)) }
     ensures told { IsHonest (T.seen tx.new) → (b : Broker) → SoundMounts b.mounts
-        → Tells of_mounts (table_of (T.seen tx.old).rows) b → OnOk result
-        (Tells of_mounts (table_of (T.seen tx.new).rows) (secrets.set_config b mount.now cas_required max_versions)) }
+        → Tells of_mounts (table (T.seen tx.old)) b → OnOk result
+        (Tells of_mounts (table (T.seen tx.new)) (secrets.set_config b mount.now cas_required max_versions)) }
     // Whatever the rows are: with a damaged row there is no answer.
-    ensures damaged { IsHonest (T.seen tx.new)
-        → OnOk result (IsReadableMount (table_of (T.seen tx.old).rows) mount.now) }
-    ensures others { IsHonest (T.seen tx.new)
-        → OnOk result (KeepsOtherMounts mount.now (table_of (T.seen tx.old).rows) (table_of (T.seen tx.new).rows)) }
-    ensures readable { IsHonest (T.seen tx.new) → (m : Option Mount)
-        → HasMount (table_of (T.seen tx.old).rows) mount.now m → IfErr result IsMemoryOrStorage }
-    ensures undamaged { IsHonest (T.seen tx.new) → (b : Broker) → SoundMounts b.mounts
-        → Tells of_mounts (table_of (T.seen tx.old).rows) b → IfErr result IsMemoryOrStorage }
+    ensures readable { IsHonest (T.seen tx.new)
+        → OnOk result (IsReadableMount (table (T.seen tx.old)) mount.now) }
+    ensures faults { IsHonest (T.seen tx.new) → (m : Option Mount)
+        → HasMount (table (T.seen tx.old)) mount.now m → IfErr result IsMemoryOrStorage }
+    ensures wants { IsHonest (T.seen tx.new) → (b : Broker) → SoundMounts b.mounts
+        → Tells of_mounts (table (T.seen tx.old)) b → IfErr result IsMemoryOrStorage }
     ensures wide { IsSomeIn IsWide max_versions }
-    ensures started { IfErr result (λ fault. fault ≢ Fault.BadStart) }
-    ensures goes_on { GoesOn (T.seen tx.old) (T.seen tx.new) (is_storage result) }
+    ensures call { IsChange (KeepsOtherMounts mount.now) (T.seen tx.old) (T.seen tx.new) result IsNotBadStart }
 {
     let Some(found) = find_mount(tx, mount)? else {
         return Ok(());

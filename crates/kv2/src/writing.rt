@@ -2,16 +2,17 @@
 
 ghost use Rattle.std.specs.Prelude.{◌≡◌, ◌≢◌, ◌<◌, ◌^◌, Option, None, unwrap_or, length, OnOk, ⊤};
 ghost use Rattle.broker_types.specs.Broker.{Broker, Mount};
+ghost use Rattle.broker_types.specs.Fault.{IsMemoryOrStorage, IsNotBadStart};
 ghost use Rattle.broker_types.specs.Limits.{greatest_version};
-ghost use Rattle.broker_types.specs.RequestError.{Ends, step_fails};
+ghost use Rattle.broker_types.specs.RequestError.{Ends};
 ghost use Rattle.broker_types.specs.Sound.{Forms, SoundSecrets, SoundMounts, IsPathText};
-ghost use Rattle.records.specs.Calls.{OnAnswer, OnRefused};
+ghost use Rattle.records.specs.Calls.{OnAnswer, OnRefused, IsCall, IsRequestChange};
 ghost use Rattle.records.specs.KeyEntry.{KeyEntry};
 ghost use Rattle.records.specs.Parts.{of_secrets, of_mounts, Tells};
-ghost use Rattle.records.specs.Table.{table_of};
-ghost use Rattle.records.specs.Transaction.{IsHonest, GoesOn, IsCall};
+ghost use Rattle.records.specs.Table.{table};
+ghost use Rattle.records.specs.Transaction.{IsHonest};
 ghost use Rattle.kv2.specs.SecretRows as rows;
-ghost use Rattle.kv2.specs.SecretRows.{HasKey, HasMount, KeepsOtherNames, IsStarted, AreReadable};
+ghost use Rattle.kv2.specs.SecretRows.{HasKey, HasMount, KeepsOtherNames, AreReadableToWrite};
 ghost use Rattle.kv2.specs.Secrets as secrets;
 ghost use Rattle.kv2.specs.Versions as versions;
 
@@ -90,9 +91,9 @@ fn put_version<T: RecordsTx>(
 ) -> Result<(), Fault>
     requires room { key.now.current < greatest_version }
     requires short { length object.now < 2 ^ 32 }
-    ensures rows { IsHonest (T.seen tx.new) → OnOk result (table_of (T.seen tx.new).rows
-        ≡ rows.with_version (table_of (T.seen tx.old).rows) name.now key.now limit now object.now) }
-    ensures call { IsCall (T.seen tx.old) (T.seen tx.new) result }
+    ensures rows { IsHonest (T.seen tx.new) → OnOk result (table (T.seen tx.new)
+        ≡ rows.with_version (table (T.seen tx.old)) name.now key.now limit now object.now) }
+    ensures call { IsCall (T.seen tx.old) (T.seen tx.new) result IsMemoryOrStorage }
 {
     let number = key.current + 1;
     let version = VersionRecord {
@@ -126,17 +127,14 @@ fn write_named<T: RecordsTx>(
 ) -> Result<u64, RequestError>
     requires { length object.now < 2 ^ 32 }
     ensures rows { IsHonest (T.seen tx.new) → (m : Option Mount) (k : Option KeyEntry)
-        → HasMount (table_of (T.seen tx.old).rows) mount.now m
-        → (m ≢ None → HasKey (table_of (T.seen tx.old).rows) name.now k)
-        → Ends (λ v w. (v ≡ w.number) × (table_of (T.seen tx.new).rows ≡ w.rows)) ⊤ result
-        (rows.write (table_of (T.seen tx.old).rows) m k name.now now cas object.now) }
+        → HasMount (table (T.seen tx.old)) mount.now m
+        → (m ≢ None → HasKey (table (T.seen tx.old)) name.now k)
+        → Ends (λ v w. (v ≡ w.number) × (table (T.seen tx.new) ≡ w.rows)) ⊤ result
+        (rows.write (table (T.seen tx.old)) m k name.now now cas object.now) }
     ensures refused { IsHonest (T.seen tx.new) → OnRefused result ((T.seen tx.new).rows ≡ (T.seen tx.old).rows) }
-    ensures damaged { IsHonest (T.seen tx.new)
-        → OnAnswer result (AreReadable (table_of (T.seen tx.old).rows) mount.now name.now) }
-    ensures others { IsHonest (T.seen tx.new) → OnOk result
-        (KeepsOtherNames name.now (table_of (T.seen tx.old).rows) (table_of (T.seen tx.new).rows)) }
-    ensures started { IsStarted result }
-    ensures goes_on { GoesOn (T.seen tx.old) (T.seen tx.new) (step_fails result) }
+    ensures readable { IsHonest (T.seen tx.new)
+        → OnAnswer result (AreReadableToWrite (table (T.seen tx.old)) mount.now name.now) }
+    ensures call { IsRequestChange (KeepsOtherNames name.now) (T.seen tx.old) (T.seen tx.new) result IsNotBadStart }
 {
     let Some(settings) = find_mount(tx, mount)? else {
         return Err(RequestError::Refused(Refusal::NotFound));
@@ -166,23 +164,21 @@ pub fn write<T: RecordsTx>(
 ) -> Result<u64, RequestError>
     requires { length object.now < 2 ^ 32 }
     ensures rows { IsHonest (T.seen tx.new) → (m : Option Mount) (k : Option KeyEntry)
-        → HasMount (table_of (T.seen tx.old).rows) mount.now m
-        → (m ≢ None → HasKey (table_of (T.seen tx.old).rows) (secrets.secret_name mount.now path.now) k)
-        → Ends (λ v w. (v ≡ w.number) × (table_of (T.seen tx.new).rows ≡ w.rows)) ⊤ result
-        (rows.write (table_of (T.seen tx.old).rows) m k (secrets.secret_name mount.now path.now) now cas object.now) }
+        → HasMount (table (T.seen tx.old)) mount.now m
+        → (m ≢ None → HasKey (table (T.seen tx.old)) (secrets.secret_name mount.now path.now) k)
+        → Ends (λ v w. (v ≡ w.number) × (table (T.seen tx.new) ≡ w.rows)) ⊤ result
+        (rows.write (table (T.seen tx.old)) m k (secrets.secret_name mount.now path.now) now cas object.now) }
     ensures told { IsHonest (T.seen tx.new) → (forms : Forms) (b : Broker) → SoundSecrets forms b.secrets
-        → SoundMounts b.mounts → Tells of_secrets (table_of (T.seen tx.old).rows) b
-        → Tells of_mounts (table_of (T.seen tx.old).rows) b → now ≡ b.clock → IsPathText path.now
-        → Ends (λ v w. (v ≡ w.number) × Tells of_secrets (table_of (T.seen tx.new).rows) w.next) ⊤ result
+        → SoundMounts b.mounts → Tells of_secrets (table (T.seen tx.old)) b
+        → Tells of_mounts (table (T.seen tx.old)) b → now ≡ b.clock → IsPathText path.now
+        → Ends (λ v w. (v ≡ w.number) × Tells of_secrets (table (T.seen tx.new)) w.next) ⊤ result
         (secrets.write b mount.now path.now cas object.now) }
     ensures refused { IsHonest (T.seen tx.new) → OnRefused result ((T.seen tx.new).rows ≡ (T.seen tx.old).rows) }
     // Whatever the rows are: with a damaged row there is no answer, and no refusal.
-    ensures damaged { IsHonest (T.seen tx.new) → OnAnswer result (AreReadable
-        (table_of (T.seen tx.old).rows) mount.now (secrets.secret_name mount.now path.now)) }
-    ensures others { IsHonest (T.seen tx.new) → OnOk result (KeepsOtherNames
-        (secrets.secret_name mount.now path.now) (table_of (T.seen tx.old).rows) (table_of (T.seen tx.new).rows)) }
-    ensures started { IsStarted result }
-    ensures goes_on { GoesOn (T.seen tx.old) (T.seen tx.new) (step_fails result) }
+    ensures readable { IsHonest (T.seen tx.new) → OnAnswer result (AreReadableToWrite
+        (table (T.seen tx.old)) mount.now (secrets.secret_name mount.now path.now)) }
+    ensures call { IsRequestChange (KeepsOtherNames (secrets.secret_name mount.now path.now))
+        (T.seen tx.old) (T.seen tx.new) result IsNotBadStart }
 {
     versions_have_keys();
     let now = now.seconds();

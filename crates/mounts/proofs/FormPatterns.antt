@@ -11,7 +11,7 @@ use Rattle.broker_types.specs.TextLaws.{same_true}
 use Rattle.mounts.specs.Forms.{Ending, nothing, segment, segments, Form, form_of, has_form, is_ending, is_literal, are_bytes}
 use Rattle.mounts.specs.Laws.{IsForm}
 use Rattle.mounts.specs.Patterns.{Router, router_of, pattern_found, fits, is_in_order, has_pattern}
-use Rattle.mounts.specs.Row.{Row}
+use Rattle.mounts.specs.RouteRow.{RouteRow}
 use Rattle.mounts.proofs.FormSearch.{search}
 use Rattle.mounts.proofs.FormSeek.{seek_search}
 use Rattle.mounts.proofs.FormFound.{found_is, found_none}
@@ -50,7 +50,7 @@ alike f g path is_f is_g long =
 
 -- ---- the pattern that a path finds
 
-module _ (table : List Row) (path : Text) (ordered : is_in_order table ≡ true) (bytes : are_bytes path ≡ true) where
+module _ (table : List RouteRow) (path : Text) (ordered : is_in_order table ≡ true) (bytes : are_bytes path ≡ true) where
   router_is : IsLast table [] (router_of table)
   unfolding router_of
   router_is =

@@ -14,7 +14,7 @@ use Rattle.broker_types.specs.TextLaws.{same_self, same_true}
 use Rattle.mounts.specs.Forms.{Ending, form_of, are_bytes}
 use Rattle.mounts.specs.Patterns.{Router, with_next, placed_as, is_again, router_behind, tokens, is_read_as, reads_as_form}
 use Rattle.mounts.specs.Patterns.{has_pattern}
-use Rattle.mounts.specs.Row.{Row}
+use Rattle.mounts.specs.RouteRow.{RouteRow}
 use Rattle.mounts.proofs.FormSearch.{FormOf, Has}
 use Rattle.mounts.proofs.FormSeek.{rows, all_bytes}
 
@@ -157,13 +157,13 @@ next_is before p router reads are known =
     again_here (Some b) h again = subst (λ q. HasPattern q router) (same_true b p again) (h b refl)
 
 -- the last router has the patterns of the rows and those of the router
-pub record IsLast (table : List Row) (router last : Router) : Type 0 where
+pub record IsLast (table : List RouteRow) (router last : Router) : Type 0 where
   pub are : AreRoutes last
   pub listed : (p : Text) → has_pattern table p ≡ true → HasPattern p last
   pub keeps : (p : Text) → HasPattern p router → HasPattern p last
   pub from : (p : Text) → HasPattern p last → (has_pattern table p ≡ true) ⊎ HasPattern p router
 
-pub last_is : (before : Option Text) (table : List Row) (router : Router) → list_all (λ (r : Row). reads_as_form r.pattern) table ≡ true → AreRoutes router
+pub last_is : (before : Option Text) (table : List RouteRow) (router : Router) → list_all (λ (r : RouteRow). reads_as_form r.pattern) table ≡ true → AreRoutes router
     → IsBefore before router → IsLast table router (router_behind before table router)
 unfolding router_behind
 last_is before [] router reads are known =

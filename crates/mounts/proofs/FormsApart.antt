@@ -18,7 +18,7 @@ use Rattle.records.specs.SplitLaws.{eqb_self}
 use Rattle.mounts.specs.Forms.{Ending, nothing, segment, segments, Form, form_of, is_literal}
 use Rattle.mounts.specs.Patterns.{Router, with_next, placed_as, is_again, is_free, can_follow, fits_behind, router_behind, ending_tokens, tokens}
 use Rattle.mounts.specs.Patterns.{is_read_as, reads_as_form}
-use Rattle.mounts.specs.Row.{Row}
+use Rattle.mounts.specs.RouteRow.{RouteRow}
 use Rattle.mounts.proofs.FormRouters.{Keys, AreRoutes, HasPattern, IsBefore, placed_from, next_is}
 
 -- one text, and both have a parameter or neither has
@@ -114,7 +114,7 @@ next_apart before p router reads follows are apart =
     ] follows
 
 -- the patterns of rows that can stand together
-pub last_apart : (before : Option Text) (table : List Row) (router : Router) → list_all (λ (r : Row). reads_as_form r.pattern) table ≡ true
+pub last_apart : (before : Option Text) (table : List RouteRow) (router : Router) → list_all (λ (r : RouteRow). reads_as_form r.pattern) table ≡ true
     → fits_behind before table router ≡ true → AreRoutes router → IsBefore before router → AreApart router → AreApart (router_behind before table router)
 unfolding router_behind fits_behind
 last_apart before [] router reads fit are known apart = apart

@@ -7,6 +7,7 @@ pub mod FormSeek
 pub mod FormsApart
 pub mod MountEdits
 pub mod MountLists
+pub mod MountReads
 pub mod Parameters
 pub mod PathParts
 pub mod RouteSteps

@@ -19,7 +19,7 @@ use Rattle.mounts.specs.Forms.{Ending, nothing, segment, segments, form_of, is_e
 use Rattle.mounts.specs.Table.{takes_parameter}
 use Rattle.mounts.specs.Patterns.{fits, is_in_order, is_row, reads_as_form, tells, differ, pattern_found}
 use Rattle.mounts.specs.Route.{Route, cut, operation_for, methods_of, route_by}
-use Rattle.mounts.specs.Row.{Row}
+use Rattle.mounts.specs.RouteRow.{RouteRow}
 use Rattle.mounts.proofs.FormPatterns.{found_by_form}
 use Rattle.mounts.proofs.PathParts.{IsRest, rest_is_path}
 use Rattle.mounts.proofs.RouteSteps.{begun}
@@ -76,11 +76,11 @@ both_of : (a b : Bool) → a ≡ true → (not a || b) ≡ true → b ≡ true
 both_of true b e h = h
 both_of false b e h = absurd (false≢true e)
 
-pattern_has : (rows : List Row) (pattern : Text) (v : Verb) (o : Operation) → list_all tells rows ≡ true → operation_for rows pattern v ≡ Some o
+pattern_has : (rows : List RouteRow) (pattern : Text) (v : Verb) (o : Operation) → list_all tells rows ≡ true → operation_for rows pattern v ≡ Some o
     → takes_parameter o ≡ true → has_parameter (form_of pattern) ≡ true
 pattern_has [] pattern v o all e takes = absurd (none-some _ e)
 pattern_has (r ∷ rows) pattern v o all e takes =
-    elim (is_row pattern v r) as (λ b. is_row pattern v r ≡ b → option_map (λ (x : Row). x.operation) (cond b (Some r) (find (is_row pattern v) rows)) ≡ Some o
+    elim (is_row pattern v r) as (λ b. is_row pattern v r ≡ b → option_map (λ (x : RouteRow). x.operation) (cond b (Some r) (find (is_row pattern v) rows)) ≡ Some o
     → has_parameter (form_of pattern) ≡ true) [
       | true ↦ λ is k.
           let here : has_parameter (form_of r.pattern) ≡ true =
@@ -94,7 +94,7 @@ pattern_has (r ∷ rows) pattern v o all e takes =
 abbrev made : Text → Text → Text → Operation → Route
 made mount pattern q o = record { operation = o; mount = mount; parameter = parameter pattern q }
 
-pub parameter_is_path : (rows : List Row) → is_in_order rows ≡ true → (v : Verb) (mount q pattern : Text) (r : Route) → IsRest q → are_bytes q ≡ true
+pub parameter_is_path : (rows : List RouteRow) → is_in_order rows ≡ true → (v : Verb) (mount q pattern : Text) (r : Route) → IsRest q → are_bytes q ≡ true
     → pattern_found rows q ≡ Some pattern → route_by rows v mount q pattern ≡ Ok r → takes_parameter r.operation ≡ true → is_path r.parameter ≡ true
 parameter_is_path rows ordered v mount q pattern r rest bytes found h takes =
     elim (operation_for rows pattern v) as (λ o. operation_for rows pattern v ≡ o
@@ -108,7 +108,7 @@ parameter_is_path rows ordered v mount q pattern r rest bytes found h takes =
     of o is one =
         let form = and_parts _ _ (found_by_form rows q ordered bytes pattern found).form in
         let tests = and_parts (fits rows) _ ordered in
-        let later = and_parts (list_all (λ (r : Row). reads_as_form r.pattern) rows) _ tests.1 in
+        let later = and_parts (list_all (λ (r : RouteRow). reads_as_form r.pattern) rows) _ tests.1 in
         let all = (and_parts (list_all tells rows) (differ rows) later.1).0 in
         let has = pattern_has rows pattern v o all is (ap (λ (z : Route). takes_parameter z.operation) one ∙ takes) in
         let parts = and_parts (not (is_literal (form_of pattern).ending)) _ has in

@@ -15,8 +15,8 @@ use Rattle.broker_types.specs.declared.refusal.Refusal.TheVariants as refusal
 use Rattle.mounts.specs.declared.mount_type.MountType.{MountType}
 use Rattle.mounts.specs.Patterns.{pattern_found}
 use Rattle.mounts.specs.Route.{Route, cut, route_by, within, route_at}
-use Rattle.mounts.specs.Row.{Row}
-use Rattle.mounts.specs.Table.{rows_of}
+use Rattle.mounts.specs.RouteRow.{RouteRow}
+use Rattle.mounts.specs.Table.{route_rows}
 use Rattle.mounts.specs.Types.{type_at}
 
 -- ---- how the code ends
@@ -33,19 +33,19 @@ module _ (o : Option Mount) (v : Verb) (path name rest : Text) where
   pub route_none : name ≡ (cut path).0 → type_at o name ≡ None → route_at o v path ≡ Err refusal.NotFound
   unfolding route_at
   route_none n h =
-      ap (λ q. some_or refusal.NotFound (type_at o q) >>= (λ type. within (rows_of type) v (cut path).0 (cut path).1)) (sym n)
-      ∙ ap (λ z. some_or refusal.NotFound z >>= (λ type. within (rows_of type) v (cut path).0 (cut path).1)) h
+      ap (λ q. some_or refusal.NotFound (type_at o q) >>= (λ type. within (route_rows type) v (cut path).0 (cut path).1)) (sym n)
+      ∙ ap (λ z. some_or refusal.NotFound z >>= (λ type. within (route_rows type) v (cut path).0 (cut path).1)) h
 
   pub route_some : (type : MountType) → name ≡ (cut path).0 → rest ≡ (cut path).1 → type_at o name ≡ Some type
-      → route_at o v path ≡ within (rows_of type) v name rest
+      → route_at o v path ≡ within (route_rows type) v name rest
   unfolding route_at
   route_some type n r h =
-      (λ i. some_or refusal.NotFound (type_at o (sym n i)) >>= (λ t. within (rows_of t) v (sym n i) (sym r i)))
-      ∙ ap (λ z. some_or refusal.NotFound z >>= (λ t. within (rows_of t) v name rest)) h
+      (λ i. some_or refusal.NotFound (type_at o (sym n i)) >>= (λ t. within (route_rows t) v (sym n i) (sym r i)))
+      ∙ ap (λ z. some_or refusal.NotFound z >>= (λ t. within (route_rows t) v name rest)) h
 
 -- ---- the pattern
 
-module _ (rows : List Row) (v : Verb) (name rest : Text) where
+module _ (rows : List RouteRow) (v : Verb) (name rest : Text) where
   pub within_none : pattern_found rows rest ≡ None → within rows v name rest ≡ Err refusal.NotFound
   within_none h = ap (λ z. some_or refusal.NotFound z >>= route_by rows v name rest) h
 

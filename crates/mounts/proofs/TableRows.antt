@@ -9,7 +9,7 @@ use Rattle.broker_types.specs.declared.ask.Verb.{Verb}
 use Rattle.broker_types.specs.declared.ask.Verb.TheVariants as verb
 use Rattle.mounts.specs.Patterns.{same_verb, is_row, differ}
 use Rattle.mounts.specs.Route.{operation_for}
-use Rattle.mounts.specs.Row.{Row}
+use Rattle.mounts.specs.RouteRow.{RouteRow}
 
 verb_self : (v : Verb) → same_verb v v ≡ true
 verb_self verb.Get = refl
@@ -25,11 +25,11 @@ one_verb verb.Delete verb.Delete h = refl
 one_verb _ _ h = absurd (false≢true h)
 
 -- a row has its own pattern and verb
-is_itself : (r : Row) → is_row r.pattern r.verb r ≡ true
+is_itself : (r : RouteRow) → is_row r.pattern r.verb r ≡ true
 is_itself r = and_from _ _ (same_self r.pattern) (verb_self r.verb)
 
 -- and rows that differ do so both ways
-apart : (r s : Row) → is_row r.pattern r.verb s ≡ false → is_row s.pattern s.verb r ≡ false
+apart : (r s : RouteRow) → is_row r.pattern r.verb s ≡ false → is_row s.pattern s.verb r ≡ false
 apart r s h = false_from_ne_true (is_row s.pattern s.verb r) (λ is.
     let parts = and_parts _ _ is in
     let pattern : r.pattern ≡ s.pattern = same_true r.pattern s.pattern parts.0 in
@@ -37,24 +37,24 @@ apart r s h = false_from_ne_true (is_row s.pattern s.verb r) (λ is.
     false≢true (sym h ∙ (λ i. is_row (pattern i) (its i) s) ∙ is_itself s))
 
 -- the verb and the pattern of a row mean its operation
-abbrev pub IsRouted : List Row → Row → Type 0
+abbrev pub IsRouted : List RouteRow → RouteRow → Type 0
 IsRouted rows r = operation_for rows r.pattern r.verb ≡ Some r.operation
 
-after_another : (r : Row) (rows later : List Row) → list_any (is_row r.pattern r.verb) later ≡ false → All (λ (s : Row). IsRouted rows s) later
-    → All (λ (s : Row). IsRouted (r ∷ rows) s) later
-after_another r rows [] h all = All-nil (λ (s : Row). IsRouted (r ∷ rows) s)
+after_another : (r : RouteRow) (rows later : List RouteRow) → list_any (is_row r.pattern r.verb) later ≡ false → All (λ (s : RouteRow). IsRouted rows s) later
+    → All (λ (s : RouteRow). IsRouted (r ∷ rows) s) later
+after_another r rows [] h all = All-nil (λ (s : RouteRow). IsRouted (r ∷ rows) s)
 after_another r rows (s ∷ later) h all =
     let parts = or_parts (is_row r.pattern r.verb s) (list_any (is_row r.pattern r.verb) later) h in
     let other = apart r s parts.0 in
-    All-cons (λ (s : Row). IsRouted (r ∷ rows) s) s later
-    (ap (λ v. option_map (λ (x : Row). x.operation) (cond v (Some r) (find (is_row s.pattern s.verb) rows))) other
-    ∙ All-head (λ (s : Row). IsRouted rows s) s later all)
-    (after_another r rows later parts.1 (All-tail (λ (s : Row). IsRouted rows s) s later all))
+    All-cons (λ (s : RouteRow). IsRouted (r ∷ rows) s) s later
+    (ap (λ v. option_map (λ (x : RouteRow). x.operation) (cond v (Some r) (find (is_row s.pattern s.verb) rows))) other
+    ∙ All-head (λ (s : RouteRow). IsRouted rows s) s later all)
+    (after_another r rows later parts.1 (All-tail (λ (s : RouteRow). IsRouted rows s) s later all))
 
-pub each_route : (rows : List Row) → differ rows ≡ true → All (λ (r : Row). IsRouted rows r) rows
-each_route [] h = All-nil (λ (r : Row). IsRouted [] r)
+pub each_route : (rows : List RouteRow) → differ rows ≡ true → All (λ (r : RouteRow). IsRouted rows r) rows
+each_route [] h = All-nil (λ (r : RouteRow). IsRouted [] r)
 each_route (r ∷ rows) h =
     let parts = and_parts _ _ h in
-    All-cons (λ (s : Row). IsRouted (r ∷ rows) s) r rows
-    (ap (λ v. option_map (λ (x : Row). x.operation) (cond v (Some r) (find (is_row r.pattern r.verb) rows))) (is_itself r))
+    All-cons (λ (s : RouteRow). IsRouted (r ∷ rows) s) r rows
+    (ap (λ v. option_map (λ (x : RouteRow). x.operation) (cond v (Some r) (find (is_row r.pattern r.verb) rows))) (is_itself r))
     (after_another r rows rows (not-true _ parts.0) (each_route rows parts.1))

@@ -6,9 +6,9 @@ use Rattle.broker_types.specs.Text.{same}
 use Rattle.mounts.specs.declared.mount_type.MountType.{MountType}
 use Rattle.mounts.specs.declared.mount_type.MountType.TheVariants as mount
 use Rattle.mounts.specs.Patterns.{is_in_order, fits, fits_behind}
-use Rattle.mounts.specs.Table.{rows_of}
+use Rattle.mounts.specs.Table.{route_rows}
 
-pub in_order : (type : MountType) → is_in_order (rows_of type) ≡ true
+pub in_order : (type : MountType) → is_in_order (route_rows type) ≡ true
 unfolding matchit_on_literals same fits fits_behind
 in_order mount.Token = refl
 in_order mount.System = refl

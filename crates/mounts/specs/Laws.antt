@@ -13,24 +13,24 @@ use Rattle.mounts.specs.MountRows.{AreMounts}
 use Rattle.mounts.specs.Mounts.{enabled, disabled}
 use Rattle.mounts.specs.Patterns.{pattern_found, is_in_order, has_pattern}
 use Rattle.mounts.specs.Route.{operation_for}
-use Rattle.mounts.specs.Row.{Row}
-use Rattle.mounts.specs.Table.{rows_of}
+use Rattle.mounts.specs.RouteRow.{RouteRow}
+use Rattle.mounts.specs.Table.{route_rows}
 
 -- ---- the table
 
 -- the rows of each type of mounts are in order
 abbrev pub AreInOrder : Type 0
-AreInOrder = (type : MountType) → is_in_order (rows_of type) ≡ true
+AreInOrder = (type : MountType) → is_in_order (route_rows type) ≡ true
 
 -- in a table in order, the verb and the pattern of each row mean its operation
 abbrev pub RowsAreRoutes : Type 0
 RowsAreRoutes =
-    (rows : List Row) → is_in_order rows ≡ true
-    → All (λ (r : Row). operation_for rows r.pattern r.verb ≡ Some r.operation) rows
+    (rows : List RouteRow) → is_in_order rows ≡ true
+    → All (λ (r : RouteRow). operation_for rows r.pattern r.verb ≡ Some r.operation) rows
 
 -- The pattern is of the table, the path has its form, and each other pattern of the table that the path has the form of
 -- has a shorter text before its parameter.
-pub record IsForm (rows : List Row) (path pattern : Text) : Type 0 where
+pub record IsForm (rows : List RouteRow) (path pattern : Text) : Type 0 where
   pub listed : has_pattern rows pattern ≡ true
   pub form : has_form (form_of pattern) path ≡ true
   pub longest : (other : Text) → has_pattern rows other ≡ true → has_form (form_of other) path ≡ true
@@ -41,17 +41,17 @@ pub record IsForm (rows : List Row) (path pattern : Text) : Type 0 where
 -- in a table in order, the path has the form of the pattern that it finds
 abbrev pub FoundByForm : Type 0
 FoundByForm =
-    (rows : List Row) (path pattern : Text) → is_in_order rows ≡ true → are_bytes path ≡ true
+    (rows : List RouteRow) (path pattern : Text) → is_in_order rows ≡ true → are_bytes path ≡ true
     → pattern_found rows path ≡ Some pattern → IsForm rows path pattern
 
 -- and there is one such pattern at most
 abbrev pub OneByForm : Type 0
-OneByForm = (rows : List Row) (path p q : Text) → IsForm rows path p → IsForm rows path q → p ≡ q
+OneByForm = (rows : List RouteRow) (path p q : Text) → IsForm rows path p → IsForm rows path q → p ≡ q
 
 -- and if it finds none, it has the form of none
 abbrev pub NoneFoundByForm : Type 0
 NoneFoundByForm =
-    (rows : List Row) (path pattern : Text) → is_in_order rows ≡ true → are_bytes path ≡ true
+    (rows : List RouteRow) (path pattern : Text) → is_in_order rows ≡ true → are_bytes path ≡ true
     → pattern_found rows path ≡ None → has_pattern rows pattern ≡ true → has_form (form_of pattern) path ≡ false
 
 -- ---- mounts

@@ -4,7 +4,7 @@ pub mod MountRows
 pub mod Mounts
 pub mod Patterns
 pub mod Route
-pub mod Row
+pub mod RouteRow
 pub mod SoundLaws
 pub mod Table
 pub mod TellLaws

@@ -1,5 +1,5 @@
 -- Mounts as rows: each has one, at its name (this project's row format).
-use Rattle.std.specs.Prelude.{◌≡◌, Option, None, option_map, is_some, ℕ, List, [], Result, Ok}
+use Rattle.std.specs.Prelude.{◌≡◌, Option, None, is_some, ℕ, List, [], Result, Ok}
 use Rattle.std.specs.FinMap as fin
 use Rattle.std.specs.List.{fold}
 use Rattle.broker_types.specs.Text.{Text, text_cmp}
@@ -11,7 +11,7 @@ use Rattle.records.specs.declared.kind.Kind.TheVariants as kind
 use Rattle.records.specs.declared.row.Row.{Row}
 use Rattle.records.specs.Kind.{RowKey}
 use Rattle.records.specs.Ranges.{IsMountInRange}
-use Rattle.records.specs.Reading.{IsSomeIn}
+use Rattle.records.specs.Reading.{IsRowOf}
 use Rattle.records.specs.RowForms.{mount_row}
 use Rattle.records.specs.Table.{Table, with_row, without_row}
 use Rattle.mounts.specs.declared.mount_type.MountType.{MountType}
@@ -19,9 +19,8 @@ use Rattle.mounts.specs.Mounts as mounts
 use Rattle.mounts.specs.Types.{fixed_type}
 
 -- the row at a name is that of the mount, or there is none
-pub record IsMountAt (rows : Table) (name : Text) (o : Option Mount) : Type 0 where
-  pub in_range : IsSomeIn IsMountInRange o
-  pub row : rows kind.Mount name ≡ option_map mount_row o
+abbrev pub IsMountAt : Table → Text → Option Mount → Type 0
+IsMountAt rows name o = IsRowOf IsMountInRange mount_row (rows kind.Mount name) o
 
 -- what is at a name is known: a mount that is always there, or the row is that of the mount, or there is none
 abbrev pub IsKnownAt : Table → Text → Option Mount → Type 0

@@ -14,7 +14,7 @@ use Rattle.broker_types.specs.declared.ask.Verb.{Verb}
 use Rattle.broker_types.specs.declared.ask.Verb.TheVariants as verb
 use Rattle.mounts.specs.Forms.{Ending, nothing, segment, segments, Form, form_of, has_parameter, are_bytes}
 use Rattle.mounts.specs.Table.{takes_parameter}
-use Rattle.mounts.specs.Row.{Row}
+use Rattle.mounts.specs.RouteRow.{RouteRow}
 
 -- ---- the router
 
@@ -40,17 +40,17 @@ abbrev pub with_next : Option Text → Text → Router → Router
 with_next before pattern router = if is_again before pattern then router else with_pattern pattern router
 
 -- the patterns of rows put in, behind those of the rows before
-unfoldable pub router_behind : Option Text → List Row → Router → Router
+unfoldable pub router_behind : Option Text → List RouteRow → Router → Router
 router_behind before [] router = router
 router_behind before (r ∷ rows) router =
     router_behind (Some r.pattern) rows (with_next before r.pattern router)
 
 -- the router of rows
-unfoldable pub router_of : List Row → Router
+unfoldable pub router_of : List RouteRow → Router
 router_of rows = router_behind None rows []
 
 -- the pattern that a path within the mount finds
-abbrev pub pattern_found : List Row → Text → Option Text
+abbrev pub pattern_found : List RouteRow → Text → Option Text
 pattern_found rows path = option_map (λ r. r.value) (first (router_of rows) path)
 
 -- ---- tables in order
@@ -65,13 +65,13 @@ abbrev pub can_follow : Option Text → Text → Router → Bool
 can_follow before pattern router = is_again before pattern || is_free (parse_route pattern) router
 
 -- whether the patterns of rows can join those of the rows before
-unfoldable pub fits_behind : Option Text → List Row → Router → Bool
+unfoldable pub fits_behind : Option Text → List RouteRow → Router → Bool
 fits_behind before [] router = true
 fits_behind before (r ∷ rows) router =
     can_follow before r.pattern router && fits_behind (Some r.pattern) rows (with_next before r.pattern router)
 
 -- whether all patterns of the rows can stand together
-unfoldable pub fits : List Row → Bool
+unfoldable pub fits : List RouteRow → Bool
 fits rows = fits_behind None rows []
 
 -- the tokens of a parameter, as `matchit` has them
@@ -103,24 +103,24 @@ same_verb verb.Delete verb.Delete = true
 same_verb _ _ = false
 
 -- whether a row has the pattern and the verb
-abbrev pub is_row : Text → Verb → Row → Bool
+abbrev pub is_row : Text → Verb → RouteRow → Bool
 is_row pattern v r = same r.pattern pattern && same_verb r.verb v
 
 -- whether no two rows have one pattern and verb
-abbrev pub differ : List Row → Bool
+abbrev pub differ : List RouteRow → Bool
 differ [] = true
 differ (r ∷ rows) = not (list_any (is_row r.pattern r.verb) rows) && differ rows
 
 -- whether the row's pattern has the parameter that its operation takes
-abbrev pub tells : Row → Bool
+abbrev pub tells : RouteRow → Bool
 tells r = not (takes_parameter r.operation) || has_parameter (form_of r.pattern)
 
 -- Whether the patterns can stand together, each is read as its form says, each operation has its parameter, and no two
 -- rows have one pattern and verb.
-abbrev pub is_in_order : List Row → Bool
+abbrev pub is_in_order : List RouteRow → Bool
 is_in_order rows =
     fits rows && (list_all (λ r. reads_as_form r.pattern) rows && (list_all tells rows && differ rows))
 
 -- whether a row of the table has the pattern
-abbrev pub has_pattern : List Row → Text → Bool
+abbrev pub has_pattern : List RouteRow → Text → Bool
 has_pattern rows pattern = list_any (λ r. same r.pattern pattern) rows

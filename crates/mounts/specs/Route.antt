@@ -15,8 +15,8 @@ use Rattle.records.specs.Splits.{slash, split_once}
 use Rattle.mounts.specs.declared.operation.Operation.{Operation}
 use Rattle.mounts.specs.Forms.{parameter}
 use Rattle.mounts.specs.Patterns.{pattern_found, is_row}
-use Rattle.mounts.specs.Row.{Row}
-use Rattle.mounts.specs.Table.{rows_of}
+use Rattle.mounts.specs.RouteRow.{RouteRow}
+use Rattle.mounts.specs.Table.{route_rows}
 use Rattle.mounts.specs.Types.{type_at}
 
 -- where a request goes: its operation, the name of its mount, and what stands for the pattern's parameter
@@ -31,11 +31,11 @@ abbrev pub cut : Text → Text × Text
 cut path = unwrap_or (split_once slash path) (path, [])
 
 -- whether the pattern has the verb
-abbrev pub has_row : List Row → Text → Verb → Bool
+abbrev pub has_row : List RouteRow → Text → Verb → Bool
 has_row rows pattern v = list_any (is_row pattern v) rows
 
 -- the methods of a pattern
-abbrev pub methods_of : List Row → Text → Methods
+abbrev pub methods_of : List RouteRow → Text → Methods
 methods_of rows pattern =
     record {
       get = has_row rows pattern verb.Get;
@@ -45,17 +45,17 @@ methods_of rows pattern =
     }
 
 -- the operation of the row with the pattern and the verb
-abbrev pub operation_for : List Row → Text → Verb → Option Operation
+abbrev pub operation_for : List RouteRow → Text → Verb → Option Operation
 operation_for rows pattern v = option_map (λ r. r.operation) (find (is_row pattern v) rows)
 
 -- the route of a pattern; 405 if no row of it has the verb
-abbrev pub route_by : List Row → Verb → Text → Text → Text → Result Route Refusal
+abbrev pub route_by : List RouteRow → Verb → Text → Text → Text → Result Route Refusal
 route_by rows v mount path pattern = do
   operation ← some_or (refusal.MethodNotAllowed (methods_of rows pattern)) (operation_for rows pattern v)
   Ok (record { operation = operation; mount = mount; parameter = parameter pattern path })
 
 -- the route of a path within a mount, by the rows of its type
-abbrev pub within : List Row → Verb → Text → Text → Result Route Refusal
+abbrev pub within : List RouteRow → Verb → Text → Text → Result Route Refusal
 within rows v mount path = do
   pattern ← some_or refusal.NotFound (pattern_found rows path)
   route_by rows v mount path pattern
@@ -64,7 +64,7 @@ within rows v mount path = do
 unfoldable pub route_at : Option Mount → Verb → Text → Result Route Refusal
 route_at o v path = do
   type ← some_or refusal.NotFound (type_at o (cut path).0)
-  within (rows_of type) v (cut path).0 (cut path).1
+  within (route_rows type) v (cut path).0 (cut path).1
 
 -- the route of a path
 abbrev pub route_of : Map Mount → Verb → Text → Result Route Refusal

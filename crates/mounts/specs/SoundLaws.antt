@@ -1,9 +1,9 @@
 -- Mounts that are enabled or disabled leave a sound broker sound, and let it evolve.
 use Rattle.std.specs.Prelude.{◌≡◌, ◌<◌, ◌^◌, ◌||◌, ℕ, Bool, true, false, not, cond, Option, Some, None, Result, Ok, Err}
-use Rattle.std.specs.Prelude.{is_ok, is_some}
+use Rattle.std.specs.Prelude.{is_some}
 use Rattle.std.specs.List.{list_any}
-use Rattle.std.proofs.Common.{refl, sym, ◌∙◌, ap, subst, inl, lit<}
-use Rattle.std.proofs.lemmas.Bool.{false≢true, and_from, or_parts, not_from_false}
+use Rattle.std.proofs.Common.{refl, sym, ◌∙◌, ap, subst, lit<}
+use Rattle.std.proofs.lemmas.Bool.{and_from, or_parts, not_from_false}
 use Rattle.std.proofs.lemmas.Option.{none-some, same_Some}
 use Rattle.broker_types.specs.Text.{Text, same}
 use Rattle.broker_types.specs.TextLaws.{same_true}
@@ -12,6 +12,8 @@ use Rattle.broker_types.specs.MapLaws.{get-put, get-without}
 use Rattle.broker_types.specs.Name.{is_name, reserved_names, is_mount_name}
 use Rattle.broker_types.specs.Broker.{Broker, Mount, Engine}
 use Rattle.broker_types.specs.Evolves.{Evolves}
+use Rattle.broker_types.specs.RefuseLaws.{no_ok}
+use Rattle.broker_types.specs.FieldLaws.{sound_with, evolves_with}
 use Rattle.broker_types.specs.Sound.{Forms, Sound, SoundMounts, IsSoundMount}
 use Rattle.broker_types.specs.Refuse.{◌>>=◌, some_or, unless}
 use Rattle.broker_types.specs.declared.refusal.Refusal.{Refusal}
@@ -19,9 +21,6 @@ use Rattle.broker_types.specs.declared.refusal.Refusal.TheVariants as refusal
 use Rattle.broker_types.specs.declared.refusal.Reason.TheVariants as reason
 use Rattle.records.specs.ValueLaws.{ok_inj}
 use Rattle.mounts.specs.Mounts.{engine_asked, plain_mount, new_mount, enabled, may_go, disabled}
-
-no_ok : {X Y : Type 0} {e : Refusal} {x : X} → ◌≡◌ {A = Result X Refusal} (Err e) (Ok x) → Y
-no_ok h = absurd (false≢true (ap is_ok h))
 
 -- ---- what is enabled
 
@@ -106,34 +105,11 @@ module _ (b : Broker) (next : Map Mount) where
   -- sound mounts leave a sound broker sound
   pub sound_with_mounts : (forms : Forms) (who : Option Text) → SoundMounts next → Sound forms who b
       → Sound forms who (record b { mounts = next })
-  sound_with_mounts forms who mounts s =
-      record {
-        clock = s.clock;
-        tokens = s.tokens;
-        secrets = s.secrets;
-        waiting = s.waiting;
-        mounts = mounts;
-        roles = s.roles;
-        policies = s.policies;
-        identifiers = record {
-          used = s.identifiers.used;
-          one_place = s.identifiers.one_place;
-          all_used = s.identifiers.all_used;
-          origins_used = s.identifiers.origins_used;
-        };
-        unspent = s.unspent;
-      }
+  sound_with_mounts forms who mounts s = sound_with b b.clock b.secrets next b.roles b.policies forms who s s.clock s.secrets mounts s.roles s.policies
 
   -- any mounts let a broker evolve
   pub mounts_evolve : Evolves b (record b { mounts = next })
-  mounts_evolve =
-      record {
-        used = λ i u. u;
-        tokens = λ t x is. inl (λ none. absurd (none-some _ (sym none ∙ is)));
-        leases = λ t id l is. inl (l, is, refl);
-        wrapping_tokens = λ t w is. inl (λ none. absurd (none-some _ (sym none ∙ is)));
-        waiting = λ t w is. inl (t, w, is, refl, refl);
-      }
+  mounts_evolve = evolves_with b b.clock b.secrets next b.roles b.policies
 
   -- a mount that is enabled leaves a sound broker sound
   pub enabled_sound : (forms : Forms) (who : Option Text) (name type : Text) (version : Option ℕ) → Sound forms who b

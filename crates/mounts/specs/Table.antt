@@ -7,17 +7,17 @@ use Rattle.mounts.specs.declared.mount_type.MountType.{MountType}
 use Rattle.mounts.specs.declared.mount_type.MountType.TheVariants as mount
 use Rattle.mounts.specs.declared.operation.Operation.{Operation}
 use Rattle.mounts.specs.declared.operation.Operation.TheVariants.{Cubbyholes, Tokens, Secrets, Policies}
-use Rattle.mounts.specs.declared.operation.Cubbyhole.TheVariants as cubbyhole
+use Rattle.mounts.specs.declared.operation.CubbyholeOperation.TheVariants as cubbyhole
 use Rattle.mounts.specs.declared.operation.TokenOperation.TheVariants as token
 use Rattle.mounts.specs.declared.operation.PolicyOperation.{PolicyOperation}
 use Rattle.mounts.specs.declared.operation.PolicyOperation.TheVariants as policy
 use Rattle.mounts.specs.declared.operation.SecretOperation.{SecretOperation}
 use Rattle.mounts.specs.declared.operation.SecretOperation.TheVariants as secret
-use Rattle.mounts.specs.Row.{Row, on}
+use Rattle.mounts.specs.RouteRow.{RouteRow, on}
 
 -- the rows of a type of mounts
-abbrev pub rows_of : MountType → List Row
-rows_of mount.Token =
+abbrev pub route_rows : MountType → List RouteRow
+route_rows mount.Token =
     on verb.Write (codes "token/create") (Tokens token.Create)
     ∷ on verb.Write (codes "token/create-orphan") (Tokens token.CreateOrphan)
     ∷ on verb.Write (codes "token/lookup") (Tokens token.LookUp)
@@ -31,17 +31,17 @@ rows_of mount.Token =
     ∷ on verb.Write (codes "token/revoke-accessor") (Tokens token.RevokeAccessor)
     ∷ on verb.List (codes "token/accessors") (Tokens token.ListAccessors)
     ∷ []
-rows_of mount.System =
+route_rows mount.System =
     on verb.List (codes "policies/acl") (Policies policy.List)
     ∷ on verb.Get (codes "policies/acl/{name}") (Policies policy.Show)
     ∷ on verb.Write (codes "policies/acl/{name}") (Policies policy.Set)
     ∷ on verb.Delete (codes "policies/acl/{name}") (Policies policy.Remove)
     ∷ []
-rows_of mount.Cubbyhole =
+route_rows mount.Cubbyhole =
     on verb.Get (codes "{*path}") (Cubbyholes cubbyhole.Read)
     ∷ on verb.Write (codes "{*path}") (Cubbyholes cubbyhole.Write)
     ∷ []
-rows_of mount.Kv =
+route_rows mount.Kv =
     on verb.Get (codes "config") (Secrets secret.ShowSettings)
     ∷ on verb.Write (codes "config") (Secrets secret.SetSettings)
     ∷ on verb.Get (codes "data/{*path}") (Secrets secret.Read)
@@ -55,7 +55,7 @@ rows_of mount.Kv =
     ∷ on verb.List (codes "metadata/{*path}") (Secrets secret.List)
     ∷ on verb.Delete (codes "metadata/{*path}") (Secrets secret.Remove)
     ∷ []
-rows_of mount.Issued = []
+route_rows mount.Issued = []
 
 -- whether the operation needs the path of a secret
 abbrev pub takes_path : SecretOperation → Bool

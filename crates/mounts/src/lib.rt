@@ -1,5 +1,5 @@
 //! Which operation a verb and a path mean, and the mounts, as rows.
-#![tactic(auto)]
+#![tactic(auto, unfolding(broker_types::specs::Text::same))]
 
 mod laws;
 mod listing;
@@ -17,8 +17,7 @@ pub use laws::{
 pub use listing::{NamedMount, list};
 pub use mount_type::MountType;
 pub use mounting::{disable, enable};
-pub use naming::is_name;
 pub use operation::{
-    Cubbyhole, Operation, PolicyOperation, Route, SecretOperation, TokenOperation,
+    CubbyholeOperation, Operation, PolicyOperation, Route, SecretOperation, TokenOperation,
 };
 pub use routing::route;

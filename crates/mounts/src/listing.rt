@@ -1,15 +1,16 @@
 //! The list of all mounts.
 
-ghost use Rattle.std.specs.Prelude.{◌≡◌, ◌≢◌, List, [], map, IfOk, IfErr, OnOk, MatchResult, All, Ok, false, true};
+ghost use Rattle.std.specs.Prelude.{◌≡◌, List, [], map, IfOk, IfErr, OnOk, MatchResult, All, Ok, false, true};
 ghost use Rattle.broker_types.specs.Text.{Text, text_cmp};
-ghost use Rattle.broker_types.specs.Fault.{IsMemoryOrStorage};
+ghost use Rattle.broker_types.specs.Fault.{IsMemoryOrStorage, IsNotBadStart};
 ghost use Rattle.broker_types.specs.Map.{Map};
 ghost use Rattle.broker_types.specs.Broker.{Mount};
+ghost use Rattle.records.specs.Calls.{IsReading, IsDecodeFault};
 ghost use Rattle.records.specs.Places.{rank, is_met};
 ghost use Rattle.records.specs.Ranges.{IsMountInRange};
 ghost use Rattle.records.specs.RowForms.{mount_row};
-ghost use Rattle.records.specs.Table.{table_of};
-ghost use Rattle.records.specs.Transaction.{IsHonest, GoesOn, is_storage, rows_under};
+ghost use Rattle.records.specs.Table.{table};
+ghost use Rattle.records.specs.Transaction.{IsHonest, rows_under};
 ghost use Rattle.mounts.specs.MountRows.{AreMounts, IsMountRow, at_mount, placed, in_places};
 ghost use Rattle.mounts.specs.Mounts as spec;
 ghost use Rattle.mounts.specs.Types.{type_of};
@@ -43,15 +44,13 @@ impl Model for NamedMount {
 /// they are in the order of these names by bytes. The rows stay. It fails with `Damaged` if a row cannot be read, and
 /// also if memory runs out or the storage fails (Vault's documentation, "/sys/mounts", list mounted secrets engines).
 pub fn list<T: RecordsTx>(alloc: Global, tx: &mut T) -> Result<Vec<NamedMount>, Fault>
-    ensures told { IsHonest (T.seen tx.new) → (mounts : Map Mount) → AreMounts (table_of (T.seen tx.old).rows) mounts
+    ensures told { IsHonest (T.seen tx.new) → (mounts : Map Mount) → AreMounts (table (T.seen tx.old)) mounts
         → MatchResult result (λ list. list.items ≡ spec.listed mounts) IsMemoryOrStorage }
 
     // Whatever the rows are: no list leaves a damaged row out.
-    ensures undamaged { IsHonest (T.seen tx.new)
+    ensures readable { IsHonest (T.seen tx.new)
         → IfOk result (λ list. All (λ e. IsMountRow e.1) (rows_under (T.seen tx.old).rows Kind.Mount [])) }
-    ensures started { IfErr result (λ fault. fault ≢ Fault.BadStart) }
-    ensures same { IsHonest (T.seen tx.new) → OnOk result ((T.seen tx.new).rows ≡ (T.seen tx.old).rows) }
-    ensures goes_on { GoesOn (T.seen tx.old) (T.seen tx.new) (is_storage result) }
+    ensures call { IsReading (T.seen tx.old) (T.seen tx.new) result IsNotBadStart }
 {
     let rows = tx.under(Kind::Mount, "")?;
     let mut list = read_types(alloc, &rows)?;
@@ -63,11 +62,11 @@ pub fn list<T: RecordsTx>(alloc: Global, tx: &mut T) -> Result<Vec<NamedMount>, 
 /// The names and the types of the mounts of rows. It fails as `Damaged` if a row is not one of a mount.
 fn read_types(alloc: Global, rows: &[Entry]) -> Result<Vec<NamedMount>, Fault>
     ensures told { (mounts : List (Text × Mount)) → All (λ m. IsMountInRange m.1) mounts
-        → rows.now ≡ map at_mount mounts
-        → MatchResult result (λ list. list.items ≡ in_places (map spec.typed mounts)) IsMemoryOrStorage }
-    ensures undamaged { IfOk result (λ list. All (λ e. IsMountRow e.1) rows.now) }
-    ensures faults { is_storage result ≡ false }
-    ensures started { IfErr result (λ fault. fault ≢ Fault.BadStart) }
+        → rows.now ≡ map at_mount mounts → IfOk result (λ list. list.items ≡ in_places (map spec.typed mounts)) }
+    ensures readable { IfOk result (λ list. All (λ e. IsMountRow e.1) rows.now) }
+    ensures faults { IfErr result
+        (IsDecodeFault ((mounts : List (Text × Mount)) → All (λ m. IsMountInRange m.1) mounts
+        → rows.now ≡ map at_mount mounts → ⊥)) }
 {
     let mut list = Vec::new(alloc);
     for entry in rows {
@@ -81,8 +80,8 @@ fn read_types(alloc: Global, rows: &[Entry]) -> Result<Vec<NamedMount>, Fault>
 fn read_type(row: &Row) -> Result<MountType, Fault>
     ensures told { (mount : Mount) → IsMountInRange mount → row.now ≡ mount_row mount
         → result ≡ Ok (type_of mount) }
-    ensures undamaged { IfOk result (λ found. IsMountRow row.now) }
-    ensures damaged { IfErr result (λ fault. fault ≡ Fault.Damaged) }
+    ensures readable { IfOk result (λ found. IsMountRow row.now) }
+    ensures faults { IfErr result (λ fault. fault ≡ Fault.Damaged) }
 {
     let mount = read_mount(row)?;
     Ok(engine_type(mount.engine))

@@ -20,7 +20,6 @@ pub enum MountType {
 }
 
 /// The type of a mount that is always there.
-#[tactic(auto, unfolding(broker_types::specs::Text::same))]
 pub(crate) fn fixed_type(name: &str) -> Option<MountType>
     ensures { result ≡ fixed_type name.now }
 {

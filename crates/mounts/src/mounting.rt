@@ -1,20 +1,21 @@
 //! Mounts, enabled and disabled.
 
-ghost use Rattle.std.specs.Prelude.{◌≡◌, Bool, is_some, option_map, OnOk};
+ghost use Rattle.std.specs.Prelude.{◌≡◌, option_map};
 ghost use Rattle.broker_types.specs.Map.{Map};
 ghost use Rattle.broker_types.specs.Broker.{Mount};
+ghost use Rattle.broker_types.specs.Fault.{IsMemoryOrStorage};
 ghost use Rattle.broker_types.specs.RequestError.{Ends};
+ghost use Rattle.records.specs.Calls.{IsRequestChange};
 ghost use Rattle.records.specs.Engines.{engine_of};
 ghost use Rattle.records.specs.Parts.{of_mounts, KeepsOthers};
-ghost use Rattle.records.specs.Table.{table_of};
+ghost use Rattle.records.specs.Table.{table};
 ghost use Rattle.records.specs.Transaction.{IsHonest};
-ghost use Rattle.records.specs.Calls.{IsRequestCall};
 ghost use Rattle.mounts.specs.MountRows as rows;
 ghost use Rattle.mounts.specs.MountRows.{AreMounts};
 ghost use Rattle.mounts.specs.Mounts as spec;
 
-use crate::naming::{is_fixed, is_name, is_reserved};
-use broker_types::{Reason, Refusal, RequestError};
+use crate::naming::is_fixed;
+use broker_types::{Reason, Refusal, RequestError, is_name, is_reserved};
 use records::{Engine, Kind, MountRecord, RecordsTx, write_mount};
 use std::alloc::Global;
 
@@ -29,15 +30,13 @@ pub fn enable<T: RecordsTx>(
     version: Option<u64>,
 ) -> Result<(), RequestError>
     ensures rows { IsHonest (T.seen tx.new)
-        → Ends (λ _ next. table_of (T.seen tx.new).rows ≡ next) ((T.seen tx.new).rows ≡ (T.seen tx.old).rows) result
-        (rows.enabled (table_of (T.seen tx.old).rows) name.now type_name.now version) }
-    ensures others { IsHonest (T.seen tx.new)
-        → OnOk result (KeepsOthers of_mounts (table_of (T.seen tx.old).rows) (table_of (T.seen tx.new).rows)) }
-    ensures told { IsHonest (T.seen tx.new) → (mounts : Map Mount) → AreMounts (table_of (T.seen tx.old).rows) mounts
-        → Ends (λ _ next. AreMounts (table_of (T.seen tx.new).rows) next)
+        → Ends (λ _ next. table (T.seen tx.new) ≡ next) ((T.seen tx.new).rows ≡ (T.seen tx.old).rows) result
+        (rows.enabled (table (T.seen tx.old)) name.now type_name.now version) }
+    ensures told { IsHonest (T.seen tx.new) → (mounts : Map Mount) → AreMounts (table (T.seen tx.old)) mounts
+        → Ends (λ _ next. AreMounts (table (T.seen tx.new)) next)
         ((T.seen tx.new).rows ≡ (T.seen tx.old).rows) result
         (spec.enabled mounts name.now type_name.now version) }
-    ensures call { IsRequestCall (T.seen tx.old) (T.seen tx.new) result }
+    ensures call { IsRequestChange (KeepsOthers of_mounts) (T.seen tx.old) (T.seen tx.new) result IsMemoryOrStorage }
 {
     let is_there = tx.get(Kind::Mount, name)?.is_some();
     let mount = new_mount(is_there, name, type_name, version)?;
@@ -72,7 +71,6 @@ fn new_mount(
 }
 
 /// What is at a mount of a type: `issued`, `kv-v2`, or `kv` in version 2.
-#[tactic(auto, unfolding(broker_types::specs::Text::same))]
 fn engine_asked(type_name: &str, version: Option<u64>) -> Option<Engine>
     ensures { option_map engine_of result ≡ spec.engine_asked type_name.now version }
 {
@@ -93,14 +91,12 @@ fn engine_asked(type_name: &str, version: Option<u64>) -> Option<Engine>
 /// the storage fails (Vault's documentation, "/sys/mounts", disable secrets engine).
 pub fn disable<T: RecordsTx>(tx: &mut T, name: &str) -> Result<(), RequestError>
     ensures rows { IsHonest (T.seen tx.new)
-        → Ends (λ _ next. table_of (T.seen tx.new).rows ≡ next) ((T.seen tx.new).rows ≡ (T.seen tx.old).rows) result
-        (rows.disabled (table_of (T.seen tx.old).rows) name.now) }
-    ensures others { IsHonest (T.seen tx.new)
-        → OnOk result (KeepsOthers of_mounts (table_of (T.seen tx.old).rows) (table_of (T.seen tx.new).rows)) }
-    ensures told { IsHonest (T.seen tx.new) → (mounts : Map Mount) → AreMounts (table_of (T.seen tx.old).rows) mounts
-        → Ends (λ _ next. AreMounts (table_of (T.seen tx.new).rows) next)
+        → Ends (λ _ next. table (T.seen tx.new) ≡ next) ((T.seen tx.new).rows ≡ (T.seen tx.old).rows) result
+        (rows.disabled (table (T.seen tx.old)) name.now) }
+    ensures told { IsHonest (T.seen tx.new) → (mounts : Map Mount) → AreMounts (table (T.seen tx.old)) mounts
+        → Ends (λ _ next. AreMounts (table (T.seen tx.new)) next)
         ((T.seen tx.new).rows ≡ (T.seen tx.old).rows) result (spec.disabled mounts name.now) }
-    ensures call { IsRequestCall (T.seen tx.old) (T.seen tx.new) result }
+    ensures call { IsRequestChange (KeepsOthers of_mounts) (T.seen tx.old) (T.seen tx.new) result IsMemoryOrStorage }
 {
     if is_fixed(name) {
         return Err(RequestError::Refused(Refusal::BadRequest(Reason::MountFixed)));

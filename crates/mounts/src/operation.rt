@@ -6,7 +6,7 @@ use std::marker::Model;
 #[derive(Clone, Copy, Debug, PartialEq, Eq)]
 pub enum Operation {
     /// On the caller's cubbyhole.
-    Cubbyholes(Cubbyhole),
+    Cubbyholes(CubbyholeOperation),
     /// On tokens.
     Tokens(TokenOperation),
     /// On the secrets of a mount.
@@ -18,7 +18,7 @@ pub enum Operation {
 /// What is done with a path of the caller's cubbyhole (Vault's documentation, "Cubbyhole secrets engine
 /// (API)").
 #[derive(Clone, Copy, Debug, PartialEq, Eq)]
-pub enum Cubbyhole {
+pub enum CubbyholeOperation {
     /// Its object is read.
     Read,
     /// An object is put there.

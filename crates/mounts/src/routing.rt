@@ -1,26 +1,25 @@
 //! Routes.
 
-ghost use Rattle.std.specs.Prelude.{◌≡◌, ◌≢◌, ◌==◌, ℕ, Option, None, Some, Ok, Err, true, false, MatchOption};
+ghost use Rattle.std.specs.Prelude.{◌≡◌, ◌==◌, Option, None, Some, Ok, Err, true, false};
 ghost use Rattle.std.specs.Prelude.{IfOk, IfErr, OnOk, option_map, ⊤};
-ghost use Rattle.broker_types.specs.Fault.{IsMemoryOrStorage};
 ghost use Rattle.broker_types.specs.Map.{Map};
 ghost use Rattle.broker_types.specs.Broker.{Mount};
 ghost use Rattle.broker_types.specs.Path.{is_path};
-ghost use Rattle.broker_types.specs.RequestError.{Ends, step_fails};
-ghost use Rattle.records.specs.Table.{table_of};
-ghost use Rattle.records.specs.Transaction.{IsHonest, GoesOn, is_storage};
-ghost use Rattle.records.specs.Calls.{OnAnswer, OnFault};
+ghost use Rattle.broker_types.specs.RequestError.{Ends};
+ghost use Rattle.records.specs.Calls.{OnAnswer, IsReading, IsRequestReading, IsReadFault};
+ghost use Rattle.records.specs.Table.{table};
+ghost use Rattle.records.specs.Transaction.{IsHonest};
 ghost use Rattle.mounts.specs.Forms as forms;
 ghost use Rattle.mounts.specs.MountRows.{IsKnownAt, IsReadableAt, IsDamagedAt, AreMounts};
 ghost use Rattle.mounts.specs.Table.{takes_parameter};
 ghost use Rattle.mounts.specs.Patterns as patterns;
-ghost use Rattle.mounts.specs.Row.{rows_in, shown};
+ghost use Rattle.mounts.specs.RouteRow.{rows_in, shown};
 ghost use Rattle.mounts.specs.Route as spec;
 ghost use Rattle.mounts.specs.Types as types;
 
 use crate::mount_type::{MountType, engine_type, fixed_type};
 use crate::operation::{Operation, Route};
-use crate::table::{Row, rows_of};
+use crate::table::{RouteRow, route_rows};
 use broker_types::{Fault, Methods, Refusal, RequestError, Verb};
 use matchit::{InsertError, Router};
 use records::{Kind, RecordsTx, read_mount};
@@ -38,28 +37,24 @@ pub fn route<'p, T: RecordsTx>(
     path: &'p str,
 ) -> Result<Route<'p>, RequestError>
     ensures found { IsHonest (T.seen tx.new) → (mount : Option Mount)
-        → IsKnownAt (table_of (T.seen tx.old).rows) (spec.cut path.now).0 mount
+        → IsKnownAt (table (T.seen tx.old)) (spec.cut path.now).0 mount
         → Ends (λ found known. found ≡ known) ⊤ result (spec.route_at mount verb path.now) }
-    ensures told { IsHonest (T.seen tx.new) → (mounts : Map Mount) → AreMounts (table_of (T.seen tx.old).rows) mounts
+    ensures told { IsHonest (T.seen tx.new) → (mounts : Map Mount) → AreMounts (table (T.seen tx.old)) mounts
         → Ends (λ found known. found ≡ known) ⊤ result (spec.route_of mounts verb path.now) }
 
     // Whatever the rows are: a damaged row is answered neither as another mount nor as an absent one.
-    ensures undamaged { IsHonest (T.seen tx.new)
-        → OnAnswer result (IsReadableAt (table_of (T.seen tx.old).rows) (spec.cut path.now).0) }
-    ensures damaged { IsHonest (T.seen tx.new)
-        → OnFault result (λ fault. fault ≡ Fault.Damaged
-        → IsDamagedAt (table_of (T.seen tx.old).rows) (spec.cut path.now).0) }
+    ensures readable { IsHonest (T.seen tx.new)
+        → OnAnswer result (IsReadableAt (table (T.seen tx.old)) (spec.cut path.now).0) }
     ensures parameter { is_path path.now ≡ true
         → IfOk result (λ found. takes_parameter found.operation ≡ true → is_path found.parameter ≡ true) }
-    ensures same { IsHonest (T.seen tx.new) → OnAnswer result ((T.seen tx.new).rows ≡ (T.seen tx.old).rows) }
-    ensures started { OnFault result (λ fault. fault ≢ Fault.BadStart) }
-    ensures goes_on { GoesOn (T.seen tx.old) (T.seen tx.new) (step_fails result) }
+    ensures call { IsRequestReading (T.seen tx.old) (T.seen tx.new) result
+        (IsReadFault (IsHonest (T.seen tx.new) → IsDamagedAt (table (T.seen tx.old)) (spec.cut path.now).0)) }
 {
     let (mount, rest) = cut(path);
     let Some(mount_type) = type_of(tx, mount)? else {
         return Err(RequestError::Refused(Refusal::NotFound));
     };
-    let rows = rows_of(mount_type);
+    let rows = route_rows(mount_type);
     let Some(pattern) = pattern_found(alloc, rows, rest)? else {
         return Err(RequestError::Refused(Refusal::NotFound));
     };
@@ -80,15 +75,12 @@ fn cut(path: &str) -> (&str, &str)
 /// The type of a mount, if it is there.
 fn type_of<T: RecordsTx>(tx: &mut T, name: &str) -> Result<Option<MountType>, Fault>
     ensures found { IsHonest (T.seen tx.new) → (mount : Option Mount)
-        → IsKnownAt (table_of (T.seen tx.old).rows) name.now mount
+        → IsKnownAt (table (T.seen tx.old)) name.now mount
         → IfOk result (λ found. found ≡ types.type_at mount name.now) }
-    ensures undamaged { IsHonest (T.seen tx.new)
-        → IfOk result (λ found. IsReadableAt (table_of (T.seen tx.old).rows) name.now) }
-    ensures same { IsHonest (T.seen tx.new) → OnOk result ((T.seen tx.new).rows ≡ (T.seen tx.old).rows) }
-    ensures wants { IsHonest (T.seen tx.new) → (mount : Option Mount)
-        → IsKnownAt (table_of (T.seen tx.old).rows) name.now mount → IfErr result IsMemoryOrStorage }
-    ensures started { IfErr result (λ fault. fault ≢ Fault.BadStart) }
-    ensures goes_on { GoesOn (T.seen tx.old) (T.seen tx.new) (is_storage result) }
+    ensures readable { IsHonest (T.seen tx.new)
+        → IfOk result (λ found. IsReadableAt (table (T.seen tx.old)) name.now) }
+    ensures call { IsReading (T.seen tx.old) (T.seen tx.new) result
+        (IsReadFault (IsHonest (T.seen tx.new) → IsDamagedAt (table (T.seen tx.old)) name.now)) }
 {
     if let Some(found) = fixed_type(name) {
         return Ok(Some(found));
@@ -127,11 +119,11 @@ impl Pattern {
 /// The pattern that a path within the mount finds.
 fn pattern_found(
     alloc: Global,
-    rows: &'static [Row],
+    rows: &'static [RouteRow],
     path: &str,
 ) -> Result<Option<&'static str>, Fault>
     requires { patterns.fits (rows_in rows.now) ≡ true }
-    ensures ok { IfOk result (λ found. option_map (λ s. s.now) found
+    ensures found { IfOk result (λ found. option_map (λ s. s.now) found
         ≡ patterns.pattern_found (rows_in rows.now) path.now) }
     ensures memory { IfErr result (λ fault. fault ≡ Fault.Memory) }
 {
@@ -143,9 +135,9 @@ fn pattern_found(
 }
 
 /// The router of the patterns of rows.
-fn router_of(alloc: Global, rows: &'static [Row]) -> Result<Router<Pattern>, Fault>
+fn router_of(alloc: Global, rows: &'static [RouteRow]) -> Result<Router<Pattern>, Fault>
     requires { patterns.fits (rows_in rows.now) ≡ true }
-    ensures ok { IfOk result (λ router. router ≡ patterns.router_of (rows_in rows.now)) }
+    ensures found { IfOk result (λ router. router ≡ patterns.router_of (rows_in rows.now)) }
     ensures memory { IfErr result (λ fault. fault ≡ Fault.Memory) }
 {
     let mut router = Router::new(alloc);
@@ -164,7 +156,7 @@ fn put(
     pattern: &'static str,
 ) -> Result<(), Fault>
     requires { patterns.can_follow (option_map (λ s. s.now) before) pattern.now router.old ≡ true }
-    ensures ok { OnOk result
+    ensures found { OnOk result
         (router.new ≡ patterns.with_next (option_map (λ s. s.now) before.entry) pattern.now router.old) }
     ensures memory { IfErr result (λ fault. fault ≡ Fault.Memory) }
 {
@@ -179,7 +171,6 @@ fn put(
 }
 
 /// Whether the row before has the same pattern.
-#[tactic(auto, unfolding(broker_types::specs::Text::same))]
 fn is_again(before: Option<&str>, pattern: &str) -> bool
     ensures { result ≡ patterns.is_again (option_map (λ s. s.now) before.entry) pattern.now }
 {
@@ -193,7 +184,7 @@ fn is_again(before: Option<&str>, pattern: &str) -> bool
 
 /// The route of a pattern, or 405 with its methods if no row of it has the verb.
 fn route_by<'p>(
-    rows: &[Row],
+    rows: &[RouteRow],
     verb: Verb,
     mount: &'p str,
     path: &'p str,
@@ -212,7 +203,7 @@ fn route_by<'p>(
 }
 
 /// The operation of the row that has the pattern and the verb.
-fn operation_for(rows: &[Row], pattern: &str, verb: Verb) -> Option<Operation>
+fn operation_for(rows: &[RouteRow], pattern: &str, verb: Verb) -> Option<Operation>
     ensures { result ≡ spec.operation_for (rows_in rows.now) pattern.now verb }
 {
     for row in rows {
@@ -224,7 +215,7 @@ fn operation_for(rows: &[Row], pattern: &str, verb: Verb) -> Option<Operation>
 }
 
 /// The methods of a pattern.
-fn methods_of(rows: &[Row], pattern: &str) -> Methods
+fn methods_of(rows: &[RouteRow], pattern: &str) -> Methods
     ensures { result ≡ spec.methods_of (rows_in rows.now) pattern.now }
 {
     Methods {
@@ -235,7 +226,7 @@ fn methods_of(rows: &[Row], pattern: &str) -> Methods
     }
 }
 
-fn has_row(rows: &[Row], pattern: &str, verb: Verb) -> bool
+fn has_row(rows: &[RouteRow], pattern: &str, verb: Verb) -> bool
     ensures { result ≡ spec.has_row (rows_in rows.now) pattern.now verb }
 {
     for row in rows {
@@ -246,8 +237,7 @@ fn has_row(rows: &[Row], pattern: &str, verb: Verb) -> bool
     false
 }
 
-#[tactic(auto, unfolding(broker_types::specs::Text::same))]
-fn is_row(row: &Row, pattern: &str, verb: Verb) -> bool
+fn is_row(row: &RouteRow, pattern: &str, verb: Verb) -> bool
     ensures { result ≡ patterns.is_row pattern.now verb (shown row.now) }
 {
     row.1 == pattern && same_verb(row.0, verb)

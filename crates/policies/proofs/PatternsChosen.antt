@@ -11,7 +11,7 @@ use Rattle.policies.specs.declared.pattern.Pattern.{Pattern}
 use Rattle.policies.specs.declared.pattern.Pattern.TheVariants.{Exact, Prefix}
 use Rattle.policies.specs.Allows.{is_named, chosen}
 use Rattle.policies.specs.Laws.{IsLongest}
-use Rattle.policies.specs.Patterns.{same_pattern, folder, tried}
+use Rattle.policies.specs.Patterns.{same_pattern, with_slash, tried}
 use Rattle.policies.specs.Places.{place, tried_text}
 use Rattle.policies.specs.Rules.{Rules}
 use Rattle.policies.proofs.Choices.{most_places}
@@ -108,10 +108,10 @@ exact_first rs path other named =
       | verb.Delete ↦ λ _. rw named refl
     ] other
 
-pub folder_first : (rs : Rules) (path : Text) → rs.verb ≡ verb.List → is_named rs.rules (Exact (folder path)) ≡ true
-    → chosen rs path ≡ Some (Exact (folder path))
+pub folder_first : (rs : Rules) (path : Text) → rs.verb ≡ verb.List → is_named rs.rules (Exact (with_slash path)) ≡ true
+    → chosen rs path ≡ Some (Exact (with_slash path))
 folder_first rs path is named = ap (λ v. find (is_named rs.rules) (tried v path)) is ∙ rw named refl
 
-pub then_path : (rs : Rules) (path : Text) → rs.verb ≡ verb.List → is_named rs.rules (Exact (folder path)) ≡ false
+pub then_path : (rs : Rules) (path : Text) → rs.verb ≡ verb.List → is_named rs.rules (Exact (with_slash path)) ≡ false
     → is_named rs.rules (Exact path) ≡ true → chosen rs path ≡ Some (Exact path)
 then_path rs path is none named = ap (λ v. find (is_named rs.rules) (tried v path)) is ∙ rw none (rw named refl)

@@ -11,7 +11,7 @@ use Rattle.broker_types.specs.TextLaws.{same_self}
 use Rattle.broker_types.specs.declared.ask.Verb.{Verb}
 use Rattle.broker_types.specs.declared.ask.Verb.TheVariants as verb
 use Rattle.policies.specs.declared.pattern.Pattern.TheVariants.{Exact, Prefix}
-use Rattle.policies.specs.Patterns.{tried, beginnings, folder}
+use Rattle.policies.specs.Patterns.{tried, beginnings, with_slash}
 use Rattle.policies.specs.Places.{place, exact_place, prefix_place, tried_text}
 
 -- ---- among texts
@@ -87,7 +87,7 @@ count s = length-map (beginnings s) Prefix ∙ each s
     each [] = refl
     each (d ∷ ds) = omega (arith, many d (beginnings ds), each ds)
 
-folder_length : (path : Text) → length (folder path) ≡ length path + 1
+folder_length : (path : Text) → length (with_slash path) ≡ length path + 1
 folder_length [] = refl
 folder_length (c ∷ cs) = omega (arith, folder_length cs)
 
@@ -105,14 +105,14 @@ exact_placed verb.Get path text = exact_of path text
 exact_placed verb.Write path text = exact_of path text
 exact_placed verb.Delete path text = exact_of path text
 exact_placed verb.List path text =
-    rw (count (folder path), no_exact (beginnings (folder path)) text, folder_length path)
-    (chain (same text (folder path)) (same text path) (length path + 4) (length path + 3) _ _ (omega arith) (omega arith))
+    rw (count (with_slash path), no_exact (beginnings (with_slash path)) text, folder_length path)
+    (chain (same text (with_slash path)) (same text path) (length path + 4) (length path + 3) _ _ (omega arith) (omega arith))
 
 pub prefix_placed : (v : Verb) (path text : Text) → place (tried v path) (Prefix text) ≡ prefix_place v path text
 prefix_placed verb.Get path text = prefix_of path text
 prefix_placed verb.Write path text = prefix_of path text
 prefix_placed verb.Delete path text = prefix_of path text
-prefix_placed verb.List path text = prefix_of (folder path) text
+prefix_placed verb.List path text = prefix_of (with_slash path) text
 
 -- ---- the path and a slash
 
@@ -126,8 +126,8 @@ snoc_begins (x ∷ xs) (c ∷ cs) = ap (λ b. (c == x) && b) (snoc_begins xs cs)
     ∙ elim (c == x) as (λ b. (b && (begins xs cs || same cs (xs ++ (47 ∷ [])))) ≡ ((b && begins xs cs) || (b && same cs (xs ++
     (47 ∷ []))))) [ true ↦ refl | false ↦ refl ]
 
-pub folder_begins : (path text : Text) → starts_with nat_eq (folder path) text ≡ (starts_with nat_eq path text || same text (folder path))
-folder_begins path text = begins_is (folder path) text ∙ snoc_begins path text ∙ sym (ap (λ b. b || same text (folder path)) (begins_is path text))
+pub folder_begins : (path text : Text) → starts_with nat_eq (with_slash path) text ≡ (starts_with nat_eq path text || same text (with_slash path))
+folder_begins path text = begins_is (with_slash path) text ∙ snoc_begins path text ∙ sym (ap (λ b. b || same text (with_slash path)) (begins_is path text))
 
 pub same_snoc : (a b : Text) (x : ℕ) → same (a ++ (x ∷ [])) (b ++ (x ∷ [])) ≡ same a b
 unfolding same

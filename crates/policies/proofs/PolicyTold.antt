@@ -1,14 +1,14 @@
 -- Policies that rows tell.
-use Rattle.std.specs.Prelude.{◌≡◌, Bool, true, false, if◌then◌else◌, Option, Some, [], Result, Ok, Err, IfErr, IfOk}
-use Rattle.std.proofs.Common.{sym, ◌∙◌, ap}
-use Rattle.broker_types.specs.Fault.{IsMemoryOrStorage}
+use Rattle.std.specs.Prelude.{◌≡◌, Bool, true, false, if◌then◌else◌, Option, Some, None, [], Result, Ok, Err, IfOk}
+use Rattle.std.proofs.Common.{refl, sym, ◌∙◌, ap}
+use Rattle.std.proofs.lemmas.Option.{none-some, same_Some}
 use Rattle.broker_types.specs.Map.{Map, get}
 use Rattle.broker_types.specs.Sound.{SoundPolicies, IsShortText}
 use Rattle.broker_types.specs.Text.{Text}
-use Rattle.broker_types.specs.declared.fault.Fault.{Fault}
-use Rattle.broker_types.specs.declared.fault.Fault.TheVariants.{Memory, Storage, Damaged, BadStart}
-use Rattle.records.specs.Calls.{IsReadFault}
+use Rattle.records.specs.declared.kind.Kind.TheVariants as kind
+use Rattle.records.specs.declared.row.Row.{Row}
 use Rattle.records.specs.Reading.{IsSomeIn}
+use Rattle.records.specs.RowForms.{policy_row}
 use Rattle.records.specs.Table.{Table}
 use Rattle.policies.specs.Policies.{is_root, text_of}
 use Rattle.policies.specs.PolicyLaws.{one_policy}
@@ -29,23 +29,13 @@ pub short_texts : (is_object : Text → Bool) (policies : Map Text) → SoundPol
     → IsSomeIn IsShortText (get policies name)
 short_texts is_object policies sound name text is = (sound name text is).short
 
--- ---- faults
+-- nothing is told of a name whose row is that of no policy
+pub not_read : (rows : Table) (name : Text) (row : Row) → rows kind.Policy name ≡ Some row
+    → ((text : Text) → IsShortText text → row ≡ policy_row text → ⊥) → (o : Option Text) → IsSomeIn IsShortText o → IsPolicyAt rows name o → ⊥
+not_read rows name row is none None short at = none-some row (sym at ∙ is)
+not_read rows name row is none (Some text) short at = none text (short text refl) (same_Some row (policy_row text) (sym is ∙ at))
 
-pub fault_then : {P Q : Type 0} → (P → Q) → (f : Fault) → IsReadFault P f → IsReadFault Q f
-fault_then h Memory p = tt
-fault_then h Storage p = tt
-fault_then h Damaged p = h p
-fault_then h BadStart p = absurd p
-
-pub not_damaged : {P : Type 0} → (P → ⊥) → (f : Fault) → IsReadFault P f → IsMemoryOrStorage f
-not_damaged h Memory p = tt
-not_damaged h Storage p = tt
-not_damaged h Damaged p = absurd (h p)
-not_damaged h BadStart p = absurd p
-
-pub each_fault : {X : Type 0} {P Q : Fault → Type 0} → ((f : Fault) → P f → Q f) → (r : Result X Fault) → IfErr r P → IfErr r Q
-each_fault h (Ok x) p = tt
-each_fault h (Err f) p = h f p
+-- ---- answers
 
 pub each_ok : {X E : Type 0} {P Q : X → Type 0} → ((x : X) → P x → Q x) → (r : Result X E) → IfOk r P → IfOk r Q
 each_ok h (Ok x) p = h x p

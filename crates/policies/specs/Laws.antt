@@ -20,7 +20,7 @@ use Rattle.policies.specs.declared.pattern.Pattern.{Pattern}
 use Rattle.policies.specs.declared.pattern.Pattern.TheVariants.{Exact, Prefix}
 use Rattle.policies.specs.Allows.{is_named, chosen, is_said}
 use Rattle.policies.specs.Grants.{rules_named, rules_of, grants}
-use Rattle.policies.specs.Patterns.{folder}
+use Rattle.policies.specs.Patterns.{with_slash}
 use Rattle.policies.specs.Places.{tried_text}
 use Rattle.policies.specs.Policies.{is_root, set, deleted}
 use Rattle.policies.specs.PolicyRows.{ArePolicies}
@@ -100,13 +100,13 @@ ExactComesFirst =
 -- for LIST the exact pattern of the path and a slash comes first
 abbrev pub FolderComesFirst : Type 0
 FolderComesFirst =
-    (rs : Rules) (path : Text) → rs.verb ≡ verb.List → is_named rs.rules (Exact (folder path)) ≡ true
-    → chosen rs path ≡ Some (Exact (folder path))
+    (rs : Rules) (path : Text) → rs.verb ≡ verb.List → is_named rs.rules (Exact (with_slash path)) ≡ true
+    → chosen rs path ≡ Some (Exact (with_slash path))
 
 -- and then the exact pattern of the path
 abbrev pub ThenThePath : Type 0
 ThenThePath =
-    (rs : Rules) (path : Text) → rs.verb ≡ verb.List → is_named rs.rules (Exact (folder path)) ≡ false
+    (rs : Rules) (path : Text) → rs.verb ≡ verb.List → is_named rs.rules (Exact (with_slash path)) ≡ false
     → is_named rs.rules (Exact path) ≡ true → chosen rs path ≡ Some (Exact path)
 
 -- the tested text begins with the prefix, and no rule is about a longer prefix of it

@@ -20,11 +20,11 @@ beginnings [] = [] ∷ []
 beginnings (c ∷ cs) = map (λ t. c ∷ t) (beginnings cs) ++ ([] ∷ [])
 
 -- the path and a slash
-abbrev pub folder : Text → Text
-folder path = path ++ slash ∷ []
+abbrev pub with_slash : Text → Text
+with_slash path = path ++ slash ∷ []
 
 -- The patterns that match a path: the exact one first, and then the prefixes, the longest first. LIST tests the path
 -- and a slash; after the exact pattern of this text comes the exact pattern of the path.
 abbrev pub tried : Verb → Text → List Pattern
-tried verb.List path = Exact (folder path) ∷ Exact path ∷ map Prefix (beginnings (folder path))
+tried verb.List path = Exact (with_slash path) ∷ Exact path ∷ map Prefix (beginnings (with_slash path))
 tried _ path = Exact path ∷ map Prefix (beginnings path)

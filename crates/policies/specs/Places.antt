@@ -8,7 +8,7 @@ use Rattle.policies.specs.declared.allowing.Best.{Best}
 use Rattle.policies.specs.declared.capability.Capability.{Capability}
 use Rattle.policies.specs.declared.pattern.Pattern.{Pattern}
 use Rattle.policies.specs.Words.{is_grant, is_deny}
-use Rattle.policies.specs.Patterns.{same_pattern, folder, tried}
+use Rattle.policies.specs.Patterns.{same_pattern, with_slash, tried}
 use Rattle.policies.specs.Rules.{Rule}
 
 -- how many patterns are left when this one is tried; 0 if it is not tried
@@ -18,13 +18,13 @@ place (t ∷ ts) p = if same_pattern p t then length ts + 1 else place ts p
 
 -- the text that prefixes are tested against
 abbrev pub tried_text : Verb → Text → Text
-tried_text verb.List path = folder path
+tried_text verb.List path = with_slash path
 tried_text _ path = path
 
 -- the place of an exact pattern
 abbrev pub exact_place : Verb → Text → Text → ℕ
 exact_place verb.List path text =
-    if same text (folder path) then length path + 4 else (if same text path then length path + 3 else 0)
+    if same text (with_slash path) then length path + 4 else (if same text path then length path + 3 else 0)
 exact_place _ path text = if same text path then length path + 2 else 0
 
 -- the place of a prefix

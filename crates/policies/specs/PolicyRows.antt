@@ -10,16 +10,11 @@ use Rattle.broker_types.specs.declared.refusal.Refusal.{Refusal}
 use Rattle.records.specs.declared.kind.Kind.TheVariants as kind
 use Rattle.records.specs.Reading.{IsSomeIn}
 use Rattle.records.specs.RowForms.{policy_row}
-use Rattle.records.specs.Table.{Table, table_of, with_row, without_row}
-use Rattle.records.specs.Transaction.{Seen}
+use Rattle.records.specs.Table.{Table, with_row, without_row}
 use Rattle.policies.specs.Policies as policies
 use Rattle.policies.specs.Policies.{is_root, root, default}
 use Rattle.policies.specs.Reading.{policy_of}
 use Rattle.policies.specs.Rules.{Rule}
-
--- the rows that a transaction shows, as a table
-abbrev pub table : Seen → Table
-table s = table_of s.rows
 
 -- the row at a name is that of the policy with the text, or there is none
 abbrev pub IsPolicyAt : Table → Text → Option Text → Type 0

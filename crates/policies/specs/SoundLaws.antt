@@ -1,8 +1,8 @@
 -- Policies that are set or deleted leave a sound broker sound, and let it evolve.
 use Rattle.std.specs.Prelude.{◌≡◌, ◌<◌, ◌^◌, length, Bool, true, false, not, cond, Option, Some, None, is_some}
-use Rattle.std.specs.Prelude.{Result, Ok, Err, is_ok, ⊤, option_and_then, if◌then◌else◌, IsUtf8}
+use Rattle.std.specs.Prelude.{Ok, Err, ⊤, option_and_then, if◌then◌else◌, IsUtf8}
 use Rattle.std.specs.Str.{is_utf8}
-use Rattle.std.proofs.Common.{refl, sym, ◌∙◌, ap, subst, inl, List}
+use Rattle.std.proofs.Common.{refl, sym, ◌∙◌, ap, subst, List}
 use Rattle.std.proofs.lemmas.Bool.{false≢true}
 use Rattle.std.proofs.lemmas.Option.{none-some, same_Some}
 use Rattle.std.proofs.lemmas.Str.{IsUtf8-from_is_utf8}
@@ -14,10 +14,11 @@ use Rattle.broker_types.specs.Map.{Map, get, put, without}
 use Rattle.broker_types.specs.MapLaws.{get-put, get-without}
 use Rattle.broker_types.specs.Name.{is_name}
 use Rattle.broker_types.specs.Refuse.{◌>>=◌, some_or, unless}
+use Rattle.broker_types.specs.RefuseLaws.{no_ok}
+use Rattle.broker_types.specs.FieldLaws.{sound_with, evolves_with}
 use Rattle.broker_types.specs.Sound.{Forms, Sound, SoundPolicies, IsSoundPolicy}
 use Rattle.broker_types.specs.Text.{Text, same}
 use Rattle.broker_types.specs.TextLaws.{same_true, same_self}
-use Rattle.broker_types.specs.declared.refusal.Refusal.{Refusal}
 use Rattle.broker_types.specs.declared.refusal.Refusal.TheVariants as refusal
 use Rattle.broker_types.specs.declared.refusal.Reason.TheVariants as reason
 use Rattle.records.specs.ValueLaws.{ok_inj}
@@ -25,9 +26,6 @@ use Rattle.api_json.specs.Json.{without_floats}
 use Rattle.policies.specs.Policies.{is_root, root, fixed, may_set, set, may_delete, deleted}
 use Rattle.policies.specs.Reading.{policy_of, policy_in, is_policy, policy_forms, unsupported}
 use Rattle.policies.specs.Rules.{Rule}
-
-no_ok : {X Y : Type 0} {e : Refusal} {x : X} → ◌≡◌ {A = Result X Refusal} (Err e) (Ok x) → Y
-no_ok h = absurd (false≢true (ap is_ok h))
 
 -- ---- what may be set
 
@@ -118,34 +116,11 @@ module _ (b : Broker) (next : Map Text) where
   -- sound policies leave a sound broker sound
   pub sound_with_policies : (forms : Forms) (who : Option Text) → SoundPolicies forms next → Sound forms who b
       → Sound forms who (record b { policies = next })
-  sound_with_policies forms who policies s =
-      record {
-        clock = s.clock;
-        tokens = s.tokens;
-        secrets = s.secrets;
-        waiting = s.waiting;
-        mounts = s.mounts;
-        roles = s.roles;
-        policies = policies;
-        identifiers = record {
-          used = s.identifiers.used;
-          one_place = s.identifiers.one_place;
-          all_used = s.identifiers.all_used;
-          origins_used = s.identifiers.origins_used;
-        };
-        unspent = s.unspent;
-      }
+  sound_with_policies forms who policies s = sound_with b b.clock b.secrets b.mounts b.roles next forms who s s.clock s.secrets s.mounts s.roles policies
 
   -- any policies let a broker evolve
   pub policies_evolve : Evolves b (record b { policies = next })
-  policies_evolve =
-      record {
-        used = λ i u. u;
-        tokens = λ t x is. inl (λ none. absurd (none-some _ (sym none ∙ is)));
-        leases = λ t id l is. inl (l, is, refl);
-        wrapping_tokens = λ t w is. inl (λ none. absurd (none-some _ (sym none ∙ is)));
-        waiting = λ t w is. inl (t, w, is, refl, refl);
-      }
+  policies_evolve = evolves_with b b.clock b.secrets b.mounts b.roles next
 
   -- a policy that is set leaves a sound broker sound
   pub set_sound : (is_object : Text → Bool) (who : Option Text) (name text : Text)

@@ -1,7 +1,7 @@
 //! Capabilities, and the other words of policies.
 
 ghost use Rattle.std.specs.Prelude.{◌≡◌};
-ghost use Rattle.policies.specs.Words.{same_capability, is_grant, is_deny};
+ghost use Rattle.policies.specs.Words.{is_grant, is_deny};
 
 /// What a request asks for at a path (Vault's documentation, "Policies", capabilities).
 #[derive(Clone, Copy, Debug, PartialEq, Eq)]
@@ -31,27 +31,12 @@ pub enum Word {
     Patch,
 }
 
-/// Whether two capabilities are one.
-fn same_capability(one: Capability, other: Capability) -> bool
-    ensures { result ≡ same_capability one other }
-{
-    match (one, other) {
-        (Capability::Create, Capability::Create) => true,
-        (Capability::Read, Capability::Read) => true,
-        (Capability::Update, Capability::Update) => true,
-        (Capability::Delete, Capability::Delete) => true,
-        (Capability::List, Capability::List) => true,
-        (Capability::Sudo, Capability::Sudo) => true,
-        _ => false,
-    }
-}
-
 /// Whether a word grants a capability.
 pub(crate) fn is_grant(word: Word, capability: Capability) -> bool
     ensures { result ≡ is_grant capability word }
 {
     match word {
-        Word::Grant(granted) => same_capability(granted, capability),
+        Word::Grant(granted) => granted == capability,
         Word::Deny => false,
         Word::Patch => false,
     }

@@ -1,18 +1,19 @@
 //! What a caller's policies say, from their rows.
 
-ghost use Rattle.std.specs.Prelude.{◌≡◌, ◌≢◌, ◌++◌, Bool, Some, None, true, false, IfOk, IfErr, OnOk, All, Any};
+ghost use Rattle.std.specs.Prelude.{◌≡◌, ◌++◌, Bool, Some, None, IfOk, IfErr, OnOk, All, Any};
 ghost use Rattle.std.specs.List.{list_any};
 ghost use Rattle.broker_types.specs.Text.{Text};
 ghost use Rattle.broker_types.specs.Fault.{IsMemoryOrStorage};
 ghost use Rattle.broker_types.specs.Map.{Map, get};
 ghost use Rattle.broker_types.specs.Sound.{SoundPolicies};
-ghost use Rattle.records.specs.Calls.{IsReadFault};
-ghost use Rattle.records.specs.Transaction.{IsHonest, GoesOn, is_storage};
+ghost use Rattle.records.specs.Calls.{IsReadFault, IsReading, IsDecodeFault};
+ghost use Rattle.records.specs.Table.{table};
+ghost use Rattle.records.specs.Transaction.{IsHonest};
 ghost use Rattle.policies.specs.Grants as spec;
 ghost use Rattle.policies.specs.Policies as policies;
-ghost use Rattle.policies.specs.PolicyRows.{table, IsPolicyAt, ArePoliciesAt, GivesRules};
+ghost use Rattle.policies.specs.PolicyRows.{IsPolicyAt, ArePoliciesAt, GivesRules};
 ghost use Rattle.policies.specs.PolicyRows.{IsReadable, IsUnreadable};
-ghost use Rattle.policies.specs.Reading.{policy_of, is_policy, policy_forms};
+ghost use Rattle.policies.specs.Reading.{policy_of, policy_forms};
 
 use crate::keeping::kept_text;
 use crate::naming::is_root;
@@ -38,14 +39,11 @@ pub fn rules_of<T: RecordsTx>(
     // Whatever the rows are: no damaged row is passed over, and no other row is told as damaged.
     ensures readable { IsHonest (T.seen tx.new)
         → IfOk result (λ rules. All (IsReadable (table (T.seen tx.old))) names.now) }
-    ensures damaged { IfErr result
-        (IsReadFault (IsHonest (T.seen tx.new) → Any (IsUnreadable (table (T.seen tx.old))) names.now)) }
-    ensures same { IsHonest (T.seen tx.new) → OnOk result ((T.seen tx.new).rows ≡ (T.seen tx.old).rows) }
-    ensures undamaged { IsHonest (T.seen tx.new) → (is_object : Text → Bool) (policies : Map Text)
+    ensures wants { IsHonest (T.seen tx.new) → (is_object : Text → Bool) (policies : Map Text)
         → SoundPolicies (policy_forms is_object) policies
         → ArePoliciesAt (table (T.seen tx.old)) names.now policies → IfErr result IsMemoryOrStorage }
-    ensures started { IfErr result (λ fault. fault ≢ Fault.BadStart) }
-    ensures goes_on { GoesOn (T.seen tx.old) (T.seen tx.new) (is_storage result) }
+    ensures call { IsReading (T.seen tx.old) (T.seen tx.new) result
+        (IsReadFault (IsHonest (T.seen tx.new) → Any (IsUnreadable (table (T.seen tx.old))) names.now)) }
 {
     let mut rules = Vec::new(alloc);
     for name in names {
@@ -76,14 +74,11 @@ fn with_named<T: RecordsTx>(
         → IsPolicyAt (table (T.seen tx.old)) name.now (get policies name.now)
         → IfOk result (λ rs. rs.items ≡ rules.items ++ spec.rules_named policies name.now) }
     ensures readable { IsHonest (T.seen tx.new) → OnOk result (IsReadable (table (T.seen tx.old)) name.now) }
-    ensures damaged { IfErr result
-        (IsReadFault (IsHonest (T.seen tx.new) → IsUnreadable (table (T.seen tx.old)) name.now)) }
-    ensures same { IsHonest (T.seen tx.new) → OnOk result ((T.seen tx.new).rows ≡ (T.seen tx.old).rows) }
-    ensures undamaged { IsHonest (T.seen tx.new) → (is_object : Text → Bool) (policies : Map Text)
+    ensures wants { IsHonest (T.seen tx.new) → (is_object : Text → Bool) (policies : Map Text)
         → SoundPolicies (policy_forms is_object) policies
         → IsPolicyAt (table (T.seen tx.old)) name.now (get policies name.now) → IfErr result IsMemoryOrStorage }
-    ensures started { IfErr result (λ fault. fault ≢ Fault.BadStart) }
-    ensures goes_on { GoesOn (T.seen tx.old) (T.seen tx.new) (is_storage result) }
+    ensures call { IsReading (T.seen tx.old) (T.seen tx.new) result
+        (IsReadFault (IsHonest (T.seen tx.new) → IsUnreadable (table (T.seen tx.old)) name.now)) }
 {
     let mut named = rules_named(alloc, tx, name)?;
     rules.append(&mut named.rules)?;
@@ -93,14 +88,11 @@ fn with_named<T: RecordsTx>(
 /// The rules of a policy, none if it is not there.
 fn rules_named<T: RecordsTx>(alloc: Global, tx: &mut T, name: &str) -> Result<Policy, Fault>
     ensures found { IsHonest (T.seen tx.new) → IfOk result (λ p. GivesRules (table (T.seen tx.old)) name.now p) }
-    ensures damaged { IfErr result
-        (IsReadFault (IsHonest (T.seen tx.new) → IsUnreadable (table (T.seen tx.old)) name.now)) }
-    ensures same { IsHonest (T.seen tx.new) → OnOk result ((T.seen tx.new).rows ≡ (T.seen tx.old).rows) }
-    ensures undamaged { IsHonest (T.seen tx.new) → (is_object : Text → Bool) (policies : Map Text)
+    ensures wants { IsHonest (T.seen tx.new) → (is_object : Text → Bool) (policies : Map Text)
         → SoundPolicies (policy_forms is_object) policies
         → IsPolicyAt (table (T.seen tx.old)) name.now (get policies name.now) → IfErr result IsMemoryOrStorage }
-    ensures started { IfErr result (λ fault. fault ≢ Fault.BadStart) }
-    ensures goes_on { GoesOn (T.seen tx.old) (T.seen tx.new) (is_storage result) }
+    ensures call { IsReading (T.seen tx.old) (T.seen tx.new) result
+        (IsReadFault (IsHonest (T.seen tx.new) → IsUnreadable (table (T.seen tx.old)) name.now)) }
 {
     match kept_text(alloc, tx, name)? {
         Some(text) => policy_kept(alloc, text.as_str()),
@@ -113,10 +105,7 @@ fn rules_named<T: RecordsTx>(alloc: Global, tx: &mut T, name: &str) -> Result<Po
 /// The policy of a text that was kept. It fails as `Damaged` if the text is none.
 fn policy_kept(alloc: Global, text: &str) -> Result<Policy, Fault>
     ensures exact { IfOk result (λ p. policy_of text.now ≡ Some p) }
-    ensures damaged { IfErr result (IsReadFault (policy_of text.now ≡ None)) }
-    ensures undamaged { is_policy text.now ≡ true → IfErr result IsMemoryOrStorage }
-    ensures faults { is_storage result ≡ false }
-    ensures started { IfErr result (λ fault. fault ≢ Fault.BadStart) }
+    ensures faults { IfErr result (IsDecodeFault (policy_of text.now ≡ None)) }
 {
     match Policy::from_json(alloc, text) {
         Ok(policy) => Ok(policy),

@@ -1,24 +1,25 @@
 //! Policies, set, deleted and read.
 
-ghost use Rattle.std.specs.Prelude.{◌≡◌, ◌<◌, ◌^◌, [], Some, Option, Bool, true, false, length, IfOk, IfErr, OnOk};
+ghost use Rattle.std.specs.Prelude.{◌≡◌, ◌<◌, ◌^◌, [], Some, Option, Bool, true, false, length, IfOk, IfErr};
 ghost use Rattle.broker_types.specs.Fault.{IsMemoryOrStorage};
 ghost use Rattle.broker_types.specs.Map.{Map, get};
 ghost use Rattle.broker_types.specs.RequestError.{Ends};
 ghost use Rattle.broker_types.specs.Sound.{SoundPolicies, IsShortText};
 ghost use Rattle.broker_types.specs.Text.{Text};
 ghost use Rattle.api_json.specs.Reads.{IsRead};
-ghost use Rattle.records.specs.Calls.{IsReadFault, IsRequestCall};
+ghost use Rattle.records.specs.Calls.{IsReadFault, IsReading, IsRequestChange};
 ghost use Rattle.records.specs.Reading.{IsSomeIn};
 ghost use Rattle.records.specs.Parts.{of_policies, KeepsOthers};
-ghost use Rattle.records.specs.Transaction.{IsHonest, GoesOn, is_storage};
+ghost use Rattle.records.specs.Table.{table};
+ghost use Rattle.records.specs.Transaction.{IsHonest};
 ghost use Rattle.policies.specs.Policies as spec;
 ghost use Rattle.policies.specs.PolicyRows as rows;
-ghost use Rattle.policies.specs.PolicyRows.{table, ArePolicies, IsPolicyAt, IsDamagedAt};
+ghost use Rattle.policies.specs.PolicyRows.{ArePolicies, IsPolicyAt, IsDamagedAt};
 ghost use Rattle.policies.specs.Reading.{policy_forms};
 
-use crate::naming::{is_fixed, is_name, is_root};
+use crate::naming::{is_fixed, is_root};
 use crate::rule::Policy;
-use broker_types::{Fault, Reason, Refusal, RequestError, TextBuf};
+use broker_types::{Fault, Reason, Refusal, RequestError, TextBuf, is_name};
 use records::{Kind, RecordsTx, read_policy, write_policy};
 use std::alloc::Global;
 
@@ -35,12 +36,10 @@ pub fn set<T: RecordsTx>(
     ensures rows { IsHonest (T.seen tx.new)
         → Ends (λ _ next. table (T.seen tx.new) ≡ next) ((T.seen tx.new).rows ≡ (T.seen tx.old).rows) result
         (rows.set (table (T.seen tx.old)) name.now text.now) }
-    ensures others { IsHonest (T.seen tx.new)
-        → OnOk result (KeepsOthers of_policies (table (T.seen tx.old)) (table (T.seen tx.new))) }
     ensures told { IsHonest (T.seen tx.new) → (policies : Map Text) → ArePolicies (table (T.seen tx.old)) policies
         → Ends (λ _ next. ArePolicies (table (T.seen tx.new)) next)
         ((T.seen tx.new).rows ≡ (T.seen tx.old).rows) result (spec.set policies name.now text.now) }
-    ensures call { IsRequestCall (T.seen tx.old) (T.seen tx.new) result }
+    ensures call { IsRequestChange (KeepsOthers of_policies) (T.seen tx.old) (T.seen tx.new) result IsMemoryOrStorage }
 {
     may_set(alloc, name, text)?;
     let row = write_policy(alloc, text)?;
@@ -70,12 +69,10 @@ pub fn delete<T: RecordsTx>(tx: &mut T, name: &str) -> Result<(), RequestError>
     ensures rows { IsHonest (T.seen tx.new)
         → Ends (λ _ next. table (T.seen tx.new) ≡ next) ((T.seen tx.new).rows ≡ (T.seen tx.old).rows) result
         (rows.deleted (table (T.seen tx.old)) name.now) }
-    ensures others { IsHonest (T.seen tx.new)
-        → OnOk result (KeepsOthers of_policies (table (T.seen tx.old)) (table (T.seen tx.new))) }
     ensures told { IsHonest (T.seen tx.new) → (policies : Map Text) → ArePolicies (table (T.seen tx.old)) policies
         → Ends (λ _ next. ArePolicies (table (T.seen tx.new)) next)
         ((T.seen tx.new).rows ≡ (T.seen tx.old).rows) result (spec.deleted policies name.now) }
-    ensures call { IsRequestCall (T.seen tx.old) (T.seen tx.new) result }
+    ensures call { IsRequestChange (KeepsOthers of_policies) (T.seen tx.old) (T.seen tx.new) result IsMemoryOrStorage }
 {
     if is_fixed(name) {
         return Err(FIXED);
@@ -94,13 +91,11 @@ pub fn get<T: RecordsTx>(alloc: Global, tx: &mut T, name: &str) -> Result<Option
     ensures short { IfOk result (IsSomeIn IsShortText) }
     ensures told { IsHonest (T.seen tx.new) → (policies : Map Text) → ArePolicies (table (T.seen tx.old)) policies
         → IfOk result (λ text. text ≡ spec.text_of policies name.now) }
-    ensures same { IsHonest (T.seen tx.new) → OnOk result ((T.seen tx.new).rows ≡ (T.seen tx.old).rows) }
-    ensures faults { IfErr result
-        (IsReadFault (IsHonest (T.seen tx.new) → IsDamagedAt (table (T.seen tx.old)) name.now)) }
-    ensures undamaged { IsHonest (T.seen tx.new) → (is_object : Text → Bool) (policies : Map Text)
+    ensures wants { IsHonest (T.seen tx.new) → (is_object : Text → Bool) (policies : Map Text)
         → SoundPolicies (policy_forms is_object) policies → ArePolicies (table (T.seen tx.old)) policies
         → IfErr result IsMemoryOrStorage }
-    ensures goes_on { GoesOn (T.seen tx.old) (T.seen tx.new) (is_storage result) }
+    ensures call { IsReading (T.seen tx.old) (T.seen tx.new) result
+        (IsReadFault (IsHonest (T.seen tx.new) → IsDamagedAt (table (T.seen tx.old)) name.now)) }
 {
     if is_root(name) {
         return Ok(Some(TextBuf::copied(alloc, "")?));
@@ -116,10 +111,9 @@ pub(crate) fn kept_text<T: RecordsTx>(
 ) -> Result<Option<TextBuf>, Fault>
     ensures found { IsHonest (T.seen tx.new) → IfOk result (IsPolicyAt (table (T.seen tx.old)) name.now) }
     ensures short { IfOk result (IsSomeIn IsShortText) }
-    ensures same { IsHonest (T.seen tx.new) → OnOk result ((T.seen tx.new).rows ≡ (T.seen tx.old).rows) }
-    ensures faults { IfErr result (IsReadFault (IsHonest (T.seen tx.new)
-        → (text : Option Text) → IsSomeIn IsShortText text → IsPolicyAt (table (T.seen tx.old)) name.now text → ⊥)) }
-    ensures goes_on { GoesOn (T.seen tx.old) (T.seen tx.new) (is_storage result) }
+    ensures call { IsReading (T.seen tx.old) (T.seen tx.new) result
+        (IsReadFault (IsHonest (T.seen tx.new) → (text : Option Text) → IsSomeIn IsShortText text
+        → IsPolicyAt (table (T.seen tx.old)) name.now text → ⊥)) }
 {
     let Some(row) = tx.get(Kind::Policy, name)? else {
         return Ok(None);

@@ -1,5 +1,5 @@
 //! Policies: what a caller may do at a path, and the policies, as rows.
-#![tactic(auto)]
+#![tactic(auto, unfolding(broker_types::specs::Text::same))]
 
 mod allowing;
 mod capability;

@@ -1,13 +1,16 @@
 //! The list of all policies.
 
-ghost use Rattle.std.specs.Prelude.{◌≡◌, [], map, IfOk, OnOk};
+ghost use Rattle.std.specs.Prelude.{◌≡◌, [], map, IfOk};
 ghost use Rattle.std.specs.Ordering.{is_lt};
+ghost use Rattle.broker_types.specs.Fault.{IsMemoryOrStorage};
 ghost use Rattle.broker_types.specs.Map.{Map};
 ghost use Rattle.broker_types.specs.Text.{Text, text_cmp};
+ghost use Rattle.records.specs.Calls.{IsReading};
 ghost use Rattle.records.specs.Children.{keys_under};
-ghost use Rattle.records.specs.Transaction.{IsHonest, IsCall};
+ghost use Rattle.records.specs.Table.{table};
+ghost use Rattle.records.specs.Transaction.{IsHonest};
 ghost use Rattle.policies.specs.Policies as spec;
-ghost use Rattle.policies.specs.PolicyRows.{table, ArePolicies, with_name, all_names};
+ghost use Rattle.policies.specs.PolicyRows.{ArePolicies, with_name, all_names};
 
 use broker_types::{Fault, TextBuf};
 use records::{Entry, Kind, RecordsTx};
@@ -20,8 +23,7 @@ pub fn list<T: RecordsTx>(alloc: Global, tx: &mut T) -> Result<Vec<TextBuf>, Fau
         → IfOk result (λ names. names.items ≡ all_names (keys_under (T.seen tx.old).rows Kind.Policy [])) }
     ensures told { IsHonest (T.seen tx.new) → (policies : Map Text) → ArePolicies (table (T.seen tx.old)) policies
         → IfOk result (λ names. names.items ≡ spec.listed policies) }
-    ensures same { IsHonest (T.seen tx.new) → OnOk result ((T.seen tx.new).rows ≡ (T.seen tx.old).rows) }
-    ensures call { IsCall (T.seen tx.old) (T.seen tx.new) result }
+    ensures call { IsReading (T.seen tx.old) (T.seen tx.new) result IsMemoryOrStorage }
 {
     let rows = tx.under(Kind::Policy, "")?;
     Ok(names_of(alloc, &rows)?)

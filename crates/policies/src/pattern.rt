@@ -29,7 +29,6 @@ pub(crate) fn place(verb: Verb, path: &str, pattern: &Pattern) -> usize
 }
 
 /// The place of an exact pattern.
-#[tactic(auto, unfolding(broker_types::specs::Text::same))]
 fn exact_place(verb: Verb, path: &str, text: &str) -> usize
     ensures { result ≡ exact_place verb path.now text.now }
 {
@@ -69,7 +68,6 @@ fn begins(verb: Verb, path: &str, text: &str) -> bool
 }
 
 /// Whether a text is a path with a slash behind it.
-#[tactic(auto, unfolding(broker_types::specs::Text::same))]
 fn is_with_slash(text: &str, path: &str) -> bool
     ensures { result ≡ same text.now (path.now ++ 47 ∷ []) }
 {

@@ -76,7 +76,6 @@ fn are_known(members: &Map<String, Value>) -> bool
     true
 }
 
-#[tactic(auto, unfolding(broker_types::specs::Text::same))]
 fn is_known(name: &str) -> bool
     ensures { result ≡ spec.is_known name.now }
 {
@@ -143,7 +142,6 @@ fn has_plus(pattern: &str) -> bool
     found
 }
 
-#[tactic(auto, unfolding(broker_types::specs::Text::same))]
 fn is_plus(part: &str) -> bool
     ensures { result ≡ same part.now (codes "+") }
 {
@@ -197,7 +195,6 @@ fn are_capabilities(members: &Map<String, Value>) -> bool
     true
 }
 
-#[tactic(auto, unfolding(broker_types::specs::Text::same))]
 fn is_capabilities(name: &str) -> bool
     ensures { result ≡ spec.is_capabilities name.now }
 {
@@ -238,7 +235,6 @@ fn word(value: &Value) -> Option<Word>
 }
 
 /// The word of a name.
-#[tactic(auto, unfolding(broker_types::specs::Text::same))]
 fn word_named(name: &str) -> Option<Word>
     ensures { result ≡ spec.word_named name.now }
 {
@@ -255,7 +251,6 @@ fn word_named(name: &str) -> Option<Word>
 }
 
 /// The capability of a name.
-#[tactic(auto, unfolding(broker_types::specs::Text::same))]
 fn capability_named(name: &str) -> Option<Capability>
     ensures { result ≡ spec.capability_named name.now }
 {

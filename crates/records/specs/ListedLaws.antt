@@ -1,5 +1,5 @@
 -- What is listed under a prefix, as a map from keys of one kind (this project's).
-use Rattle.std.specs.Prelude.{◌≡◌, ◌&&◌, ◌==◌, ℕ, List, [], ◌∷◌, map, filter, nat_eq, Bool, true}
+use Rattle.std.specs.Prelude.{◌≡◌, ◌&&◌, ◌==◌, List, [], ◌∷◌, map, filter, nat_eq, Bool, true}
 use Rattle.std.specs.Prelude.{false, cond, Some, None, T}
 use Rattle.std.specs.declared.cmp.Ordering.TheVariants.{Equal}
 use Rattle.std.specs.Ordering.{nat_cmp, is_eq, is_lt, ordering_then}

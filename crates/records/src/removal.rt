@@ -1,8 +1,10 @@
 //! Rows removed together.
 
 ghost use Rattle.std.specs.Prelude.{◌≡◌, OnOk};
-ghost use Rattle.records.specs.Table.{table_of, without_under};
-ghost use Rattle.records.specs.Transaction.{IsHonest, IsCall};
+ghost use Rattle.broker_types.specs.Fault.{IsMemoryOrStorage};
+ghost use Rattle.records.specs.Calls.{IsCall};
+ghost use Rattle.records.specs.Table.{table, without_under};
+ghost use Rattle.records.specs.Transaction.{IsHonest};
 
 use crate::kind::Kind;
 use crate::tx::RecordsTx;
@@ -12,8 +14,8 @@ use broker_types::Fault;
 /// storage fails.
 pub fn remove_under<T: RecordsTx>(tx: &mut T, kind: Kind, prefix: &str) -> Result<(), Fault>
     ensures rows { IsHonest (T.seen tx.new) → OnOk result
-        (table_of (T.seen tx.new).rows ≡ without_under (table_of (T.seen tx.old).rows) kind prefix.now) }
-    ensures call { IsCall (T.seen tx.old) (T.seen tx.new) result }
+        (table (T.seen tx.new) ≡ without_under (table (T.seen tx.old)) kind prefix.now) }
+    ensures call { IsCall (T.seen tx.old) (T.seen tx.new) result IsMemoryOrStorage }
 {
     let list = tx.under(kind, prefix)?;
     for entry in &list {

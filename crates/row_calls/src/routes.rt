@@ -1,8 +1,8 @@
 use broker_types::Verb::{self, Delete, Get, List, Write};
 use broker_types::{Methods, Reason, Refusal, RequestError};
 use mounts::{
-    Cubbyhole, MountType, NamedMount, Operation, PolicyOperation, SecretOperation, TokenOperation,
-    disable, enable, list, route,
+    CubbyholeOperation, MountType, NamedMount, Operation, PolicyOperation, SecretOperation,
+    TokenOperation, disable, enable, list, route,
 };
 use records::{ListRecords, ListTx};
 use std::process::Abort;
@@ -15,8 +15,8 @@ struct Line(&'static str, &'static [(Verb, Operation)], &'static [Verb]);
 const NONE: &[(Verb, Operation)] = &[];
 
 const IN_CUBBYHOLES: &[(Verb, Operation)] = &[
-    (Get, Operation::Cubbyholes(Cubbyhole::Read)),
-    (Write, Operation::Cubbyholes(Cubbyhole::Write)),
+    (Get, Operation::Cubbyholes(CubbyholeOperation::Read)),
+    (Write, Operation::Cubbyholes(CubbyholeOperation::Write)),
 ];
 
 const OF_SETTINGS: &[(Verb, Operation)] = &[

@@ -26,7 +26,7 @@ use Rattle.records.specs.Children.{has}
 use Rattle.token_tree.specs.Ended.{has_come, is_named, IsDescent, Start}
 use Rattle.token_tree.specs.Tokens.{RepresentsTokens, AreEnded, has_ended, without_expired}
 use Rattle.token_tree.specs.EndedLaws.{ended_by_revocation, ended_by_now}
-use Rattle.token_tree.specs.Removed.{without_ended, IsTokenRow, AreReadable}
+use Rattle.token_tree.specs.Removed.{without_ended, IsTokenRow, AreReadableEnded}
 use Rattle.token_tree.proofs.Fates.{IsFate, fated, under_fate, expired_fate}
 use Rattle.token_tree.proofs.Listed.{each_listed, lists_tokens}
 use Rattle.token_tree.proofs.Removals.{tells_kept, tells_changed}
@@ -41,8 +41,8 @@ module _ (forms : Forms) (b : Broker) (rows : Rows) (stands : RepresentsTokens f
       no_text : IsTokenText [] → ⊥
       no_text h = absurd (let e = h.2 in cc)
 
-  pub readable : (ended : List Text) (es : List (RowKey × Row)) → es ≡ rows_under rows kind.Token [] → AreReadable ended es
-  readable ended es listed = subst (AreReadable ended) (sym (listed ∙ lists_tokens b rows stands.tells))
+  pub readable : (ended : List Text) (es : List (RowKey × Row)) → es ≡ rows_under rows kind.Token [] → AreReadableEnded ended es
+  readable ended es listed = subst (AreReadableEnded ended) (sym (listed ∙ lists_tokens b rows stands.tells))
       (each_listed b.tokens (λ e. has ended e.0.1 ≡ true → IsTokenRow e) (λ t x is gone.
       (token_entry x, token_in_range forms b.tokens stands.sound t x is, refl)))
 

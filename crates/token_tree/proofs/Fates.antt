@@ -1,5 +1,5 @@
 -- What the passes collect is what ends: what does so by itself, and each child of what ends.
-use Rattle.std.specs.Prelude.{◌≡◌, ℕ, zero, suc, List, [], ◌∷◌, Bool, true, false, not, ◌&&◌, ◌||◌, nat_lt, nat_le, Option, Some, None, unwrap_or, is_none}
+use Rattle.std.specs.Prelude.{◌≡◌, ℕ, zero, suc, List, [], ◌∷◌, Bool, true, false, not, ◌&&◌, ◌||◌, nat_lt, nat_le, Option, Some, None, unwrap_or}
 use Rattle.std.specs.Prelude.{option_and_then}
 use Rattle.std.specs.List.{list_any, list_all}
 use Rattle.std.specs.Option.{option_map_or}
@@ -10,7 +10,7 @@ use Rattle.broker_types.specs.Map.{get, len}
 use Rattle.broker_types.specs.Token.{Token, Tokens}
 use Rattle.broker_types.specs.Lineage.{lineage, is_under, is_alive, outlasts, ends_within, ChainsEnd}
 use Rattle.std.proofs.lemmas.Bool.{false≢true, or_left, or_right}
-use Rattle.broker_types.specs.OptionLaws.{found_or_not}
+use Rattle.broker_types.specs.OptionLaws.{found_or_not, is_nothing}
 use Rattle.broker_types.specs.TreeLaws.{lineage_none, lineage_orphan, lineage_child}
 use Rattle.records.specs.Children.{has}
 use Rattle.token_tree.specs.Ended.{goes, of_owner, has_come, is_named, IsDescent, Start}
@@ -30,10 +30,6 @@ both_ways false false f g = refl
 owned : (p : Text → Bool) (o : Text) → of_owner p o ≡ true → p o ≡ true
 owned p [] h = absurd (false≢true h)
 owned p (c ∷ o) h = h
-
-is_nothing : {X : Type 0} (o : Option X) → is_none o ≡ true → o ≡ None
-is_nothing None h = refl
-is_nothing (Some x) h = absurd (false≢true h)
 
 module _ (ts : Tokens) (s : Start) (gone : Text → Bool) (fate : IsFate ts s gone) (chains : ChainsEnd ts) (unnamed : get ts [] ≡ None) (ended : List Text)
     (down : IsDescent s (listing ts) ended) where

@@ -32,7 +32,7 @@ use Rattle.records.specs.Rows.{rows_of, or_else}
 use Rattle.records.specs.Table.{Table, table_of}
 use Rattle.records.specs.Transaction.{Rows, rows_under}
 use Rattle.records.specs.TableLaws.{table_of-insert}
-use Rattle.token_tree.specs.Orphaned.{is_child, without_owner, without_parent}
+use Rattle.token_tree.specs.Orphaned.{is_child, orphaned, without_parent}
 use Rattle.token_tree.specs.Removed.{without_ended}
 use Rattle.token_tree.proofs.Listed.{node, listing, lists_tokens}
 use Rattle.token_tree.specs.Tokens.{has_accessor, has_ended, RepresentsTokens, AreEnded}
@@ -44,10 +44,10 @@ use Rattle.token_tree.proofs.Singles.{joined, waits, by_kind, put_keeps, token_r
 pub parents_keep : (t : Text) (es : List (RowKey × Row)) (rows : Rows) → KeepsOthers of_tokens (table_of rows) (table_of (without_parent t es rows))
 parents_keep t [] rows k q h = refl
 parents_keep t (e ∷ es) rows k q h =
-    parents_keep t es (if is_child t e then fin.insert rows (kind.Token, e.0.1) (without_owner e.1) else rows) k q h
-    ∙ elim (is_child t e) as (λ v. table_of (if v then fin.insert rows (kind.Token, e.0.1) (without_owner e.1) else rows) k q ≡ table_of rows k q) [
-      | true ↦ ap (λ (table : Table). table k q) (table_of-insert rows kind.Token e.0.1 (without_owner e.1))
-          ∙ put_keeps (table_of rows) e.0.1 (without_owner e.1) k q h
+    parents_keep t es (if is_child t e then fin.insert rows (kind.Token, e.0.1) (orphaned e.1) else rows) k q h
+    ∙ elim (is_child t e) as (λ v. table_of (if v then fin.insert rows (kind.Token, e.0.1) (orphaned e.1) else rows) k q ≡ table_of rows k q) [
+      | true ↦ ap (λ (table : Table). table k q) (table_of-insert rows kind.Token e.0.1 (orphaned e.1))
+          ∙ put_keeps (table_of rows) e.0.1 (orphaned e.1) k q h
       | false ↦ refl
     ]
 
@@ -56,10 +56,10 @@ pub parents_accessors : (t : Text) (es : List (RowKey × Row)) (rows : Rows) (q 
     → table_of (without_parent t es rows) kind.Accessor q ≡ table_of rows kind.Accessor q
 parents_accessors t [] rows q = refl
 parents_accessors t (e ∷ es) rows q =
-    parents_accessors t es (if is_child t e then fin.insert rows (kind.Token, e.0.1) (without_owner e.1) else rows) q
-    ∙ elim (is_child t e) as (λ v. table_of (if v then fin.insert rows (kind.Token, e.0.1) (without_owner e.1) else rows) kind.Accessor q
+    parents_accessors t es (if is_child t e then fin.insert rows (kind.Token, e.0.1) (orphaned e.1) else rows) q
+    ∙ elim (is_child t e) as (λ v. table_of (if v then fin.insert rows (kind.Token, e.0.1) (orphaned e.1) else rows) kind.Accessor q
     ≡ table_of rows kind.Accessor q) [
-      | true ↦ ap (λ (table : Table). table kind.Accessor q) (table_of-insert rows kind.Token e.0.1 (without_owner e.1))
+      | true ↦ ap (λ (table : Table). table kind.Accessor q) (table_of-insert rows kind.Token e.0.1 (orphaned e.1))
       | false ↦ refl
     ]
 

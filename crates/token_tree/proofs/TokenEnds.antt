@@ -8,9 +8,6 @@ use Rattle.std.proofs.Math.Bool.{or-false}
 use Rattle.std.proofs.lemmas.Bool.{false≢true, and_parts, or_right}
 use Rattle.std.proofs.lemmas.Option.{none-some, same_Some}
 use Rattle.broker_types.specs.OptionLaws.{found_or_not}
-use Rattle.broker_types.specs.Fault.{IsMemoryOrStorage}
-use Rattle.broker_types.specs.declared.fault.Fault.{Fault}
-use Rattle.broker_types.specs.declared.fault.Fault.TheVariants.{Damaged}
 use Rattle.broker_types.specs.Text.{Text, same}
 use Rattle.broker_types.specs.TextLaws.{same_self, same_true}
 use Rattle.records.specs.declared.kind.Kind.{Kind}
@@ -24,9 +21,9 @@ use Rattle.records.specs.TableLaws.{table_of-insert}
 use Rattle.records.specs.Transaction.{Rows, rows_under}
 use Rattle.token_tree.specs.Ended.{IsClosed, IsDescent, Start, Starts, of_owner, AllStay}
 use Rattle.token_tree.specs.Endings.{AreTokenRows, EndsDescent, IsDamagedDescent, EndsAlone, is_told, without_tokens, orphan_row, without_children_of}
-use Rattle.token_tree.specs.Orphaned.{is_child, without_owner, without_parent}
+use Rattle.token_tree.specs.Orphaned.{is_child, orphaned, without_parent}
 use Rattle.token_tree.specs.TokenRows.{IsDamagedToken}
-use Rattle.token_tree.specs.Removed.{accessor_in, without_ended, AreReadable}
+use Rattle.token_tree.specs.Removed.{accessor_in, without_ended, AreReadableEnded}
 use Rattle.token_tree.proofs.Removals.{takes, table_of-without_ended, others_stay}
 use Rattle.token_tree.proofs.Orphans.{parents_keep, parents_accessors, turned}
 use Rattle.token_tree.proofs.Fates.{both_ways}
@@ -126,10 +123,10 @@ module _ (rows : Rows) (ended : List Text) where
 
   -- ---- what was read
 
-  pub rows_read : AreReadable ended (rows_under rows kind.Token []) → AreTokenRows ended old
+  pub rows_read : AreReadableEnded ended (rows_under rows kind.Token []) → AreTokenRows ended old
   rows_read all t r gone is = token_each rows (λ e. has ended e.0.1 ≡ true → _) t r is all gone
 
-  pub read_rows : AreTokenRows ended old → AreReadable ended (rows_under rows kind.Token [])
+  pub read_rows : AreTokenRows ended old → AreReadableEnded ended (rows_under rows kind.Token [])
   read_rows all = each_token rows (λ e. has ended e.0.1 ≡ true → _) (λ t r is gone. all t r gone is)
 
 -- ---- two descents have the same texts
@@ -163,23 +160,23 @@ module _ (t : Text) where
   abbrev child_at : Text → RowKey × Row → Bool
   child_at q e = is_child t e && same q e.0.1
 
-  edited : (q : Text) (v : Option Row) (es : List (RowKey × Row)) → AllByRecursion (λ e. child_at q e ≡ true → Some (without_owner e.1) ≡ v) es → (rows : Rows)
+  edited : (q : Text) (v : Option Row) (es : List (RowKey × Row)) → AllByRecursion (λ e. child_at q e ≡ true → Some (orphaned e.1) ≡ v) es → (rows : Rows)
       → table_of (without_parent t es rows) kind.Token q ≡ (if list_any (child_at q) es then v else table_of rows kind.Token q)
   edited q v [] all rows = refl
   edited q v (e ∷ es) all rows =
-      edited q v es all.1 (if is_child t e then fin.insert rows (kind.Token, e.0.1) (without_owner e.1) else rows)
+      edited q v es all.1 (if is_child t e then fin.insert rows (kind.Token, e.0.1) (orphaned e.1) else rows)
       ∙ ap (λ o. if list_any (child_at q) es then v else o) one
       ∙ turned (list_any (child_at q) es) (child_at q e) v (table_of rows kind.Token q)
     where
-      one : table_of (if is_child t e then fin.insert rows (kind.Token, e.0.1) (without_owner e.1) else rows) kind.Token q
+      one : table_of (if is_child t e then fin.insert rows (kind.Token, e.0.1) (orphaned e.1) else rows) kind.Token q
           ≡ (if child_at q e then v else table_of rows kind.Token q)
       one =
-          elim (is_child t e) as (λ c. ((c && same q e.0.1) ≡ true → Some (without_owner e.1) ≡ v)
-          → table_of (if c then fin.insert rows (kind.Token, e.0.1) (without_owner e.1) else rows) kind.Token q
+          elim (is_child t e) as (λ c. ((c && same q e.0.1) ≡ true → Some (orphaned e.1) ≡ v)
+          → table_of (if c then fin.insert rows (kind.Token, e.0.1) (orphaned e.1) else rows) kind.Token q
           ≡ (if (c && same q e.0.1) then v else table_of rows kind.Token q)) [
-            | true ↦ λ is. ap (λ (table : Table). table kind.Token q) (table_of-insert rows kind.Token e.0.1 (without_owner e.1))
-                ∙ elim (same q e.0.1) as (λ c. (c ≡ true → Some (without_owner e.1) ≡ v)
-                → (if c then Some (without_owner e.1) else table_of rows kind.Token q) ≡ (if c then v else table_of rows kind.Token q)) [
+            | true ↦ λ is. ap (λ (table : Table). table kind.Token q) (table_of-insert rows kind.Token e.0.1 (orphaned e.1))
+                ∙ elim (same q e.0.1) as (λ c. (c ≡ true → Some (orphaned e.1) ≡ v)
+                → (if c then Some (orphaned e.1) else table_of rows kind.Token q) ≡ (if c then v else table_of rows kind.Token q)) [
                   | true ↦ λ at. at refl
                   | false ↦ λ _. refl
                 ] is
@@ -215,29 +212,29 @@ module _ (t : Text) where
         ≡ option_map (orphan_row t q) (if (same q t || false) then None else table_of rows kind.Token q)
     orphan_left q = elim (found_or_not (table_of rows kind.Token q)) [
       | inl none ↦
-          edited q None es (each_token rows (λ e. child_at q e ≡ true → Some (without_owner e.1) ≡ None) (λ u x there goes. absurd (none-some _
+          edited q None es (each_token rows (λ e. child_at q e ≡ true → Some (orphaned e.1) ≡ None) (λ u x there goes. absurd (none-some _
           (sym none ∙ ap (table_of rows kind.Token) (same_true q u (and_parts (is_child t (row_node (u, x))) (same q u) goes).1) ∙ there)))) mid
           ∙ ap (λ o. if list_any (child_at q) es then None else o)
           (ap (λ (table : Table). table kind.Token q) first ∙ ap (λ o. if (same q t || false) then None else o) none ∙ nothing (same q t || false))
           ∙ nothing (list_any (child_at q) es)
           ∙ sym (ap (option_map (orphan_row t q)) (ap (λ o. if (same q t || false) then None else o) none ∙ nothing (same q t || false)))
       | inr r ↦
-          edited q (Some (without_owner r.0)) es (each_token rows (λ e. child_at q e ≡ true → Some (without_owner e.1) ≡ Some (without_owner r.0))
-          (λ u x there goes. ap (λ z. Some (without_owner z)) (entry_at q u r.0 x r.1 there (and_parts (is_child t (row_node (u, x))) (same q u) goes).1))) mid
-          ∙ (λ i. if child_found q r.0 r.1 i then Some (without_owner r.0) else first i kind.Token q)
-          ∙ ap (λ o. if (same r.0.owner t && not (same q t)) then Some (without_owner r.0) else (if (same q t || false) then None else o)) r.1
+          edited q (Some (orphaned r.0)) es (each_token rows (λ e. child_at q e ≡ true → Some (orphaned e.1) ≡ Some (orphaned r.0))
+          (λ u x there goes. ap (λ z. Some (orphaned z)) (entry_at q u r.0 x r.1 there (and_parts (is_child t (row_node (u, x))) (same q u) goes).1))) mid
+          ∙ (λ i. if child_found q r.0 r.1 i then Some (orphaned r.0) else first i kind.Token q)
+          ∙ ap (λ o. if (same r.0.owner t && not (same q t)) then Some (orphaned r.0) else (if (same q t || false) then None else o)) r.1
           ∙ settle q r.0
           ∙ sym (ap (λ o. option_map (orphan_row t q) (if (same q t || false) then None else o)) r.1)
     ]
       where
-        settle : (q : Text) (r : Row) → (if (same r.owner t && not (same q t)) then Some (without_owner r) else (if (same q t || false) then None else Some r))
+        settle : (q : Text) (r : Row) → (if (same r.owner t && not (same q t)) then Some (orphaned r) else (if (same q t || false) then None else Some r))
             ≡ option_map (orphan_row t q) (if (same q t || false) then None else Some r)
         settle q r =
-            elim (same q t) as (λ b. (if (same r.owner t && not b) then Some (without_owner r) else (if (b || false) then None else Some r))
-            ≡ option_map (λ (x : Row). if same x.owner t && not b then without_owner x else x) (if (b || false) then None else Some r)) [
-              | true ↦ elim (same r.owner t) as (λ a. (if (a && false) then Some (without_owner r) else None) ≡ None) [ true ↦ refl | false ↦ refl ]
-              | false ↦ elim (same r.owner t) as (λ a. (if (a && true) then Some (without_owner r) else Some r)
-                  ≡ Some (if a && true then without_owner r else r)) [
+            elim (same q t) as (λ b. (if (same r.owner t && not b) then Some (orphaned r) else (if (b || false) then None else Some r))
+            ≡ option_map (λ (x : Row). if same x.owner t && not b then orphaned x else x) (if (b || false) then None else Some r)) [
+              | true ↦ elim (same r.owner t) as (λ a. (if (a && false) then Some (orphaned r) else None) ≡ None) [ true ↦ refl | false ↦ refl ]
+              | false ↦ elim (same r.owner t) as (λ a. (if (a && true) then Some (orphaned r) else Some r)
+                  ≡ Some (if a && true then orphaned r else r)) [
                     | true ↦ refl
                     | false ↦ refl
                   ]
@@ -268,29 +265,29 @@ module _ (t : Text) where
 
 module _ (s : Start) (rows : Rows) (es fs : List (RowKey × Row)) (list ended : List Text) (listed : es ≡ rows_under rows kind.Token [])
     (again : fs ≡ rows_under rows kind.Token []) (one : list ≡ ended) (down : IsDescent s es ended) where
-  pub ends_descent : AreReadable list fs → (new : Rows) → new ≡ without_ended list fs rows → EndsDescent s rows ended new
+  pub ends_descent : AreReadableEnded list fs → (new : Rows) → new ≡ without_ended list fs rows → EndsDescent s rows ended new
   ends_descent read new is = record {
     descent = subst (λ l. IsDescent s l ended) listed down;
-    readable = rows_read rows ended (subst (λ l. AreReadable ended l) again (subst (λ l. AreReadable l fs) one read));
+    readable = rows_read rows ended (subst (λ l. AreReadableEnded ended l) again (subst (λ l. AreReadableEnded l fs) one read));
     rows = ap table_of is ∙ (λ i. table_of (without_ended (one i) (again i) rows)) ∙ table_of-without_tokens rows ended;
   }
 
-  pub no_damage : (fault : Fault) → (AreReadable list fs → IsMemoryOrStorage fault) → fault ≡ Damaged → IsDamagedDescent s rows
-  no_damage fault undamaged is other below all =
-      absurd (subst IsMemoryOrStorage is (undamaged (subst (λ l. AreReadable list l) (sym again)
+  pub damage_within : (AreReadableEnded list fs → ⊥) → IsDamagedDescent s rows
+  damage_within damage other below all =
+      damage (subst (λ l. AreReadableEnded list l) (sym again)
       (read_rows rows list (λ t r gone row. all t r
-      (descent_within s es ended other down (subst (λ l. IsDescent s l other) (sym listed) below) t (ap (λ l. has l t) (sym one) ∙ gone)) row)))))
+      (descent_within s es ended other down (subst (λ l. IsDescent s l other) (sym listed) below) t (ap (λ l. has l t) (sym one) ∙ gone)) row)))
 
 module _ (rows : Rows) (t : Text) (row : Row) (here : table_of rows kind.Token t ≡ Some row) (es : List (RowKey × Row)) (list : List Text)
     (listed : es ≡ rows_under rows kind.Token []) (one : list ≡ t ∷ []) where
-  pub ends_alone : AreReadable list es → (fs : List (RowKey × Row)) → fs ≡ rows_under rows kind.Token [] → (mid new : Rows)
+  pub ends_alone : AreReadableEnded list es → (fs : List (RowKey × Row)) → fs ≡ rows_under rows kind.Token [] → (mid new : Rows)
       → mid ≡ without_ended list es rows → new ≡ without_parent t fs mid → (ended : List Text) → ended ≡ t ∷ [] → EndsAlone t rows ended new
   ends_alone read fs again mid new is_mid is_new ended is =
       record {
         ends = is ∙ sym (ap (λ o. if is_some o then t ∷ [] else []) here);
         readable =
             subst (λ l. AreTokenRows l (table_of rows)) (sym is)
-            (rows_read rows (t ∷ []) (subst (λ l. AreReadable (t ∷ []) l) listed (subst (λ l. AreReadable l es) one read)));
+            (rows_read rows (t ∷ []) (subst (λ l. AreReadableEnded (t ∷ []) l) listed (subst (λ l. AreReadableEnded l es) one read)));
         rows =
             ap table_of (is_new ∙ ap (λ l. without_parent t l mid) again)
             ∙ table_of-without_children t rows mid
@@ -298,12 +295,12 @@ module _ (rows : Rows) (t : Text) (row : Row) (here : table_of rows kind.Token t
             ∙ sym (ap (λ o. if is_some o then without_children_of t (without_tokens (t ∷ []) (table_of rows)) else table_of rows) here);
       }
 
-  pub no_damage_alone : (fault : Fault) → (AreReadable list es → IsMemoryOrStorage fault) → fault ≡ Damaged → IsDamagedToken (table_of rows) t
-  no_damage_alone fault undamaged is None in_range at = absurd (none-some _ (sym at ∙ here))
-  no_damage_alone fault undamaged is (Some x) in_range at =
-      absurd (subst IsMemoryOrStorage is (undamaged (subst (λ l. AreReadable list l) (sym listed)
+  pub damage_alone : (AreReadableEnded list es → ⊥) → IsDamagedToken (table_of rows) t
+  damage_alone damage None in_range at = absurd (none-some _ (sym at ∙ here))
+  damage_alone damage (Some x) in_range at =
+      damage (subst (λ l. AreReadableEnded list l) (sym listed)
       (read_rows rows list (λ u r gone there. (
         x,
         in_range x refl,
         same_Some _ _ (sym there ∙ ap (table_of rows kind.Token) (same_true u t (sym (or-false (same u t)) ∙ ap (λ l. has l u) (sym one) ∙ gone)) ∙ at),
-      ))))))
+      ))))

@@ -10,7 +10,7 @@ use Rattle.records.specs.Children.{has}
 use Rattle.records.specs.Table.{Table, table_of}
 use Rattle.records.specs.Transaction.{Rows, rows_under}
 use Rattle.token_tree.specs.Ended.{IsDescent, Start}
-use Rattle.token_tree.specs.Orphaned.{without_owner}
+use Rattle.token_tree.specs.Orphaned.{orphaned}
 use Rattle.token_tree.specs.Removed.{accessor_in, IsTokenRow}
 
 -- the rows of the tokens can be read
@@ -47,7 +47,7 @@ IsDamagedDescent s rows =
 
 -- the row at q, without an owner if it is that of a child of t
 abbrev pub orphan_row : Text → Text → Row → Row
-orphan_row t q row = if same row.owner t && not (same q t) then without_owner row else row
+orphan_row t q row = if same row.owner t && not (same q t) then orphaned row else row
 
 -- the table in which the children of t have no parent
 abbrev pub without_children_of : Text → Table → Table

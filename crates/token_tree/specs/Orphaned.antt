@@ -12,11 +12,11 @@ abbrev pub is_child : Text → RowKey × Row → Bool
 is_child t e = same e.1.owner t && not (same e.0.1 t)
 
 -- the row without an owner
-abbrev pub without_owner : Row → Row
-without_owner row = record row { owner = [] }
+abbrev pub orphaned : Row → Row
+orphaned row = record row { owner = [] }
 
 -- the rows, the children of t among the entries without a parent
 abbrev pub without_parent : Text → List (RowKey × Row) → Rows → Rows
 without_parent t [] rows = rows
 without_parent t (e ∷ es) rows =
-    without_parent t es (if is_child t e then fin.insert rows (kind.Token, e.0.1) (without_owner e.1) else rows)
+    without_parent t es (if is_child t e then fin.insert rows (kind.Token, e.0.1) (orphaned e.1) else rows)

@@ -27,8 +27,8 @@ abbrev pub IsTokenRow : RowKey × Row → Type 0
 IsTokenRow e = (x : TokenEntry) × IsTokenInRange x × (e.1 ≡ entry_row x)
 
 -- the rows of the ended among the entries can be read
-abbrev pub AreReadable : List Text → List (RowKey × Row) → Type 0
-AreReadable ended es = AllByRecursion (λ e. has ended e.0.1 ≡ true → IsTokenRow e) es
+abbrev pub AreReadableEnded : List Text → List (RowKey × Row) → Type 0
+AreReadableEnded ended es = AllByRecursion (λ e. has ended e.0.1 ≡ true → IsTokenRow e) es
 
 -- the rows without that of a token and that of its accessor
 abbrev pub without_token : Rows → RowKey × Row → Rows

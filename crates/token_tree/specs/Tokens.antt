@@ -14,12 +14,7 @@ use Rattle.broker_types.specs.Used.{use_up}
 use Rattle.broker_types.specs.Sound.{Forms, SoundTokens, IsSoundToken}
 use Rattle.records.specs.Children.{has}
 use Rattle.records.specs.Parts.{of_tokens, Tells}
-use Rattle.records.specs.Table.{Table, table_of}
-use Rattle.records.specs.Transaction.{Seen, IsHonest}
-
--- the rows that a transaction shows, as a table
-abbrev pub table : Seen → Table
-table s = table_of s.rows
+use Rattle.records.specs.Table.{Table}
 
 -- The rows of tokens and accessors are those of the broker b, whose tokens are sound, and which has each identifier in
 -- one place. This holds within a request too, where a caller may have spent its last use.
@@ -27,11 +22,6 @@ pub record RepresentsTokens (forms : Forms) (rows : Table) (b : Broker) : Type 0
   pub sound : SoundTokens forms b.tokens
   pub one_place : OnePlaceEach b
   pub tells : Tells of_tokens rows b
-
--- it holds of each broker whose tokens the rows represented before the call, if the storage returned what was written
-abbrev pub OfEachBroker : Seen → Seen → (Broker → Type 0) → Type 0
-OfEachBroker old new Holds =
-    IsHonest new → (forms : Forms) (b : Broker) → RepresentsTokens forms (table old) b → Holds b
 
 -- ---- single tokens
 

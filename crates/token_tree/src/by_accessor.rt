@@ -1,13 +1,15 @@
 //! Tokens by their accessors.
 
-ghost use Rattle.std.specs.Prelude.{◌≡◌, ◌≢◌, false, [], IfOk, IfErr, OnOk};
+ghost use Rattle.std.specs.Prelude.{◌≡◌, [], IfOk, IfErr, OnOk};
 ghost use Rattle.std.specs.List.{AllByRecursion};
 ghost use Rattle.broker_types.specs.Fault.{IsMemoryOrStorage};
-ghost use Rattle.records.specs.Transaction.{IsHonest, GoesOn, is_storage};
+ghost use Rattle.records.specs.Calls.{IsReading, IsReadFault, IsDecodeFault, OfEachBroker};
+ghost use Rattle.records.specs.Table.{table};
+ghost use Rattle.records.specs.Transaction.{IsHonest};
 ghost use Rattle.token_tree.specs.Accessors.{IsFoundAt, IsDamagedAccessor, IsAccessorRow, AreAccessorRows};
 ghost use Rattle.token_tree.specs.Accessors.{with_accessor, with_accessors, token_accessors};
 ghost use Rattle.token_tree.specs.Tokens as tokens;
-ghost use Rattle.token_tree.specs.Tokens.{table, OfEachBroker, accessors_of};
+ghost use Rattle.token_tree.specs.Tokens.{RepresentsTokens, accessors_of};
 
 use broker_types::{Fault, TextBuf};
 use records::{Entry, Holder, Kind, RecordsTx, read_accessor};
@@ -18,14 +20,12 @@ use std::alloc::Global;
 /// "Tokens", token accessors).
 pub fn find_accessor<T: RecordsTx>(tx: &mut T, accessor: &str) -> Result<Option<TextBuf>, Fault>
     ensures found { IsHonest (T.seen tx.new) → IfOk result (IsFoundAt (table (T.seen tx.old)) accessor.now) }
-    ensures told { OfEachBroker (T.seen tx.old) (T.seen tx.new) (λ b.
+    ensures told { OfEachBroker RepresentsTokens (T.seen tx.old) (T.seen tx.new) (λ b.
         IfOk result (λ found. found ≡ tokens.find_accessor b accessor.now)) }
-    ensures same { IsHonest (T.seen tx.new) → OnOk result ((T.seen tx.new).rows ≡ (T.seen tx.old).rows) }
-    ensures started { IfErr result (λ fault. fault ≢ Fault.BadStart) }
-    ensures damaged { IsHonest (T.seen tx.new) → IfErr result
-        (λ fault. fault ≡ Fault.Damaged → IsDamagedAccessor (table (T.seen tx.old)) accessor.now) }
-    ensures undamaged { OfEachBroker (T.seen tx.old) (T.seen tx.new) (λ b. IfErr result IsMemoryOrStorage) }
-    ensures goes_on { GoesOn (T.seen tx.old) (T.seen tx.new) (is_storage result) }
+    ensures wants { OfEachBroker RepresentsTokens (T.seen tx.old) (T.seen tx.new)
+        (λ b. IfErr result IsMemoryOrStorage) }
+    ensures call { IsReading (T.seen tx.old) (T.seen tx.new) result
+        (IsReadFault (IsHonest (T.seen tx.new) → IsDamagedAccessor (table (T.seen tx.old)) accessor.now)) }
 {
     let Some(kept) = tx.get(Kind::Accessor, accessor)? else {
         return Ok(None);
@@ -39,11 +39,9 @@ pub fn find_accessor<T: RecordsTx>(tx: &mut T, accessor: &str) -> Result<Option<
 
 /// Adds an accessor to the names, if it names a token.
 fn add_accessor(alloc: Global, names: &mut Vec<TextBuf>, entry: &Entry) -> Result<(), Fault>
-    ensures ok { OnOk result (names.new.items ≡ with_accessor entry.now names.old.items) }
-    ensures started { IfErr result (λ fault. fault ≢ Fault.BadStart) }
+    ensures found { OnOk result (names.new.items ≡ with_accessor entry.now names.old.items) }
     ensures readable { OnOk result (IsAccessorRow entry.now) }
-    ensures undamaged { IsAccessorRow entry.now → IfErr result IsMemoryOrStorage }
-    ensures faults { is_storage result ≡ false }
+    ensures faults { IfErr result (IsDecodeFault (IsAccessorRow entry.now → ⊥)) }
 {
     let holder = read_accessor(&entry.row)?;
     match holder {
@@ -57,11 +55,9 @@ fn add_accessor(alloc: Global, names: &mut Vec<TextBuf>, entry: &Entry) -> Resul
 
 /// The accessors among the entries that name tokens.
 fn names_of(alloc: Global, entries: &[Entry]) -> Result<Vec<TextBuf>, Fault>
-    ensures ok { IfOk result (λ names. names.items ≡ with_accessors entries.now []) }
-    ensures started { IfErr result (λ fault. fault ≢ Fault.BadStart) }
+    ensures found { IfOk result (λ names. names.items ≡ with_accessors entries.now []) }
     ensures readable { OnOk result (AllByRecursion IsAccessorRow entries.now) }
-    ensures undamaged { AllByRecursion IsAccessorRow entries.now → IfErr result IsMemoryOrStorage }
-    ensures faults { is_storage result ≡ false }
+    ensures faults { IfErr result (IsDecodeFault (AllByRecursion IsAccessorRow entries.now → ⊥)) }
 {
     let mut names = Vec::new(alloc);
     for entry in entries {
@@ -76,15 +72,13 @@ fn names_of(alloc: Global, entries: &[Entry]) -> Result<Vec<TextBuf>, Fault>
 pub fn accessors<T: RecordsTx>(alloc: Global, tx: &mut T) -> Result<Vec<TextBuf>, Fault>
     ensures found { IsHonest (T.seen tx.new)
         → IfOk result (λ names. names.items ≡ token_accessors (T.seen tx.old).rows) }
-    ensures told { OfEachBroker (T.seen tx.old) (T.seen tx.new) (λ b.
+    ensures told { OfEachBroker RepresentsTokens (T.seen tx.old) (T.seen tx.new) (λ b.
         IfOk result (λ names. names.items ≡ accessors_of b)) }
-    ensures same { IsHonest (T.seen tx.new) → OnOk result ((T.seen tx.new).rows ≡ (T.seen tx.old).rows) }
-    ensures started { IfErr result (λ fault. fault ≢ Fault.BadStart) }
     ensures readable { IsHonest (T.seen tx.new) → OnOk result (AreAccessorRows (T.seen tx.old).rows) }
-    ensures damaged { IsHonest (T.seen tx.new) → IfErr result
-        (λ fault. fault ≡ Fault.Damaged → AreAccessorRows (T.seen tx.old).rows → ⊥) }
-    ensures undamaged { OfEachBroker (T.seen tx.old) (T.seen tx.new) (λ b. IfErr result IsMemoryOrStorage) }
-    ensures goes_on { GoesOn (T.seen tx.old) (T.seen tx.new) (is_storage result) }
+    ensures wants { OfEachBroker RepresentsTokens (T.seen tx.old) (T.seen tx.new)
+        (λ b. IfErr result IsMemoryOrStorage) }
+    ensures call { IsReading (T.seen tx.old) (T.seen tx.new) result
+        (IsReadFault (IsHonest (T.seen tx.new) → AreAccessorRows (T.seen tx.old).rows → ⊥)) }
 {
     let listed = tx.under(Kind::Accessor, "")?;
     names_of(alloc, &listed)

@@ -57,7 +57,7 @@ fn add_children(
     start: &Start<'_>,
     ended: &mut Vec<TextBuf>,
 ) -> Result<(), Fault>
-    ensures ok { OnOk result (ended.new.items ≡ grown (starts start.now) entries.now ended.old.items) }
+    ensures found { OnOk result (ended.new.items ≡ grown (starts start.now) entries.now ended.old.items) }
     ensures memory { IfErr result (λ fault. fault ≡ Fault.Memory) }
 {
     for entry in entries {
@@ -77,7 +77,7 @@ pub(crate) fn descent(
     entries: &[Entry],
     start: &Start<'_>,
 ) -> Result<Vec<TextBuf>, Fault>
-    ensures ok { IfOk result (λ list. IsDescent (starts start.now) entries.now list.items) }
+    ensures found { IfOk result (λ list. IsDescent (starts start.now) entries.now list.items) }
     ensures memory { IfErr result (λ fault. fault ≡ Fault.Memory) }
 {
     let mut ended = Vec::new(alloc);

@@ -1,9 +1,9 @@
 //! The rows of tokens that ended are taken out.
 
-ghost use Rattle.std.specs.Prelude.{◌≡◌, ◌≢◌, IfErr, OnOk};
-ghost use Rattle.broker_types.specs.Fault.{IsMemoryOrStorage};
-ghost use Rattle.records.specs.Transaction.{IsHonest, GoesOn, is_storage};
-ghost use Rattle.token_tree.specs.Removed.{without_token, without_ended, IsTokenRow, AreReadable};
+ghost use Rattle.std.specs.Prelude.{◌≡◌, OnOk};
+ghost use Rattle.records.specs.Calls.{IsCall, IsReadFault};
+ghost use Rattle.records.specs.Transaction.{IsHonest};
+ghost use Rattle.token_tree.specs.Removed.{without_token, without_ended, IsTokenRow, AreReadableEnded};
 
 use crate::descending::is_among;
 use broker_types::{Fault, TextBuf};
@@ -15,9 +15,7 @@ fn remove_token<T: RecordsTx>(alloc: Global, tx: &mut T, entry: &Entry) -> Resul
     ensures rows { IsHonest (T.seen tx.new)
         → OnOk result ((T.seen tx.new).rows ≡ without_token (T.seen tx.old).rows entry.now) }
     ensures readable { OnOk result (IsTokenRow entry.now) }
-    ensures started { IfErr result (λ fault. fault ≢ Fault.BadStart) }
-    ensures undamaged { IsTokenRow entry.now → IfErr result IsMemoryOrStorage }
-    ensures goes_on { GoesOn (T.seen tx.old) (T.seen tx.new) (is_storage result) }
+    ensures call { IsCall (T.seen tx.old) (T.seen tx.new) result (IsReadFault (IsTokenRow entry.now → ⊥)) }
 {
     let token = read_token(alloc, &entry.row)?;
     tx.remove(Kind::Accessor, token.accessor.as_str())?;
@@ -33,10 +31,9 @@ pub(crate) fn remove_ended<T: RecordsTx>(
 ) -> Result<(), Fault>
     ensures rows { IsHonest (T.seen tx.new)
         → OnOk result ((T.seen tx.new).rows ≡ without_ended ended.now entries.now (T.seen tx.old).rows) }
-    ensures readable { OnOk result (AreReadable ended.now entries.now) }
-    ensures started { IfErr result (λ fault. fault ≢ Fault.BadStart) }
-    ensures undamaged { AreReadable ended.now entries.now → IfErr result IsMemoryOrStorage }
-    ensures goes_on { GoesOn (T.seen tx.old) (T.seen tx.new) (is_storage result) }
+    ensures readable { OnOk result (AreReadableEnded ended.now entries.now) }
+    ensures call { IsCall (T.seen tx.old) (T.seen tx.new) result
+        (IsReadFault (AreReadableEnded ended.now entries.now → ⊥)) }
 {
     for entry in entries {
         if is_among(ended, entry.key.as_str()) {

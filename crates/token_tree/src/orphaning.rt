@@ -1,15 +1,17 @@
 //! Revocation of one token, whose children have no parent then.
 
-ghost use Rattle.std.specs.Prelude.{[], ◌≡◌, ◌≢◌, None, IfOk, IfErr, OnOk};
+ghost use Rattle.std.specs.Prelude.{[], ◌≡◌, None, IfOk, IfErr, OnOk};
 ghost use Rattle.broker_types.specs.Broker as broker;
 ghost use Rattle.broker_types.specs.Fault.{IsMemoryOrStorage};
 ghost use Rattle.broker_types.specs.Map.{get};
+ghost use Rattle.records.specs.Calls.{IsChange, IsReadFault, OfEachBroker, IsCall};
 ghost use Rattle.records.specs.Parts.{of_tokens, Tells, KeepsOthers};
-ghost use Rattle.records.specs.Transaction.{IsHonest, GoesOn, IsCall, is_storage};
+ghost use Rattle.records.specs.Table.{table};
+ghost use Rattle.records.specs.Transaction.{IsHonest};
 ghost use Rattle.token_tree.specs.Endings.{EndsAlone};
 ghost use Rattle.token_tree.specs.Orphaned.{without_parent};
 ghost use Rattle.token_tree.specs.TokenRows.{IsDamagedToken};
-ghost use Rattle.token_tree.specs.Tokens.{table, OfEachBroker, AreEnded};
+ghost use Rattle.token_tree.specs.Tokens.{RepresentsTokens, AreEnded};
 
 use crate::descending::is_same;
 use crate::ending::remove_ended;
@@ -27,19 +29,17 @@ pub fn revoke_one<T: RecordsTx>(
 ) -> Result<Vec<TextBuf>, Fault>
     ensures rows { IsHonest (T.seen tx.new) → IfOk result (λ list.
         EndsAlone token.now (T.seen tx.old).rows list.items (T.seen tx.new).rows) }
-    ensures ok { OfEachBroker (T.seen tx.old) (T.seen tx.new) (λ b.
+    ensures told { OfEachBroker RepresentsTokens (T.seen tx.old) (T.seen tx.new) (λ b.
         OnOk result (Tells of_tokens (table (T.seen tx.new)) (broker.revoke_orphan b token.now))) }
-    ensures ended { OfEachBroker (T.seen tx.old) (T.seen tx.new) (λ b.
+    ensures ended { OfEachBroker RepresentsTokens (T.seen tx.old) (T.seen tx.new) (λ b.
         IfOk result (λ list. AreEnded b (broker.revoke_orphan b token.now) list.items)) }
-    ensures unknown { OfEachBroker (T.seen tx.old) (T.seen tx.new) (λ b. get b.tokens token.now ≡ None
+    ensures unknown { OfEachBroker RepresentsTokens (T.seen tx.old) (T.seen tx.new) (λ b.
+        get b.tokens token.now ≡ None
         → IfOk result (λ list. (list.items ≡ []) × ((T.seen tx.new).rows ≡ (T.seen tx.old).rows))) }
-    ensures others { IsHonest (T.seen tx.new)
-        → OnOk result (KeepsOthers of_tokens (table (T.seen tx.old)) (table (T.seen tx.new))) }
-    ensures started { IfErr result (λ fault. fault ≢ Fault.BadStart) }
-    ensures damaged { IsHonest (T.seen tx.new) → IfErr result
-        (λ fault. fault ≡ Fault.Damaged → IsDamagedToken (table (T.seen tx.old)) token.now) }
-    ensures undamaged { OfEachBroker (T.seen tx.old) (T.seen tx.new) (λ b. IfErr result IsMemoryOrStorage) }
-    ensures goes_on { GoesOn (T.seen tx.old) (T.seen tx.new) (is_storage result) }
+    ensures wants { OfEachBroker RepresentsTokens (T.seen tx.old) (T.seen tx.new)
+        (λ b. IfErr result IsMemoryOrStorage) }
+    ensures call { IsChange (KeepsOthers of_tokens) (T.seen tx.old) (T.seen tx.new) result
+        (IsReadFault (IsHonest (T.seen tx.new) → IsDamagedToken (table (T.seen tx.old)) token.now)) }
 {
     let Some(_) = tx.get(Kind::Token, token)? else {
         return Ok(Vec::new(alloc));
@@ -61,7 +61,7 @@ fn orphan_children<T: RecordsTx>(
 ) -> Result<(), Fault>
     ensures rows { IsHonest (T.seen tx.new)
         → OnOk result ((T.seen tx.new).rows ≡ without_parent token.now entries.now (T.seen tx.old).rows) }
-    ensures call { IsCall (T.seen tx.old) (T.seen tx.new) result }
+    ensures call { IsCall (T.seen tx.old) (T.seen tx.new) result IsMemoryOrStorage }
 {
     for entry in entries {
         let key = entry.key.as_str();

@@ -1,14 +1,16 @@
 //! Revocation: a token ends with all under it.
 
-ghost use Rattle.std.specs.Prelude.{[], ◌≡◌, ◌≢◌, None, IfOk, IfErr, OnOk};
+ghost use Rattle.std.specs.Prelude.{[], ◌≡◌, None, IfOk, IfErr, OnOk};
 ghost use Rattle.broker_types.specs.Broker as broker;
 ghost use Rattle.broker_types.specs.Fault.{IsMemoryOrStorage};
 ghost use Rattle.broker_types.specs.Map.{get};
+ghost use Rattle.records.specs.Calls.{IsChange, IsReadFault, OfEachBroker};
 ghost use Rattle.records.specs.Parts.{of_tokens, Tells, KeepsOthers};
-ghost use Rattle.records.specs.Transaction.{IsHonest, GoesOn, is_storage};
+ghost use Rattle.records.specs.Table.{table};
+ghost use Rattle.records.specs.Transaction.{IsHonest};
 ghost use Rattle.token_tree.specs.Ended.{is_named};
 ghost use Rattle.token_tree.specs.Endings.{EndsDescent, IsDamagedDescent};
-ghost use Rattle.token_tree.specs.Tokens.{table, OfEachBroker, AreEnded};
+ghost use Rattle.token_tree.specs.Tokens.{RepresentsTokens, AreEnded};
 
 use crate::descending::descent;
 use crate::ending::remove_ended;
@@ -23,19 +25,17 @@ use std::alloc::Global;
 pub fn revoke<T: RecordsTx>(alloc: Global, tx: &mut T, token: &str) -> Result<Vec<TextBuf>, Fault>
     ensures rows { IsHonest (T.seen tx.new) → IfOk result (λ list.
         EndsDescent (is_named token.now) (T.seen tx.old).rows list.items (T.seen tx.new).rows) }
-    ensures ok { OfEachBroker (T.seen tx.old) (T.seen tx.new) (λ b.
+    ensures told { OfEachBroker RepresentsTokens (T.seen tx.old) (T.seen tx.new) (λ b.
         OnOk result (Tells of_tokens (table (T.seen tx.new)) (broker.revoke b token.now))) }
-    ensures ended { OfEachBroker (T.seen tx.old) (T.seen tx.new) (λ b.
+    ensures ended { OfEachBroker RepresentsTokens (T.seen tx.old) (T.seen tx.new) (λ b.
         IfOk result (λ list. AreEnded b (broker.revoke b token.now) list.items)) }
-    ensures unknown { OfEachBroker (T.seen tx.old) (T.seen tx.new) (λ b. get b.tokens token.now ≡ None
+    ensures unknown { OfEachBroker RepresentsTokens (T.seen tx.old) (T.seen tx.new) (λ b.
+        get b.tokens token.now ≡ None
         → IfOk result (λ list. (list.items ≡ []) × ((T.seen tx.new).rows ≡ (T.seen tx.old).rows))) }
-    ensures others { IsHonest (T.seen tx.new)
-        → OnOk result (KeepsOthers of_tokens (table (T.seen tx.old)) (table (T.seen tx.new))) }
-    ensures started { IfErr result (λ fault. fault ≢ Fault.BadStart) }
-    ensures damaged { IsHonest (T.seen tx.new) → IfErr result
-        (λ fault. fault ≡ Fault.Damaged → IsDamagedDescent (is_named token.now) (T.seen tx.old).rows) }
-    ensures undamaged { OfEachBroker (T.seen tx.old) (T.seen tx.new) (λ b. IfErr result IsMemoryOrStorage) }
-    ensures goes_on { GoesOn (T.seen tx.old) (T.seen tx.new) (is_storage result) }
+    ensures wants { OfEachBroker RepresentsTokens (T.seen tx.old) (T.seen tx.new)
+        (λ b. IfErr result IsMemoryOrStorage) }
+    ensures call { IsChange (KeepsOthers of_tokens) (T.seen tx.old) (T.seen tx.new) result
+        (IsReadFault (IsHonest (T.seen tx.new) → IsDamagedDescent (is_named token.now) (T.seen tx.old).rows)) }
 {
     let entries = tx.under(Kind::Token, "")?;
     let ended = descent(alloc, &entries, &Start::Named(token))?;

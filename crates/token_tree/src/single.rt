@@ -1,6 +1,6 @@
 //! Single tokens: looked up, made, and changed.
 
-ghost use Rattle.std.specs.Prelude.{◌≡◌, ◌≢◌, Some, option_map, IfOk, IfErr, OnOk};
+ghost use Rattle.std.specs.Prelude.{◌≡◌, Some, option_map, IfOk, IfErr, OnOk};
 ghost use Rattle.std.specs.FinMap as fin;
 ghost use Rattle.broker_types.specs.Broker.{Broker};
 ghost use Rattle.broker_types.specs.Evolves.{IsNew};
@@ -12,17 +12,18 @@ ghost use Rattle.broker_types.specs.Spending as spending;
 ghost use Rattle.broker_types.specs.Token.{Token};
 ghost use Rattle.records.specs.declared.holder.Holder.TheVariants as holder;
 ghost use Rattle.records.specs.declared.kind.Kind.TheVariants as kind;
+ghost use Rattle.records.specs.Calls.{IsReading, IsChange, IsReadFault, OfEachBroker, IsCall};
 ghost use Rattle.records.specs.Parts.{of_tokens, Tells, KeepsOthers};
 ghost use Rattle.records.specs.Ranges.{IsTokenInRange};
 ghost use Rattle.records.specs.Reading.{IsSomeIn};
 ghost use Rattle.records.specs.RowForms.{entry_row};
-ghost use Rattle.records.specs.Table.{with_row};
+ghost use Rattle.records.specs.Table.{with_row, table};
 ghost use Rattle.records.specs.TokenEntry.{token_entry};
-ghost use Rattle.records.specs.Transaction.{IsHonest, GoesOn, IsCall, is_storage};
+ghost use Rattle.records.specs.Transaction.{IsHonest};
 ghost use Rattle.token_tree.specs.TokenRows.{IsTokenAt, IsDamagedToken, ChangesToken, with_created, spent_entry};
 ghost use Rattle.token_tree.specs.TokenRows.{renewed_entry};
 ghost use Rattle.token_tree.specs.Tokens as tokens;
-ghost use Rattle.token_tree.specs.Tokens.{table, OfEachBroker, with_token};
+ghost use Rattle.token_tree.specs.Tokens.{RepresentsTokens, with_token};
 
 use broker_types::Fault;
 use records::{Due, Holder, Kind, RecordsTx, TokenRecord, read_token, write_accessor, write_token};
@@ -36,15 +37,13 @@ pub fn find<T: RecordsTx>(
     token: &str,
 ) -> Result<Option<TokenRecord>, Fault>
     ensures found { IsHonest (T.seen tx.new) → IfOk result (IsTokenAt (table (T.seen tx.old)) token.now) }
-    ensures told { OfEachBroker (T.seen tx.old) (T.seen tx.new) (λ b.
+    ensures told { OfEachBroker RepresentsTokens (T.seen tx.old) (T.seen tx.new) (λ b.
         IfOk result (λ found. found ≡ option_map token_entry (get b.tokens token.now))) }
     ensures in_range { IfOk result (IsSomeIn IsTokenInRange) }
-    ensures same { IsHonest (T.seen tx.new) → OnOk result ((T.seen tx.new).rows ≡ (T.seen tx.old).rows) }
-    ensures started { IfErr result (λ fault. fault ≢ Fault.BadStart) }
-    ensures damaged { IsHonest (T.seen tx.new) → IfErr result
-        (λ fault. fault ≡ Fault.Damaged → IsDamagedToken (table (T.seen tx.old)) token.now) }
-    ensures undamaged { OfEachBroker (T.seen tx.old) (T.seen tx.new) (λ b. IfErr result IsMemoryOrStorage) }
-    ensures goes_on { GoesOn (T.seen tx.old) (T.seen tx.new) (is_storage result) }
+    ensures wants { OfEachBroker RepresentsTokens (T.seen tx.old) (T.seen tx.new)
+        (λ b. IfErr result IsMemoryOrStorage) }
+    ensures call { IsReading (T.seen tx.old) (T.seen tx.new) result
+        (IsReadFault (IsHonest (T.seen tx.new) → IsDamagedToken (table (T.seen tx.old)) token.now)) }
 {
     let Some(kept) = tx.get(Kind::Token, token)? else {
         return Ok(None);
@@ -62,7 +61,7 @@ fn put_token<T: RecordsTx>(
     requires { IsTokenInRange entry.now }
     ensures rows { IsHonest (T.seen tx.new) → OnOk result ((T.seen tx.new).rows
         ≡ fin.insert (T.seen tx.old).rows (kind.Token, token.now) (entry_row entry.now)) }
-    ensures call { IsCall (T.seen tx.old) (T.seen tx.new) result }
+    ensures call { IsCall (T.seen tx.old) (T.seen tx.new) result IsMemoryOrStorage }
 {
     let row = write_token(alloc, entry)?;
     tx.put(Kind::Token, token, row)
@@ -79,12 +78,11 @@ pub fn create<T: RecordsTx>(
     requires { IsTokenInRange entry.now }
     ensures rows { IsHonest (T.seen tx.new) → OnOk result (table (T.seen tx.new)
         ≡ with_created (table (T.seen tx.old)) token.now entry.now) }
-    ensures ok { OfEachBroker (T.seen tx.old) (T.seen tx.new) (λ b. (x : Token) → token_entry x ≡ entry.now
+    ensures told { OfEachBroker RepresentsTokens (T.seen tx.old) (T.seen tx.new) (λ b.
+        (x : Token) → token_entry x ≡ entry.now
         → AllUsed b → IsNew b (token_identifier token.now) → IsNew b x.accessor
         → OnOk result (Tells of_tokens (table (T.seen tx.new)) (with_token b token.now x))) }
-    ensures others { IsHonest (T.seen tx.new)
-        → OnOk result (KeepsOthers of_tokens (table (T.seen tx.old)) (table (T.seen tx.new))) }
-    ensures call { IsCall (T.seen tx.old) (T.seen tx.new) result }
+    ensures call { IsChange (KeepsOthers of_tokens) (T.seen tx.old) (T.seen tx.new) result IsMemoryOrStorage }
 {
     put_token(alloc, tx, token, entry)?;
     let row = write_accessor(alloc, token, Holder::Token)?;
@@ -101,13 +99,11 @@ fn rewrite<T: RecordsTx>(
     requires { IsTokenInRange entry.now }
     ensures rows { IsHonest (T.seen tx.new) → OnOk result (table (T.seen tx.new)
         ≡ with_row (table (T.seen tx.old)) kind.Token token.now (entry_row entry.now)) }
-    ensures ok { IsHonest (T.seen tx.new) → (b : Broker) (x : Token) (f : Token → Token)
+    ensures told { IsHonest (T.seen tx.new) → (b : Broker) (x : Token) (f : Token → Token)
         → Tells of_tokens (table (T.seen tx.old)) b → get b.tokens token.now ≡ Some x
         → token_entry (f x) ≡ entry.now → ((y : Token) → (f y).accessor ≡ y.accessor)
         → OnOk result (Tells of_tokens (table (T.seen tx.new)) (record b { tokens = change b.tokens token.now f })) }
-    ensures others { IsHonest (T.seen tx.new)
-        → OnOk result (KeepsOthers of_tokens (table (T.seen tx.old)) (table (T.seen tx.new))) }
-    ensures call { IsCall (T.seen tx.old) (T.seen tx.new) result }
+    ensures call { IsChange (KeepsOthers of_tokens) (T.seen tx.old) (T.seen tx.new) result IsMemoryOrStorage }
 {
     put_token(alloc, tx, token, entry)
 }
@@ -118,15 +114,12 @@ fn rewrite<T: RecordsTx>(
 pub fn spend<T: RecordsTx>(alloc: Global, tx: &mut T, token: &str) -> Result<(), Fault>
     ensures rows { IsHonest (T.seen tx.new)
         → OnOk result (ChangesToken token.now spent_entry (table (T.seen tx.old)) (table (T.seen tx.new))) }
-    ensures ok { OfEachBroker (T.seen tx.old) (T.seen tx.new) (λ b.
+    ensures told { OfEachBroker RepresentsTokens (T.seen tx.old) (T.seen tx.new) (λ b.
         OnOk result (Tells of_tokens (table (T.seen tx.new)) (spending.spend b token.now))) }
-    ensures others { IsHonest (T.seen tx.new)
-        → OnOk result (KeepsOthers of_tokens (table (T.seen tx.old)) (table (T.seen tx.new))) }
-    ensures started { IfErr result (λ fault. fault ≢ Fault.BadStart) }
-    ensures damaged { IsHonest (T.seen tx.new) → IfErr result
-        (λ fault. fault ≡ Fault.Damaged → IsDamagedToken (table (T.seen tx.old)) token.now) }
-    ensures undamaged { OfEachBroker (T.seen tx.old) (T.seen tx.new) (λ b. IfErr result IsMemoryOrStorage) }
-    ensures goes_on { GoesOn (T.seen tx.old) (T.seen tx.new) (is_storage result) }
+    ensures wants { OfEachBroker RepresentsTokens (T.seen tx.old) (T.seen tx.new)
+        (λ b. IfErr result IsMemoryOrStorage) }
+    ensures call { IsChange (KeepsOthers of_tokens) (T.seen tx.old) (T.seen tx.new) result
+        (IsReadFault (IsHonest (T.seen tx.new) → IsDamagedToken (table (T.seen tx.old)) token.now)) }
 {
     let Some(mut record) = find(alloc, tx, token)? else {
         return Ok(());
@@ -145,15 +138,12 @@ pub fn renew<T: RecordsTx>(alloc: Global, tx: &mut T, token: &str, ends: Due) ->
     requires { IsEnd ends }
     ensures rows { IsHonest (T.seen tx.new)
         → OnOk result (ChangesToken token.now (renewed_entry ends) (table (T.seen tx.old)) (table (T.seen tx.new))) }
-    ensures ok { OfEachBroker (T.seen tx.old) (T.seen tx.new) (λ b.
+    ensures told { OfEachBroker RepresentsTokens (T.seen tx.old) (T.seen tx.new) (λ b.
         OnOk result (Tells of_tokens (table (T.seen tx.new)) (tokens.renew b token.now ends))) }
-    ensures others { IsHonest (T.seen tx.new)
-        → OnOk result (KeepsOthers of_tokens (table (T.seen tx.old)) (table (T.seen tx.new))) }
-    ensures started { IfErr result (λ fault. fault ≢ Fault.BadStart) }
-    ensures damaged { IsHonest (T.seen tx.new) → IfErr result
-        (λ fault. fault ≡ Fault.Damaged → IsDamagedToken (table (T.seen tx.old)) token.now) }
-    ensures undamaged { OfEachBroker (T.seen tx.old) (T.seen tx.new) (λ b. IfErr result IsMemoryOrStorage) }
-    ensures goes_on { GoesOn (T.seen tx.old) (T.seen tx.new) (is_storage result) }
+    ensures wants { OfEachBroker RepresentsTokens (T.seen tx.old) (T.seen tx.new)
+        (λ b. IfErr result IsMemoryOrStorage) }
+    ensures call { IsChange (KeepsOthers of_tokens) (T.seen tx.old) (T.seen tx.new) result
+        (IsReadFault (IsHonest (T.seen tx.new) → IsDamagedToken (table (T.seen tx.old)) token.now)) }
 {
     let Some(mut record) = find(alloc, tx, token)? else {
         return Ok(());

@@ -12,8 +12,8 @@ use Rattle.broker_types.specs.declared.refusal.Refusal.{Refusal}
 use Rattle.broker_types.specs.declared.refusal.Refusal.TheVariants as refusal
 use Rattle.broker_types.specs.declared.refusal.Reason.TheVariants as reason
 use Rattle.cubbyhole.specs.Cubbyhole as cubbyhole
-use Rattle.mounts.specs.declared.operation.Cubbyhole.{Cubbyhole}
-use Rattle.mounts.specs.declared.operation.Cubbyhole.TheVariants as operation
+use Rattle.mounts.specs.declared.operation.CubbyholeOperation.{CubbyholeOperation}
+use Rattle.mounts.specs.declared.operation.CubbyholeOperation.TheVariants as operation
 use Rattle.api_json.specs.Json.{body_members}
 use Rattle.api_json.specs.Reply.{plain_reply}
 use Rattle.broker.specs.Order.{Traits}
@@ -24,7 +24,7 @@ pub data CubbyholeCommand : Type 0 where
   write_object : Text → Members → CubbyholeCommand
 
 -- what an operation means, by the path and the body
-abbrev pub cubbyhole_command : Cubbyhole → Text → List ℕ → Result CubbyholeCommand Refusal
+abbrev pub cubbyhole_command : CubbyholeOperation → Text → List ℕ → Result CubbyholeCommand Refusal
 cubbyhole_command operation.Read path body = Ok (read_object path)
 cubbyhole_command operation.Write path body = do
   members ← body_members body

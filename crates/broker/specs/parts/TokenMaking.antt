@@ -18,13 +18,14 @@ use Rattle.token_tree.specs.Tokens.{MayBeMade}
 use Rattle.api_json.specs.declared.token_bodies.TokenCreation.{TokenCreation}
 use Rattle.broker.specs.Context.{Context}
 use Rattle.broker.specs.Forms.{forms}
-use Rattle.broker.specs.Operating.{Starts}
+use Rattle.broker.specs.Operating.{Begins}
 use Rattle.broker.specs.PermittedRows.{IsSudoAt}
 use Rattle.broker.specs.Representing.{Represents}
 use Rattle.broker.specs.Stages.{IsDone}
 use Rattle.broker.specs.declared.answered.Answered.{Answered}
+use Rattle.broker.specs.declared.parts.tokens.making.Making.{Making}
 use Rattle.broker.specs.parts.TokenCommands.{token_names}
-use Rattle.broker.specs.parts.TokenCreation.{Making, makes_orphans, making_path, may_make, new_policies}
+use Rattle.broker.specs.parts.TokenCreation.{making_path, may_make, new_policies}
 use Rattle.broker.specs.parts.TokenEntries.{token_told}
 use Rattle.broker.specs.parts.TokenRanges.{AreTokenNames}
 use Rattle.broker.specs.parts.Tokens.{create, made}
@@ -32,26 +33,25 @@ use Rattle.broker.specs.parts.Tokens.{create, made}
 -- the token of the entry is made, if it may be
 abbrev pub PutsToken : Context → Seen → Seen → TokenEntry → Result Answered RequestError → Type 0
 PutsToken x old new entry result =
-    IsHonest new → (b : Broker) → Starts x old.rows b → (y : Token) → token_entry y ≡ entry
+    IsHonest new → (b : Broker) → Begins x old.rows b → (y : Token) → token_entry y ≡ entry
     → MayBeMade forms b (token_text (names_of x.words).token) y → y.cubbyhole ≡ empty
     → y.accessor ≡ (names_of x.words).accessor
     → Ends (IsDone x.caller new.rows) (Represents (Some x.caller) new.rows b) result (Ok (made b (names_of x.words) y))
 
 -- the row of the token t and those of its policies say that it may make the token that is asked for
-pub record MayMakeAt (rows : Rows) (t : Text) (m : Making) (asked : TokenCreation) : Type 0 where
+pub record MayMakeAt (rows : Rows) (t : Text) (making : Making) (asked : TokenCreation) : Type 0 where
   pub caller : TokenEntry
   pub in_range : IsTokenInRange caller
   pub row : IsTokenAt (table_of rows) t (Some caller)
   pub privileged : Bool
-  pub sudo : IsSudoAt rows caller.policies (making_path m) privileged
-  pub may : may_make privileged (makes_orphans m) (token_told caller)
+  pub sudo : IsSudoAt rows caller.policies (making_path making) privileged
+  pub may : may_make privileged making (token_told caller)
       (new_policies privileged (token_told caller) asked) asked ≡ Ok tt
 
 -- the token that is asked for is made or refused, where its identifiers are new
-abbrev pub MakesAsked : Context → Seen → Seen → Bool → TokenCreation → Result Answered RequestError → Type 0
-MakesAsked x old new orphans asked result =
-    IsHonest new → (b : Broker) → Starts x old.rows b → AreTokenNames (names_of x.words)
+abbrev pub MakesAsked : Context → Seen → Seen → Making → TokenCreation → Result Answered RequestError → Type 0
+MakesAsked x old new making asked result =
+    IsHonest new → (b : Broker) → Begins x old.rows b → AreTokenNames (names_of x.words)
     → are_new b.used (token_names (names_of x.words)) ≡ true
-    → (m : Making) → makes_orphans m ≡ orphans
     → Ends (IsDone x.caller new.rows) (Represents (Some x.caller) new.rows b) result
-    (create b x.caller (names_of x.words) m asked)
+    (create b x.caller (names_of x.words) making asked)

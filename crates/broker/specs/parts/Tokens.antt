@@ -21,11 +21,13 @@ use Rattle.token_tree.specs.Tokens as tree
 use Rattle.api_json.specs.Objects.{keys_object}
 use Rattle.api_json.specs.Reply.{plain_reply}
 use Rattle.api_json.specs.declared.token_bodies.TokenCreation.{TokenCreation}
+use Rattle.broker.specs.declared.parts.tokens.making.Making.{Making}
+use Rattle.broker.specs.declared.parts.tokens.making.Making.TheVariants.{OfCaller, WithoutParent}
 use Rattle.broker.specs.parts.TokenCommands.{TokenCommand, create_token, create_orphan, lookup_token, lookup_accessor}
 use Rattle.broker.specs.parts.TokenCommands.{lookup_self, renew_token, renew_self, revoke_token, revoke_orphan}
 use Rattle.broker.specs.parts.TokenCommands.{revoke_accessor, revoke_self, list_accessors, token_names}
-use Rattle.broker.specs.parts.TokenCreation.{Making, of_caller, without_parent, makes_orphans, making_path}
-use Rattle.broker.specs.parts.TokenCreation.{is_privileged, new_policies, may_make, new_parent, new_token, or_longest}
+use Rattle.broker.specs.parts.TokenCreation.{making_path, is_privileged, new_policies, may_make, new_parent, new_token}
+use Rattle.broker.specs.parts.TokenCreation.{or_longest}
 use Rattle.broker.specs.parts.TokenReplies.{auth_reply, token_reply}
 
 -- ---- tokens that are named
@@ -53,10 +55,9 @@ made b names x =
 
 -- the caller c, whose token is x, makes a token with these policies, if it may
 abbrev pub create_with : Broker → Text → Token → Names → Making → Bool → List Text → TokenCreation → Result Done Refusal
-create_with b c x names making privileged policies asked =
-    let orphans = makes_orphans making in do
-      allowed ← may_make privileged orphans x policies asked
-      Ok (made b names (new_token b.clock (new_parent c orphans asked) names.accessor policies asked))
+create_with b c x names making privileged policies asked = do
+  allowed ← may_make privileged making x policies asked
+  Ok (made b names (new_token b.clock (new_parent c making asked) names.accessor policies asked))
 
 -- the caller c makes a token by the route, if it may
 abbrev pub create : Broker → Text → Names → Making → TokenCreation → Result Done Refusal
@@ -128,8 +129,8 @@ revoke_named b accessor = do
 
 -- what a command of the caller c does
 abbrev pub act_on_tokens : Broker → Text → Names → TokenCommand → Result Done Refusal
-act_on_tokens b c names (create_token asked) = create b c names of_caller asked
-act_on_tokens b c names (create_orphan asked) = create b c names without_parent asked
+act_on_tokens b c names (create_token asked) = create b c names OfCaller asked
+act_on_tokens b c names (create_orphan asked) = create b c names WithoutParent asked
 act_on_tokens b c names (lookup_token t) = look_up b names t t
 act_on_tokens b c names (lookup_accessor accessor) = look_up_accessor b names accessor
 act_on_tokens b c names lookup_self = look_up b names c c

@@ -1,16 +1,18 @@
 //! The capability that a request asks for.
 
-ghost use Rattle.std.specs.Prelude.{◌≡◌, ◌≢◌, None, Some, IfOk, OnOk};
+ghost use Rattle.std.specs.Prelude.{◌≡◌, ◌≢◌, None, Some, IfOk};
 ghost use Rattle.broker_types.specs.Broker.{Broker};
+ghost use Rattle.broker_types.specs.Fault.{IsMemoryOrStorage};
 ghost use Rattle.broker_types.specs.Map.{get};
-ghost use Rattle.records.specs.Transaction.{IsHonest, IsCall};
+ghost use Rattle.records.specs.Calls.{IsReading};
+ghost use Rattle.records.specs.Transaction.{IsHonest};
 ghost use Rattle.broker.specs.Capabilities as capabilities;
 ghost use Rattle.broker.specs.Capabilities.{stored_by, has_stored};
 ghost use Rattle.broker.specs.PermittedRows.{has_row};
 ghost use Rattle.broker.specs.Representing.{Represents};
 
 use broker_types::{Fault, Refusal, Verb};
-use mounts::{Cubbyhole, Operation, Route, SecretOperation};
+use mounts::{CubbyholeOperation, Operation, Route, SecretOperation};
 use policies::Capability;
 use records::RecordsTx;
 use std::alloc::Global;
@@ -31,8 +33,7 @@ pub(crate) fn capability<T: RecordsTx>(
     // Whatever the rows are: the keys of rows decide, and no row is read.
     ensures found { IsHonest (T.seen tx.new)
         → IfOk result (λ c. c ≡ capabilities.asked_by (has_row (T.seen tx.old).rows caller.now) verb found.now) }
-    ensures same { IsHonest (T.seen tx.new) → OnOk result ((T.seen tx.new).rows ≡ (T.seen tx.old).rows) }
-    ensures call { IsCall (T.seen tx.old) (T.seen tx.new) result }
+    ensures call { IsReading (T.seen tx.old) (T.seen tx.new) result IsMemoryOrStorage }
 {
     let there = match found {
         Ok(route) => is_there(alloc, tx, caller, route)?,
@@ -49,16 +50,15 @@ fn is_there<T: RecordsTx>(
     route: &Route<'_>,
 ) -> Result<bool, Fault>
     ensures told { IsHonest (T.seen tx.new) → (b : Broker) → Represents (Some caller.now) (T.seen tx.old).rows b
-        → get b.tokens caller.now ≢ None → IfOk result (λ v. v ≡ capabilities.is_there (has_stored b caller.now)
+        → get b.tokens caller.now ≢ None → IfOk result (λ v. v ≡ capabilities.stands_there (has_stored b caller.now)
         (stored_by route.now.operation route.now.mount route.now.parameter)) }
     ensures found { IsHonest (T.seen tx.new)
-        → IfOk result (λ v. v ≡ capabilities.is_there (has_row (T.seen tx.old).rows caller.now)
+        → IfOk result (λ v. v ≡ capabilities.stands_there (has_row (T.seen tx.old).rows caller.now)
         (stored_by route.now.operation route.now.mount route.now.parameter)) }
-    ensures same { IsHonest (T.seen tx.new) → OnOk result ((T.seen tx.new).rows ≡ (T.seen tx.old).rows) }
-    ensures call { IsCall (T.seen tx.old) (T.seen tx.new) result }
+    ensures call { IsReading (T.seen tx.old) (T.seen tx.new) result IsMemoryOrStorage }
 {
     match route.operation {
-        Operation::Cubbyholes(Cubbyhole::Write) => {
+        Operation::Cubbyholes(CubbyholeOperation::Write) => {
             cubbyhole::is_there(alloc, tx, caller, route.parameter)
         }
         Operation::Secrets(SecretOperation::Write) => {

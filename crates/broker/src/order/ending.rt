@@ -3,14 +3,14 @@
 ghost use Rattle.std.specs.Prelude.{◌≡◌, false, None, Some, IfOk, IfErr, OnOk};
 ghost use Rattle.std.specs.Option.{option_map_or};
 ghost use Rattle.broker_types.specs.Broker.{Broker};
-ghost use Rattle.broker_types.specs.Fault.{IsMemoryOrStorage};
+ghost use Rattle.broker_types.specs.Fault.{IsMemoryOrStorage, IsNotBadStart};
 ghost use Rattle.broker_types.specs.Map.{get};
 ghost use Rattle.broker_types.specs.Spending as spending;
+ghost use Rattle.records.specs.Calls.{IsCall, IsReading};
 ghost use Rattle.records.specs.Parts.{Tells, of_cubbyholes};
-ghost use Rattle.records.specs.Table.{table_of};
-ghost use Rattle.records.specs.Transaction.{IsHonest, IsCall, GoesOn, is_storage};
-ghost use Rattle.cubbyhole.specs.Laws.{without_owners};
-ghost use Rattle.broker.specs.ClockRow.{IsNotBadStart};
+ghost use Rattle.records.specs.Table.{table};
+ghost use Rattle.records.specs.Transaction.{IsHonest};
+ghost use Rattle.cubbyhole.specs.Laws.{without_cubbyholes};
 ghost use Rattle.broker.specs.Ending.{AreTokenLong, LosesObjects, IsSpentAt, EndsCaller};
 ghost use Rattle.broker.specs.Representing.{Represents};
 
@@ -26,12 +26,12 @@ pub(crate) fn drop_cubbyholes<T: RecordsTx>(
     tx: &mut T,
     ended: &[TextBuf],
 ) -> Result<(), Fault>
-    ensures rows { IsHonest (T.seen tx.new) → OnOk result (table_of (T.seen tx.new).rows
-        ≡ without_owners (table_of (T.seen tx.old).rows) ended.now) }
+    ensures rows { IsHonest (T.seen tx.new) → OnOk result (table (T.seen tx.new)
+        ≡ without_cubbyholes (table (T.seen tx.old)) ended.now) }
     ensures told { IsHonest (T.seen tx.new) → (b c : Broker) → AreTokenLong ended.now → LosesObjects ended.now b c
-        → Tells of_cubbyholes (table_of (T.seen tx.old).rows) b
-        → OnOk result (Tells of_cubbyholes (table_of (T.seen tx.new).rows) c) }
-    ensures call { IsCall (T.seen tx.old) (T.seen tx.new) result }
+        → Tells of_cubbyholes (table (T.seen tx.old)) b
+        → OnOk result (Tells of_cubbyholes (table (T.seen tx.new)) c) }
+    ensures call { IsCall (T.seen tx.old) (T.seen tx.new) result IsMemoryOrStorage }
 {
     ended_tokens_leave_nothing();
     for token in ended {
@@ -42,7 +42,7 @@ pub(crate) fn drop_cubbyholes<T: RecordsTx>(
 
 /// Ends a caller that has spent its last use, with all below it, and their cubbyholes with them.
 pub(crate) fn end_spent<T: RecordsTx>(alloc: Global, tx: &mut T, caller: &str) -> Result<(), Fault>
-    ensures ok { IsHonest (T.seen tx.new) → (b : Broker) → Represents (Some caller.now) (T.seen tx.old).rows b
+    ensures told { IsHonest (T.seen tx.new) → (b : Broker) → Represents (Some caller.now) (T.seen tx.old).rows b
         → OnOk result (Represents None (T.seen tx.new).rows (spending.end_spent b (Some caller.now))) }
 
     // Whatever the rows are: the caller's row decides whether the caller ends, and the call fails if it is damaged.
@@ -50,8 +50,7 @@ pub(crate) fn end_spent<T: RecordsTx>(alloc: Global, tx: &mut T, caller: &str) -
         → OnOk result (EndsCaller caller.now (T.seen tx.old).rows (T.seen tx.new).rows) }
     ensures wants { IsHonest (T.seen tx.new) → (b : Broker) → Represents (Some caller.now) (T.seen tx.old).rows b
         → IfErr result IsMemoryOrStorage }
-    ensures started { IfErr result IsNotBadStart }
-    ensures goes_on { GoesOn (T.seen tx.old) (T.seen tx.new) (is_storage result) }
+    ensures call { IsCall (T.seen tx.old) (T.seen tx.new) result IsNotBadStart }
 {
     if !is_spent(alloc, tx, caller)? {
         return Ok(());
@@ -62,16 +61,14 @@ pub(crate) fn end_spent<T: RecordsTx>(alloc: Global, tx: &mut T, caller: &str) -
 
 /// Whether the caller has spent its last use.
 fn is_spent<T: RecordsTx>(alloc: Global, tx: &mut T, caller: &str) -> Result<bool, Fault>
-    ensures ok { IsHonest (T.seen tx.new) → (b : Broker) → Represents (Some caller.now) (T.seen tx.old).rows b
+    ensures told { IsHonest (T.seen tx.new) → (b : Broker) → Represents (Some caller.now) (T.seen tx.old).rows b
         → IfOk result (λ v. v ≡ option_map_or spending.is_spent (get b.tokens caller.now) false) }
 
     // Whatever the rows are: the row decides, and the call fails if it is damaged.
     ensures found { IsHonest (T.seen tx.new) → IfOk result (IsSpentAt (T.seen tx.old).rows caller.now) }
     ensures wants { IsHonest (T.seen tx.new) → (b : Broker) → Represents (Some caller.now) (T.seen tx.old).rows b
         → IfErr result IsMemoryOrStorage }
-    ensures same { IsHonest (T.seen tx.new) → OnOk result ((T.seen tx.new).rows ≡ (T.seen tx.old).rows) }
-    ensures started { IfErr result IsNotBadStart }
-    ensures goes_on { GoesOn (T.seen tx.old) (T.seen tx.new) (is_storage result) }
+    ensures call { IsReading (T.seen tx.old) (T.seen tx.new) result IsNotBadStart }
 {
     let Some(token) = find(alloc, tx, caller)? else {
         return Ok(false);

@@ -1,15 +1,15 @@
 //! The clock of a request, and what has ended by it.
 
-ghost use Rattle.std.specs.Prelude.{◌≡◌, ◌≢◌, max, None, length, IfOk, IfErr, OnOk};
+ghost use Rattle.std.specs.Prelude.{◌≡◌, ⊤, max, None, IfOk, IfErr, OnOk};
 ghost use Rattle.std.specs.FinMap as map;
 ghost use Rattle.broker_types.specs.Broker.{Broker, at_moment};
 ghost use Rattle.broker_types.specs.Fault.{IsMemoryOrStorage};
+ghost use Rattle.records.specs.Calls.{IsChange};
 ghost use Rattle.records.specs.ClockLaws.{with_clock};
 ghost use Rattle.records.specs.Parts.{KeepsOthers, of_clock};
-ghost use Rattle.records.specs.Table.{table_of};
-ghost use Rattle.records.specs.Transaction.{IsHonest, GoesOn, is_storage};
+ghost use Rattle.records.specs.Transaction.{IsHonest};
 ghost use Rattle.broker.specs.ClockRow.{NeedsClock};
-ghost use Rattle.broker.specs.Ending.{of_expired, Advances, Expires, HasTokenKeys, KeepsCubbyholes};
+ghost use Rattle.broker.specs.Ending.{of_expired, Advances, Expires};
 ghost use Rattle.broker.specs.ReadableRow.{KeepsDamaged};
 ghost use Rattle.broker.specs.Representing.{Represents};
 
@@ -26,7 +26,7 @@ pub(crate) fn expire<T: RecordsTx>(
     tx: &mut T,
     moment: Moment,
 ) -> Result<Moment, Fault>
-    ensures ok { IsHonest (T.seen tx.new) → (b : Broker) → Represents None (T.seen tx.old).rows b
+    ensures told { IsHonest (T.seen tx.new) → (b : Broker) → Represents None (T.seen tx.old).rows b
         → IfOk result (λ now. (now ≡ (at_moment b moment).clock)
         × Represents None (T.seen tx.new).rows (at_moment b moment)) }
     ensures wants { IsHonest (T.seen tx.new) → (b : Broker) → Represents None (T.seen tx.old).rows b
@@ -37,18 +37,12 @@ pub(crate) fn expire<T: RecordsTx>(
     ensures rows { IsHonest (T.seen tx.new)
         → IfOk result (λ now. Expires moment now (T.seen tx.old).rows (T.seen tx.new).rows) }
 
-    // No row changes but those of the clock, of tokens and of cubbyholes.
-    ensures others { IsHonest (T.seen tx.new)
-        → OnOk result (KeepsOthers of_expired (table_of (T.seen tx.old).rows) (table_of (T.seen tx.new).rows)) }
-
-    // Nor does a cubbyhole whose token is left.
-    ensures left { IsHonest (T.seen tx.new) → HasTokenKeys (T.seen tx.old).rows
-        → OnOk result (KeepsCubbyholes (T.seen tx.old).rows (T.seen tx.new).rows) }
-
-    // Nor does a token end whose row is damaged.
-    ensures damaged { IsHonest (T.seen tx.new)
+    // A token stays if its row is damaged.
+    ensures kept { IsHonest (T.seen tx.new)
         → OnOk result (KeepsDamaged (T.seen tx.old).rows (T.seen tx.new).rows) }
-    ensures goes_on { GoesOn (T.seen tx.old) (T.seen tx.new) (is_storage result) }
+
+    // No row changes but those of the clock, of tokens and of cubbyholes.
+    ensures call { IsChange (KeepsOthers of_expired) (T.seen tx.old) (T.seen tx.new) result (λ _. ⊤) }
 {
     let now = advance_clock(alloc, tx, moment)?;
     let ended = sweep_tokens(alloc, tx, now)?;
@@ -58,7 +52,7 @@ pub(crate) fn expire<T: RecordsTx>(
 
 /// Moves the clock on to the moment, unless it is later already, and answers it.
 fn advance_clock<T: RecordsTx>(alloc: Global, tx: &mut T, moment: Moment) -> Result<Moment, Fault>
-    ensures ok { IsHonest (T.seen tx.new) → (b : Broker) → Represents None (T.seen tx.old).rows b
+    ensures told { IsHonest (T.seen tx.new) → (b : Broker) → Represents None (T.seen tx.old).rows b
         → IfOk result (λ now. (now ≡ max b.clock moment) × Represents None (T.seen tx.new).rows (with_clock b now)) }
     ensures wants { IsHonest (T.seen tx.new) → (b : Broker) → Represents None (T.seen tx.old).rows b
         → IfErr result IsMemoryOrStorage }
@@ -69,9 +63,7 @@ fn advance_clock<T: RecordsTx>(alloc: Global, tx: &mut T, moment: Moment) -> Res
         → IfOk result (λ now. Advances moment now (T.seen tx.old).rows (T.seen tx.new).rows) }
 
     // No other row changes.
-    ensures others { IsHonest (T.seen tx.new)
-        → OnOk result (KeepsOthers of_clock (table_of (T.seen tx.old).rows) (table_of (T.seen tx.new).rows)) }
-    ensures goes_on { GoesOn (T.seen tx.old) (T.seen tx.new) (is_storage result) }
+    ensures call { IsChange (KeepsOthers of_clock) (T.seen tx.old) (T.seen tx.new) result (λ _. ⊤) }
 {
     let Some(kept) = tx.get(Kind::Clock, "")? else {
         return Err(Fault::BadStart);

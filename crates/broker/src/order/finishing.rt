@@ -3,10 +3,10 @@
 ghost use Rattle.std.specs.Prelude.{◌≡◌, Some, Result, IfOk, IfErr, OnOk};
 ghost use Rattle.broker_types.specs.Answer.{HasRoom, response_of, refused};
 ghost use Rattle.broker_types.specs.Broker.{Broker};
-ghost use Rattle.broker_types.specs.Fault.{IsMemoryOrStorage};
+ghost use Rattle.broker_types.specs.Fault.{IsMemoryOrStorage, IsNotBadStart};
 ghost use Rattle.broker_types.specs.declared.refusal.Refusal as declared;
-ghost use Rattle.records.specs.Transaction.{IsHonest, GoesOn, is_storage};
-ghost use Rattle.broker.specs.ClockRow.{IsNotBadStart};
+ghost use Rattle.records.specs.Calls.{IsCall};
+ghost use Rattle.records.specs.Transaction.{IsHonest};
 ghost use Rattle.broker.specs.Listed.{IsListed};
 ghost use Rattle.broker.specs.Ending.{EndsCaller};
 ghost use Rattle.broker.specs.Order as order;
@@ -28,7 +28,7 @@ pub(crate) fn finish<T: RecordsTx>(
     caller: &str,
     served: Result<Answered, Refusal>,
 ) -> Result<Answer, Fault>
-    ensures ok { IsHonest (T.seen tx.new) → (b : Broker) (m : Result order.Wrapped declared.Refusal)
+    ensures told { IsHonest (T.seen tx.new) → (b : Broker) (m : Result order.Wrapped declared.Refusal)
         → HasServed caller.now (T.seen tx.old).rows b served m
         → IfOk result (λ a. Gives a (T.seen tx.new).rows (order.finish b (Some caller.now) m)) }
     ensures wants { IsHonest (T.seen tx.new) → (b : Broker) (m : Result order.Wrapped declared.Refusal)
@@ -41,8 +41,7 @@ pub(crate) fn finish<T: RecordsTx>(
         → OnOk result (EndsCaller caller.now (T.seen tx.old).rows (T.seen tx.new).rows) }
     ensures answered { IfOk served (λ x. IfOk result (λ a. response_of a ≡ order.response_to (answered_of x))) }
     ensures refused { IfErr served (λ r. IfOk result (λ a. response_of a ≡ refused r)) }
-    ensures started { IfErr result IsNotBadStart }
-    ensures goes_on { GoesOn (T.seen tx.old) (T.seen tx.new) (is_storage result) }
+    ensures call { IsCall (T.seen tx.old) (T.seen tx.new) result IsNotBadStart }
 {
     end_spent(alloc, tx, caller)?;
     match served {

@@ -1,14 +1,15 @@
 //! The identifiers that a request gives out.
 
-ghost use Rattle.std.specs.Prelude.{◌≡◌, [], ◌∷◌, Option, IfOk, IfErr, OnOk};
+ghost use Rattle.std.specs.Prelude.{◌≡◌, [], ◌∷◌, Option, IfOk, OnOk};
 ghost use Rattle.broker_types.specs.Broker.{Broker};
 ghost use Rattle.broker_types.specs.Fault.{IsMemoryOrStorage};
 ghost use Rattle.broker_types.specs.Text.{Text, same};
 ghost use Rattle.broker_types.specs.Used.{are_new};
 ghost use Rattle.records.specs.RowForms.{used_row};
-ghost use Rattle.records.specs.Table.{table_of, with_row};
-ghost use Rattle.records.specs.Transaction.{IsHonest, IsCall};
+ghost use Rattle.records.specs.Table.{with_row, table};
+ghost use Rattle.records.specs.Transaction.{IsHonest};
 ghost use Rattle.records.specs.declared.kind.Kind.TheVariants as kind;
+ghost use Rattle.records.specs.Calls.{IsCall, IsReading};
 ghost use Rattle.broker.specs.Marks.{are_unmarked};
 ghost use Rattle.broker.specs.Representing.{Represents};
 
@@ -22,14 +23,13 @@ pub(crate) fn are_both_new<T: RecordsTx>(
     first: &str,
     second: &str,
 ) -> Result<bool, Fault>
-    ensures ok { IsHonest (T.seen tx.new) → (who : Option Text) (b : Broker) → Represents who (T.seen tx.old).rows b
+    ensures told { IsHonest (T.seen tx.new) → (who : Option Text) (b : Broker) → Represents who (T.seen tx.old).rows b
         → IfOk result (λ v. v ≡ are_new b.used (first.now ∷ second.now ∷ [])) }
 
     // Whatever the rows are: what has a row was given out, whether the row is damaged or not.
     ensures found { IsHonest (T.seen tx.new)
-        → IfOk result (λ v. v ≡ are_unmarked (table_of (T.seen tx.old).rows) (first.now ∷ second.now ∷ [])) }
-    ensures same { IsHonest (T.seen tx.new) → OnOk result ((T.seen tx.new).rows ≡ (T.seen tx.old).rows) }
-    ensures call { IsCall (T.seen tx.old) (T.seen tx.new) result }
+        → IfOk result (λ v. v ≡ are_unmarked (table (T.seen tx.old)) (first.now ∷ second.now ∷ [])) }
+    ensures call { IsReading (T.seen tx.old) (T.seen tx.new) result IsMemoryOrStorage }
 {
     if is_same(first, second) {
         return Ok(false);
@@ -50,9 +50,9 @@ fn is_same(a: &str, b: &str) -> bool
 
 /// Marks an identifier as given out.
 pub(crate) fn use_up<T: RecordsTx>(alloc: Global, tx: &mut T, identifier: &str) -> Result<(), Fault>
-    ensures rows { IsHonest (T.seen tx.new) → OnOk result (table_of (T.seen tx.new).rows
-        ≡ with_row (table_of (T.seen tx.old).rows) kind.Used identifier.now used_row) }
-    ensures call { IsCall (T.seen tx.old) (T.seen tx.new) result }
+    ensures rows { IsHonest (T.seen tx.new) → OnOk result (table (T.seen tx.new)
+        ≡ with_row (table (T.seen tx.old)) kind.Used identifier.now used_row) }
+    ensures call { IsCall (T.seen tx.old) (T.seen tx.new) result IsMemoryOrStorage }
 {
     tx.put(Kind::Used, identifier, write_used(alloc)?)
 }

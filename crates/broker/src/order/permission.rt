@@ -1,20 +1,19 @@
 //! Whether the caller may ask at all.
 
-ghost use Rattle.std.specs.Prelude.{◌≡◌, ◌≢◌, None, Some, Option, All, Any, IfOk, IfErr, OnOk};
+ghost use Rattle.std.specs.Prelude.{◌≡◌, ◌≢◌, None, Some, Option, Any, IfOk, IfErr};
 ghost use Rattle.broker_types.specs.Broker.{Broker, Mount};
 ghost use Rattle.broker_types.specs.Fault.{IsMemoryOrStorage};
 ghost use Rattle.broker_types.specs.Map.{get};
 ghost use Rattle.broker_types.specs.Text.{Text};
 ghost use Rattle.broker_types.specs.declared.ask.Verb.TheVariants as verb;
-ghost use Rattle.records.specs.Calls.{IsReadFault};
-ghost use Rattle.records.specs.Table.{table_of};
-ghost use Rattle.records.specs.Transaction.{IsHonest, GoesOn, is_storage};
+ghost use Rattle.records.specs.Calls.{IsReadFault, IsReading};
+ghost use Rattle.records.specs.Table.{table};
+ghost use Rattle.records.specs.Transaction.{IsHonest};
 ghost use Rattle.mounts.specs.MountRows.{IsKnownAt};
 ghost use Rattle.mounts.specs.Route.{cut, route_at, route_of};
 ghost use Rattle.policies.specs.Grants.{grants};
 ghost use Rattle.policies.specs.PolicyRows.{IsUnreadable};
 ghost use Rattle.policies.specs.declared.capability.Capability.TheVariants as capability;
-ghost use Rattle.broker.specs.ClockRow.{IsNotBadStart};
 ghost use Rattle.broker.specs.Permission as permission;
 ghost use Rattle.broker.specs.PermittedRows.{IsPermittedAt, IsSudoAt, IsUntold};
 ghost use Rattle.broker.specs.Representing.{Represents};
@@ -40,7 +39,7 @@ pub(crate) fn is_permitted<T: RecordsTx>(
     path: &str,
     found: &Result<Route<'_>, Refusal>,
 ) -> Result<bool, Fault>
-    ensures ok { IsHonest (T.seen tx.new) → (b : Broker) → Represents (Some caller.now) (T.seen tx.old).rows b
+    ensures told { IsHonest (T.seen tx.new) → (b : Broker) → Represents (Some caller.now) (T.seen tx.old).rows b
         → get b.tokens caller.now ≢ None → found.now ≡ route_of b.mounts verb path.now
         → IfOk result (λ v. v ≡ permission.permits b (Some caller.now) verb path.now) }
     ensures wants { IsHonest (T.seen tx.new) → (b : Broker) → Represents (Some caller.now) (T.seen tx.old).rows b
@@ -48,15 +47,12 @@ pub(crate) fn is_permitted<T: RecordsTx>(
 
     // Whatever the rows are: those of the caller, of its policies and of the mount can be read, and they decide.
     ensures found { IsHonest (T.seen tx.new) → (mount : Option Mount)
-        → IsKnownAt (table_of (T.seen tx.old).rows) (cut path.now).0 mount → found.now ≡ route_at mount verb path.now
+        → IsKnownAt (table (T.seen tx.old)) (cut path.now).0 mount → found.now ≡ route_at mount verb path.now
         → IfOk result (IsPermittedAt (T.seen tx.old).rows caller.now verb path.now) }
 
     // And it fails as damaged only if the row of the caller or of one of its policies is.
-    ensures damaged { IsHonest (T.seen tx.new)
-        → IfErr result (λ fault. fault ≡ Fault.Damaged → IsUntold (T.seen tx.old).rows caller.now) }
-    ensures same { IsHonest (T.seen tx.new) → OnOk result ((T.seen tx.new).rows ≡ (T.seen tx.old).rows) }
-    ensures started { IfErr result IsNotBadStart }
-    ensures goes_on { GoesOn (T.seen tx.old) (T.seen tx.new) (is_storage result) }
+    ensures call { IsReading (T.seen tx.old) (T.seen tx.new) result
+        (IsReadFault (IsHonest (T.seen tx.new) → IsUntold (T.seen tx.old).rows caller.now)) }
 {
     let asked = capability(alloc, tx, caller, verb, found)?;
     let Some(token) = find(alloc, tx, caller)? else {
@@ -86,13 +82,10 @@ pub(crate) fn grant_sudo<T: RecordsTx>(
     // Whatever the rows are: those of these policies can be read, and they decide.
     ensures found { IsHonest (T.seen tx.new)
         → IfOk result (IsSudoAt (T.seen tx.old).rows policies.now path.now) }
-    ensures damaged { IfErr result (IsReadFault
-        (IsHonest (T.seen tx.new) → Any (IsUnreadable (table_of (T.seen tx.old).rows)) policies.now)) }
     ensures wants { IsHonest (T.seen tx.new) → (who : Option Text) (b : Broker) → Represents who (T.seen tx.old).rows b
         → IfErr result IsMemoryOrStorage }
-    ensures same { IsHonest (T.seen tx.new) → OnOk result ((T.seen tx.new).rows ≡ (T.seen tx.old).rows) }
-    ensures started { IfErr result IsNotBadStart }
-    ensures goes_on { GoesOn (T.seen tx.old) (T.seen tx.new) (is_storage result) }
+    ensures call { IsReading (T.seen tx.old) (T.seen tx.new) result
+        (IsReadFault (IsHonest (T.seen tx.new) → Any (IsUnreadable (table (T.seen tx.old))) policies.now)) }
 {
     let rules = rules_of(alloc, tx, policies, Verb::Write)?;
     Ok(allows(&rules, path, Capability::Sudo))

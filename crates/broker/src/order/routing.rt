@@ -1,16 +1,16 @@
 //! Where an ask goes.
 
-ghost use Rattle.std.specs.Prelude.{◌≡◌, ◌≢◌, Option, Ok, true, IfOk, IfErr, OnOk};
+ghost use Rattle.std.specs.Prelude.{◌≡◌, Option, Ok, true, IfOk, IfErr, OnOk};
 ghost use Rattle.broker_types.specs.Broker.{Mount};
 ghost use Rattle.broker_types.specs.Fault.{IsMemoryOrStorage};
 ghost use Rattle.broker_types.specs.Map.{Map};
 ghost use Rattle.broker_types.specs.Path.{is_path};
-ghost use Rattle.records.specs.Table.{table_of};
-ghost use Rattle.records.specs.Transaction.{IsHonest, GoesOn, is_storage};
+ghost use Rattle.records.specs.Calls.{IsReading, IsReadFault};
+ghost use Rattle.records.specs.Table.{table};
+ghost use Rattle.records.specs.Transaction.{IsHonest};
 ghost use Rattle.mounts.specs.MountRows.{AreMounts, IsKnownAt, IsReadableAt, IsDamagedAt};
 ghost use Rattle.mounts.specs.Route as spec;
 ghost use Rattle.mounts.specs.Table.{takes_parameter};
-ghost use Rattle.broker.specs.ClockRow.{IsNotBadStart};
 
 use broker_types::{Fault, Refusal, RequestError, Verb};
 use mounts::{Route, route};
@@ -25,24 +25,21 @@ pub(crate) fn find_route<'p, T: RecordsTx>(
     verb: Verb,
     path: &'p str,
 ) -> Result<Result<Route<'p>, Refusal>, Fault>
-    ensures told { IsHonest (T.seen tx.new) → (mounts : Map Mount) → AreMounts (table_of (T.seen tx.old).rows) mounts
+    ensures told { IsHonest (T.seen tx.new) → (mounts : Map Mount) → AreMounts (table (T.seen tx.old)) mounts
         → IfOk result (λ found. found ≡ spec.route_of mounts verb path.now) }
-    ensures wants { IsHonest (T.seen tx.new) → (mounts : Map Mount) → AreMounts (table_of (T.seen tx.old).rows) mounts
+    ensures wants { IsHonest (T.seen tx.new) → (mounts : Map Mount) → AreMounts (table (T.seen tx.old)) mounts
         → IfErr result IsMemoryOrStorage }
 
     // Whatever the rows are: the row of the mount can be read, and by it the route is found.
     ensures found { IsHonest (T.seen tx.new) → (mount : Option Mount)
-        → IsKnownAt (table_of (T.seen tx.old).rows) (spec.cut path.now).0 mount
+        → IsKnownAt (table (T.seen tx.old)) (spec.cut path.now).0 mount
         → IfOk result (λ found. found ≡ spec.route_at mount verb path.now) }
-    ensures undamaged { IsHonest (T.seen tx.new)
-        → OnOk result (IsReadableAt (table_of (T.seen tx.old).rows) (spec.cut path.now).0) }
-    ensures damaged { IsHonest (T.seen tx.new) → IfErr result (λ fault. fault ≡ Fault.Damaged
-        → IsDamagedAt (table_of (T.seen tx.old).rows) (spec.cut path.now).0) }
+    ensures readable { IsHonest (T.seen tx.new)
+        → OnOk result (IsReadableAt (table (T.seen tx.old)) (spec.cut path.now).0) }
     ensures parameter { is_path path.now ≡ true → (r : spec.Route) → takes_parameter r.operation ≡ true
         → IfOk result (λ found. found ≡ Ok r → is_path r.parameter ≡ true) }
-    ensures same { IsHonest (T.seen tx.new) → OnOk result ((T.seen tx.new).rows ≡ (T.seen tx.old).rows) }
-    ensures started { IfErr result IsNotBadStart }
-    ensures goes_on { GoesOn (T.seen tx.old) (T.seen tx.new) (is_storage result) }
+    ensures call { IsReading (T.seen tx.old) (T.seen tx.new) result
+        (IsReadFault (IsHonest (T.seen tx.new) → IsDamagedAt (table (T.seen tx.old)) (spec.cut path.now).0)) }
 {
     match route(alloc, tx, verb, path) {
         Ok(found) => Ok(Ok(found)),

@@ -1,23 +1,19 @@
 //! A caller is served.
 
-ghost use Rattle.std.specs.Prelude.{◌≡◌, ◌≢◌, ◌⊎◌, false, None, Some, Ok, IfOk, IfErr, OnOk};
+ghost use Rattle.std.specs.Prelude.{◌≡◌, ◌≢◌, ◌⊎◌, None, Some, Ok, IfOk, IfErr};
 ghost use Rattle.broker_types.specs.Answer.{response_of};
 ghost use Rattle.broker_types.specs.Broker.{Broker};
+ghost use Rattle.broker_types.specs.Fault.{IsNotBadStart};
 ghost use Rattle.broker_types.specs.Map.{get};
 ghost use Rattle.broker_types.specs.Names.{names_of};
-ghost use Rattle.broker_types.specs.RequestError.{Ends, step_fails};
-ghost use Rattle.records.specs.Table.{table_of};
-ghost use Rattle.records.specs.Transaction.{IsHonest, GoesOn, Rows};
+ghost use Rattle.broker_types.specs.RequestError.{Ends};
+ghost use Rattle.records.specs.Table.{table_of, table};
+ghost use Rattle.records.specs.Transaction.{IsHonest, Rows};
 ghost use Rattle.token_tree.specs.TokenRows.{ChangesToken, spent_entry};
-ghost use Rattle.records.specs.Calls.{OnAnswer, OnFault};
-ghost use Rattle.mounts.specs.MountRows.{IsReadableAt};
-ghost use Rattle.mounts.specs.Route.{cut};
-ghost use Rattle.broker.specs.ClockRow.{IsNotBadStart};
+ghost use Rattle.records.specs.Calls.{OnAnswer, IsRequestCall};
 ghost use Rattle.broker.specs.Command.{Command, command_for};
-ghost use Rattle.broker.specs.Ending.{IsSpentAt};
-ghost use Rattle.broker.specs.Operating.{Starts, Operates, IsWellFormed};
-ghost use Rattle.broker.specs.ReadableRow.{IsReadableToken};
-ghost use Rattle.broker.specs.Reads.{AreReadable, IsForbidden, IsDoneOrForbidden, MayBeDone};
+ghost use Rattle.broker.specs.Operating.{Begins, Operates, IsWellFormed};
+ghost use Rattle.broker.specs.Reads.{IsReadableCommand, IsForbidden, IsCarriedOutOrForbidden, MayBeDone};
 ghost use Rattle.broker.specs.Representing.{Represents, Gives};
 ghost use Rattle.broker.specs.Safely.{AnswersSafely};
 ghost use Rattle.broker.specs.Serving.{called, served};
@@ -43,31 +39,20 @@ pub(crate) fn answer_caller<T: RecordsTx>(
     context: &Context<'_>,
     ask: &Ask<'_>,
 ) -> Result<Answer, Fault>
-    ensures ok { IsHonest (T.seen tx.new) → (b : Broker) → Represents None (T.seen tx.old).rows b
+    ensures told { IsHonest (T.seen tx.new) → (b : Broker) → Represents None (T.seen tx.old).rows b
         → get b.tokens context.now.caller ≢ None → b.clock ≡ context.now.clock
         → IfOk result (λ a. Gives a (T.seen tx.new).rows
         (called b context.now.caller (names_of context.now.words) ask.now)) }
 
     // Whatever the rows are: once the caller has spent its use, they decide whether it may ask. If it may, it is not
-    // answered if a row that its command reads is damaged; else it is told that it may not, and nothing is done.
-    ensures undamaged { IsHonest (T.seen tx.new) → IfOk result (λ a. (rows : Rows)
-        × ChangesToken context.now.caller spent_entry (table_of (T.seen tx.old).rows) (table_of rows)
-        × IsDoneOrForbidden rows (T.seen tx.new).rows context.now.caller ask.now (response_of a)) }
-
-    // After an answer the caller is not there, or its uses are not all spent.
-    ensures ends { IsHonest (T.seen tx.new)
-        → OnOk result (IsSpentAt (T.seen tx.new).rows context.now.caller false) }
-
-    // Nothing is answered if the row of the mount that the path names is damaged.
-    ensures mount { IsHonest (T.seen tx.new)
-        → IfOk result (λ a. IsReadableAt (table_of (T.seen tx.old).rows) (cut ask.now.path).0) }
-
-    // Nor is anything if the row of the caller's token is damaged.
-    ensures caller { IsHonest (T.seen tx.new)
-        → OnOk result (IsReadableToken (T.seen tx.old).rows context.now.caller) }
+    // answered if a row that its command reads is damaged; else it is told that it may not, and nothing is done. Either
+    // way it has ended then, if it has no uses left.
+    ensures readable { IsHonest (T.seen tx.new) → IfOk result (λ a. (rows : Rows)
+        × ChangesToken context.now.caller spent_entry (table (T.seen tx.old)) (table_of rows)
+        × IsCarriedOutOrForbidden rows (T.seen tx.new).rows context.now.caller ask.now (response_of a)) }
     ensures safely { AnswersSafely (T.seen tx.old) (T.seen tx.new)
         (λ b. (get b.tokens context.now.caller ≢ None) × (b.clock ≡ context.now.clock)) result }
-    ensures started { IfErr result IsNotBadStart }
+    ensures faults { IfErr result IsNotBadStart }
 {
     let caller = context.caller;
     spend(alloc, tx, caller)?;
@@ -85,22 +70,17 @@ fn serve<T: RecordsTx>(
     context: &Context<'_>,
     ask: &Ask<'_>,
 ) -> Result<Answered, RequestError>
-    ensures ok { IsHonest (T.seen tx.new) → (b : Broker) → Starts context.now (T.seen tx.old).rows b
+    ensures told { IsHonest (T.seen tx.new) → (b : Broker) → Begins context.now (T.seen tx.old).rows b
         → Ends (IsServed context.now.caller (T.seen tx.new).rows)
         (Represents (Some context.now.caller) (T.seen tx.new).rows b) result
         (served b context.now.caller (names_of context.now.words) ask.now) }
 
     // Whatever the rows are: they decide whether the caller may ask. If it may, it is neither answered nor refused if
     // a row that its command reads is damaged; else it is refused, and no row changes.
-    ensures undamaged { IsHonest (T.seen tx.new)
+    ensures readable { IsHonest (T.seen tx.new)
         → OnAnswer result (MayBeDone (T.seen tx.old).rows context.now.caller ask.now
         ⊎ IsForbidden (T.seen tx.old).rows (T.seen tx.new).rows context.now.caller ask.now result) }
-
-    // Nor is anything if the row of the mount that the path names is damaged.
-    ensures mount { IsHonest (T.seen tx.new)
-        → OnAnswer result (IsReadableAt (table_of (T.seen tx.old).rows) (cut ask.now.path).0) }
-    ensures started { OnFault result IsNotBadStart }
-    ensures goes_on { GoesOn (T.seen tx.old) (T.seen tx.new) (step_fails result) }
+    ensures call { IsRequestCall (T.seen tx.old) (T.seen tx.new) result IsNotBadStart }
 {
     let path = ask.path.as_str();
     let found = find_route(alloc, tx, ask.verb, path)?;
@@ -118,14 +98,13 @@ fn operate<T: RecordsTx>(
     ask: &Ask<'_>,
     route: &Route<'_>,
 ) -> Result<Answered, RequestError>
-    ensures ok { IsWellFormed route.now
+    ensures told { IsWellFormed route.now
         → Operates context.now (T.seen tx.old) (T.seen tx.new) (λ b. command_for route.now ask.now) result }
 
     // Whatever the rows are: it is neither answered nor refused if a row that the command reads is damaged.
-    ensures undamaged { IsHonest (T.seen tx.new) → (c : Command) → command_for route.now ask.now ≡ Ok c
-        → OnAnswer result (AreReadable (T.seen tx.old).rows context.now.caller c) }
-    ensures started { OnFault result IsNotBadStart }
-    ensures goes_on { GoesOn (T.seen tx.old) (T.seen tx.new) (step_fails result) }
+    ensures readable { IsHonest (T.seen tx.new) → (c : Command) → command_for route.now ask.now ≡ Ok c
+        → OnAnswer result (IsReadableCommand (T.seen tx.old).rows context.now.caller c) }
+    ensures call { IsRequestCall (T.seen tx.old) (T.seen tx.new) result IsNotBadStart }
 {
     let body = ask.body.as_slice();
     match route.operation {

@@ -1,17 +1,16 @@
 //! Requests on policies (Vault's documentation, "/sys/policies").
 
 ghost use Rattle.std.specs.Prelude.{◌≡◌, ◌≤◌, Ok, length};
+ghost use Rattle.broker_types.specs.Fault.{IsNotBadStart};
 ghost use Rattle.broker_types.specs.Limits.{longest_body};
-ghost use Rattle.broker_types.specs.RequestError.{step_fails};
-ghost use Rattle.records.specs.Transaction.{IsHonest, GoesOn};
-ghost use Rattle.records.specs.Calls.{OnAnswer, OnFault};
+ghost use Rattle.records.specs.Transaction.{IsHonest};
+ghost use Rattle.records.specs.Calls.{OnAnswer, IsRequestCall};
 ghost use Rattle.mounts.specs.declared.operation.PolicyOperation.TheVariants as operations;
-ghost use Rattle.broker.specs.ClockRow.{IsNotBadStart};
 ghost use Rattle.broker.specs.Command.{on_policy, on_policies};
 ghost use Rattle.broker.specs.Operating.{Operates};
 ghost use Rattle.broker.specs.ReadableRow.{IsReadablePolicy};
 ghost use Rattle.broker.specs.Reads.{AreReadablePolicies};
-ghost use Rattle.broker.specs.parts.PolicyCommands as part;
+ghost use Rattle.broker.specs.parts.AclPolicyCommands as part;
 
 use crate::answered::Answered;
 use crate::answers::shown;
@@ -32,15 +31,14 @@ pub(crate) fn act<T: RecordsTx>(
     body: &[u8],
 ) -> Result<Answered, RequestError>
     requires { length body.now ≤ longest_body }
-    ensures ok { Operates context.now (T.seen tx.old) (T.seen tx.new)
+    ensures told { Operates context.now (T.seen tx.old) (T.seen tx.new)
         (λ b. on_policies operation name.now body.now) result }
 
     // Whatever the rows are: it is neither answered nor refused if a row that the command reads is damaged.
-    ensures undamaged { IsHonest (T.seen tx.new)
+    ensures readable { IsHonest (T.seen tx.new)
         → (c : part.PolicyCommand) → part.policy_command operation name.now body.now ≡ Ok c
         → OnAnswer result (AreReadablePolicies (T.seen tx.old).rows c) }
-    ensures started { OnFault result IsNotBadStart }
-    ensures goes_on { GoesOn (T.seen tx.old) (T.seen tx.new) (step_fails result) }
+    ensures call { IsRequestCall (T.seen tx.old) (T.seen tx.new) result IsNotBadStart }
 {
     match operation {
         PolicyOperation::List => list(alloc, tx, context),
@@ -56,9 +54,9 @@ fn list<T: RecordsTx>(
     tx: &mut T,
     context: &Context<'_>,
 ) -> Result<Answered, RequestError>
-    ensures ok { Operates context.now (T.seen tx.old) (T.seen tx.new) (λ b. Ok (on_policy part.list_policies)) result }
-    ensures started { OnFault result IsNotBadStart }
-    ensures goes_on { GoesOn (T.seen tx.old) (T.seen tx.new) (step_fails result) }
+    ensures told { Operates context.now (T.seen tx.old) (T.seen tx.new)
+        (λ b. Ok (on_policy part.list_policies)) result }
+    ensures call { IsRequestCall (T.seen tx.old) (T.seen tx.new) result IsNotBadStart }
 {
     let names = policies::list(alloc, tx)?;
     let object = keys_object(alloc, &names)?;
@@ -72,14 +70,13 @@ fn show<T: RecordsTx>(
     context: &Context<'_>,
     name: &str,
 ) -> Result<Answered, RequestError>
-    ensures ok { Operates context.now (T.seen tx.old) (T.seen tx.new)
+    ensures told { Operates context.now (T.seen tx.old) (T.seen tx.new)
         (λ b. Ok (on_policy (part.show_policy name.now))) result }
 
     // Whatever the rows are: a damaged row is answered neither as a policy nor as an absent one.
-    ensures undamaged { IsHonest (T.seen tx.new)
+    ensures readable { IsHonest (T.seen tx.new)
         → OnAnswer result (IsReadablePolicy (T.seen tx.old).rows name.now) }
-    ensures started { OnFault result IsNotBadStart }
-    ensures goes_on { GoesOn (T.seen tx.old) (T.seen tx.new) (step_fails result) }
+    ensures call { IsRequestCall (T.seen tx.old) (T.seen tx.new) result IsNotBadStart }
 {
     let Some(text) = policies::get(alloc, tx, name)? else {
         return Err(RequestError::Refused(Refusal::NotFound));
@@ -97,10 +94,9 @@ fn set<T: RecordsTx>(
     body: &[u8],
 ) -> Result<Answered, RequestError>
     requires { length body.now ≤ longest_body }
-    ensures ok { Operates context.now (T.seen tx.old) (T.seen tx.new)
+    ensures told { Operates context.now (T.seen tx.old) (T.seen tx.new)
         (λ b. on_policies operations.Set name.now body.now) result }
-    ensures started { OnFault result IsNotBadStart }
-    ensures goes_on { GoesOn (T.seen tx.old) (T.seen tx.new) (step_fails result) }
+    ensures call { IsRequestCall (T.seen tx.old) (T.seen tx.new) result IsNotBadStart }
 {
     let members = read_body(alloc, body)?;
     let text = policy_text(alloc, &members)?;
@@ -114,10 +110,9 @@ fn remove<T: RecordsTx>(
     context: &Context<'_>,
     name: &str,
 ) -> Result<Answered, RequestError>
-    ensures ok { Operates context.now (T.seen tx.old) (T.seen tx.new)
+    ensures told { Operates context.now (T.seen tx.old) (T.seen tx.new)
         (λ b. Ok (on_policy (part.remove_policy name.now))) result }
-    ensures started { OnFault result IsNotBadStart }
-    ensures goes_on { GoesOn (T.seen tx.old) (T.seen tx.new) (step_fails result) }
+    ensures call { IsRequestCall (T.seen tx.old) (T.seen tx.new) result IsNotBadStart }
 {
     policies::delete(tx, name)?;
     Ok(Answered::Nothing)

@@ -1,14 +1,13 @@
 //! Requests on the secrets of a mount (Vault's documentation, "KV secrets engine - version 2 (API)").
 
 ghost use Rattle.std.specs.Prelude.{◌≡◌, ◌≤◌, Ok, length, true};
+ghost use Rattle.broker_types.specs.Fault.{IsNotBadStart};
 ghost use Rattle.broker_types.specs.Limits.{longest_body};
 ghost use Rattle.broker_types.specs.Name.{is_mount_name};
 ghost use Rattle.broker_types.specs.Path.{is_path};
-ghost use Rattle.broker_types.specs.RequestError.{step_fails};
-ghost use Rattle.records.specs.Transaction.{IsHonest, GoesOn};
-ghost use Rattle.records.specs.Calls.{OnAnswer, OnFault};
+ghost use Rattle.records.specs.Transaction.{IsHonest};
+ghost use Rattle.records.specs.Calls.{OnAnswer, IsRequestCall};
 ghost use Rattle.mounts.specs.Table.{takes_path};
-ghost use Rattle.broker.specs.ClockRow.{IsNotBadStart};
 ghost use Rattle.broker.specs.Command.{on_secrets};
 ghost use Rattle.broker.specs.Operating.{Operates};
 ghost use Rattle.broker.specs.Reads.{AreReadableSecrets};
@@ -56,16 +55,15 @@ pub(crate) fn act<T: RecordsTx>(
     body: &[u8],
 ) -> Result<Answered, RequestError>
     requires { length body.now ≤ longest_body }
-    ensures ok { is_mount_name place.now.mount ≡ true → (takes_path operation ≡ true → is_path place.now.path ≡ true)
+    ensures told { is_mount_name place.now.mount ≡ true → (takes_path operation ≡ true → is_path place.now.path ≡ true)
         → Operates context.now (T.seen tx.old) (T.seen tx.new)
         (λ b. on_secrets operation place.now version.now body.now) result }
 
     // Whatever the rows are: it is neither answered nor refused if a row that the command reads is damaged.
-    ensures undamaged { IsHonest (T.seen tx.new) → (c : SecretCommand)
+    ensures readable { IsHonest (T.seen tx.new) → (c : SecretCommand)
         → secret_command operation version.now body.now ≡ Ok c
         → OnAnswer result (AreReadableSecrets (T.seen tx.old).rows place.now c) }
-    ensures started { OnFault result IsNotBadStart }
-    ensures goes_on { GoesOn (T.seen tx.old) (T.seen tx.new) (step_fails result) }
+    ensures call { IsRequestCall (T.seen tx.old) (T.seen tx.new) result IsNotBadStart }
 {
     let mount = place.mount;
     let path = place.path;

@@ -1,11 +1,10 @@
 //! Requests on tokens (Vault's documentation, "Token auth method (API)").
 
 ghost use Rattle.std.specs.Prelude.{◌≡◌, ◌≤◌, Ok, length};
+ghost use Rattle.broker_types.specs.Fault.{IsNotBadStart};
 ghost use Rattle.broker_types.specs.Limits.{longest_body};
-ghost use Rattle.broker_types.specs.RequestError.{step_fails};
-ghost use Rattle.records.specs.Transaction.{IsHonest, GoesOn};
-ghost use Rattle.records.specs.Calls.{OnAnswer, OnFault};
-ghost use Rattle.broker.specs.ClockRow.{IsNotBadStart};
+ghost use Rattle.records.specs.Transaction.{IsHonest};
+ghost use Rattle.records.specs.Calls.{OnAnswer, IsRequestCall};
 ghost use Rattle.broker.specs.Command.{on_tokens};
 ghost use Rattle.broker.specs.Operating.{Operates};
 ghost use Rattle.broker.specs.Reads.{AreReadableTokens};
@@ -13,6 +12,7 @@ ghost use Rattle.broker.specs.parts.TokenCommands.{TokenCommand, token_command};
 
 mod creation;
 mod lookup;
+mod making;
 mod new_policies;
 mod new_token;
 mod renewal;
@@ -38,13 +38,12 @@ pub(crate) fn act<T: RecordsTx>(
     body: &[u8],
 ) -> Result<Answered, RequestError>
     requires { length body.now ≤ longest_body }
-    ensures ok { Operates context.now (T.seen tx.old) (T.seen tx.new) (λ b. on_tokens operation body.now) result }
+    ensures told { Operates context.now (T.seen tx.old) (T.seen tx.new) (λ b. on_tokens operation body.now) result }
 
     // Whatever the rows are: it is neither answered nor refused if a row that the command reads is damaged.
-    ensures undamaged { IsHonest (T.seen tx.new) → (c : TokenCommand) → token_command operation body.now ≡ Ok c
+    ensures readable { IsHonest (T.seen tx.new) → (c : TokenCommand) → token_command operation body.now ≡ Ok c
         → OnAnswer result (AreReadableTokens (T.seen tx.old).rows context.now.caller c) }
-    ensures started { OnFault result IsNotBadStart }
-    ensures goes_on { GoesOn (T.seen tx.old) (T.seen tx.new) (step_fails result) }
+    ensures call { IsRequestCall (T.seen tx.old) (T.seen tx.new) result IsNotBadStart }
 {
     match operation {
         TokenOperation::Create => creation::create(alloc, tx, context, body),

@@ -1,15 +1,14 @@
 //! Secrets and their versions, deleted, restored, destroyed and removed.
 
 ghost use Rattle.std.specs.Prelude.{◌≡◌, ◌≤◌, Ok, [], length, true};
+ghost use Rattle.broker_types.specs.Fault.{IsNotBadStart};
 ghost use Rattle.broker_types.specs.Limits.{longest_body};
 ghost use Rattle.broker_types.specs.Name.{is_mount_name};
 ghost use Rattle.broker_types.specs.Path.{is_path};
-ghost use Rattle.broker_types.specs.RequestError.{step_fails};
-ghost use Rattle.records.specs.Transaction.{IsHonest, GoesOn};
+ghost use Rattle.records.specs.Transaction.{IsHonest};
 ghost use Rattle.kv2.specs.Secrets.{secret_name};
-ghost use Rattle.records.specs.Calls.{OnAnswer, OnFault};
+ghost use Rattle.records.specs.Calls.{OnAnswer, IsRequestCall};
 ghost use Rattle.mounts.specs.declared.operation.SecretOperation.TheVariants as operations;
-ghost use Rattle.broker.specs.ClockRow.{IsNotBadStart};
 ghost use Rattle.broker.specs.Command.{on_secret, on_secrets};
 ghost use Rattle.broker.specs.Operating.{Operates};
 ghost use Rattle.broker.specs.Reads.{AreReadableSecrets, IsReadableCurrent};
@@ -31,15 +30,14 @@ pub(super) fn delete_current<T: RecordsTx>(
     mount: &str,
     path: &str,
 ) -> Result<Answered, RequestError>
-    ensures ok { is_mount_name mount.now ≡ true → is_path path.now ≡ true
+    ensures told { is_mount_name mount.now ≡ true → is_path path.now ≡ true
         → Operates context.now (T.seen tx.old) (T.seen tx.new)
         (λ b. Ok (on_secret (at mount.now path.now) delete_current)) result }
 
     // Whatever the rows are: a damaged row is told neither as deleted nor as absent.
-    ensures undamaged { IsHonest (T.seen tx.new)
+    ensures readable { IsHonest (T.seen tx.new)
         → OnAnswer result (IsReadableCurrent (T.seen tx.old).rows (secret_name mount.now path.now)) }
-    ensures started { OnFault result IsNotBadStart }
-    ensures goes_on { GoesOn (T.seen tx.old) (T.seen tx.new) (step_fails result) }
+    ensures call { IsRequestCall (T.seen tx.old) (T.seen tx.new) result IsNotBadStart }
 {
     kv2::delete(alloc, tx, context.clock, mount, path)?;
     Ok(Answered::Nothing)
@@ -55,16 +53,15 @@ pub(super) fn delete<T: RecordsTx>(
     body: &[u8],
 ) -> Result<Answered, RequestError>
     requires { length body.now ≤ longest_body }
-    ensures ok { is_mount_name mount.now ≡ true → is_path path.now ≡ true
+    ensures told { is_mount_name mount.now ≡ true → is_path path.now ≡ true
         → Operates context.now (T.seen tx.old) (T.seen tx.new)
         (λ b. on_secrets operations.Delete (at mount.now path.now) [] body.now) result }
 
     // Whatever the rows are: a damaged row is told neither as deleted nor as absent.
-    ensures undamaged { IsHonest (T.seen tx.new) → (c : SecretCommand)
+    ensures readable { IsHonest (T.seen tx.new) → (c : SecretCommand)
         → secret_command operations.Delete [] body.now ≡ Ok c
         → OnAnswer result (AreReadableSecrets (T.seen tx.old).rows (at mount.now path.now) c) }
-    ensures started { OnFault result IsNotBadStart }
-    ensures goes_on { GoesOn (T.seen tx.old) (T.seen tx.new) (step_fails result) }
+    ensures call { IsRequestCall (T.seen tx.old) (T.seen tx.new) result IsNotBadStart }
 {
     let members = read_body(alloc, body)?;
     let numbers = versions(alloc, &members)?;
@@ -82,16 +79,15 @@ pub(super) fn undelete<T: RecordsTx>(
     body: &[u8],
 ) -> Result<Answered, RequestError>
     requires { length body.now ≤ longest_body }
-    ensures ok { is_mount_name mount.now ≡ true → is_path path.now ≡ true
+    ensures told { is_mount_name mount.now ≡ true → is_path path.now ≡ true
         → Operates context.now (T.seen tx.old) (T.seen tx.new)
         (λ b. on_secrets operations.Undelete (at mount.now path.now) [] body.now) result }
 
     // Whatever the rows are: a damaged row is told neither as restored nor as absent.
-    ensures undamaged { IsHonest (T.seen tx.new) → (c : SecretCommand)
+    ensures readable { IsHonest (T.seen tx.new) → (c : SecretCommand)
         → secret_command operations.Undelete [] body.now ≡ Ok c
         → OnAnswer result (AreReadableSecrets (T.seen tx.old).rows (at mount.now path.now) c) }
-    ensures started { OnFault result IsNotBadStart }
-    ensures goes_on { GoesOn (T.seen tx.old) (T.seen tx.new) (step_fails result) }
+    ensures call { IsRequestCall (T.seen tx.old) (T.seen tx.new) result IsNotBadStart }
 {
     let members = read_body(alloc, body)?;
     let numbers = versions(alloc, &members)?;
@@ -109,16 +105,15 @@ pub(super) fn destroy<T: RecordsTx>(
     body: &[u8],
 ) -> Result<Answered, RequestError>
     requires { length body.now ≤ longest_body }
-    ensures ok { is_mount_name mount.now ≡ true → is_path path.now ≡ true
+    ensures told { is_mount_name mount.now ≡ true → is_path path.now ≡ true
         → Operates context.now (T.seen tx.old) (T.seen tx.new)
         (λ b. on_secrets operations.Destroy (at mount.now path.now) [] body.now) result }
 
     // Whatever the rows are: a damaged row is told neither as destroyed nor as absent.
-    ensures undamaged { IsHonest (T.seen tx.new) → (c : SecretCommand)
+    ensures readable { IsHonest (T.seen tx.new) → (c : SecretCommand)
         → secret_command operations.Destroy [] body.now ≡ Ok c
         → OnAnswer result (AreReadableSecrets (T.seen tx.old).rows (at mount.now path.now) c) }
-    ensures started { OnFault result IsNotBadStart }
-    ensures goes_on { GoesOn (T.seen tx.old) (T.seen tx.new) (step_fails result) }
+    ensures call { IsRequestCall (T.seen tx.old) (T.seen tx.new) result IsNotBadStart }
 {
     let members = read_body(alloc, body)?;
     let numbers = versions(alloc, &members)?;
@@ -134,11 +129,10 @@ pub(super) fn remove<T: RecordsTx>(
     mount: &str,
     path: &str,
 ) -> Result<Answered, RequestError>
-    ensures ok { is_mount_name mount.now ≡ true → is_path path.now ≡ true
+    ensures told { is_mount_name mount.now ≡ true → is_path path.now ≡ true
         → Operates context.now (T.seen tx.old) (T.seen tx.new)
         (λ b. Ok (on_secret (at mount.now path.now) remove_secret)) result }
-    ensures started { OnFault result IsNotBadStart }
-    ensures goes_on { GoesOn (T.seen tx.old) (T.seen tx.new) (step_fails result) }
+    ensures call { IsRequestCall (T.seen tx.old) (T.seen tx.new) result IsNotBadStart }
 {
     remove_key(alloc, tx, mount, path)?;
     Ok(Answered::Nothing)

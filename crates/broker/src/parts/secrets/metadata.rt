@@ -1,11 +1,10 @@
 //! Secrets without their texts, shown and listed.
 
 ghost use Rattle.std.specs.Prelude.{Ok};
-ghost use Rattle.broker_types.specs.RequestError.{step_fails};
-ghost use Rattle.records.specs.Transaction.{IsHonest, GoesOn};
+ghost use Rattle.broker_types.specs.Fault.{IsNotBadStart};
+ghost use Rattle.records.specs.Transaction.{IsHonest};
 ghost use Rattle.kv2.specs.Secrets.{secret_name};
-ghost use Rattle.records.specs.Calls.{OnAnswer, OnFault};
-ghost use Rattle.broker.specs.ClockRow.{IsNotBadStart};
+ghost use Rattle.records.specs.Calls.{OnAnswer, IsRequestCall};
 ghost use Rattle.broker.specs.Command.{on_secret};
 ghost use Rattle.broker.specs.Operating.{Operates};
 ghost use Rattle.broker.specs.Reads.{IsReadableWhole};
@@ -28,14 +27,13 @@ pub(super) fn show<T: RecordsTx>(
     mount: &str,
     path: &str,
 ) -> Result<Answered, RequestError>
-    ensures ok { Operates context.now (T.seen tx.old) (T.seen tx.new)
+    ensures told { Operates context.now (T.seen tx.old) (T.seen tx.new)
         (λ b. Ok (on_secret (at mount.now path.now) show_metadata)) result }
 
     // Whatever the rows are: a damaged row is answered neither as metadata nor as an absent secret.
-    ensures undamaged { IsHonest (T.seen tx.new)
+    ensures readable { IsHonest (T.seen tx.new)
         → OnAnswer result (IsReadableWhole (T.seen tx.old).rows (secret_name mount.now path.now)) }
-    ensures started { OnFault result IsNotBadStart }
-    ensures goes_on { GoesOn (T.seen tx.old) (T.seen tx.new) (step_fails result) }
+    ensures call { IsRequestCall (T.seen tx.old) (T.seen tx.new) result IsNotBadStart }
 {
     let Some(found) = kv2::metadata(alloc, tx, mount, path)? else {
         return Err(RequestError::Refused(Refusal::NotFound));
@@ -53,10 +51,9 @@ pub(super) fn list<T: RecordsTx>(
     mount: &str,
     path: &str,
 ) -> Result<Answered, RequestError>
-    ensures ok { Operates context.now (T.seen tx.old) (T.seen tx.new)
+    ensures told { Operates context.now (T.seen tx.old) (T.seen tx.new)
         (λ b. Ok (on_secret (at mount.now path.now) list_secrets)) result }
-    ensures started { OnFault result IsNotBadStart }
-    ensures goes_on { GoesOn (T.seen tx.old) (T.seen tx.new) (step_fails result) }
+    ensures call { IsRequestCall (T.seen tx.old) (T.seen tx.new) result IsNotBadStart }
 {
     let names = kv2::list(alloc, tx, mount, path)?;
     if names.is_empty() {

@@ -1,15 +1,14 @@
 //! Settings of a mount of secrets.
 
 ghost use Rattle.std.specs.Prelude.{◌≡◌, ◌≤◌, Ok, [], length};
+ghost use Rattle.broker_types.specs.Fault.{IsNotBadStart};
 ghost use Rattle.broker_types.specs.Limits.{longest_body};
 ghost use Rattle.broker_types.specs.Text.{Text};
-ghost use Rattle.broker_types.specs.RequestError.{step_fails};
-ghost use Rattle.records.specs.Table.{table_of};
-ghost use Rattle.records.specs.Transaction.{IsHonest, GoesOn};
+ghost use Rattle.records.specs.Transaction.{IsHonest};
 ghost use Rattle.kv2.specs.SecretRows.{IsReadableMount};
-ghost use Rattle.records.specs.Calls.{OnAnswer, OnFault};
+ghost use Rattle.records.specs.Calls.{OnAnswer, IsRequestCall};
+ghost use Rattle.records.specs.Table.{table};
 ghost use Rattle.mounts.specs.declared.operation.SecretOperation.TheVariants as operations;
-ghost use Rattle.broker.specs.ClockRow.{IsNotBadStart};
 ghost use Rattle.broker.specs.Command.{on_secret, on_secrets};
 ghost use Rattle.broker.specs.Operating.{Operates};
 ghost use Rattle.broker.specs.Reads.{AreReadableSecrets};
@@ -31,14 +30,13 @@ pub(super) fn show<T: RecordsTx>(
     context: &Context<'_>,
     mount: &str,
 ) -> Result<Answered, RequestError>
-    ensures ok { (path : Text) → Operates context.now (T.seen tx.old) (T.seen tx.new)
+    ensures told { (path : Text) → Operates context.now (T.seen tx.old) (T.seen tx.new)
         (λ b. Ok (on_secret (at mount.now path) show_settings)) result }
 
     // Whatever the rows are: a damaged row is answered neither as settings nor as an absent mount.
-    ensures undamaged { IsHonest (T.seen tx.new)
-        → OnAnswer result (IsReadableMount (table_of (T.seen tx.old).rows) mount.now) }
-    ensures started { OnFault result IsNotBadStart }
-    ensures goes_on { GoesOn (T.seen tx.old) (T.seen tx.new) (step_fails result) }
+    ensures readable { IsHonest (T.seen tx.new)
+        → OnAnswer result (IsReadableMount (table (T.seen tx.old)) mount.now) }
+    ensures call { IsRequestCall (T.seen tx.old) (T.seen tx.new) result IsNotBadStart }
 {
     let Some(found) = config(tx, mount)? else {
         return Err(RequestError::Refused(Refusal::NotFound));
@@ -56,15 +54,14 @@ pub(super) fn set<T: RecordsTx>(
     body: &[u8],
 ) -> Result<Answered, RequestError>
     requires { length body.now ≤ longest_body }
-    ensures ok { (path : Text) → Operates context.now (T.seen tx.old) (T.seen tx.new)
+    ensures told { (path : Text) → Operates context.now (T.seen tx.old) (T.seen tx.new)
         (λ b. on_secrets operations.SetSettings (at mount.now path) [] body.now) result }
 
     // Whatever the rows are: a change of settings over a damaged row is neither answered nor refused.
-    ensures undamaged { IsHonest (T.seen tx.new) → (path : Text) (c : SecretCommand)
+    ensures readable { IsHonest (T.seen tx.new) → (path : Text) (c : SecretCommand)
         → secret_command operations.SetSettings [] body.now ≡ Ok c
         → OnAnswer result (AreReadableSecrets (T.seen tx.old).rows (at mount.now path) c) }
-    ensures started { OnFault result IsNotBadStart }
-    ensures goes_on { GoesOn (T.seen tx.old) (T.seen tx.new) (step_fails result) }
+    ensures call { IsRequestCall (T.seen tx.old) (T.seen tx.new) result IsNotBadStart }
 {
     let members = read_body(alloc, body)?;
     let asked = mount_settings(alloc, &members)?;

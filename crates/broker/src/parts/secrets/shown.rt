@@ -10,7 +10,7 @@ ghost use Rattle.broker.specs.parts.SecretReplies as part;
 use crate::answered::Answered;
 use crate::context::Context;
 use crate::parts::moments::{moment, moment_or_none};
-use api_json::{KeyObject, VersionObject, Versions, plain_reply, read_object};
+use api_json::{KeyObject, VersionObject, Versions, plain_reply, secret_object};
 use broker_types::{TextBuf, id_text};
 use kv2::{SecretMetadata, SecretVersion, VersionMetadata};
 use std::alloc::{AllocError, Global};
@@ -29,7 +29,7 @@ pub(super) fn version_answered(
     let metadata = version_shown(&version);
     let object = object_left(version);
     let is_left = object.is_some();
-    let payload = read_object(alloc, &object, &metadata)?;
+    let payload = secret_object(alloc, &object, &metadata)?;
     let request = id_text(alloc, context.words.0[0])?;
     let reply = plain_reply(alloc, request.as_str(), payload)?;
     if is_left {

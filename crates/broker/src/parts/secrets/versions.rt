@@ -1,14 +1,13 @@
 //! Versions of secrets, read and written.
 
 ghost use Rattle.std.specs.Prelude.{◌≡◌, ◌≤◌, ℕ, [], Ok, length, true};
+ghost use Rattle.broker_types.specs.Fault.{IsNotBadStart};
 ghost use Rattle.broker_types.specs.Limits.{longest_body};
 ghost use Rattle.broker_types.specs.Path.{is_path};
-ghost use Rattle.broker_types.specs.RequestError.{step_fails};
-ghost use Rattle.records.specs.Transaction.{IsHonest, GoesOn};
+ghost use Rattle.records.specs.Transaction.{IsHonest};
 ghost use Rattle.api_json.specs.Readers.{version_number};
-ghost use Rattle.records.specs.Calls.{OnAnswer, OnFault};
+ghost use Rattle.records.specs.Calls.{OnAnswer, IsRequestCall};
 ghost use Rattle.mounts.specs.declared.operation.SecretOperation.TheVariants as operations;
-ghost use Rattle.broker.specs.ClockRow.{IsNotBadStart};
 ghost use Rattle.broker.specs.Command.{on_secrets};
 ghost use Rattle.broker.specs.Operating.{Operates};
 ghost use Rattle.broker.specs.ReadableRow.{IsReadableSecret};
@@ -33,14 +32,13 @@ pub(super) fn read<T: RecordsTx>(
     path: &str,
     version: &[u8],
 ) -> Result<Answered, RequestError>
-    ensures ok { Operates context.now (T.seen tx.old) (T.seen tx.new)
+    ensures told { Operates context.now (T.seen tx.old) (T.seen tx.new)
         (λ b. on_secrets operations.Read (at mount.now path.now) version.now []) result }
 
     // Whatever the rows are: a damaged row is answered neither as a version nor as an absent one.
-    ensures undamaged { IsHonest (T.seen tx.new) → (n : ℕ) → version_number version.now ≡ Ok n
+    ensures readable { IsHonest (T.seen tx.new) → (n : ℕ) → version_number version.now ≡ Ok n
         → OnAnswer result (IsReadableSecret (T.seen tx.old).rows (at mount.now path.now) n) }
-    ensures started { OnFault result IsNotBadStart }
-    ensures goes_on { GoesOn (T.seen tx.old) (T.seen tx.new) (step_fails result) }
+    ensures call { IsRequestCall (T.seen tx.old) (T.seen tx.new) result IsNotBadStart }
 {
     let number = version_number(version)?;
     let Some(found) = kv2::read(alloc, tx, mount, path, number)? else {
@@ -59,15 +57,14 @@ pub(super) fn write<T: RecordsTx>(
     body: &[u8],
 ) -> Result<Answered, RequestError>
     requires { length body.now ≤ longest_body }
-    ensures ok { is_path path.now ≡ true → Operates context.now (T.seen tx.old) (T.seen tx.new)
+    ensures told { is_path path.now ≡ true → Operates context.now (T.seen tx.old) (T.seen tx.new)
         (λ b. on_secrets operations.Write (at mount.now path.now) [] body.now) result }
 
     // Whatever the rows are: a write over a damaged row is neither answered nor refused.
-    ensures undamaged { IsHonest (T.seen tx.new) → (c : SecretCommand)
+    ensures readable { IsHonest (T.seen tx.new) → (c : SecretCommand)
         → secret_command operations.Write [] body.now ≡ Ok c
         → OnAnswer result (AreReadableSecrets (T.seen tx.old).rows (at mount.now path.now) c) }
-    ensures started { OnFault result IsNotBadStart }
-    ensures goes_on { GoesOn (T.seen tx.old) (T.seen tx.new) (step_fails result) }
+    ensures call { IsRequestCall (T.seen tx.old) (T.seen tx.new) result IsNotBadStart }
 {
     let members = read_body(alloc, body)?;
     let asked = secret_write(alloc, &members)?;

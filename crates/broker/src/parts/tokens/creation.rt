@@ -1,35 +1,33 @@
 //! Creation of tokens.
 
-ghost use Rattle.std.specs.Prelude.{◌≡◌, ◌≢◌, ◌≤◌, [], true, None, Some, Ok, Option, option_map, All};
+ghost use Rattle.std.specs.Prelude.{◌≡◌, ◌≢◌, ◌≤◌, [], true, None, Some, Ok, Option, option_map};
 ghost use Rattle.std.specs.Prelude.{IfOk, IfErr, OnOk, length};
 ghost use Rattle.broker_types.specs.Broker.{Broker};
-ghost use Rattle.broker_types.specs.Fault.{IsMemoryOrStorage};
+ghost use Rattle.broker_types.specs.Fault.{IsMemoryOrStorage, IsNotBadStart};
 ghost use Rattle.broker_types.specs.Identifier.{id};
 ghost use Rattle.broker_types.specs.Limits.{longest_body};
 ghost use Rattle.broker_types.specs.Map.{get};
 ghost use Rattle.broker_types.specs.Names.{names_of};
-ghost use Rattle.broker_types.specs.RequestError.{step_fails};
 ghost use Rattle.broker_types.specs.Sound.{IsIdentifier};
 ghost use Rattle.broker_types.specs.Text.{Text};
 ghost use Rattle.broker_types.specs.declared.ask.Verb.TheVariants as verb;
 ghost use Rattle.records.specs.Ranges.{IsTokenInRange};
 ghost use Rattle.records.specs.Reading.{IsSomeIn};
-ghost use Rattle.records.specs.Table.{table_of};
 ghost use Rattle.records.specs.TokenEntry.{token_entry};
-ghost use Rattle.records.specs.Transaction.{IsHonest, GoesOn, is_storage};
+ghost use Rattle.records.specs.Transaction.{IsHonest};
 ghost use Rattle.token_tree.specs.TokenRows.{IsTokenAt};
 ghost use Rattle.api_json.specs.Kept.{IsKeptCreation};
-ghost use Rattle.records.specs.Calls.{OnAnswer, OnFault};
+ghost use Rattle.records.specs.Calls.{OnAnswer, IsReading, IsRequestCall};
+ghost use Rattle.records.specs.Table.{table};
 ghost use Rattle.mounts.specs.declared.operation.TokenOperation.TheVariants as operations;
 ghost use Rattle.policies.specs.Grants.{grants};
 ghost use Rattle.policies.specs.declared.capability.Capability.TheVariants as capability;
-ghost use Rattle.broker.specs.ClockRow.{IsNotBadStart};
 ghost use Rattle.broker.specs.Command.{on_tokens};
 ghost use Rattle.broker.specs.Operating.{Operates, Performs};
 ghost use Rattle.broker.specs.PermittedRows.{IsSudoAt};
 ghost use Rattle.broker.specs.ReadableRow.{HasReadablePolicies};
 ghost use Rattle.broker.specs.Representing.{Represents};
-ghost use Rattle.broker.specs.parts.TokenCreation.{Making, makes_orphans, making_path};
+ghost use Rattle.broker.specs.parts.TokenCreation.{making_path};
 ghost use Rattle.broker.specs.parts.TokenMaking.{MakesAsked, MayMakeAt, PutsToken};
 ghost use Rattle.broker.specs.parts.Tokens as part;
 
@@ -37,6 +35,7 @@ use crate::answered::Answered;
 use crate::context::Context;
 use crate::order::identifiers::{are_both_new, use_up};
 use crate::order::permission::grant_sudo;
+use crate::parts::tokens::making::Making;
 use crate::parts::tokens::new_policies::new_policies;
 use crate::parts::tokens::new_token::{check, new_parent, new_record};
 use crate::parts::tokens::shown::auth_reply;
@@ -54,14 +53,13 @@ pub(super) fn create<T: RecordsTx>(
     body: &[u8],
 ) -> Result<Answered, RequestError>
     requires { length body.now ≤ longest_body }
-    ensures ok { Operates context.now (T.seen tx.old) (T.seen tx.new)
+    ensures told { Operates context.now (T.seen tx.old) (T.seen tx.new)
         (λ b. on_tokens operations.Create body.now) result }
-    ensures started { OnFault result IsNotBadStart }
-    ensures goes_on { GoesOn (T.seen tx.old) (T.seen tx.new) (step_fails result) }
+    ensures call { IsRequestCall (T.seen tx.old) (T.seen tx.new) result IsNotBadStart }
 {
     let members = read_body(alloc, body)?;
     let asked = token_creation(alloc, &members)?;
-    make(alloc, tx, context, false, asked)
+    make(alloc, tx, context, Making::OfCaller, asked)
 }
 
 /// Makes a token without parent.
@@ -72,14 +70,13 @@ pub(super) fn create_orphan<T: RecordsTx>(
     body: &[u8],
 ) -> Result<Answered, RequestError>
     requires { length body.now ≤ longest_body }
-    ensures ok { Operates context.now (T.seen tx.old) (T.seen tx.new)
+    ensures told { Operates context.now (T.seen tx.old) (T.seen tx.new)
         (λ b. on_tokens operations.CreateOrphan body.now) result }
-    ensures started { OnFault result IsNotBadStart }
-    ensures goes_on { GoesOn (T.seen tx.old) (T.seen tx.new) (step_fails result) }
+    ensures call { IsRequestCall (T.seen tx.old) (T.seen tx.new) result IsNotBadStart }
 {
     let members = read_body(alloc, body)?;
     let asked = token_creation(alloc, &members)?;
-    make(alloc, tx, context, true, asked)
+    make(alloc, tx, context, Making::WithoutParent, asked)
 }
 
 /// Makes a token, if the identifiers of the request are new: else it is 500.
@@ -87,23 +84,22 @@ fn make<T: RecordsTx>(
     alloc: Global,
     tx: &mut T,
     context: &Context<'_>,
-    orphans: bool,
+    making: Making,
     asked: TokenCreation,
 ) -> Result<Answered, RequestError>
     requires { IsKeptCreation asked }
-    ensures ok { (m : Making) → makes_orphans m ≡ orphans → Performs context.now (T.seen tx.old) (T.seen tx.new)
+    ensures told { Performs context.now (T.seen tx.old) (T.seen tx.new)
         (λ b. part.if_new b (names_of context.now.words)
-        (part.create b context.now.caller (names_of context.now.words) m asked))
+        (part.create b context.now.caller (names_of context.now.words) making asked))
         result }
-    ensures started { OnFault result IsNotBadStart }
-    ensures goes_on { GoesOn (T.seen tx.old) (T.seen tx.new) (step_fails result) }
+    ensures call { IsRequestCall (T.seen tx.old) (T.seen tx.new) result IsNotBadStart }
 {
     let token = identifier(alloc, context.words.0[1])?;
     let accessor = identifier(alloc, context.words.0[2])?;
     if !are_both_new(tx, token.as_str(), accessor.as_str())? {
         return Err(RequestError::Refused(Refusal::IdentifierUsed));
     }
-    make_asked(alloc, tx, context, orphans, asked)
+    make_asked(alloc, tx, context, making, asked)
 }
 
 /// Makes the token that is asked for, if the caller may.
@@ -111,30 +107,29 @@ fn make_asked<T: RecordsTx>(
     alloc: Global,
     tx: &mut T,
     context: &Context<'_>,
-    orphans: bool,
+    making: Making,
     asked: TokenCreation,
 ) -> Result<Answered, RequestError>
     requires { IsKeptCreation asked }
-    ensures ok { MakesAsked context.now (T.seen tx.old) (T.seen tx.new) orphans asked result }
+    ensures told { MakesAsked context.now (T.seen tx.old) (T.seen tx.new) making asked result }
 
     // Whatever the rows are: it is neither answered nor refused if the row of the caller is damaged, or one of its
     // policies.
-    ensures undamaged { IsHonest (T.seen tx.new) → context.now.caller ≢ []
+    ensures readable { IsHonest (T.seen tx.new) → context.now.caller ≢ []
         → OnAnswer result (HasReadablePolicies (T.seen tx.old).rows context.now.caller) }
 
     // And it is made only if the row of the caller and those of its policies say that the caller may.
-    ensures may { IsHonest (T.seen tx.new) → context.now.caller ≢ [] → (m : Making) → makes_orphans m ≡ orphans
-        → OnOk result (MayMakeAt (T.seen tx.old).rows context.now.caller m asked) }
-    ensures started { OnFault result IsNotBadStart }
-    ensures goes_on { GoesOn (T.seen tx.old) (T.seen tx.new) (step_fails result) }
+    ensures may { IsHonest (T.seen tx.new) → context.now.caller ≢ []
+        → OnOk result (MayMakeAt (T.seen tx.old).rows context.now.caller making asked) }
+    ensures call { IsRequestCall (T.seen tx.old) (T.seen tx.new) result IsNotBadStart }
 {
-    let Some(caller) = find_caller(alloc, tx, context.caller)? else {
+    let Some(caller) = caller_record(alloc, tx, context.caller)? else {
         return Err(RequestError::Refused(Refusal::Forbidden(Denial::BadToken)));
     };
-    let privileged = has_sudo(alloc, tx, &caller.policies, orphans)?;
+    let privileged = has_sudo(alloc, tx, &caller.policies, making)?;
     let policies = new_policies(alloc, privileged, &caller, &asked)?;
-    check(privileged, orphans, &caller, &policies, &asked)?;
-    let parent = new_parent(alloc, context.caller, orphans, &asked)?;
+    check(privileged, making, &caller, &policies, &asked)?;
+    let parent = new_parent(alloc, context.caller, making, &asked)?;
     let accessor = identifier(alloc, context.words.0[2])?;
     let clock = context.clock;
     let token = new_record(alloc, clock, parent, accessor, policies, &asked)?;
@@ -146,30 +141,23 @@ fn has_sudo<T: RecordsTx>(
     alloc: Global,
     tx: &mut T,
     policies: &[TextBuf],
-    orphans: bool,
+    making: Making,
 ) -> Result<bool, Fault>
     ensures told { IsHonest (T.seen tx.new) → (who : Option Text) (b : Broker) → Represents who (T.seen tx.old).rows b
-        → (m : Making) → makes_orphans m ≡ orphans
-        → IfOk result (λ v. v ≡ grants b.policies policies.now verb.Write (making_path m) capability.Sudo) }
+        → IfOk result (λ v. v ≡ grants b.policies policies.now verb.Write (making_path making) capability.Sudo) }
 
     // Whatever the rows are: those of these policies can be read, and they decide.
-    ensures found { IsHonest (T.seen tx.new) → (m : Making) → makes_orphans m ≡ orphans
-        → IfOk result (IsSudoAt (T.seen tx.old).rows policies.now (making_path m)) }
+    ensures found { IsHonest (T.seen tx.new)
+        → IfOk result (IsSudoAt (T.seen tx.old).rows policies.now (making_path making)) }
     ensures wants { IsHonest (T.seen tx.new) → (who : Option Text) (b : Broker) → Represents who (T.seen tx.old).rows b
         → IfErr result IsMemoryOrStorage }
-    ensures same { IsHonest (T.seen tx.new) → OnOk result ((T.seen tx.new).rows ≡ (T.seen tx.old).rows) }
-    ensures started { IfErr result IsNotBadStart }
-    ensures goes_on { GoesOn (T.seen tx.old) (T.seen tx.new) (is_storage result) }
+    ensures call { IsReading (T.seen tx.old) (T.seen tx.new) result IsNotBadStart }
 {
-    if orphans {
-        grant_sudo(alloc, tx, policies, "auth/token/create-orphan")
-    } else {
-        grant_sudo(alloc, tx, policies, "auth/token/create")
-    }
+    grant_sudo(alloc, tx, policies, making.path())
 }
 
 /// The caller's token; no token has an empty text.
-fn find_caller<T: RecordsTx>(
+fn caller_record<T: RecordsTx>(
     alloc: Global,
     tx: &mut T,
     caller: &str,
@@ -179,14 +167,12 @@ fn find_caller<T: RecordsTx>(
 
     // Whatever the rows are: a damaged row is answered neither as a token nor as an absent one.
     ensures found { IsHonest (T.seen tx.new) → caller.now ≢ []
-        → IfOk result (IsTokenAt (table_of (T.seen tx.old).rows) caller.now) }
+        → IfOk result (IsTokenAt (table (T.seen tx.old)) caller.now) }
     ensures in_range { IfOk result (IsSomeIn IsTokenInRange) }
     ensures named { caller.now ≡ [] → IfOk result (λ found. found ≡ None) }
     ensures wants { IsHonest (T.seen tx.new) → (b : Broker) → Represents (Some caller.now) (T.seen tx.old).rows b
         → IfErr result IsMemoryOrStorage }
-    ensures same { IsHonest (T.seen tx.new) → OnOk result ((T.seen tx.new).rows ≡ (T.seen tx.old).rows) }
-    ensures started { IfErr result IsNotBadStart }
-    ensures goes_on { GoesOn (T.seen tx.old) (T.seen tx.new) (is_storage result) }
+    ensures call { IsReading (T.seen tx.old) (T.seen tx.new) result IsNotBadStart }
 {
     if caller.is_empty() {
         return Ok(None);
@@ -210,9 +196,8 @@ fn put<T: RecordsTx>(
     token: TokenRecord,
 ) -> Result<Answered, RequestError>
     requires { IsTokenInRange token }
-    ensures ok { PutsToken context.now (T.seen tx.old) (T.seen tx.new) token result }
-    ensures started { OnFault result IsNotBadStart }
-    ensures goes_on { GoesOn (T.seen tx.old) (T.seen tx.new) (step_fails result) }
+    ensures told { PutsToken context.now (T.seen tx.old) (T.seen tx.new) token result }
+    ensures call { IsRequestCall (T.seen tx.old) (T.seen tx.new) result IsNotBadStart }
 {
     let text = TokenText::of_word(alloc, context.words.0[1])?;
     let identifier = id_text(alloc, context.words.0[1])?;

@@ -1,14 +1,13 @@
 //! Look-up of tokens.
 
 ghost use Rattle.std.specs.Prelude.{◌≡◌, ◌≤◌, Ok, length};
+ghost use Rattle.broker_types.specs.Fault.{IsNotBadStart};
 ghost use Rattle.broker_types.specs.Limits.{longest_body};
 ghost use Rattle.broker_types.specs.Names.{names_of};
-ghost use Rattle.broker_types.specs.RequestError.{step_fails};
-ghost use Rattle.records.specs.Transaction.{IsHonest, GoesOn};
+ghost use Rattle.records.specs.Transaction.{IsHonest};
 ghost use Rattle.token_tree.specs.Accessors.{AreAccessorRows};
-ghost use Rattle.records.specs.Calls.{OnAnswer, OnFault};
+ghost use Rattle.records.specs.Calls.{OnAnswer, IsRequestCall};
 ghost use Rattle.mounts.specs.declared.operation.TokenOperation.TheVariants as operations;
-ghost use Rattle.broker.specs.ClockRow.{IsNotBadStart};
 ghost use Rattle.broker.specs.Command.{on_token, on_tokens};
 ghost use Rattle.broker.specs.Operating.{Operates, Performs};
 ghost use Rattle.broker.specs.ReadableRow.{IsReadableToken};
@@ -17,10 +16,11 @@ ghost use Rattle.broker.specs.parts.TokenCommands.{TokenCommand, token_command, 
 ghost use Rattle.broker.specs.parts.Tokens as part;
 
 use crate::answered::Answered;
+use crate::answers::shown;
 use crate::context::Context;
 use crate::parts::tokens::shown::looked_up;
-use api_json::{accessor, keys_object, plain_reply, read_body, token, token_object};
-use broker_types::{Denial, Reason, Refusal, RequestError, id_text};
+use api_json::{accessor, keys_object, read_body, token, token_object};
+use broker_types::{Denial, Reason, Refusal, RequestError};
 use records::RecordsTx;
 use std::alloc::Global;
 use token_tree::{accessors, find, find_accessor};
@@ -33,15 +33,14 @@ pub(super) fn look_up<T: RecordsTx>(
     body: &[u8],
 ) -> Result<Answered, RequestError>
     requires { length body.now ≤ longest_body }
-    ensures ok { Operates context.now (T.seen tx.old) (T.seen tx.new)
+    ensures told { Operates context.now (T.seen tx.old) (T.seen tx.new)
         (λ b. on_tokens operations.LookUp body.now) result }
 
     // Whatever the rows are: it is neither answered nor refused if a row that the command reads is damaged.
-    ensures undamaged { IsHonest (T.seen tx.new)
+    ensures readable { IsHonest (T.seen tx.new)
         → (c : TokenCommand) → token_command operations.LookUp body.now ≡ Ok c
         → OnAnswer result (AreReadableTokens (T.seen tx.old).rows context.now.caller c) }
-    ensures started { OnFault result IsNotBadStart }
-    ensures goes_on { GoesOn (T.seen tx.old) (T.seen tx.new) (step_fails result) }
+    ensures call { IsRequestCall (T.seen tx.old) (T.seen tx.new) result IsNotBadStart }
 {
     let members = read_body(alloc, body)?;
     let token = token(alloc, &members)?;
@@ -54,13 +53,12 @@ pub(super) fn look_up_self<T: RecordsTx>(
     tx: &mut T,
     context: &Context<'_>,
 ) -> Result<Answered, RequestError>
-    ensures ok { Operates context.now (T.seen tx.old) (T.seen tx.new) (λ b. Ok (on_token lookup_self)) result }
+    ensures told { Operates context.now (T.seen tx.old) (T.seen tx.new) (λ b. Ok (on_token lookup_self)) result }
 
     // Whatever the rows are: a damaged row is answered neither as a token nor as an unknown text.
-    ensures undamaged { IsHonest (T.seen tx.new)
+    ensures readable { IsHonest (T.seen tx.new)
         → OnAnswer result (IsReadableToken (T.seen tx.old).rows context.now.caller) }
-    ensures started { OnFault result IsNotBadStart }
-    ensures goes_on { GoesOn (T.seen tx.old) (T.seen tx.new) (step_fails result) }
+    ensures call { IsRequestCall (T.seen tx.old) (T.seen tx.new) result IsNotBadStart }
 {
     let caller = context.caller;
     show(alloc, tx, context, caller, caller)
@@ -74,15 +72,14 @@ pub(super) fn look_up_accessor<T: RecordsTx>(
     body: &[u8],
 ) -> Result<Answered, RequestError>
     requires { length body.now ≤ longest_body }
-    ensures ok { Operates context.now (T.seen tx.old) (T.seen tx.new)
+    ensures told { Operates context.now (T.seen tx.old) (T.seen tx.new)
         (λ b. on_tokens operations.LookUpAccessor body.now) result }
 
     // Whatever the rows are: it is neither answered nor refused if a row that the command reads is damaged.
-    ensures undamaged { IsHonest (T.seen tx.new)
+    ensures readable { IsHonest (T.seen tx.new)
         → (c : TokenCommand) → token_command operations.LookUpAccessor body.now ≡ Ok c
         → OnAnswer result (AreReadableTokens (T.seen tx.old).rows context.now.caller c) }
-    ensures started { OnFault result IsNotBadStart }
-    ensures goes_on { GoesOn (T.seen tx.old) (T.seen tx.new) (step_fails result) }
+    ensures call { IsRequestCall (T.seen tx.old) (T.seen tx.new) result IsNotBadStart }
 {
     let members = read_body(alloc, body)?;
     let accessor = accessor(alloc, &members)?;
@@ -98,17 +95,15 @@ pub(super) fn list_accessors<T: RecordsTx>(
     tx: &mut T,
     context: &Context<'_>,
 ) -> Result<Answered, RequestError>
-    ensures ok { Operates context.now (T.seen tx.old) (T.seen tx.new) (λ b. Ok (on_token list_accessors)) result }
+    ensures told { Operates context.now (T.seen tx.old) (T.seen tx.new) (λ b. Ok (on_token list_accessors)) result }
 
     // Whatever the rows are: no list passes over a damaged row.
-    ensures undamaged { IsHonest (T.seen tx.new) → OnAnswer result (AreAccessorRows (T.seen tx.old).rows) }
-    ensures started { OnFault result IsNotBadStart }
-    ensures goes_on { GoesOn (T.seen tx.old) (T.seen tx.new) (step_fails result) }
+    ensures readable { IsHonest (T.seen tx.new) → OnAnswer result (AreAccessorRows (T.seen tx.old).rows) }
+    ensures call { IsRequestCall (T.seen tx.old) (T.seen tx.new) result IsNotBadStart }
 {
     let names = accessors(alloc, tx)?;
     let object = keys_object(alloc, &names)?;
-    let request = id_text(alloc, context.words.0[0])?;
-    Ok(Answered::Given(plain_reply(alloc, request.as_str(), object)?))
+    Ok(shown(alloc, context, object)?)
 }
 
 /// Shows a token under an id.
@@ -119,20 +114,18 @@ fn show<T: RecordsTx>(
     token: &str,
     id: &str,
 ) -> Result<Answered, RequestError>
-    ensures ok { Performs context.now (T.seen tx.old) (T.seen tx.new)
+    ensures told { Performs context.now (T.seen tx.old) (T.seen tx.new)
         (λ b. part.look_up b (names_of context.now.words) token.now id.now) result }
 
     // Whatever the rows are: a damaged row is answered neither as a token nor as an unknown text.
-    ensures undamaged { IsHonest (T.seen tx.new)
+    ensures readable { IsHonest (T.seen tx.new)
         → OnAnswer result (IsReadableToken (T.seen tx.old).rows token.now) }
-    ensures started { OnFault result IsNotBadStart }
-    ensures goes_on { GoesOn (T.seen tx.old) (T.seen tx.new) (step_fails result) }
+    ensures call { IsRequestCall (T.seen tx.old) (T.seen tx.new) result IsNotBadStart }
 {
     let Some(found) = find(alloc, tx, token)? else {
         return Err(RequestError::Refused(Refusal::Forbidden(Denial::BadToken)));
     };
-    let shown = looked_up(alloc, found, context.clock, id)?;
-    let object = token_object(alloc, &shown)?;
-    let request = id_text(alloc, context.words.0[0])?;
-    Ok(Answered::Given(plain_reply(alloc, request.as_str(), object)?))
+    let token = looked_up(alloc, found, context.clock, id)?;
+    let object = token_object(alloc, &token)?;
+    Ok(shown(alloc, context, object)?)
 }

@@ -14,9 +14,9 @@ ghost use Rattle.broker.specs.parts.TokenRanges.{IsTextPair};
 ghost use Rattle.broker.specs.parts.TokenEntries.{token_told, new_entry};
 
 use crate::parts::tokens::LONGEST_TTL;
+use crate::parts::tokens::making::Making;
 use api_json::TokenCreation;
-use broker_types::{Moment, Reason, Refusal, Seconds, TextBuf};
-use mounts::is_name;
+use broker_types::{Moment, Reason, Refusal, Seconds, TextBuf, is_name};
 use records::{Due, TokenRecord};
 use std::alloc::{AllocError, Global};
 use token_tree::is_among;
@@ -24,12 +24,12 @@ use token_tree::is_among;
 /// Whether the caller may make the token: the first reason that it may not is 400.
 pub(super) fn check(
     privileged: bool,
-    orphans: bool,
+    making: Making,
     caller: &TokenRecord,
     policies: &[TextBuf],
     asked: &TokenCreation,
 ) -> Result<(), Refusal>
-    ensures { result ≡ part.may_make privileged orphans (token_told caller.now) policies.now asked.now }
+    ensures { result ≡ part.may_make privileged making (token_told caller.now) policies.now asked.now }
 {
     unless(is_unlimited(caller), Reason::RestrictedToken)?;
     unless(are_names(asked), Reason::InvalidName)?;
@@ -39,7 +39,7 @@ pub(super) fn check(
         Reason::PoliciesBeyondParent,
     )?;
     unless(
-        is_parted(privileged, orphans, asked),
+        is_parted(privileged, making, asked),
         Reason::OrphanNeedsSudo,
     )?;
     unless(is_end_kept(caller, policies, asked), Reason::ExpiringRoot)
@@ -70,10 +70,10 @@ fn are_its_own(privileged: bool, caller: &TokenRecord, asked: &TokenCreation) ->
 }
 
 /// Whether the caller may make a token without parent, if it is asked for.
-fn is_parted(privileged: bool, orphans: bool, asked: &TokenCreation) -> bool
-    ensures { result ≡ (privileged || (orphans || not asked.now.no_parent)) }
+fn is_parted(privileged: bool, making: Making, asked: &TokenCreation) -> bool
+    ensures { result ≡ (privileged || (part.makes_orphans making || not asked.now.no_parent)) }
 {
-    privileged || orphans || !asked.no_parent
+    privileged || making.makes_orphans() || !asked.no_parent
 }
 
 /// Whether the caller has no end, or the token has one.
@@ -204,12 +204,12 @@ fn seconds_of(asked: Seconds) -> u64
 pub(super) fn new_parent(
     alloc: Global,
     caller: &str,
-    orphans: bool,
+    making: Making,
     asked: &TokenCreation,
 ) -> Result<Option<TextBuf>, AllocError>
-    ensures { IfOk result (λ parent. parent ≡ part.new_parent caller.now orphans asked.now) }
+    ensures { IfOk result (λ parent. parent ≡ part.new_parent caller.now making asked.now) }
 {
-    if orphans || asked.no_parent {
+    if making.makes_orphans() || asked.no_parent {
         return Ok(None);
     }
     Ok(Some(TextBuf::copied(alloc, caller)?))

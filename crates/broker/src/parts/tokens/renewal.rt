@@ -1,14 +1,13 @@
 //! Renewal of tokens.
 
 ghost use Rattle.std.specs.Prelude.{◌≡◌, ◌≤◌, Ok, length};
+ghost use Rattle.broker_types.specs.Fault.{IsNotBadStart};
 ghost use Rattle.broker_types.specs.Limits.{longest_body};
 ghost use Rattle.broker_types.specs.Names.{names_of};
-ghost use Rattle.broker_types.specs.RequestError.{step_fails};
 ghost use Rattle.records.specs.Ranges.{IsTokenInRange};
-ghost use Rattle.records.specs.Transaction.{IsHonest, GoesOn};
-ghost use Rattle.records.specs.Calls.{OnAnswer, OnFault};
+ghost use Rattle.records.specs.Transaction.{IsHonest};
+ghost use Rattle.records.specs.Calls.{OnAnswer, IsRequestCall};
 ghost use Rattle.mounts.specs.declared.operation.TokenOperation.TheVariants as operations;
-ghost use Rattle.broker.specs.ClockRow.{IsNotBadStart};
 ghost use Rattle.broker.specs.Command.{on_tokens};
 ghost use Rattle.broker.specs.Operating.{Operates, Performs};
 ghost use Rattle.broker.specs.ReadableRow.{IsReadableToken};
@@ -34,15 +33,14 @@ pub(super) fn renew<T: RecordsTx>(
     body: &[u8],
 ) -> Result<Answered, RequestError>
     requires { length body.now ≤ longest_body }
-    ensures ok { Operates context.now (T.seen tx.old) (T.seen tx.new)
+    ensures told { Operates context.now (T.seen tx.old) (T.seen tx.new)
         (λ b. on_tokens operations.Renew body.now) result }
 
     // Whatever the rows are: it is neither answered nor refused if a row that the command reads is damaged.
-    ensures undamaged { IsHonest (T.seen tx.new)
+    ensures readable { IsHonest (T.seen tx.new)
         → (c : TokenCommand) → token_command operations.Renew body.now ≡ Ok c
         → OnAnswer result (AreReadableTokens (T.seen tx.old).rows context.now.caller c) }
-    ensures started { OnFault result IsNotBadStart }
-    ensures goes_on { GoesOn (T.seen tx.old) (T.seen tx.new) (step_fails result) }
+    ensures call { IsRequestCall (T.seen tx.old) (T.seen tx.new) result IsNotBadStart }
 {
     let members = read_body(alloc, body)?;
     let asked = token_renewal(alloc, &members)?;
@@ -57,15 +55,14 @@ pub(super) fn renew_self<T: RecordsTx>(
     body: &[u8],
 ) -> Result<Answered, RequestError>
     requires { length body.now ≤ longest_body }
-    ensures ok { Operates context.now (T.seen tx.old) (T.seen tx.new)
+    ensures told { Operates context.now (T.seen tx.old) (T.seen tx.new)
         (λ b. on_tokens operations.RenewSelf body.now) result }
 
     // Whatever the rows are: it is neither answered nor refused if a row that the command reads is damaged.
-    ensures undamaged { IsHonest (T.seen tx.new)
+    ensures readable { IsHonest (T.seen tx.new)
         → (c : TokenCommand) → token_command operations.RenewSelf body.now ≡ Ok c
         → OnAnswer result (AreReadableTokens (T.seen tx.old).rows context.now.caller c) }
-    ensures started { OnFault result IsNotBadStart }
-    ensures goes_on { GoesOn (T.seen tx.old) (T.seen tx.new) (step_fails result) }
+    ensures call { IsRequestCall (T.seen tx.old) (T.seen tx.new) result IsNotBadStart }
 {
     let members = read_body(alloc, body)?;
     let asked = increment(alloc, &members)?;
@@ -82,14 +79,13 @@ fn renew_to<T: RecordsTx>(
     token: &str,
     increment: Seconds,
 ) -> Result<Answered, RequestError>
-    ensures ok { Performs context.now (T.seen tx.old) (T.seen tx.new)
+    ensures told { Performs context.now (T.seen tx.old) (T.seen tx.new)
         (λ b. part.renew b (names_of context.now.words) token.now increment) result }
 
     // Whatever the rows are: a damaged row is answered neither as a token nor as an unknown text.
-    ensures undamaged { IsHonest (T.seen tx.new)
+    ensures readable { IsHonest (T.seen tx.new)
         → OnAnswer result (IsReadableToken (T.seen tx.old).rows token.now) }
-    ensures started { OnFault result IsNotBadStart }
-    ensures goes_on { GoesOn (T.seen tx.old) (T.seen tx.new) (step_fails result) }
+    ensures call { IsRequestCall (T.seen tx.old) (T.seen tx.new) result IsNotBadStart }
 {
     let Some(mut found) = find(alloc, tx, token)? else {
         return Err(RequestError::Refused(Refusal::Forbidden(Denial::BadToken)));

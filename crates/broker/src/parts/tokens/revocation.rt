@@ -1,14 +1,13 @@
 //! Revocation of tokens.
 
 ghost use Rattle.std.specs.Prelude.{◌≡◌, ◌≤◌, Ok, length};
+ghost use Rattle.broker_types.specs.Fault.{IsNotBadStart};
 ghost use Rattle.broker_types.specs.Limits.{longest_body};
-ghost use Rattle.broker_types.specs.RequestError.{step_fails};
-ghost use Rattle.records.specs.Transaction.{IsHonest, GoesOn};
-ghost use Rattle.records.specs.Calls.{OnAnswer, OnFault};
+ghost use Rattle.records.specs.Transaction.{IsHonest};
+ghost use Rattle.records.specs.Calls.{OnAnswer, IsRequestCall};
 ghost use Rattle.mounts.specs.declared.operation.TokenOperation.TheVariants as operations;
-ghost use Rattle.broker.specs.ClockRow.{IsNotBadStart};
 ghost use Rattle.broker.specs.Command.{on_tokens};
-ghost use Rattle.broker.specs.Ending.{HasEnded, HasEndedAlone};
+ghost use Rattle.broker.specs.Ending.{EndsBelow, EndsOne};
 ghost use Rattle.broker.specs.Operating.{Operates, Performs};
 ghost use Rattle.broker.specs.ReadableRow.{IsReadableDescent, IsReadableToken};
 ghost use Rattle.broker.specs.Reads.{AreReadableTokens};
@@ -32,15 +31,14 @@ pub(super) fn revoke<T: RecordsTx>(
     body: &[u8],
 ) -> Result<Answered, RequestError>
     requires { length body.now ≤ longest_body }
-    ensures ok { Operates context.now (T.seen tx.old) (T.seen tx.new)
+    ensures told { Operates context.now (T.seen tx.old) (T.seen tx.new)
         (λ b. on_tokens operations.Revoke body.now) result }
 
     // Whatever the rows are: it is neither answered nor refused if a row that the command reads is damaged.
-    ensures undamaged { IsHonest (T.seen tx.new)
+    ensures readable { IsHonest (T.seen tx.new)
         → (c : TokenCommand) → token_command operations.Revoke body.now ≡ Ok c
         → OnAnswer result (AreReadableTokens (T.seen tx.old).rows context.now.caller c) }
-    ensures started { OnFault result IsNotBadStart }
-    ensures goes_on { GoesOn (T.seen tx.old) (T.seen tx.new) (step_fails result) }
+    ensures call { IsRequestCall (T.seen tx.old) (T.seen tx.new) result IsNotBadStart }
 {
     let members = read_body(alloc, body)?;
     let token = token(alloc, &members)?;
@@ -55,15 +53,14 @@ pub(super) fn revoke_orphan<T: RecordsTx>(
     body: &[u8],
 ) -> Result<Answered, RequestError>
     requires { length body.now ≤ longest_body }
-    ensures ok { Operates context.now (T.seen tx.old) (T.seen tx.new)
+    ensures told { Operates context.now (T.seen tx.old) (T.seen tx.new)
         (λ b. on_tokens operations.RevokeOrphan body.now) result }
 
     // Whatever the rows are: it is neither answered nor refused if a row that the command reads is damaged.
-    ensures undamaged { IsHonest (T.seen tx.new)
+    ensures readable { IsHonest (T.seen tx.new)
         → (c : TokenCommand) → token_command operations.RevokeOrphan body.now ≡ Ok c
         → OnAnswer result (AreReadableTokens (T.seen tx.old).rows context.now.caller c) }
-    ensures started { OnFault result IsNotBadStart }
-    ensures goes_on { GoesOn (T.seen tx.old) (T.seen tx.new) (step_fails result) }
+    ensures call { IsRequestCall (T.seen tx.old) (T.seen tx.new) result IsNotBadStart }
 {
     let members = read_body(alloc, body)?;
     let token = token(alloc, &members)?;
@@ -78,15 +75,14 @@ pub(super) fn revoke_self<T: RecordsTx>(
     body: &[u8],
 ) -> Result<Answered, RequestError>
     requires { length body.now ≤ longest_body }
-    ensures ok { Operates context.now (T.seen tx.old) (T.seen tx.new)
+    ensures told { Operates context.now (T.seen tx.old) (T.seen tx.new)
         (λ b. on_tokens operations.RevokeSelf body.now) result }
 
     // Whatever the rows are: it is neither answered nor refused if a row that the command reads is damaged.
-    ensures undamaged { IsHonest (T.seen tx.new)
+    ensures readable { IsHonest (T.seen tx.new)
         → (c : TokenCommand) → token_command operations.RevokeSelf body.now ≡ Ok c
         → OnAnswer result (AreReadableTokens (T.seen tx.old).rows context.now.caller c) }
-    ensures started { OnFault result IsNotBadStart }
-    ensures goes_on { GoesOn (T.seen tx.old) (T.seen tx.new) (step_fails result) }
+    ensures call { IsRequestCall (T.seen tx.old) (T.seen tx.new) result IsNotBadStart }
 {
     read_body(alloc, body)?;
     let caller = context.caller;
@@ -101,15 +97,14 @@ pub(super) fn revoke_accessor<T: RecordsTx>(
     body: &[u8],
 ) -> Result<Answered, RequestError>
     requires { length body.now ≤ longest_body }
-    ensures ok { Operates context.now (T.seen tx.old) (T.seen tx.new)
+    ensures told { Operates context.now (T.seen tx.old) (T.seen tx.new)
         (λ b. on_tokens operations.RevokeAccessor body.now) result }
 
     // Whatever the rows are: it is neither answered nor refused if a row that the command reads is damaged.
-    ensures undamaged { IsHonest (T.seen tx.new)
+    ensures readable { IsHonest (T.seen tx.new)
         → (c : TokenCommand) → token_command operations.RevokeAccessor body.now ≡ Ok c
         → OnAnswer result (AreReadableTokens (T.seen tx.old).rows context.now.caller c) }
-    ensures started { OnFault result IsNotBadStart }
-    ensures goes_on { GoesOn (T.seen tx.old) (T.seen tx.new) (step_fails result) }
+    ensures call { IsRequestCall (T.seen tx.old) (T.seen tx.new) result IsNotBadStart }
 {
     let members = read_body(alloc, body)?;
     let accessor = accessor(alloc, &members)?;
@@ -126,18 +121,17 @@ fn end<T: RecordsTx>(
     context: &Context<'_>,
     token: &str,
 ) -> Result<Answered, RequestError>
-    ensures ok { Performs context.now (T.seen tx.old) (T.seen tx.new) (λ b. Ok (part.revoke b token.now)) result }
+    ensures told { Performs context.now (T.seen tx.old) (T.seen tx.new) (λ b. Ok (part.revoke b token.now)) result }
 
     // Whatever the rows are: it is neither answered nor refused if the row of the token, or of one below it, is
     // damaged.
-    ensures undamaged { IsHonest (T.seen tx.new)
+    ensures readable { IsHonest (T.seen tx.new)
         → OnAnswer result (IsReadableDescent (T.seen tx.old).rows token.now) }
 
     // And these rows go, with those of their accessors and their cubbyholes, and no other changes.
     ensures rows { IsHonest (T.seen tx.new)
-        → OnAnswer result (HasEnded token.now (T.seen tx.old).rows (T.seen tx.new).rows) }
-    ensures started { OnFault result IsNotBadStart }
-    ensures goes_on { GoesOn (T.seen tx.old) (T.seen tx.new) (step_fails result) }
+        → OnAnswer result (EndsBelow token.now (T.seen tx.old).rows (T.seen tx.new).rows) }
+    ensures call { IsRequestCall (T.seen tx.old) (T.seen tx.new) result IsNotBadStart }
 {
     let ended = end_descent(alloc, tx, token)?;
     drop_cubbyholes(alloc, tx, &ended)?;
@@ -151,18 +145,18 @@ fn end_alone<T: RecordsTx>(
     context: &Context<'_>,
     token: &str,
 ) -> Result<Answered, RequestError>
-    ensures ok { Performs context.now (T.seen tx.old) (T.seen tx.new) (λ b. Ok (part.revoke_alone b token.now)) result }
+    ensures told { Performs context.now (T.seen tx.old) (T.seen tx.new)
+        (λ b. Ok (part.revoke_alone b token.now)) result }
 
     // Whatever the rows are: it is neither answered nor refused if the row of the token is damaged.
-    ensures undamaged { IsHonest (T.seen tx.new)
+    ensures readable { IsHonest (T.seen tx.new)
         → OnAnswer result (IsReadableToken (T.seen tx.old).rows token.now) }
 
     // And its row goes, with that of its accessor and its cubbyhole; its children have no parent then, and no other
     // row changes.
     ensures rows { IsHonest (T.seen tx.new)
-        → OnAnswer result (HasEndedAlone token.now (T.seen tx.old).rows (T.seen tx.new).rows) }
-    ensures started { OnFault result IsNotBadStart }
-    ensures goes_on { GoesOn (T.seen tx.old) (T.seen tx.new) (step_fails result) }
+        → OnAnswer result (EndsOne token.now (T.seen tx.old).rows (T.seen tx.new).rows) }
+    ensures call { IsRequestCall (T.seen tx.old) (T.seen tx.new) result IsNotBadStart }
 {
     let ended = revoke_one(alloc, tx, token)?;
     drop_cubbyholes(alloc, tx, &ended)?;

@@ -1,6 +1,6 @@
 //! What replies show of a token.
 
-ghost use Rattle.std.specs.Prelude.{◌≡◌, ◌≤◌, IfOk, None, option_map};
+ghost use Rattle.std.specs.Prelude.{◌≡◌, IfOk, None};
 ghost use Rattle.broker_types.specs.Sound.{IsEnd};
 ghost use Rattle.records.specs.Ranges.{IsTokenInRange};
 ghost use Rattle.records.specs.Reading.{IsSomeIn};

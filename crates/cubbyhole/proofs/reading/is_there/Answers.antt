@@ -1,6 +1,6 @@
 use Rattle.std.proofs.Common.{◌∙◌, ap, is_some}
 use Rattle.records.specs.declared.kind.Kind.TheVariants as kind
-use Rattle.cubbyhole.specs.Objects.{table}
+use Rattle.records.specs.Table.{table}
 use Rattle.cubbyhole.proofs.ObjectsTold.{object_there}
 use Rattle.cubbyhole.proofs.reading.is_there.Goals as goal
 

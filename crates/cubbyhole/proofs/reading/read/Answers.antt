@@ -1,8 +1,8 @@
-use Rattle.std.proofs.Common.{◌∙◌, ap, sym, None, Some}
+use Rattle.std.proofs.Common.{rules, ◌∙◌, ap, sym, None, Some}
 use Rattle.records.specs.declared.kind.Kind.TheVariants as kind
 use Rattle.records.specs.RowForms.{cubby_row}
 use Rattle.records.specs.ValueLaws.{none_of}
-use Rattle.cubbyhole.specs.Objects.{table}
+use Rattle.records.specs.Table.{table}
 use Rattle.cubbyhole.proofs.ObjectsTold.{object_told, object_kept}
 use Rattle.cubbyhole.proofs.reading.read.Goals as goal
 
@@ -15,12 +15,15 @@ pub returns-in_default-clause-told : goal.returns-in_default-clause-told
 returns-in_default-clause-told g c honest b told len =
     object_told (table (g.T.RecordsTx.seen c.args.tx.now)) b c.args.token.now c.args.path.now None told len (returns-in_default-clause-found g c honest)
 
-pub returns-in_err-object-clause-undamaged : goal.returns-in_err-object-clause-undamaged
-returns-in_err-object-clause-undamaged g c honest forms b sound told len =
+pub returns-in_err-object-clause-wants : goal.returns-in_err-object-clause-wants
+returns-in_err-object-clause-wants g c honest forms b sound told len =
     let old = g.T.RecordsTx.seen c.args.tx.now in
     let kept = object_kept forms (table old) b c.args.token.now c.args.path.now c.in-Some.kept sound told len
     (ap (table old kind.Cubby) (sym (c.as_str.ensures.value ∙ c.in_ok-key.ensures)) ∙ sym (c.in_ok-kept.ensures.found honest) ∙ c.in-Some.is) in
     absurd (let e = c.in_err-object.ensures.again kept.0 kept.1 kept.2 in cc)
+
+pub returns-in_err-object-clause-call : goal.returns-in_err-object-clause-call
+returns-in_err-object-clause-call g c = record { same = search rules; faults = search rules; goes_on = search rules }
 
 pub returns-clause-found : goal.returns-clause-found
 returns-clause-found g c honest =

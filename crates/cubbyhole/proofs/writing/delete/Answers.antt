@@ -1,13 +1,13 @@
-use Rattle.std.proofs.Common.{◌≡◌, ◌∙◌, ap, None}
+use Rattle.std.proofs.Common.{rules, ◌≡◌, ◌∙◌, ap, None}
 use Rattle.std.specs.FinMap as map
 use Rattle.broker_types.specs.Text.{Text, same}
 use Rattle.broker_types.specs.Map.{without}
 use Rattle.records.specs.declared.kind.Kind.TheVariants as kind
-use Rattle.records.specs.Table.{table_of, without_row}
+use Rattle.records.specs.Table.{table, table_of, without_row}
 use Rattle.records.specs.Transaction.{Seen}
 use Rattle.std.proofs.lemmas.Result.{on_ok_weaker}
 use Rattle.records.specs.TableLaws.{table_of-remove}
-use Rattle.cubbyhole.specs.Objects.{table, object_key}
+use Rattle.cubbyhole.specs.Objects.{object_key}
 use Rattle.cubbyhole.proofs.Edits.{others_kept, tells_edited}
 use Rattle.cubbyhole.proofs.ObjectKeys.{key_under}
 use Rattle.cubbyhole.proofs.ObjectRows.{cubby-delete}
@@ -22,14 +22,19 @@ returns-clause-rows g c honest =
     ap table_of removed ∙ table_of-remove old.rows kind.Cubby key
     ∙ ap (without_row (table old) kind.Cubby) (c.as_str.ensures.value ∙ c.in_ok-key.ensures)) (c.remove.ensures.rows honest)
 
-pub returns-clause-others : goal.returns-clause-others
-returns-clause-others g c honest =
+pub returns-clause-call : goal.returns-clause-call
+returns-clause-call g c =
     let seen = g.T.RecordsTx.seen in
     let t = c.args.token.now in
     let path = c.args.path.now in
-    on_ok_weaker c.remove.result (λ rows.
-    others_kept t (λ q. same q (object_key t path)) None (table (seen c.args.tx.now)) (table (seen c.remove.new.self)) rows (key_under t path))
-    (returns-clause-rows g c honest)
+    record {
+      others = λ honest.
+          on_ok_weaker c.remove.result (λ rows.
+          others_kept t (λ q. same q (object_key t path)) None (table (seen c.args.tx.now)) (table (seen c.remove.new.self)) rows (key_under t path))
+          (returns-clause-rows g c honest);
+      faults = c.remove.ensures.call.faults;
+      goes_on = search rules;
+    }
 
 pub returns-clause-told : goal.returns-clause-told
 returns-clause-told g c honest part b told len =

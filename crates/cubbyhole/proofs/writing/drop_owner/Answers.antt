@@ -1,11 +1,11 @@
-use Rattle.std.proofs.Common.{◌∙◌, [], None}
+use Rattle.std.proofs.Common.{rules, ◌∙◌, [], None}
 use Rattle.std.specs.Prelude.{nat_eq}
 use Rattle.std.specs.List.{starts_with}
 use Rattle.broker_types.specs.Map.{empty}
 use Rattle.records.specs.declared.kind.Kind.TheVariants as kind
-use Rattle.records.specs.Table.{without_under}
+use Rattle.records.specs.Table.{table, without_under}
 use Rattle.std.proofs.lemmas.Result.{on_ok_weaker}
-use Rattle.cubbyhole.specs.Objects.{table, object_key}
+use Rattle.cubbyhole.specs.Objects.{object_key}
 use Rattle.cubbyhole.proofs.Edits.{others_kept, tells_edited}
 use Rattle.cubbyhole.proofs.Filed.{under_owned}
 use Rattle.cubbyhole.proofs.ObjectRows.{cubby-drop_owner}
@@ -22,13 +22,18 @@ returns-clause-owned g c honest filed len =
     let old = g.T.RecordsTx.seen c.args.tx.now in
     on_ok_weaker c.remove_under.result (λ rows. rows ∙ under_owned (table old) c.args.token.now filed len) (returns-clause-rows g c honest)
 
-pub returns-clause-others : goal.returns-clause-others
-returns-clause-others g c honest =
+pub returns-clause-call : goal.returns-clause-call
+returns-clause-call g c =
     let seen = g.T.RecordsTx.seen in
     let t = c.args.token.now in
-    on_ok_weaker c.remove_under.result (λ rows.
-    others_kept t (λ q. starts_with nat_eq q (object_key t [])) None (table (seen c.args.tx.now)) (table (seen c.remove_under.new.tx)) rows (λ q is. is))
-    (returns-clause-rows g c honest)
+    record {
+      others = λ honest.
+          on_ok_weaker c.remove_under.result (λ rows.
+          others_kept t (λ q. starts_with nat_eq q (object_key t [])) None (table (seen c.args.tx.now)) (table (seen c.remove_under.new.tx)) rows (λ q is. is))
+          (returns-clause-rows g c honest);
+      faults = c.remove_under.ensures.call.faults;
+      goes_on = search rules;
+    }
 
 pub returns-clause-told : goal.returns-clause-told
 returns-clause-told g c honest part b told len =

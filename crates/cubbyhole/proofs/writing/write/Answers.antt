@@ -1,15 +1,15 @@
-use Rattle.std.proofs.Common.{◌≡◌, ◌∙◌, ap, Some}
+use Rattle.std.proofs.Common.{rules, ◌≡◌, ◌∙◌, ap, Some}
 use Rattle.std.specs.FinMap as map
 use Rattle.broker_types.specs.Text.{Text, same}
 use Rattle.broker_types.specs.Map.{put}
 use Rattle.records.specs.declared.kind.Kind.TheVariants as kind
 use Rattle.records.specs.RowForms.{cubby_row}
 use Rattle.records.specs.declared.row.Row.{Row}
-use Rattle.records.specs.Table.{table_of, with_row}
+use Rattle.records.specs.Table.{table, table_of, with_row}
 use Rattle.records.specs.Transaction.{Seen}
 use Rattle.std.proofs.lemmas.Result.{on_ok_weaker}
 use Rattle.records.specs.TableLaws.{table_of-insert}
-use Rattle.cubbyhole.specs.Objects.{table, object_key}
+use Rattle.cubbyhole.specs.Objects.{object_key}
 use Rattle.cubbyhole.proofs.Edits.{others_kept, tells_edited}
 use Rattle.cubbyhole.proofs.ObjectKeys.{key_under}
 use Rattle.cubbyhole.proofs.ObjectRows.{cubby-write}
@@ -25,14 +25,19 @@ returns-clause-rows g c honest =
     ap table_of put ∙ table_of-insert old.rows kind.Cubby key row
     ∙ (λ i. with_row (table old) kind.Cubby ((c.as_str.ensures.value ∙ c.in_ok-key.ensures) i) (c.in_ok-row.ensures i))) (c.put.ensures.rows honest)
 
-pub returns-clause-others : goal.returns-clause-others
-returns-clause-others g c honest =
+pub returns-clause-call : goal.returns-clause-call
+returns-clause-call g c =
     let seen = g.T.RecordsTx.seen in
     let t = c.args.token.now in
     let path = c.args.path.now in
-    on_ok_weaker c.put.result (λ rows.
-    others_kept t (λ q. same q (object_key t path)) (Some (cubby_row t c.args.object.now)) (table (seen c.args.tx.now)) (table (seen c.put.new.self)) rows
-    (key_under t path)) (returns-clause-rows g c honest)
+    record {
+      others = λ honest.
+          on_ok_weaker c.put.result (λ rows.
+          others_kept t (λ q. same q (object_key t path)) (Some (cubby_row t c.args.object.now)) (table (seen c.args.tx.now)) (table (seen c.put.new.self)) rows
+          (key_under t path)) (returns-clause-rows g c honest);
+      faults = c.put.ensures.call.faults;
+      goes_on = search rules;
+    }
 
 pub returns-clause-told : goal.returns-clause-told
 returns-clause-told g c honest part b told here len =

@@ -30,9 +30,8 @@ returns g c timely =
       rows = λ honest. subst (λ (q : Text). OnOk c.change_versions.result (AreChanged f ns q old new)) is (made.rows honest timely);
       told = λ honest forms b sound told is_name.
           on_ok_weaker c.change_versions.result (versions_told forms b sound old told mount path name is laws is_name f ns new) (made.rows honest timely);
-      readable = λ honest versions. made.undamaged honest timely (subst (λ (q : Text). AreReadableVersions old q ns) (sym is) versions);
-      undamaged = λ honest forms b sound told is_name.
-          made.undamaged honest timely (λ n small _. its_versions forms b sound old told mount path name is laws is_name n small);
-      started = made.started;
-      goes_on = made.goes_on;
+      wants = λ honest forms b sound told is_name.
+          made.faults honest timely (λ n small _. its_versions forms b sound old told mount path name is laws is_name n small);
+      faults = λ honest versions. made.faults honest timely (subst (λ (q : Text). AreReadableVersions old q ns) (sym is) versions);
+      call = made.call;
     }

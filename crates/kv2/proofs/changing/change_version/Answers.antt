@@ -20,13 +20,13 @@ returns-in_default-clause-rows g c honest timely =
     let f = change_of c.args.change in
     let none : old kind.KvVersion (version_key c.args.name.now c.args.number) ≡ None =
     ap (old kind.KvVersion) (sym (c.as_str.ensures.value ∙ c.in_ok-key.ensures)) ∙ sym (c.in_ok-kept.ensures.found honest) ∙ none_of _ c.in_default.not-Some in
-    subst (λ (t : Table). AreChanged f (c.args.number ∷ []) c.args.name.now old t) (ap table_of (sym (c.in_ok-kept.ensures.same honest)))
+    subst (λ (t : Table). AreChanged f (c.args.number ∷ []) c.args.name.now old t) (ap table_of (sym (c.in_ok-kept.ensures.call.same honest)))
     (missing_changed f c.args.name.now old c.args.number small none)
 
 pub returns-clause-rows : goal.returns-clause-rows
 returns-clause-rows g c honest timely =
     let seen = g.T.RecordsTx.seen in
-    let first : IsHonest (seen c.get.new.self) = honest_before _ _ _ c.put.ensures.goes_on honest in
+    let first : IsHonest (seen c.get.new.self) = honest_before _ _ _ c.put.ensures.call.goes_on honest in
     let small : c.args.number < 2 ^ 64 = omega arith in
     let old = table_of (seen c.args.tx.now).rows in
     let f = change_of c.args.change in
@@ -38,6 +38,6 @@ returns-clause-rows g c honest timely =
     on_ok_weaker c.put.result (λ put.
     subst (λ (t : Table). AreChanged f (c.args.number ∷ []) c.args.name.now old t) (sym (
     ap table_of put ∙ table_of-insert (seen c.get.new.self).rows kind.KvVersion c.as_str-2.result.now c.in_ok-row.row
-    ∙ (λ i. with_row (table_of (c.in_ok-kept.ensures.same first i)) kind.KvVersion ((c.as_str-2.ensures.value
+    ∙ (λ i. with_row (table_of (c.in_ok-kept.ensures.call.same first i)) kind.KvVersion ((c.as_str-2.ensures.value
     ∙ c.in_ok-key.ensures) i) (c.in_ok-row.ensures i)))) one)
     (c.put.ensures.rows honest)

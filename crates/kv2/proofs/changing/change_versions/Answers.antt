@@ -18,23 +18,23 @@ loop-number-init g c = record {
   goes_on = search rules;
 }
 
-pub returns-in_err-change_version-clause-undamaged : goal.returns-in_err-change_version-clause-undamaged
-returns-in_err-change_version-clause-undamaged g c honest timely has =
+pub returns-in_err-change_version-clause-faults : goal.returns-in_err-change_version-clause-faults
+returns-in_err-change_version-clause-faults g c honest timely has =
     let seen = g.T.RecordsTx.seen in
-    let first : IsHonest (seen c.loop-number.tx) = honest_before _ _ _ c.change_version.ensures.goes_on honest in
+    let first : IsHonest (seen c.loop-number.tx) = honest_before _ _ _ c.change_version.ensures.call.goes_on honest in
     let n = get_or c.args.numbers.now c.loop-number.number-index 0 in
     let small : n < 2 ^ 64 = omega arith in
     let among = list_any_at (λ m. m == n) c.args.numbers.now c.loop-number.number-index 0 c.loop-number-test.true (eqb_self n) in
     let x = read_after (change_of c.args.change) c.args.name.now (take c.loop-number.number-index c.args.numbers.now) (table_of (seen c.args.tx.now).rows)
     (table_of (seen c.loop-number.tx).rows) (c.loop-number.invariant.rows first timely) n (has n small among) in
     let p = err_from_is_err_and c.from_residual.result c.from_residual.ensures.1 in
-    rw (p.1, p.2) (c.in_err-change_version.ensures.undamaged honest x.0 x.1)
+    rw (p.1, p.2) (c.in_err-change_version.ensures.faults honest x.0 x.1)
 
 pub loop-number-preserved : goal.loop-number-preserved
 loop-number-preserved g c = record {
   rows = λ honest timely.
       let seen = g.T.RecordsTx.seen in
-      let first : IsHonest (seen c.loop-number.tx) = honest_before _ _ _ c.change_version.ensures.goes_on honest in
+      let first : IsHonest (seen c.loop-number.tx) = honest_before _ _ _ c.change_version.ensures.call.goes_on honest in
       let old = table_of (seen c.args.tx.now).rows in
       let new = table_of (seen c.change_version.new.tx).rows in
       let f = change_of c.args.change in

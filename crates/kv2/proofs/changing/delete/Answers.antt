@@ -1,11 +1,11 @@
-use Rattle.std.proofs.Common.{sym, ◌∷◌, [], subst, ◌∙◌, option_map}
+use Rattle.std.proofs.Common.{sym, ◌∷◌, [], subst, ◌∙◌, option_map, rules}
 use Rattle.std.proofs.lemmas.Result.{on_ok_weaker}
 use Rattle.broker_types.specs.Map.{get}
 use Rattle.broker_types.specs.Secret.{Key}
 use Rattle.broker_types.specs.Text.{Text}
 use Rattle.records.specs.KeyEntry.{key_entry}
 use Rattle.records.specs.Parts.{of_secrets, Tells}
-use Rattle.records.specs.Table.{table_of}
+use Rattle.records.specs.Table.{table, table_of}
 use Rattle.kv2.specs.SecretRows.{HasKey, AreReadableVersions, KeepsOtherNames, current_of}
 use Rattle.kv2.specs.Secrets.{secret_name, with_key}
 use Rattle.kv2.specs.Versions.{with_changed, soft_deleted}
@@ -13,12 +13,17 @@ use Rattle.kv2.proofs.ChangeCalls.{its_key, its_versions, current_told}
 use Rattle.kv2.proofs.Digits.{KeyLaws}
 use Rattle.kv2.proofs.changing.delete.Goals as goal
 
-pub returns-clause-others : goal.returns-clause-others
-returns-clause-others g c honest =
+pub returns-clause-call : goal.returns-clause-call
+returns-clause-call g c =
     let seen = g.T.RecordsTx.seen in
-    on_ok_weaker c.change_current.result (λ keeps.
-    subst (λ (q : Text). KeepsOtherNames q (table_of (seen c.args.tx.now).rows) (table_of (seen c.change_current.new.tx).rows))
-    (c.as_str.ensures.value ∙ c.in_ok-name.ensures) keeps) (c.change_current.ensures.others honest c.seconds-now.ensures.within)
+    record {
+      others = λ honest.
+          on_ok_weaker c.change_current.result (λ keeps.
+          subst (λ (q : Text). KeepsOtherNames q (table (seen c.args.tx.now)) (table (seen c.change_current.new.tx)))
+          (c.as_str.ensures.value ∙ c.in_ok-name.ensures) keeps) (c.change_current.ensures.others honest c.seconds-now.ensures.within);
+      faults = c.change_current.ensures.call.faults;
+      goes_on = search rules;
+    }
 
 pub returns-clause-told : goal.returns-clause-told
 returns-clause-told g c honest forms b sound told at is_name =
@@ -41,8 +46,8 @@ returns-clause-told g c honest forms b sound told at is_name =
     (c.change_current.ensures.rows honest c.seconds-now.ensures.within (option_map key_entry (get b.secrets (secret_name mount path)))
     (its_key forms b sound old told mount path name is))
 
-pub returns-clause-undamaged : goal.returns-clause-undamaged
-returns-clause-undamaged g c honest forms b sound told is_name =
+pub returns-clause-wants : goal.returns-clause-wants
+returns-clause-wants g c honest forms b sound told is_name =
     let old = table_of (g.T.RecordsTx.seen c.args.tx.now).rows in
     let mount = c.args.mount.now in
     let path = c.args.path.now in
@@ -54,12 +59,12 @@ returns-clause-undamaged g c honest forms b sound told is_name =
       order = c.versions_have_keys.ensures.order;
       split = c.versions_have_keys.ensures.split;
     } in
-    c.change_current.ensures.undamaged honest (option_map key_entry (get b.secrets (secret_name mount path)))
+    c.change_current.ensures.faults honest (option_map key_entry (get b.secrets (secret_name mount path)))
     (its_key forms b sound old told mount path name is) (λ n small _. its_versions forms b sound old told mount path name is laws is_name n small)
 
-pub returns-clause-readable : goal.returns-clause-readable
-returns-clause-readable g c honest k has versions =
+pub returns-clause-faults : goal.returns-clause-faults
+returns-clause-faults g c honest k has versions =
     let old = table_of (g.T.RecordsTx.seen c.args.tx.now).rows in
     let is = c.as_str.ensures.value ∙ c.in_ok-name.ensures in
-    c.change_current.ensures.undamaged honest k (subst (λ (q : Text). HasKey old q k) (sym is) has)
+    c.change_current.ensures.faults honest k (subst (λ (q : Text). HasKey old q k) (sym is) has)
     (subst (λ (q : Text). AreReadableVersions old q (current_of k)) (sym is) versions)

@@ -14,11 +14,11 @@ use Rattle.kv2.proofs.DescribeCalls.{key_told, describe_none, describe_some}
 use Rattle.kv2.proofs.Digits.{KeyLaws}
 use Rattle.kv2.proofs.describing.metadata.Goals as goal
 
-pub returns-in_err-key-clause-undamaged : goal.returns-in_err-key-clause-undamaged
-returns-in_err-key-clause-undamaged g c honest forms b sound told =
+pub returns-in_err-key-clause-wants : goal.returns-in_err-key-clause-wants
+returns-in_err-key-clause-wants g c honest forms b sound told =
     let rows = (g.T.RecordsTx.seen c.args.tx.now).rows in
     let p = err_from_is_err_and c.from_residual-in_err-key.result c.from_residual-in_err-key.ensures.1 in
-    rw (p.1, p.2) (c.in_err-key.ensures.undamaged honest (option_map key_entry (get b.secrets (secret_name c.args.mount.now c.args.path.now)))
+    rw (p.1, p.2) (c.in_err-key.ensures.faults honest (option_map key_entry (get b.secrets (secret_name c.args.mount.now c.args.path.now)))
     (key_told forms b sound rows told c.args.mount.now c.args.path.now c.as_str.result.now (c.as_str.ensures.value ∙ c.in_ok-name.ensures)))
 
 pub returns-in_default-clause-told : goal.returns-in_default-clause-told
@@ -27,11 +27,11 @@ returns-in_default-clause-told g c honest forms b sound told =
     describe_none forms b sound rows told c.args.mount.now c.args.path.now c.as_str.result.now (c.as_str.ensures.value ∙ c.in_ok-name.ensures)
     c.in_ok-key.field-0 (λ k has. c.in_ok-key.ensures.found honest k has) (none_of _ c.in_default.not-Some)
 
-pub returns-in_err-versions-clause-undamaged : goal.returns-in_err-versions-clause-undamaged
-returns-in_err-versions-clause-undamaged g c honest forms b sound told =
+pub returns-in_err-versions-clause-wants : goal.returns-in_err-versions-clause-wants
+returns-in_err-versions-clause-wants g c honest forms b sound told =
     let seen = g.T.RecordsTx.seen in
     let rows = (seen c.args.tx.now).rows in
-    let first : IsHonest (seen c.find_key.new.tx) = honest_before _ _ _ c.find_versions.ensures.goes_on honest in
+    let first : IsHonest (seen c.find_key.new.tx) = honest_before _ _ _ c.find_versions.ensures.call.goes_on honest in
     let laws : KeyLaws = record {
       told = c.versions_have_keys.ensures.told;
       exact = c.versions_have_keys.ensures.exact;
@@ -42,14 +42,14 @@ returns-in_err-versions-clause-undamaged g c honest forms b sound told =
     laws c.in_ok-key.field-0 c.in-Some.key (λ k has. c.in_ok-key.ensures.found first k has) c.in-Some.is in
     let p = err_from_is_err_and c.from_residual-in_err-versions.result c.from_residual-in_err-versions.ensures.1 in
     rw (p.1, p.2) (c.in_err-versions.ensures.told honest r.0
-    (subst (λ (z : Rows). AreVersions z c.as_str-2.result.now r.0) (sym (c.in_ok-key.ensures.same first))
+    (subst (λ (z : Rows). AreVersions z c.as_str-2.result.now r.0) (sym (c.in_ok-key.ensures.call.same first))
     (subst (λ q. AreVersions rows q r.0) (c.as_str.ensures.value ∙ sym c.as_str-2.ensures.value) r.1)))
 
 pub returns-clause-found : goal.returns-clause-found
 returns-clause-found g c honest =
     let seen = g.T.RecordsTx.seen in
     let rows = (seen c.args.tx.now).rows in
-    let first : IsHonest (seen c.find_key.new.tx) = honest_before _ _ _ c.find_versions.ensures.goes_on honest in
+    let first : IsHonest (seen c.find_key.new.tx) = honest_before _ _ _ c.find_versions.ensures.call.goes_on honest in
     let name = c.as_str.ensures.value ∙ c.in_ok-name.ensures in
     let r = c.in_ok-versions.ensures.exact honest in (
       Some c.in-Some.key,
@@ -57,7 +57,7 @@ returns-clause-found g c honest =
           (subst (HasKey (table_of rows) c.as_str.result.now) c.in-Some.is (c.in_ok-key.ensures.exact first)),
       (
         r.0,
-        subst (λ (z : Rows). AreVersions z (secret_name c.args.mount.now c.args.path.now) r.0) (c.in_ok-key.ensures.same first)
+        subst (λ (z : Rows). AreVersions z (secret_name c.args.mount.now c.args.path.now) r.0) (c.in_ok-key.ensures.call.same first)
             (subst (λ q. AreVersions (seen c.find_key.new.tx).rows q r.0) (c.as_str-2.ensures.value ∙ c.in_ok-name.ensures) r.1),
         ap Some (c.with_versions.ensures.told r.0 r.2),
       ),
@@ -67,7 +67,7 @@ pub returns-clause-told : goal.returns-clause-told
 returns-clause-told g c honest forms b sound told =
     let seen = g.T.RecordsTx.seen in
     let rows = (seen c.args.tx.now).rows in
-    let first : IsHonest (seen c.find_key.new.tx) = honest_before _ _ _ c.find_versions.ensures.goes_on honest in
+    let first : IsHonest (seen c.find_key.new.tx) = honest_before _ _ _ c.find_versions.ensures.call.goes_on honest in
     let laws : KeyLaws = record {
       told = c.versions_have_keys.ensures.told;
       exact = c.versions_have_keys.ensures.exact;
@@ -77,7 +77,7 @@ returns-clause-told g c honest forms b sound told =
     let r = describe_some forms b sound rows told c.args.mount.now c.args.path.now c.as_str.result.now (c.as_str.ensures.value ∙ c.in_ok-name.ensures)
     laws c.in_ok-key.field-0 c.in-Some.key (λ k has. c.in_ok-key.ensures.found first k has) c.in-Some.is in
     let versions = c.in_ok-versions.ensures.told honest r.0
-    (subst (λ (z : Rows). AreVersions z c.as_str-2.result.now r.0) (sym (c.in_ok-key.ensures.same first))
+    (subst (λ (z : Rows). AreVersions z c.as_str-2.result.now r.0) (sym (c.in_ok-key.ensures.call.same first))
     (subst (λ q. AreVersions rows q r.0) (c.as_str.ensures.value ∙ sym c.as_str-2.ensures.value) r.1)) in
     ap Some (c.with_versions.ensures.told r.0 versions) ∙ r.2
 

@@ -12,6 +12,6 @@ returns-clause-rows g c honest =
     let none : drop c.loop-entry.entry-index items ≡ [] = drop_all _ _ c.loop-entry-test.false in
     ap table_of (
     (rw none at (c.loop-entry.invariant.rows honest))
-    ∙ ap (λ m. without_passing c.args.last.now m items) (c.in_ok-list.ensures.same early)
+    ∙ ap (λ m. without_passing c.args.last.now m items) (c.in_ok-list.ensures.call.same early)
     ∙ ap (without_passing c.args.last.now (g.T.RecordsTx.seen c.args.tx.now).rows) (c.deref-entry-items.ensures.value ∙ c.in_ok-list.ensures.listed early))
     ∙ table_of-without_upto (g.T.RecordsTx.seen c.args.tx.now).rows c.args.kind c.args.prefix.now c.args.last.now

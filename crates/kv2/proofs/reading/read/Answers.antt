@@ -23,7 +23,7 @@ returns-in_default-clause-told g c honest forms b sound told =
 pub returns-clause-told : goal.returns-clause-told
 returns-clause-told g c honest forms b sound told =
     let seen = g.T.RecordsTx.seen in
-    let first : IsHonest (seen c.find_key.new.tx) = honest_before _ _ _ c.find_version.ensures.goes_on honest in
+    let first : IsHonest (seen c.find_key.new.tx) = honest_before _ _ _ c.find_version.ensures.call.goes_on honest in
     let old = table_of (seen c.args.tx.now).rows in
     let laws : KeyLaws = record {
       told = c.versions_have_keys.ensures.told;
@@ -37,20 +37,20 @@ returns-clause-told g c honest forms b sound told =
     (c.asked_number-asked.ensures ∙ ap (λ (e : KeyEntry). asked_number e.current c.args.number) c.key.view_is) small in
     IfOk-weaker c.find_version.result _ _ (λ o e. e ∙ r.2)
     (c.find_version.ensures.found honest r.0
-    (subst (λ q. HasVersion q c.as_str-2.result.now c.asked_number-asked.result r.0) (ap table_of (sym (c.in_ok-key.ensures.same first)))
+    (subst (λ q. HasVersion q c.as_str-2.result.now c.asked_number-asked.result r.0) (ap table_of (sym (c.in_ok-key.ensures.call.same first)))
     (subst (λ q. HasVersion old q c.asked_number-asked.result r.0) (c.as_str.ensures.value ∙ sym c.as_str-2.ensures.value) r.1)))
 
-pub returns-in_err-key-clause-undamaged : goal.returns-in_err-key-clause-undamaged
-returns-in_err-key-clause-undamaged g c honest forms b sound told =
+pub returns-in_err-key-clause-wants : goal.returns-in_err-key-clause-wants
+returns-in_err-key-clause-wants g c honest forms b sound told =
     let old = table_of (g.T.RecordsTx.seen c.args.tx.now).rows in
     let p = err_from_is_err_and c.from_residual-in_err-key.result c.from_residual-in_err-key.ensures.1 in
-    rw (p.1, p.2) (c.in_err-key.ensures.undamaged honest (option_map key_entry (get b.secrets (secret_name c.args.mount.now c.args.path.now)))
+    rw (p.1, p.2) (c.in_err-key.ensures.faults honest (option_map key_entry (get b.secrets (secret_name c.args.mount.now c.args.path.now)))
     (its_key forms b sound old told c.args.mount.now c.args.path.now c.as_str.result.now (c.as_str.ensures.value ∙ c.in_ok-name.ensures) c.args.number))
 
-pub returns-clause-undamaged : goal.returns-clause-undamaged
-returns-clause-undamaged g c honest forms b sound told =
+pub returns-clause-wants : goal.returns-clause-wants
+returns-clause-wants g c honest forms b sound told =
     let seen = g.T.RecordsTx.seen in
-    let first : IsHonest (seen c.find_key.new.tx) = honest_before _ _ _ c.find_version.ensures.goes_on honest in
+    let first : IsHonest (seen c.find_key.new.tx) = honest_before _ _ _ c.find_version.ensures.call.goes_on honest in
     let old = table_of (seen c.args.tx.now).rows in
     let laws : KeyLaws = record {
       told = c.versions_have_keys.ensures.told;
@@ -62,6 +62,6 @@ returns-clause-undamaged g c honest forms b sound told =
     let r = read_some forms b sound old told c.args.mount.now c.args.path.now c.as_str.result.now (c.as_str.ensures.value ∙ c.in_ok-name.ensures) c.args.number
     laws c.in_ok-key.field-0 c.in-Some.key (λ k has. c.in_ok-key.ensures.found first k has) c.in-Some.is c.asked_number-asked.result
     (c.asked_number-asked.ensures ∙ ap (λ (e : KeyEntry). asked_number e.current c.args.number) c.key.view_is) small in
-    c.find_version.ensures.undamaged honest r.0
-    (subst (λ q. HasVersion q c.as_str-2.result.now c.asked_number-asked.result r.0) (ap table_of (sym (c.in_ok-key.ensures.same first)))
+    c.find_version.ensures.faults honest r.0
+    (subst (λ q. HasVersion q c.as_str-2.result.now c.asked_number-asked.result r.0) (ap table_of (sym (c.in_ok-key.ensures.call.same first)))
     (subst (λ q. HasVersion old q c.asked_number-asked.result r.0) (c.as_str.ensures.value ∙ sym c.as_str-2.ensures.value) r.1))

@@ -1,9 +1,9 @@
 use Rattle.std.proofs.Common.{[], ap, sym, subst, ◌∙◌}
 use Rattle.std.proofs.lemmas.Result.{on_ok_weaker}
 use Rattle.records.specs.declared.kind.Kind.TheVariants as kind
-use Rattle.records.specs.CallLaws.{honest_before}
+use Rattle.records.specs.CallLaws.{honest_before, goes_further}
 use Rattle.records.specs.Parts.{of_secrets, Tells, KeepsOthers}
-use Rattle.records.specs.Table.{Table, table_of, without_under}
+use Rattle.records.specs.Table.{Table, table, table_of, without_under}
 use Rattle.records.specs.Transaction.{IsHonest}
 use Rattle.kv2.specs.Secrets.{secret_name, drop_mount}
 use Rattle.kv2.proofs.Digits.{KeyLaws}
@@ -23,12 +23,17 @@ returns-clause-rows g c honest =
     rows ∙ (λ i. without_under ((c.in_ok-remove_under.ensures.rows first ∙ ap (without_under old kind.KvKey) one) i) kind.KvVersion (two i)))
     (c.remove_under-2.ensures.rows honest)
 
-pub returns-clause-others : goal.returns-clause-others
-returns-clause-others g c honest =
-    let old = table_of (g.T.RecordsTx.seen c.args.tx.now).rows in
+pub returns-clause-call : goal.returns-clause-call
+returns-clause-call g c =
+    let old = table (g.T.RecordsTx.seen c.args.tx.now) in
     let prefix = secret_name c.args.mount.now [] in
-    on_ok_weaker c.remove_under-2.result (λ rows. subst (λ (t : Table). KeepsOthers of_secrets old t) (sym rows) (dropped_keeps prefix old))
-    (returns-clause-rows g c honest)
+    record {
+      others = λ honest.
+          on_ok_weaker c.remove_under-2.result (λ rows. subst (λ (t : Table). KeepsOthers of_secrets old t) (sym rows) (dropped_keeps prefix old))
+          (returns-clause-rows g c honest);
+      faults = c.remove_under-2.ensures.call.faults;
+      goes_on = goes_further _ _ _ _ c.in_ok-remove_under.ensures.call.goes_on c.remove_under-2.ensures.call.goes_on;
+    }
 
 pub returns-clause-told : goal.returns-clause-told
 returns-clause-told g c honest b told is_mount =

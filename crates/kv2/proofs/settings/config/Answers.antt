@@ -8,7 +8,7 @@ returns-clause-told g c honest b sound told =
     c.find_mount.ensures.found honest (get b.mounts c.args.mount.now)
     (has_mount b sound (table_of (g.T.RecordsTx.seen c.args.tx.now).rows) told c.args.mount.now)
 
-pub returns-clause-undamaged : goal.returns-clause-undamaged
-returns-clause-undamaged g c honest b sound told =
-    c.find_mount.ensures.undamaged honest (get b.mounts c.args.mount.now)
+pub returns-clause-wants : goal.returns-clause-wants
+returns-clause-wants g c honest b sound told =
+    c.find_mount.ensures.faults honest (get b.mounts c.args.mount.now)
     (has_mount b sound (table_of (g.T.RecordsTx.seen c.args.tx.now).rows) told c.args.mount.now)

@@ -1,4 +1,4 @@
-use Rattle.std.proofs.Common.{◌≡◌, None, Some, ap, sym, subst, ◌∙◌, unwrap_or, option_map}
+use Rattle.std.proofs.Common.{◌≡◌, None, Some, ap, sym, subst, ◌∙◌, unwrap_or, option_map, rules}
 use Rattle.std.proofs.lemmas.Result.{on_ok_weaker, err_from_is_err_and}
 use Rattle.broker_types.specs.Map.{get}
 use Rattle.broker_types.specs.Broker.{Mount}
@@ -6,7 +6,7 @@ use Rattle.records.specs.declared.kind.Kind.TheVariants as kind
 use Rattle.records.specs.CallLaws.{honest_before}
 use Rattle.records.specs.Parts.{of_mounts, Tells}
 use Rattle.records.specs.RowForms.{mount_row}
-use Rattle.records.specs.Table.{Table, table_of, with_row}
+use Rattle.records.specs.Table.{Table, table, table_of, with_row}
 use Rattle.records.specs.TableLaws.{table_of-insert}
 use Rattle.records.specs.Transaction.{IsHonest}
 use Rattle.records.specs.ValueLaws.{none_of}
@@ -27,13 +27,13 @@ returns-in_default-clause-told g c honest b sound told =
     let none : get b.mounts mount ≡ None =
     sym (c.in_ok-found.ensures.found honest (get b.mounts mount) (has_mount b sound old told mount)) ∙ none_of _ c.in_default.not-Some in
     subst (λ (t : Table). Tells of_mounts t next)
-    (ap (λ o. rows.with_settings old mount (option_map edit o)) none ∙ ap table_of (sym (c.in_ok-found.ensures.same honest)))
+    (ap (λ o. rows.with_settings old mount (option_map edit o)) none ∙ ap table_of (sym (c.in_ok-found.ensures.call.same honest)))
     (settings_told old b told mount c.args.cas_required c.args.max_versions)
 
 pub returns-clause-rows : goal.returns-clause-rows
 returns-clause-rows g c honest m has =
     let seen = g.T.RecordsTx.seen in
-    let first : IsHonest (seen c.find_mount.new.tx) = honest_before _ _ _ c.put.ensures.goes_on honest in
+    let first : IsHonest (seen c.find_mount.new.tx) = honest_before _ _ _ c.put.ensures.call.goes_on honest in
     let old = table_of (seen c.args.tx.now).rows in
     let mount = c.args.mount.now in
     let edit = with_settings c.args.cas_required c.args.max_versions in
@@ -42,18 +42,22 @@ returns-clause-rows g c honest m has =
     let cas = c.unwrap_or.ensures ∙ ap (λ (m : Mount). unwrap_or c.args.cas_required m.cas_required) c.found.view_is in
     on_ok_weaker c.put.result (λ put.
     ap table_of put ∙ table_of-insert (seen c.find_mount.new.tx).rows kind.Mount mount c.in_ok-row.row
-    ∙ (λ i. with_row (table_of (c.in_ok-found.ensures.same first i)) kind.Mount mount
+    ∙ (λ i. with_row (table_of (c.in_ok-found.ensures.call.same first i)) kind.Mount mount
     ((c.in_ok-row.ensures ∙ (λ j. mount_row (record { engine = (c.found.view_is j).engine; cas_required = cas j; max_versions = max j }))) i))
     ∙ ap (λ o. rows.with_settings old mount (option_map edit o)) some) (c.put.ensures.rows honest)
 
-pub returns-clause-others : goal.returns-clause-others
-returns-clause-others g c honest =
+pub returns-clause-call : goal.returns-clause-call
+returns-clause-call g c =
     let seen = g.T.RecordsTx.seen in
-    let first : IsHonest (seen c.find_mount.new.tx) = honest_before _ _ _ c.put.ensures.goes_on honest in
-    let old = table_of (seen c.args.tx.now).rows in
-    let edit = with_settings c.args.cas_required c.args.max_versions in
-    on_ok_weaker c.put.result (λ rows. subst (λ (t : Table). KeepsOtherMounts c.args.mount.now old t) (sym rows)
-    (settings_keep c.args.mount.now old _)) (returns-clause-rows g c honest c.in_ok-found.field-0 (c.in_ok-found.ensures.exact first))
+    let old = table (seen c.args.tx.now) in
+    record {
+      others = λ honest.
+          let first : IsHonest (seen c.find_mount.new.tx) = honest_before _ _ _ c.put.ensures.call.goes_on honest in
+          on_ok_weaker c.put.result (λ rows. subst (λ (t : Table). KeepsOtherMounts c.args.mount.now old t) (sym rows)
+          (settings_keep c.args.mount.now old _)) (returns-clause-rows g c honest c.in_ok-found.field-0 (c.in_ok-found.ensures.exact first));
+      faults = search rules;
+      goes_on = search rules;
+    }
 
 pub returns-clause-told : goal.returns-clause-told
 returns-clause-told g c honest b sound told =
@@ -63,8 +67,8 @@ returns-clause-told g c honest b sound told =
     (settings_told old b told mount c.args.cas_required c.args.max_versions))
     (returns-clause-rows g c honest (get b.mounts mount) (has_mount b sound old told mount))
 
-pub returns-in_err-found-clause-undamaged : goal.returns-in_err-found-clause-undamaged
-returns-in_err-found-clause-undamaged g c honest b sound told =
+pub returns-in_err-found-clause-wants : goal.returns-in_err-found-clause-wants
+returns-in_err-found-clause-wants g c honest b sound told =
     let p = err_from_is_err_and c.from_residual.result c.from_residual.ensures.1 in
-    rw (p.1, p.2) (c.in_err-found.ensures.undamaged honest (get b.mounts c.args.mount.now)
+    rw (p.1, p.2) (c.in_err-found.ensures.faults honest (get b.mounts c.args.mount.now)
     (has_mount b sound (table_of (g.T.RecordsTx.seen c.args.tx.now).rows) told c.args.mount.now))

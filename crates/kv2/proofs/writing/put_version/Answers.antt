@@ -12,7 +12,7 @@ pub returns-clause-rows : goal.returns-clause-rows
 returns-clause-rows g c honest =
     let seen = g.T.RecordsTx.seen in
     let second : IsHonest (seen c.put-2.new.self) = honest_before _ _ _ c.prune.ensures.call.goes_on honest in
-    let first : IsHonest (seen c.put.new.self) = honest_before _ _ _ c.put-2.ensures.goes_on second in
+    let first : IsHonest (seen c.put.new.self) = honest_before _ _ _ c.put-2.ensures.call.goes_on second in
     on_ok_weaker c.prune.result (λ rest.
     put_by_calls (seen c.args.tx.now).rows (seen c.put.new.self).rows (seen c.put-2.new.self).rows _ c.args.name.now c.as_str.result.now c.args.object.now
     c.args.key.now c.args.limit c.args.now _ c.in_ok-version_row.version_row c.in_ok-key_row.key_row

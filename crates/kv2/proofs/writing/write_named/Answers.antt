@@ -1,9 +1,9 @@
-use Rattle.std.proofs.Common.{◌≢◌, ◌+◌, None, ap, sym, subst, ◌∙◌, unwrap_or}
+use Rattle.std.proofs.Common.{◌≢◌, ◌+◌, None, ap, sym, subst, ◌∙◌, unwrap_or, rules}
 use Rattle.std.proofs.lemmas.Option.{none-some}
 use Rattle.broker_types.specs.RequestError.{EndsOk}
 use Rattle.records.specs.CallLaws.{honest_before}
 use Rattle.records.specs.KeyEntry.{KeyEntry}
-use Rattle.records.specs.Table.{Table, table_of}
+use Rattle.records.specs.Table.{Table, table, table_of}
 use Rattle.records.specs.Transaction.{Rows, IsHonest}
 use Rattle.kv2.specs.SecretRows.{HasKey, KeepsOtherNames, new_entry, with_version}
 use Rattle.kv2.specs.SecretRows as rows
@@ -16,8 +16,8 @@ pub returns-clause-rows : goal.returns-clause-rows
 returns-clause-rows g c honest m k has_mount has_key =
     let seen = g.T.RecordsTx.seen in
     let second : IsHonest (seen c.find_key.new.tx) = honest_before _ _ _ c.put_version.ensures.call.goes_on honest in
-    let first : IsHonest (seen c.find_mount.new.tx) = honest_before _ _ _ c.find_key.ensures.goes_on second in
-    let same = c.in_ok-settings.ensures.same first in
+    let first : IsHonest (seen c.find_mount.new.tx) = honest_before _ _ _ c.find_key.ensures.call.goes_on second in
+    let same = c.in_ok-settings.ensures.call.same first in
     let old = table_of (seen c.args.tx.now).rows in
     let new = table_of (seen c.put_version.new.tx).rows in
     let name = c.args.name.now in
@@ -36,18 +36,23 @@ returns-clause-rows g c honest m k has_mount has_key =
     (c.in_ok-check.ensures.checked ∙ (λ i. checked (c.settings.view_is i).cas_required (c.key.view_is i).current cas))
     c.versions_kept-limit.ensures
     (c.in_ok-put_version.ensures.rows honest
-    ∙ (λ i. with_version (table_of ((c.in_ok-found.ensures.same second ∙ same) i)) name e limit now object))))
+    ∙ (λ i. with_version (table_of ((c.in_ok-found.ensures.call.same second ∙ same) i)) name e limit now object))))
 
-pub returns-clause-others : goal.returns-clause-others
-returns-clause-others g c honest =
+pub returns-clause-call : goal.returns-clause-call
+returns-clause-call g c =
     let seen = g.T.RecordsTx.seen in
-    let second : IsHonest (seen c.find_key.new.tx) = honest_before _ _ _ c.put_version.ensures.call.goes_on honest in
-    let first : IsHonest (seen c.find_mount.new.tx) = honest_before _ _ _ c.find_key.ensures.goes_on second in
-    let same = c.in_ok-settings.ensures.same first in
-    let old = table_of (seen c.args.tx.now).rows in
+    let old = table (seen c.args.tx.now) in
     let name = c.args.name.now in
     let e = c.key_or_new-key.result in
     let limit = c.versions_kept-limit.result in
-    subst (λ (t : Table). KeepsOtherNames name old t) (sym (c.in_ok-put_version.ensures.rows honest
-    ∙ (λ i. with_version (table_of ((c.in_ok-found.ensures.same second ∙ same) i)) name e limit c.args.now c.args.object.now)))
-    (written_keeps name old e limit c.args.now c.args.object.now)
+    record {
+      others = λ honest.
+          let second : IsHonest (seen c.find_key.new.tx) = honest_before _ _ _ c.put_version.ensures.call.goes_on honest in
+          let first : IsHonest (seen c.find_mount.new.tx) = honest_before _ _ _ c.find_key.ensures.call.goes_on second in
+          let same = c.in_ok-settings.ensures.call.same first in
+          subst (λ (t : Table). KeepsOtherNames name old t) (sym (c.in_ok-put_version.ensures.rows honest
+          ∙ (λ i. with_version (table_of ((c.in_ok-found.ensures.call.same second ∙ same) i)) name e limit c.args.now c.args.object.now)))
+          (written_keeps name old e limit c.args.now c.args.object.now);
+      faults = tt;
+      goes_on = search rules;
+    }

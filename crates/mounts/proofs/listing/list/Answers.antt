@@ -2,6 +2,7 @@ use Rattle.std.proofs.Common.{◌≡◌, sym, ap, subst, ◌∙◌, Err, codes, 
 use Rattle.std.proofs.lemmas.Result.{err_from_is_err_and}
 use Rattle.broker_types.specs.Map.{entries}
 use Rattle.records.specs.declared.row.Row.{Row}
+use Rattle.records.specs.CallLaws.{not_damaged, decode_fault}
 use Rattle.records.specs.Kind.{RowKey}
 use Rattle.mounts.specs.declared.mount_type.MountType.TheVariants as mount
 use Rattle.mounts.specs.MountRows.{IsMountRow, at_mount, placed}
@@ -13,7 +14,8 @@ returns-in_err-list-clause-told g c honest mounts are =
     let rows = (g.T.RecordsTx.seen c.args.tx.now).rows in
     let read : c.deref.result.now ≡ map at_mount (entries mounts) = c.deref.ensures.value ∙ c.in_ok-rows.ensures.listed honest ∙ rows_are rows mounts are in
     let p = err_from_is_err_and c.from_residual-in_err-list.result c.from_residual-in_err-list.ensures.1 in
-    rw (p.1 ∙ ap Err p.2) (c.in_err-list.ensures.told (entries mounts) (each_in_range rows mounts are) read)
+    rw (p.1 ∙ ap Err p.2) (not_damaged {P = ⊥} (λ none. none) c.in_err-list.field-0.0
+    (decode_fault (λ damaged. damaged (entries mounts) (each_in_range rows mounts are) read) c.in_err-list.field-0.0 c.in_err-list.ensures.faults))
 
 pub returns-clause-told : goal.returns-clause-told
 returns-clause-told g c honest mounts are =
@@ -24,6 +26,6 @@ returns-clause-told g c honest mounts are =
     ∙ ap (λ list. placed list (codes "cubbyhole", mount.Cubbyhole)) (c.in_ok-list.ensures.told (entries mounts) (each_in_range rows mounts are) read))
     ∙ sym (listed_is mounts)
 
-pub returns-clause-undamaged : goal.returns-clause-undamaged
-returns-clause-undamaged g c honest =
-    subst (λ rows. All (λ (e : RowKey × Row). IsMountRow e.1) rows) (c.deref.ensures.value ∙ c.in_ok-rows.ensures.listed honest) c.in_ok-list.ensures.undamaged
+pub returns-clause-readable : goal.returns-clause-readable
+returns-clause-readable g c honest =
+    subst (λ rows. All (λ (e : RowKey × Row). IsMountRow e.1) rows) (c.deref.ensures.value ∙ c.in_ok-rows.ensures.listed honest) c.in_ok-list.ensures.readable

@@ -11,5 +11,5 @@ abbrev pub invariant-loop-entry : goal.invariant-loop-entry
 invariant-loop-entry l = record {
   told : (mounts : List (Text × Mount)) → All (λ m. IsMountInRange m.1) mounts → l.rows ≡ map at_mount mounts
       → l.list.items ≡ in_places (map typed (take l.entry-index mounts));
-  undamaged : All (λ e. IsMountRow e.1) (take l.entry-index l.rows);
+  readable : All (λ e. IsMountRow e.1) (take l.entry-index l.rows);
 }

@@ -1,4 +1,4 @@
-use Rattle.std.proofs.Common.{◌≡◌, sym, ap, ◌∙◌, not, true}
+use Rattle.std.proofs.Common.{◌≡◌, sym, ap, ◌∙◌, not, true, rules}
 use Rattle.std.specs.List.{list_any}
 use Rattle.broker_types.specs.Map.{without}
 use Rattle.broker_types.specs.Text.{same}
@@ -21,12 +21,17 @@ returns-clause-rows g c honest =
     ends_unless {X = Unit {0}} (not (list_any (same name) fixed_names)) (refusal.BadRequest reason.MountFixed) (λ _ next. table_of new ≡ next) tt
     (without_row (table_of old) kind.Mount name) free (ap table_of (c.in_ok-remove.ensures.rows honest) ∙ table_of-remove old kind.Mount name)
 
-pub returns-clause-others : goal.returns-clause-others
-returns-clause-others g c honest =
+pub returns-clause-call : goal.returns-clause-call
+returns-clause-call g c =
     let old = (g.T.RecordsTx.seen c.args.tx.now).rows in
     let new = (g.T.RecordsTx.seen c.remove.new.self).rows in
     let name = c.args.name.now in
-    others_gone (table_of old) (table_of new) name (ap table_of (c.in_ok-remove.ensures.rows honest) ∙ table_of-remove old kind.Mount name)
+    record {
+      others = λ honest.
+          others_gone (table_of old) (table_of new) name (ap table_of (c.in_ok-remove.ensures.rows honest) ∙ table_of-remove old kind.Mount name);
+      faults = tt;
+      goes_on = search rules;
+    }
 
 pub returns-clause-told : goal.returns-clause-told
 returns-clause-told g c honest mounts are =

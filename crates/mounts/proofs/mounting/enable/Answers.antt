@@ -1,4 +1,4 @@
-use Rattle.std.proofs.Common.{◌≡◌, ◌<◌, ◌^◌, sym, ap, subst, ◌∙◌, is_some, Ok, Bool, false, lit<}
+use Rattle.std.proofs.Common.{◌≡◌, ◌<◌, ◌^◌, sym, ap, subst, ◌∙◌, is_some, Ok, Bool, false, lit<, rules}
 use Rattle.broker_types.specs.Broker.{Mount}
 use Rattle.broker_types.specs.Map.{get, put}
 use Rattle.records.specs.declared.kind.Kind.TheVariants as kind
@@ -20,25 +20,30 @@ returns-clause-rows g c honest =
     let new = (seen c.put.new.self).rows in
     let name = c.args.name.now in
     let m : Mount = c.in_ok-mount.mount in
-    let before = honest_before (seen c.get.new.self) (seen c.put.new.self) false c.in_ok-put.ensures.goes_on honest in
+    let before = honest_before (seen c.get.new.self) (seen c.put.new.self) false c.in_ok-put.ensures.call.goes_on honest in
     let there : is_some (table_of old kind.Mount name) ≡ c.is_some-is_there.result =
     sym (c.is_some-is_there.ensures ∙ ap is_some (c.in_ok-get.ensures.found before)) in
     ends_then {X = Unit {0}} (new_mount (is_some (table_of old kind.Mount name)) name c.args.type_name.now c.args.version) m (λ _ next. table_of new ≡ next) tt
     (λ z. with_row (table_of old) kind.Mount name (mount_row z))
     (ap (λ (v : Bool). new_mount v name c.args.type_name.now c.args.version) there ∙ sym c.in_ok-mount.ensures)
     (ap table_of (c.in_ok-put.ensures.rows honest) ∙ table_of-insert (seen c.get.new.self).rows kind.Mount name c.in_ok-row.row
-    ∙ (λ i. with_row (table_of (c.in_ok-get.ensures.same before i)) kind.Mount name (c.in_ok-row.ensures i)))
+    ∙ (λ i. with_row (table_of (c.in_ok-get.ensures.call.same before i)) kind.Mount name (c.in_ok-row.ensures i)))
 
-pub returns-clause-others : goal.returns-clause-others
-returns-clause-others g c honest =
+pub returns-clause-call : goal.returns-clause-call
+returns-clause-call g c =
     let seen = g.T.RecordsTx.seen in
     let old = (seen c.args.tx.now).rows in
     let new = (seen c.put.new.self).rows in
     let name = c.args.name.now in
-    let before = honest_before (seen c.get.new.self) (seen c.put.new.self) false c.in_ok-put.ensures.goes_on honest in
-    others_put (table_of old) (table_of new) name c.in_ok-row.row
-    (ap table_of (c.in_ok-put.ensures.rows honest) ∙ table_of-insert (seen c.get.new.self).rows kind.Mount name c.in_ok-row.row
-    ∙ (λ i. with_row (table_of (c.in_ok-get.ensures.same before i)) kind.Mount name c.in_ok-row.row))
+    record {
+      others = λ honest.
+          let before = honest_before (seen c.get.new.self) (seen c.put.new.self) false c.in_ok-put.ensures.call.goes_on honest in
+          others_put (table_of old) (table_of new) name c.in_ok-row.row
+          (ap table_of (c.in_ok-put.ensures.rows honest) ∙ table_of-insert (seen c.get.new.self).rows kind.Mount name c.in_ok-row.row
+          ∙ (λ i. with_row (table_of (c.in_ok-get.ensures.call.same before i)) kind.Mount name c.in_ok-row.row));
+      faults = tt;
+      goes_on = search rules;
+    }
 
 pub returns-clause-told : goal.returns-clause-told
 returns-clause-told g c honest mounts are =
@@ -47,7 +52,7 @@ returns-clause-told g c honest mounts are =
     let new = (seen c.put.new.self).rows in
     let name = c.args.name.now in
     let m : Mount = c.in_ok-mount.mount in
-    let before = honest_before (seen c.get.new.self) (seen c.put.new.self) false c.in_ok-put.ensures.goes_on honest in
+    let before = honest_before (seen c.get.new.self) (seen c.put.new.self) false c.in_ok-put.ensures.call.goes_on honest in
     let there : is_some (get mounts name) ≡ c.is_some-is_there.result =
     sym (c.is_some-is_there.ensures ∙ ap is_some (c.in_ok-get.ensures.found before ∙ (are name).row) ∙ some_mapped mount_row (get mounts name)) in
     let made : new_mount c.is_some-is_there.result name c.args.type_name.now c.args.version ≡ Ok m = sym c.in_ok-mount.ensures in
@@ -58,4 +63,4 @@ returns-clause-told g c honest mounts are =
     (ap (λ (v : Bool). new_mount v name c.args.type_name.now c.args.version) there ∙ made)
     (mounts_put (table_of old) (table_of new) name mounts m good
     (ap table_of (c.in_ok-put.ensures.rows honest) ∙ table_of-insert (seen c.get.new.self).rows kind.Mount name c.in_ok-row.row
-    ∙ (λ i. with_row (table_of (c.in_ok-get.ensures.same before i)) kind.Mount name (c.in_ok-row.ensures i))) are)
+    ∙ (λ i. with_row (table_of (c.in_ok-get.ensures.call.same before i)) kind.Mount name (c.in_ok-row.ensures i))) are)

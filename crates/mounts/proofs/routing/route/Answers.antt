@@ -1,15 +1,15 @@
-use Rattle.std.proofs.Common.{◌≡◌, arith, sym, ap, subst, ◌∙◌, Err, true, option_map}
+use Rattle.std.proofs.Common.{◌≡◌, arith, sym, ap, subst, ◌∙◌, Err, true, option_map, rules}
 use Rattle.std.proofs.lemmas.Bool.{and_parts}
 use Rattle.std.proofs.lemmas.Result.{err_from_is_err_and}
-use Rattle.broker_types.specs.Fault.{IsMemoryOrStorage}
 use Rattle.broker_types.specs.Map.{get}
-use Rattle.records.specs.Table.{table_of}
+use Rattle.records.specs.CallLaws.{fault_then, not_damaged}
+use Rattle.records.specs.Table.{table}
 use Rattle.records.specs.ValueLaws.{none_of}
 use Rattle.mounts.specs.Forms.{are_bytes}
 use Rattle.mounts.specs.MountRows.{IsKnownAt}
 use Rattle.mounts.specs.Patterns.{pattern_found, fits}
 use Rattle.mounts.specs.Route.{cut, route_by}
-use Rattle.mounts.specs.Table.{rows_of}
+use Rattle.mounts.specs.Table.{route_rows}
 use Rattle.mounts.proofs.RouteSteps.{ends_refused, ends_found, route_none, route_some, within_none, within_some}
 use Rattle.mounts.proofs.Parameters.{parameter_is_path, bytes_of_rest, are_bytes_from}
 use Rattle.mounts.proofs.PathParts.{IsRest, rest_of}
@@ -18,23 +18,30 @@ use Rattle.mounts.proofs.routing.route.Goals as goal
 
 pub returns-in_err-mount_type-clause-found : goal.returns-in_err-mount_type-clause-found
 returns-in_err-mount_type-clause-found g c honest mount at =
-    let rows = table_of (g.T.RecordsTx.seen c.args.tx.now).rows in
+    let rows = table (g.T.RecordsTx.seen c.args.tx.now) in
     let here = subst (λ n. IsKnownAt rows n mount) (sym c.cut.ensures.name) at in
     let p = err_from_is_err_and c.from_residual.result c.from_residual.ensures.1 in
-    rw (p.1 ∙ ap Err p.2) (c.in_err-mount_type.ensures.wants honest mount here)
+    rw (p.1 ∙ ap Err p.2) (not_damaged (λ damaged. damaged honest mount here) _ c.in_err-mount_type.ensures.call.faults)
 
-pub returns-in_err-mount_type-clause-damaged : goal.returns-in_err-mount_type-clause-damaged
-returns-in_err-mount_type-clause-damaged g c honest =
-    let rows = table_of (g.T.RecordsTx.seen c.args.tx.now).rows in
+pub returns-in_err-mount_type-clause-told : goal.returns-in_err-mount_type-clause-told
+returns-in_err-mount_type-clause-told g c honest mounts are =
+    returns-in_err-mount_type-clause-found g c honest (get mounts (cut c.args.path.now).0) (λ _. are (cut c.args.path.now).0)
+
+pub returns-in_err-mount_type-clause-call : goal.returns-in_err-mount_type-clause-call
+returns-in_err-mount_type-clause-call g c =
+    let rows = table (g.T.RecordsTx.seen c.args.tx.now) in
     let p = err_from_is_err_and c.from_residual.result c.from_residual.ensures.1 in
-    rw (p.1 ∙ ap Err p.2) (λ damaged mount at.
-    let here = subst (λ n. IsKnownAt rows n mount) (sym c.cut.ensures.name) at in
-    subst IsMemoryOrStorage damaged (c.in_err-mount_type.ensures.wants honest mount here))
+    record {
+      same = search rules;
+      faults = rw (p.1 ∙ ap Err p.2) (fault_then (λ damaged honest mount at.
+          damaged honest mount (subst (λ n. IsKnownAt rows n mount) (sym c.cut.ensures.name) at)) c.in_err-mount_type.field-0.0 c.in_err-mount_type.ensures.call.faults);
+      goes_on = search rules;
+    }
 
 pub returns-in_default-clause-found : goal.returns-in_default-clause-found
 returns-in_default-clause-found g c honest mount at =
     let path = c.args.path.now in
-    let rows = table_of (g.T.RecordsTx.seen c.args.tx.now).rows in
+    let rows = table (g.T.RecordsTx.seen c.args.tx.now) in
     let here = subst (λ n. IsKnownAt rows n mount) (sym c.cut.ensures.name) at in
     ends_refused _ _ (route_none mount c.args.verb path c.cut.result.0.now c.cut.result.1.now c.cut.ensures.name
     (sym (c.in_ok-mount_type.ensures.found honest mount here) ∙ none_of _ c.in_default.not-Some))
@@ -44,20 +51,20 @@ returns-in_default-clause-told g c honest mounts are =
     returns-in_default-clause-found g c honest (get mounts (cut c.args.path.now).0) (λ _. are (cut c.args.path.now).0)
 
 pub pattern_found-requires : goal.pattern_found-requires
-pattern_found-requires g c = ap fits c.rows_of-rows.ensures ∙ (and_parts (fits (rows_of c.in-Some.mount_type)) _ (in_order c.in-Some.mount_type)).0
+pattern_found-requires g c = ap fits c.route_rows-rows.ensures ∙ (and_parts (fits (route_rows c.in-Some.mount_type)) _ (in_order c.in-Some.mount_type)).0
 
 pub returns-in_default-2-clause-found : goal.returns-in_default-2-clause-found
 returns-in_default-2-clause-found g c honest mount at =
     let path = c.args.path.now in
-    let rows = table_of (g.T.RecordsTx.seen c.args.tx.now).rows in
+    let rows = table (g.T.RecordsTx.seen c.args.tx.now) in
     let here = subst (λ n. IsKnownAt rows n mount) (sym c.cut.ensures.name) at in
     let type = c.in-Some.mount_type in
     let name = c.cut.result.0.now in
     let rest = c.cut.result.1.now in
     ends_refused _ _ (route_some mount c.args.verb path name rest type c.cut.ensures.name c.cut.ensures.rest
     (sym (c.in_ok-mount_type.ensures.found honest mount here) ∙ c.in-Some.is)
-    ∙ within_none (rows_of type) c.args.verb name rest
-    (sym (ap (λ rs. pattern_found rs rest) c.rows_of-rows.ensures) ∙ sym c.in_ok-pattern.ensures.ok
+    ∙ within_none (route_rows type) c.args.verb name rest
+    (sym (ap (λ rs. pattern_found rs rest) c.route_rows-rows.ensures) ∙ sym c.in_ok-pattern.ensures.found
     ∙ ap (option_map (λ s. s.now)) (none_of _ c.in_default-2.not-Some)))
 
 pub returns-in_default-2-clause-told : goal.returns-in_default-2-clause-told
@@ -67,7 +74,7 @@ returns-in_default-2-clause-told g c honest mounts are =
 pub returns-in_err-route_by-clause-found : goal.returns-in_err-route_by-clause-found
 returns-in_err-route_by-clause-found g c honest mount at =
     let path = c.args.path.now in
-    let rows = table_of (g.T.RecordsTx.seen c.args.tx.now).rows in
+    let rows = table (g.T.RecordsTx.seen c.args.tx.now) in
     let here = subst (λ n. IsKnownAt rows n mount) (sym c.cut.ensures.name) at in
     let type = c.in-Some.mount_type in
     let name = c.cut.result.0.now in
@@ -75,10 +82,10 @@ returns-in_err-route_by-clause-found g c honest mount at =
     let p = err_from_is_err_and c.from_residual-in_err-route_by.result c.from_residual-in_err-route_by.ensures.1 in
     rw (p.1 ∙ ap Err p.2) (ends_refused _ _ (route_some mount c.args.verb path name rest type c.cut.ensures.name c.cut.ensures.rest
     (sym (c.in_ok-mount_type.ensures.found honest mount here) ∙ c.in-Some.is)
-    ∙ within_some (rows_of type) c.args.verb name rest c.in-Some-2.pattern.now
-    (sym (ap (λ rs. pattern_found rs rest) c.rows_of-rows.ensures) ∙ sym c.in_ok-pattern.ensures.ok
+    ∙ within_some (route_rows type) c.args.verb name rest c.in-Some-2.pattern.now
+    (sym (ap (λ rs. pattern_found rs rest) c.route_rows-rows.ensures) ∙ sym c.in_ok-pattern.ensures.found
     ∙ ap (option_map (λ s. s.now)) c.in-Some-2.is)
-    ∙ sym (ap (λ rs. route_by rs c.args.verb name rest c.in-Some-2.pattern.now) c.rows_of-rows.ensures) ∙ sym c.in_err-route_by.ensures))
+    ∙ sym (ap (λ rs. route_by rs c.args.verb name rest c.in-Some-2.pattern.now) c.route_rows-rows.ensures) ∙ sym c.in_err-route_by.ensures))
 
 pub returns-in_err-route_by-clause-told : goal.returns-in_err-route_by-clause-told
 returns-in_err-route_by-clause-told g c honest mounts are =
@@ -87,17 +94,17 @@ returns-in_err-route_by-clause-told g c honest mounts are =
 pub returns-clause-found : goal.returns-clause-found
 returns-clause-found g c honest mount at =
     let path = c.args.path.now in
-    let rows = table_of (g.T.RecordsTx.seen c.args.tx.now).rows in
+    let rows = table (g.T.RecordsTx.seen c.args.tx.now) in
     let here = subst (λ n. IsKnownAt rows n mount) (sym c.cut.ensures.name) at in
     let type = c.in-Some.mount_type in
     let name = c.cut.result.0.now in
     let rest = c.cut.result.1.now in
     ends_found _ _ (route_some mount c.args.verb path name rest type c.cut.ensures.name c.cut.ensures.rest
     (sym (c.in_ok-mount_type.ensures.found honest mount here) ∙ c.in-Some.is)
-    ∙ within_some (rows_of type) c.args.verb name rest c.in-Some-2.pattern.now
-    (sym (ap (λ rs. pattern_found rs rest) c.rows_of-rows.ensures) ∙ sym c.in_ok-pattern.ensures.ok
+    ∙ within_some (route_rows type) c.args.verb name rest c.in-Some-2.pattern.now
+    (sym (ap (λ rs. pattern_found rs rest) c.route_rows-rows.ensures) ∙ sym c.in_ok-pattern.ensures.found
     ∙ ap (option_map (λ s. s.now)) c.in-Some-2.is)
-    ∙ sym (ap (λ rs. route_by rs c.args.verb name rest c.in-Some-2.pattern.now) c.rows_of-rows.ensures) ∙ sym c.in_ok-route_by.ensures)
+    ∙ sym (ap (λ rs. route_by rs c.args.verb name rest c.in-Some-2.pattern.now) c.route_rows-rows.ensures) ∙ sym c.in_ok-route_by.ensures)
 
 pub returns-clause-told : goal.returns-clause-told
 returns-clause-told g c honest mounts are = returns-clause-found g c honest (get mounts (cut c.args.path.now).0) (λ _. are (cut c.args.path.now).0)
@@ -107,10 +114,10 @@ returns-clause-parameter g c good takes =
     let path = c.args.path.now in
     let type = c.in-Some.mount_type in
     let rest = c.cut.result.1.now in
-    parameter_is_path (rows_of type) (in_order type) c.args.verb c.cut.result.0.now rest c.in-Some-2.pattern.now c.in_ok-route_by.field-0
+    parameter_is_path (route_rows type) (in_order type) c.args.verb c.cut.result.0.now rest c.in-Some-2.pattern.now c.in_ok-route_by.field-0
     (subst IsRest (sym c.cut.ensures.rest) (rest_of path good))
     (subst (λ t. are_bytes t ≡ true) (sym c.cut.ensures.rest) (bytes_of_rest path (are_bytes_from path (λ k. omega (arith, c.type_inv.path k)))))
-    (sym (ap (λ rs. pattern_found rs rest) c.rows_of-rows.ensures) ∙ sym c.in_ok-pattern.ensures.ok
+    (sym (ap (λ rs. pattern_found rs rest) c.route_rows-rows.ensures) ∙ sym c.in_ok-pattern.ensures.found
     ∙ ap (option_map (λ s. s.now)) c.in-Some-2.is)
-    (sym (ap (λ rs. route_by rs c.args.verb c.cut.result.0.now rest c.in-Some-2.pattern.now) c.rows_of-rows.ensures) ∙ sym c.in_ok-route_by.ensures)
+    (sym (ap (λ rs. route_by rs c.args.verb c.cut.result.0.now rest c.in-Some-2.pattern.now) c.route_rows-rows.ensures) ∙ sym c.in_ok-route_by.ensures)
     takes

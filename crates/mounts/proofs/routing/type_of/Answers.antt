@@ -1,11 +1,28 @@
-use Rattle.std.proofs.Common.{sym, ap, subst, ◌∙◌, Some}
+use Rattle.std.proofs.Common.{sym, ap, subst, ◌∙◌, Err, Some, is_ok, rules}
+use Rattle.std.proofs.lemmas.Bool.{false≢true}
 use Rattle.std.proofs.lemmas.Option.{same_Some}
+use Rattle.std.proofs.lemmas.Result.{err_from_is_err_and}
 use Rattle.broker_types.specs.Broker.{Mount}
 use Rattle.records.specs.Ranges.{IsMountInRange}
+use Rattle.records.specs.Table.{table}
+use Rattle.records.specs.ValueLaws.{none_of}
+use Rattle.mounts.proofs.MountReads.{not_read}
 use Rattle.mounts.proofs.routing.type_of.Goals as goal
 
-pub returns-clause-undamaged : goal.returns-clause-undamaged
-returns-clause-undamaged g c honest =
+pub returns-in_err-mount-clause-call : goal.returns-in_err-mount-clause-call
+returns-in_err-mount-clause-call g c =
+    let p = err_from_is_err_and c.from_residual-in_err-mount.result c.from_residual-in_err-mount.ensures.1 in
+    record {
+      same = search rules;
+      faults = rw (p.1 ∙ ap Err (p.2 ∙ c.in_err-mount.ensures.damaged)) (λ honest mount at.
+          not_read (table (g.T.RecordsTx.seen c.args.tx.now)) c.args.name.now c.in-Some-2.kept (sym (c.in_ok-kept.ensures.found honest) ∙ c.in-Some-2.is)
+          (λ m good row. false≢true (ap is_ok (c.in_err-mount.ensures.again m good row))) mount
+          (at (sym c.fixed_type.ensures ∙ none_of _ c.in_default.not-Some)));
+      goes_on = search rules;
+    }
+
+pub returns-clause-readable : goal.returns-clause-readable
+returns-clause-readable g c honest =
     let m : Mount = c.in_ok-mount.mount in
     let read = c.in_ok-mount.ensures.exact in (
       Some m,

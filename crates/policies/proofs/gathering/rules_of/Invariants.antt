@@ -1,9 +1,10 @@
 use Rattle.std.proofs.Common.{◌≡◌, ◌++◌, drop, take, flat_map, false, All}
 use Rattle.broker_types.specs.Map.{Map}
 use Rattle.broker_types.specs.Text.{Text}
+use Rattle.records.specs.Table.{table}
 use Rattle.records.specs.Transaction.{IsHonest, GoesOn}
 use Rattle.policies.specs.Grants.{rules_named}
-use Rattle.policies.specs.PolicyRows.{table, ArePoliciesAt, IsReadable}
+use Rattle.policies.specs.PolicyRows.{ArePoliciesAt, IsReadable}
 use Rattle.policies.proofs.gathering.rules_of.Given as goal
 
 -- the rules so far and those to come; the rows so far were read

@@ -1,14 +1,14 @@
 use Rattle.std.proofs.Common.{ap, ◌∙◌, Err, List, ◌++◌}
 use Rattle.std.proofs.lemmas.Result.{err_from_is_err_and}
-use Rattle.policies.specs.PolicyRows.{table}
+use Rattle.records.specs.Table.{table}
 use Rattle.policies.specs.Rules.{Rule}
 use Rattle.policies.proofs.PoliciesGathered.{rules_told}
 use Rattle.policies.proofs.gathering.with_named.Goals as goal
 
-pub returns-in_err-named-clause-undamaged : goal.returns-in_err-named-clause-undamaged
-returns-in_err-named-clause-undamaged g c honest is_object policies sound at =
+pub returns-in_err-named-clause-wants : goal.returns-in_err-named-clause-wants
+returns-in_err-named-clause-wants g c honest is_object policies sound at =
     let p = err_from_is_err_and c.from_residual.result c.from_residual.ensures.1 in
-    rw (p.1 ∙ ap Err p.2) (c.in_err-named.ensures.undamaged honest is_object policies sound at)
+    rw (p.1 ∙ ap Err p.2) (c.in_err-named.ensures.wants honest is_object policies sound at)
 
 pub returns-clause-told : goal.returns-clause-told
 returns-clause-told g c honest policies at =

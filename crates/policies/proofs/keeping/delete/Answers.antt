@@ -1,4 +1,4 @@
-use Rattle.std.proofs.Common.{◌≡◌, sym, ap, ◌∙◌, not, Ok}
+use Rattle.std.proofs.Common.{◌≡◌, sym, ap, ◌∙◌, not, Ok, rules}
 use Rattle.broker_types.specs.Map.{without}
 use Rattle.broker_types.specs.Refuse.{unless}
 use Rattle.records.specs.declared.kind.Kind.TheVariants as kind
@@ -18,12 +18,17 @@ returns-clause-rows g c honest =
     ends_then {X = Unit {0}} (may_delete name) tt (λ _ next. table_of new ≡ next) (new ≡ old) tt (without_row (table_of old) kind.Policy name) free
     (ap table_of (c.in_ok-remove.ensures.rows honest) ∙ table_of-remove old kind.Policy name)
 
-pub returns-clause-others : goal.returns-clause-others
-returns-clause-others g c honest =
+pub returns-clause-call : goal.returns-clause-call
+returns-clause-call g c =
     let old = (g.T.RecordsTx.seen c.args.tx.now).rows in
     let new = (g.T.RecordsTx.seen c.remove.new.self).rows in
     let name = c.args.name.now in
-    others_gone (table_of old) (table_of new) name (ap table_of (c.in_ok-remove.ensures.rows honest) ∙ table_of-remove old kind.Policy name)
+    record {
+      others = λ honest.
+          others_gone (table_of old) (table_of new) name (ap table_of (c.in_ok-remove.ensures.rows honest) ∙ table_of-remove old kind.Policy name);
+      faults = tt;
+      goes_on = search rules;
+    }
 
 pub returns-clause-told : goal.returns-clause-told
 returns-clause-told g c honest policies are =

@@ -1,8 +1,9 @@
 use Rattle.std.proofs.Common.{sym, ◌∙◌, Option}
 use Rattle.broker_types.specs.Map.{get}
 use Rattle.broker_types.specs.Text.{Text}
-use Rattle.policies.specs.PolicyRows.{table}
-use Rattle.policies.proofs.PolicyTold.{text_told, short_texts, not_damaged, each_fault, each_ok}
+use Rattle.records.specs.CallLaws.{not_damaged, each_fault}
+use Rattle.records.specs.Table.{table}
+use Rattle.policies.proofs.PolicyTold.{text_told, short_texts, each_ok}
 use Rattle.policies.proofs.keeping.get.Goals as goal
 
 pub returns-clause-told : goal.returns-clause-told
@@ -11,8 +12,8 @@ returns-clause-told g c honest policies are =
     each_ok (λ (text : Option Text) at. text_told old policies c.args.name.now text (sym c.is_root.ensures ∙ c.if-is_root.false) are at)
     c.kept_text.result (c.kept_text.ensures.found honest)
 
-pub returns-clause-undamaged : goal.returns-clause-undamaged
-returns-clause-undamaged g c honest is_object policies sound are =
+pub returns-clause-wants : goal.returns-clause-wants
+returns-clause-wants g c honest is_object policies sound are =
     let name = c.args.name.now in
     each_fault (not_damaged (λ damaged. damaged honest (get policies name) (short_texts is_object policies sound name) (are name)))
-    c.kept_text.result c.kept_text.ensures.faults
+    c.kept_text.result c.kept_text.ensures.call.faults

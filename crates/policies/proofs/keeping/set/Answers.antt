@@ -1,4 +1,4 @@
-use Rattle.std.proofs.Common.{◌≡◌, ap, ◌∙◌}
+use Rattle.std.proofs.Common.{◌≡◌, ap, ◌∙◌, rules}
 use Rattle.broker_types.specs.Map.{put}
 use Rattle.records.specs.declared.kind.Kind.TheVariants as kind
 use Rattle.records.specs.RowForms.{policy_row}
@@ -20,13 +20,18 @@ returns-clause-rows g c honest =
     (ap table_of (c.in_ok-put.ensures.rows honest) ∙ table_of-insert old kind.Policy name c.in_ok-row.row
     ∙ ap (with_row (table_of old) kind.Policy name) c.in_ok-row.ensures)
 
-pub returns-clause-others : goal.returns-clause-others
-returns-clause-others g c honest =
+pub returns-clause-call : goal.returns-clause-call
+returns-clause-call g c =
     let old = (g.T.RecordsTx.seen c.args.tx.now).rows in
     let new = (g.T.RecordsTx.seen c.put.new.self).rows in
     let name = c.args.name.now in
-    others_put (table_of old) (table_of new) name c.in_ok-row.row
-    (ap table_of (c.in_ok-put.ensures.rows honest) ∙ table_of-insert old kind.Policy name c.in_ok-row.row)
+    record {
+      others = λ honest.
+          others_put (table_of old) (table_of new) name c.in_ok-row.row
+          (ap table_of (c.in_ok-put.ensures.rows honest) ∙ table_of-insert old kind.Policy name c.in_ok-row.row);
+      faults = tt;
+      goes_on = search rules;
+    }
 
 pub returns-clause-told : goal.returns-clause-told
 returns-clause-told g c honest policies are =

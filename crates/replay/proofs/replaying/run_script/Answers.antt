@@ -22,7 +22,7 @@ pub returns-in-Ok-clause-ran : goal.returns-in-Ok-clause-ran
 returns-in-Ok-clause-ran g c = λ unfaulted.
     let start = c.args.script.now.start in
     let b = first_broker start.moment (slice_index start.words.0 1) (slice_index start.words.0 2) in
-    let a = c.in-Ok.ensures.replies refl (new_world b) (c.new-hub.ensures.represents b c.in_default.ensures.ok) in
+    let a = c.in-Ok.ensures.replies refl (new_world b) (c.new-hub.ensures.represents b c.in_default.ensures.told) in
     let old = g.W.Sink.written c.args.writer.now in
     let new = g.W.Sink.written c.finish.new.writer in
     let pushed = written_of c.finish.result c.exit.result _ _ c.finish.ensures unfaulted in
@@ -37,7 +37,7 @@ pub returns-clause-ends : goal.returns-clause-ends
 returns-clause-ends g c =
     let start = c.args.script.now.start in
     let b = first_broker start.moment (slice_index start.words.0 1) (slice_index start.words.0 2) in
-    let want = c.in-Err-run.ensures.wants refl (new_world b) (c.new-hub.ensures.represents b c.in_default.ensures.ok) in
+    let want = c.in-Err-run.ensures.wants refl (new_world b) (c.new-hub.ensures.represents b c.in_default.ensures.told) in
     ends_of _ (g.W.Sink.has_failed c.finish-in-Err-run.new.writer) c.finish-in-Err-run.result c.from-in-Err-run.result (fault_number c.in-Err-run.fault) _
     c.finish-in-Err-run.ensures c.from-in-Err-run.ensures
     (want_number c.in-Err-run.fault want (λ storage. none (c.in-Err-run.ensures.storage storage)))
@@ -54,7 +54,7 @@ returns-clause-stopped g c =
     let old = g.W.Sink.written c.args.writer.now in
     let new = g.W.Sink.written c.finish-in-Err-run.new.writer in
     let b = (world_of t).broker in
-    let run = c.in-Err-run.ensures.before refl (world_of t) (c.new-hub.ensures.represents b c.in_default.ensures.ok) in
+    let run = c.in-Err-run.ensures.before refl (world_of t) (c.new-hub.ensures.represents b c.in_default.ensures.told) in
     stopped_of (Some t) old new c.finish-in-Err-run.result c.from-in-Err-run.result _ _ c.finish-in-Err-run.ensures
     (λ written. stopped_run t c.as_slice.result.now c.in-Err-run.field-0-0 (bytes_of c.in-Err-run.replies.items) run.0 old new c.from-in-Err-run.result
     c.as_slice.ensures.value run.1

@@ -16,5 +16,5 @@ returns-in_err-serve g c =
     let b = first_broker c.now.result (slice_index words 1) (slice_index words 2) in
     let served = c.in_err-serve.ensures.served in
     let storage : c.in_err-serve.field-0.0 ≡ Storage =
-    served.represents refl refl (new_world b, c.new-hub.ensures.represents b c.in_ok-root.ensures.ok) in
+    served.represents refl refl (new_world b, c.new-hub.ensures.represents b c.in_ok-root.ensures.told) in
     rw (p.1 ∙ ap Err p.2) (absurd (none (served.storage (ap Err storage))))

@@ -1,6 +1,7 @@
 use Rattle.std.proofs.Common.{[], ap, ◌∙◌, sym, subst}
 use Rattle.std.specs.List.{AllByRecursion}
 use Rattle.std.proofs.lemmas.Result.{IfOk-weaker}
+use Rattle.records.specs.CallLaws.{each_fault, not_damaged, decode_fault}
 use Rattle.token_tree.specs.Accessors.{IsAccessorRow, with_accessors}
 use Rattle.token_tree.proofs.Names.{accessors_listed, accessors_readable, collected}
 use Rattle.token_tree.proofs.by_accessor.accessors.Goals as goal
@@ -10,15 +11,16 @@ returns-clause-told g c honest forms b stands =
     let rows = (g.T.RecordsTx.seen c.args.tx.now).rows in
     IfOk-weaker c.names_of.result _ _ (λ names is.
     is ∙ ap (λ es. with_accessors es []) (c.deref.ensures.value ∙ c.in_ok-listed.ensures.listed honest)
-    ∙ accessors_listed b rows stands.tells) c.names_of.ensures.ok
+    ∙ accessors_listed b rows stands.tells) c.names_of.ensures.found
 
-pub returns-clause-undamaged : goal.returns-clause-undamaged
-returns-clause-undamaged g c honest forms b stands =
+pub returns-clause-wants : goal.returns-clause-wants
+returns-clause-wants g c honest forms b stands =
     let rows = (g.T.RecordsTx.seen c.args.tx.now).rows in
-    c.names_of.ensures.undamaged
-    (subst (AllByRecursion IsAccessorRow) (sym (c.deref.ensures.value ∙ c.in_ok-listed.ensures.listed honest)) (accessors_readable b rows stands.tells))
+    each_fault (λ f is. not_damaged (λ (damage : AllByRecursion IsAccessorRow c.deref.result.now → ⊥). damage
+    (subst (AllByRecursion IsAccessorRow) (sym (c.deref.ensures.value ∙ c.in_ok-listed.ensures.listed honest)) (accessors_readable b rows stands.tells)))
+    f (decode_fault (λ damage. damage) f is)) c.names_of.result c.names_of.ensures.faults
 
 pub returns-clause-found : goal.returns-clause-found
 returns-clause-found g c honest =
     IfOk-weaker c.names_of.result _ _ (λ names is.
-    is ∙ ap (λ es. with_accessors es []) (c.deref.ensures.value ∙ c.in_ok-listed.ensures.listed honest) ∙ collected _ []) c.names_of.ensures.ok
+    is ∙ ap (λ es. with_accessors es []) (c.deref.ensures.value ∙ c.in_ok-listed.ensures.listed honest) ∙ collected _ []) c.names_of.ensures.found

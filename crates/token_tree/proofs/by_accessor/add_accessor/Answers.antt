@@ -6,8 +6,8 @@ use Rattle.token_tree.specs.Accessors.{names_token, is_of_token}
 use Rattle.token_tree.proofs.Names.{names_of_row}
 use Rattle.token_tree.proofs.by_accessor.add_accessor.Goals as goal
 
-pub returns-in_ok-push-in-Token-clause-ok : goal.returns-in_ok-push-in-Token-clause-ok
-returns-in_ok-push-in-Token-clause-ok c =
+pub returns-in_ok-push-in-Token-clause-found : goal.returns-in_ok-push-in-Token-clause-found
+returns-in_ok-push-in-Token-clause-found c =
     let names = c.args.names.now.items in
     let one : names_token c.args.entry.now.1 ≡ true =
     ap (λ (e : RowKey × Row). names_token e.1) (sym c.entry.view_is) ∙ names_of_row _ _ c.in_ok-holder.ensures.exact.1 ∙ ap is_of_token c.in-Token.is in
@@ -15,8 +15,8 @@ returns-in_ok-push-in-Token-clause-ok c =
     c.in_ok-copied-in-Token.ensures ∙ c.as_str.ensures ∙ ap (λ (e : RowKey × Row). e.0.1) c.entry.view_is in
     c.in_ok-push-in-Token.ensures.items ∙ ap (λ (k : Text). names ++ k ∷ []) key ∙ ap (λ v. if v then names ++ c.args.entry.now.0.1 ∷ [] else names) (sym one)
 
-pub returns-in-WrappingToken-clause-ok : goal.returns-in-WrappingToken-clause-ok
-returns-in-WrappingToken-clause-ok c =
+pub returns-in-WrappingToken-clause-found : goal.returns-in-WrappingToken-clause-found
+returns-in-WrappingToken-clause-found c =
     let names = c.args.names.now.items in
     let one : names_token c.args.entry.now.1 ≡ false =
     ap (λ (e : RowKey × Row). names_token e.1) (sym c.entry.view_is) ∙ names_of_row _ _ c.in_ok-holder.ensures.exact.1 ∙ ap is_of_token c.in-WrappingToken.is in

@@ -18,8 +18,8 @@ returns-in_default-clause-told g c honest forms b stands =
     let none = mapped_none named_row (get (all_named b) a) (sym row ∙ sym (c.in_ok-kept.ensures.found honest) ∙ none_of _ c.in_default.not-Some) in
     sym (token_named b a ∙ ap (option_and_then token_of) none)
 
-pub returns-in_err-holder-clause-undamaged : goal.returns-in_err-holder-clause-undamaged
-returns-in_err-holder-clause-undamaged g c honest forms b stands =
+pub returns-in_err-holder-clause-wants : goal.returns-in_err-holder-clause-wants
+returns-in_err-holder-clause-wants g c honest forms b stands =
     let a = c.args.accessor.now in
     let row = stands.tells kind.Accessor a refl ∙ row_named b a in
     let x = mapped named_row (get (all_named b) a) c.in-Some.kept (sym row ∙ sym (c.in_ok-kept.ensures.found honest) ∙ c.in-Some.is) in

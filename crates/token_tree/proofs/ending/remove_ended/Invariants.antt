@@ -1,6 +1,6 @@
 use Rattle.std.proofs.Common.{◌≡◌, false, drop}
 use Rattle.records.specs.Transaction.{IsHonest, GoesOn}
-use Rattle.token_tree.specs.Removed.{without_ended, AreReadable}
+use Rattle.token_tree.specs.Removed.{without_ended, AreReadableEnded}
 use Rattle.token_tree.proofs.ending.remove_ended.Given as goal
 
 -- to take out what is left leads to the same rows
@@ -10,7 +10,7 @@ invariant-loop-entry g l =
     record {
       rows : IsHonest (seen l.tx) → without_ended l.ended (drop l.entry-index l.entries) (seen l.tx).rows
           ≡ without_ended l.ended l.entries (seen l.initial.tx).rows;
-      left : AreReadable l.ended l.entries → AreReadable l.ended (drop l.entry-index l.entries);
-      read : AreReadable l.ended (drop l.entry-index l.entries) → AreReadable l.ended l.entries;
+      left : AreReadableEnded l.ended l.entries → AreReadableEnded l.ended (drop l.entry-index l.entries);
+      read : AreReadableEnded l.ended (drop l.entry-index l.entries) → AreReadableEnded l.ended l.entries;
       goes_on : GoesOn (seen l.initial.tx) (seen l.tx) false;
     }

@@ -13,7 +13,7 @@ use Rattle.token_tree.proofs.ending.remove_token.Goals as goal
 pub returns-clause-rows : goal.returns-clause-rows
 returns-clause-rows g c honest =
     let seen = g.T.RecordsTx.seen in
-    let mid = honest_before (seen c.remove.new.self) (seen c.remove-2.new.self) _ c.remove-2.ensures.goes_on honest in
+    let mid = honest_before (seen c.remove.new.self) (seen c.remove-2.new.self) _ c.remove-2.ensures.call.goes_on honest in
     let read = c.in_ok-token.ensures.exact in
     let told = accessor_told c.in_ok-token.token read.0 in
     let accessor : c.as_str.result.now ≡ accessor_in c.args.entry.now.1 =

@@ -1,4 +1,4 @@
-use Rattle.std.proofs.Common.{◌≡◌, sym, ap, ◌∙◌, subst}
+use Rattle.std.proofs.Common.{rules, ◌≡◌, sym, ap, ◌∙◌, subst}
 use Rattle.records.specs.declared.kind.Kind.TheVariants as kind
 use Rattle.records.specs.Parts.{of_tokens, Tells}
 use Rattle.records.specs.RowForms.{entry_row}
@@ -11,10 +11,10 @@ use Rattle.token_tree.specs.Tokens.{with_token}
 use Rattle.token_tree.proofs.Singles.{tells_created, put_keeps, accessor_keeps}
 use Rattle.token_tree.proofs.single.create.Goals as goal
 
-pub returns-clause-ok : goal.returns-clause-ok
-returns-clause-ok g c honest forms b stands x is all_used new_token new_accessor =
+pub returns-clause-told : goal.returns-clause-told
+returns-clause-told g c honest forms b stands x is all_used new_token new_accessor =
     let seen = g.T.RecordsTx.seen in
-    let mid = honest_before (seen c.put_token.new.tx) (seen c.put.new.self) _ c.put.ensures.goes_on honest in
+    let mid = honest_before (seen c.put_token.new.tx) (seen c.put.new.self) _ c.put.ensures.call.goes_on honest in
     let rows = (seen c.args.tx.now).rows in
     let t = c.args.token.now in
     let first : table_of (seen c.put_token.new.tx).rows ≡ with_row (table_of rows) kind.Token t (entry_row c.args.entry.now) =
@@ -26,23 +26,28 @@ returns-clause-ok g c honest forms b stands x is all_used new_token new_accessor
     ∙ (λ i. with_row ((first ∙ ap (λ e. with_row (table_of rows) kind.Token t (entry_row e)) (sym is)) i) kind.Accessor (accessor i) (c.in_ok-row.ensures i))))
     (tells_created b stands.one_place all_used t x new_token new_accessor (table_of rows) stands.tells)) (c.put.ensures.rows honest)
 
-pub returns-clause-others : goal.returns-clause-others
-returns-clause-others g c honest =
-    let seen = g.T.RecordsTx.seen in
-    let mid = honest_before (seen c.put_token.new.tx) (seen c.put.new.self) _ c.put.ensures.goes_on honest in
-    let rows = (seen c.args.tx.now).rows in
-    let t = c.args.token.now in
-    let r = entry_row c.args.entry.now in
-    on_ok_weaker c.put.result (λ put k q h.
-    ap (λ (table : Table). table k q) (ap table_of put ∙ table_of-insert (seen c.put_token.new.tx).rows kind.Accessor c.as_str.result.now c.in_ok-row.row)
-    ∙ accessor_keeps (table_of (seen c.put_token.new.tx).rows) c.as_str.result.now c.in_ok-row.row k q h
-    ∙ ap (λ (table : Table). table k q) (ap table_of (c.in_ok-put_token.ensures.rows mid) ∙ table_of-insert rows kind.Token t r)
-    ∙ put_keeps (table_of rows) t r k q h) (c.put.ensures.rows honest)
+pub returns-clause-call : goal.returns-clause-call
+returns-clause-call g c =
+    record {
+      others = λ honest.
+          let seen = g.T.RecordsTx.seen in
+          let mid = honest_before (seen c.put_token.new.tx) (seen c.put.new.self) _ c.put.ensures.call.goes_on honest in
+          let rows = (seen c.args.tx.now).rows in
+          let t = c.args.token.now in
+          let r = entry_row c.args.entry.now in
+          on_ok_weaker c.put.result (λ put k q h.
+          ap (λ (table : Table). table k q) (ap table_of put ∙ table_of-insert (seen c.put_token.new.tx).rows kind.Accessor c.as_str.result.now c.in_ok-row.row)
+          ∙ accessor_keeps (table_of (seen c.put_token.new.tx).rows) c.as_str.result.now c.in_ok-row.row k q h
+          ∙ ap (λ (table : Table). table k q) (ap table_of (c.in_ok-put_token.ensures.rows mid) ∙ table_of-insert rows kind.Token t r)
+          ∙ put_keeps (table_of rows) t r k q h) (c.put.ensures.rows honest);
+      faults = c.put.ensures.call.faults;
+      goes_on = search rules;
+    }
 
 pub returns-clause-rows : goal.returns-clause-rows
 returns-clause-rows g c honest =
     let seen = g.T.RecordsTx.seen in
-    let mid = honest_before (seen c.put_token.new.tx) (seen c.put.new.self) _ c.put.ensures.goes_on honest in
+    let mid = honest_before (seen c.put_token.new.tx) (seen c.put.new.self) _ c.put.ensures.call.goes_on honest in
     let rows = (seen c.args.tx.now).rows in
     let t = c.args.token.now in
     let first : table_of (seen c.put_token.new.tx).rows ≡ with_row (table_of rows) kind.Token t (entry_row c.args.entry.now) =

@@ -17,8 +17,8 @@ returns-in_default-clause-told g c honest forms b stands =
     sym (ap (option_map token_entry)
     (mapped_none token_row (get b.tokens c.args.token.now) (sym found ∙ sym (c.in_ok-kept.ensures.found honest) ∙ none_of _ c.in_default.not-Some)))
 
-pub returns-in_err-read_token-clause-undamaged : goal.returns-in_err-read_token-clause-undamaged
-returns-in_err-read_token-clause-undamaged g c honest forms b stands =
+pub returns-in_err-read_token-clause-wants : goal.returns-in_err-read_token-clause-wants
+returns-in_err-read_token-clause-wants g c honest forms b stands =
     let found = token_row_at b (g.T.RecordsTx.seen c.args.tx.now).rows stands.tells c.args.token.now in
     let x = mapped token_row (get b.tokens c.args.token.now) c.in-Some.kept (sym found ∙ sym (c.in_ok-kept.ensures.found honest) ∙ c.in-Some.is) in
     let p = err_from_is_err_and c.from_residual-in_err-read_token.result c.from_residual-in_err-read_token.ensures.1 in

@@ -15,13 +15,13 @@ use Rattle.token_tree.specs.Tokens.{with_end}
 use Rattle.token_tree.proofs.Singles.{change_same}
 use Rattle.token_tree.proofs.single.renew.Goals as goal
 
-pub returns-in_default-clause-ok : goal.returns-in_default-clause-ok
-returns-in_default-clause-ok g c honest forms b stands k q h =
+pub returns-in_default-clause-told : goal.returns-in_default-clause-told
+returns-in_default-clause-told g c honest forms b stands k q h =
     let t = c.args.token.now in
     let none : get b.tokens t ≡ None = mapped_none token_entry (get b.tokens t)
     (sym (c.in_ok-record.ensures.told honest forms b stands) ∙ none_of _ c.in_default.not-Some) in
     let still = change_same b.tokens t (with_end c.args.ends) (λ x is. absurd (none-some _ (sym none ∙ is))) in
-    ap (λ rows. table_of rows k q) (c.in_ok-record.ensures.same honest) ∙ stands.tells k q h ∙ ap (λ ts. rows_of (record b { tokens = ts }) k q) (sym still)
+    ap (λ rows. table_of rows k q) (c.in_ok-record.ensures.call.same honest) ∙ stands.tells k q h ∙ ap (λ ts. rows_of (record b { tokens = ts }) k q) (sym still)
 
 pub rewrite-requires : goal.rewrite-requires
 rewrite-requires g c =
@@ -40,18 +40,18 @@ rewrite-requires g c =
       meta = here.meta;
     }
 
-pub returns-clause-ok : goal.returns-clause-ok
-returns-clause-ok g c honest forms b stands =
+pub returns-clause-told : goal.returns-clause-told
+returns-clause-told g c honest forms b stands =
     let seen = g.T.RecordsTx.seen in
     let mid = honest_before (seen c.find.new.tx) (seen c.rewrite.new.tx) _ c.rewrite.ensures.call.goes_on honest in
     let t = c.args.token.now in
     let x = mapped token_entry (get b.tokens t) c.in-Some.record (sym (c.in_ok-record.ensures.told mid forms b stands) ∙ c.in-Some.is) in
     let whole = c.record.view_is ∙ x.2 in
-    c.rewrite.ensures.ok honest b x.0 (with_end c.args.ends)
-    (subst (λ rows. Tells of_tokens (table_of rows) b) (sym (c.in_ok-record.ensures.same mid)) stands.tells) x.1
+    c.rewrite.ensures.told honest b x.0 (with_end c.args.ends)
+    (subst (λ rows. Tells of_tokens (table_of rows) b) (sym (c.in_ok-record.ensures.call.same mid)) stands.tells) x.1
     (λ i. record (sym whole i) { ends = Some c.args.ends }) (λ y. refl)
 
-pub returns-in_err-record-clause-undamaged : goal.returns-in_err-record-clause-undamaged
-returns-in_err-record-clause-undamaged g c honest forms b stands =
+pub returns-in_err-record-clause-wants : goal.returns-in_err-record-clause-wants
+returns-in_err-record-clause-wants g c honest forms b stands =
     let p = err_from_is_err_and c.from_residual.result c.from_residual.ensures.1 in
-    rw (p.1, p.2) (c.in_err-record.ensures.undamaged honest forms b stands)
+    rw (p.1, p.2) (c.in_err-record.ensures.wants honest forms b stands)

@@ -1,4 +1,4 @@
-use Rattle.std.proofs.Common.{sym, ap, ◌∙◌, subst}
+use Rattle.std.proofs.Common.{rules, sym, ap, ◌∙◌, subst}
 use Rattle.records.specs.declared.kind.Kind.TheVariants as kind
 use Rattle.records.specs.Parts.{of_tokens, Tells}
 use Rattle.records.specs.RowForms.{entry_row}
@@ -9,8 +9,8 @@ use Rattle.broker_types.specs.Map.{change}
 use Rattle.token_tree.proofs.Singles.{tells_changed_at, put_keeps}
 use Rattle.token_tree.proofs.single.rewrite.Goals as goal
 
-pub returns-clause-ok : goal.returns-clause-ok
-returns-clause-ok g c honest b x f tells here is keeps =
+pub returns-clause-told : goal.returns-clause-told
+returns-clause-told g c honest b x f tells here is keeps =
     let rows = (g.T.RecordsTx.seen c.args.tx.now).rows in
     let t = c.args.token.now in
     on_ok_weaker c.put_token.result (λ put.
@@ -19,14 +19,19 @@ returns-clause-ok g c honest b x f tells here is keeps =
     ∙ ap (λ e. with_row (table_of rows) kind.Token t (entry_row e)) (sym is)))
     (tells_changed_at b t x f here keeps (table_of rows) tells)) (c.put_token.ensures.rows honest)
 
-pub returns-clause-others : goal.returns-clause-others
-returns-clause-others g c honest =
-    let rows = (g.T.RecordsTx.seen c.args.tx.now).rows in
-    let t = c.args.token.now in
-    let r = entry_row c.args.entry.now in
-    on_ok_weaker c.put_token.result
-    (λ put k q h. ap (λ (table : Table). table k q) (ap table_of put ∙ table_of-insert rows kind.Token t r) ∙ put_keeps (table_of rows) t r k q h)
-    (c.put_token.ensures.rows honest)
+pub returns-clause-call : goal.returns-clause-call
+returns-clause-call g c =
+    record {
+      others = λ honest.
+          let rows = (g.T.RecordsTx.seen c.args.tx.now).rows in
+          let t = c.args.token.now in
+          let r = entry_row c.args.entry.now in
+          on_ok_weaker c.put_token.result
+          (λ put k q h. ap (λ (table : Table). table k q) (ap table_of put ∙ table_of-insert rows kind.Token t r) ∙ put_keeps (table_of rows) t r k q h)
+          (c.put_token.ensures.rows honest);
+      faults = c.put_token.ensures.call.faults;
+      goes_on = search rules;
+    }
 
 pub returns-clause-rows : goal.returns-clause-rows
 returns-clause-rows g c honest =

@@ -19,24 +19,24 @@ use Rattle.token_tree.specs.TokenRows.{spent_entry}
 use Rattle.token_tree.proofs.Singles.{change_same, row_again}
 use Rattle.token_tree.proofs.single.spend.Goals as goal
 
-pub returns-in_default-clause-ok : goal.returns-in_default-clause-ok
-returns-in_default-clause-ok g c honest forms b stands k q h =
+pub returns-in_default-clause-told : goal.returns-in_default-clause-told
+returns-in_default-clause-told g c honest forms b stands k q h =
     let t = c.args.token.now in
     let none : get b.tokens t ≡ None = mapped_none token_entry (get b.tokens t)
     (sym (c.in_ok-record.ensures.told honest forms b stands) ∙ none_of _ c.in_default.not-Some) in
     let still = change_same b.tokens t one_less (λ x is. absurd (none-some _ (sym none ∙ is))) in
-    ap (λ rows. table_of rows k q) (c.in_ok-record.ensures.same honest) ∙ stands.tells k q h ∙ ap (λ ts. rows_of (record b { tokens = ts }) k q) (sym still)
+    ap (λ rows. table_of rows k q) (c.in_ok-record.ensures.call.same honest) ∙ stands.tells k q h ∙ ap (λ ts. rows_of (record b { tokens = ts }) k q) (sym still)
 
 unlimited : (x : Token) → x.uses_left ≡ None → one_less x ≡ x
 unlimited x none = λ i. record x { uses_left = (ap (option_map (λ (n : ℕ). n - 1)) none ∙ sym none) i }
 
-pub returns-in_default-uses_left-clause-ok : goal.returns-in_default-uses_left-clause-ok
-returns-in_default-uses_left-clause-ok g c honest forms b stands k q h =
+pub returns-in_default-uses_left-clause-told : goal.returns-in_default-uses_left-clause-told
+returns-in_default-uses_left-clause-told g c honest forms b stands k q h =
     let t = c.args.token.now in
     let x = mapped token_entry (get b.tokens t) c.in-Some.record (sym (c.in_ok-record.ensures.told honest forms b stands) ∙ c.in-Some.is) in
     let none : x.0.uses_left ≡ None = ap (λ (e : TokenEntry). e.uses_left) (sym (c.record.view_is ∙ x.2)) ∙ none_of _ c.in_default-uses_left.not-Some in
     let still = change_same b.tokens t one_less (λ y is. unlimited y (ap (λ (z : Token). z.uses_left) ((same_Some _ _ (sym is ∙ x.1))) ∙ none)) in
-    ap (λ rows. table_of rows k q) (c.in_ok-record.ensures.same honest) ∙ stands.tells k q h ∙ ap (λ ts. rows_of (record b { tokens = ts }) k q) (sym still)
+    ap (λ rows. table_of rows k q) (c.in_ok-record.ensures.call.same honest) ∙ stands.tells k q h ∙ ap (λ ts. rows_of (record b { tokens = ts }) k q) (sym still)
 
 pub rewrite-requires : goal.rewrite-requires
 rewrite-requires g c =
@@ -57,8 +57,8 @@ rewrite-requires g c =
       meta = here.meta;
     }
 
-pub returns-clause-ok : goal.returns-clause-ok
-returns-clause-ok g c honest forms b stands =
+pub returns-clause-told : goal.returns-clause-told
+returns-clause-told g c honest forms b stands =
     let seen = g.T.RecordsTx.seen in
     let mid = honest_before (seen c.find.new.tx) (seen c.rewrite.new.tx) _ c.rewrite.ensures.call.goes_on honest in
     let t = c.args.token.now in
@@ -67,13 +67,13 @@ returns-clause-ok g c honest forms b stands =
     let uses : x.0.uses_left ≡ Some c.in-Some-uses_left.uses = ap (λ (e : TokenEntry). e.uses_left) (sym whole) ∙ c.in-Some-uses_left.is in
     let less : option_map (λ (n : ℕ). n - 1) x.0.uses_left ≡ Some c.saturating_sub.result = ap (option_map (λ (n : ℕ). n - 1)) uses
     ∙ ap Some (sym c.saturating_sub.ensures) in
-    c.rewrite.ensures.ok honest b x.0 one_less (subst (λ rows. Tells of_tokens (table_of rows) b) (sym (c.in_ok-record.ensures.same mid)) stands.tells) x.1
+    c.rewrite.ensures.told honest b x.0 one_less (subst (λ rows. Tells of_tokens (table_of rows) b) (sym (c.in_ok-record.ensures.call.same mid)) stands.tells) x.1
     (λ i. record (sym whole i) { uses_left = less i }) (λ y. refl)
 
-pub returns-in_err-record-clause-undamaged : goal.returns-in_err-record-clause-undamaged
-returns-in_err-record-clause-undamaged g c honest forms b stands =
+pub returns-in_err-record-clause-wants : goal.returns-in_err-record-clause-wants
+returns-in_err-record-clause-wants g c honest forms b stands =
     let p = err_from_is_err_and c.from_residual.result c.from_residual.ensures.1 in
-    rw (p.1, p.2) (c.in_err-record.ensures.undamaged honest forms b stands)
+    rw (p.1, p.2) (c.in_err-record.ensures.wants honest forms b stands)
 
 unlimited_entry : (x : TokenEntry) → x.uses_left ≡ None → spent_entry x ≡ x
 unlimited_entry x none = λ i. record x { uses_left = (ap (option_map (λ (n : ℕ). n - 1)) none ∙ sym none) i }
@@ -89,6 +89,6 @@ returns-in_default-uses_left-clause-rows g c honest =
       entry = Some x;
       in_range = λ y e. c.in_ok-record.ensures.in_range y (c.in-Some.is ∙ e);
       was = here;
-      is = ap table_of (c.in_ok-record.ensures.same honest) ∙ sym (row_again old t (entry_row x) here)
+      is = ap table_of (c.in_ok-record.ensures.call.same honest) ∙ sym (row_again old t (entry_row x) here)
           ∙ ap (λ (e : TokenEntry). with_row old kind.Token t (entry_row e)) (sym (unlimited_entry x none));
     }

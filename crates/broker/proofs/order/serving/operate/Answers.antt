@@ -8,14 +8,15 @@ use Rattle.mounts.specs.declared.operation.Operation.TheVariants.{Cubbyholes}
 use Rattle.broker.specs.Command.{place_of}
 use Rattle.broker.specs.Serving.{acted}
 use Rattle.broker.specs.parts.SecretCommands.{Place, at}
-use Rattle.broker.proofs.CubbyholeAnswers.{ActsAs, meant_there}
+use Rattle.broker.specs.Operating.{ActsAs}
+use Rattle.broker.proofs.CubbyholeAnswers.{meant_there}
 use Rattle.broker.proofs.CommandReads.{cubbyholes_read, policies_read, tokens_read, secrets_read}
 use Rattle.broker.proofs.Routes.{meant_on_policies, meant_on_tokens}
 use Rattle.broker.proofs.SecretRoutes.{meant_on_secrets}
 use Rattle.broker.proofs.order.serving.operate.Goals as goal
 
-pub returns-in-Cubbyholes-clause-ok : goal.returns-in-Cubbyholes-clause-ok
-returns-in-Cubbyholes-clause-ok g c formed honest b starts =
+pub returns-in-Cubbyholes-clause-told : goal.returns-in-Cubbyholes-clause-told
+returns-in-Cubbyholes-clause-told g c formed honest b starts =
     let route = c.args.route.now in
     let is : route.operation ≡ c.route.inside.operation = sym (ap (λ (r : Route). r.operation) c.route.view_is) in
     let there : route.parameter ≡ c.route.inside.parameter.now = sym (ap (λ (r : Route). r.parameter) c.route.view_is) in
@@ -24,18 +25,18 @@ returns-in-Cubbyholes-clause-ok g c formed honest b starts =
     let meant = meant_there route c.args.ask.now c.in-Cubbyholes.operation c.route.inside.parameter.now c.as_slice-body.result.now
     (is ∙ c.in-Cubbyholes.is) there c.as_slice-body.ensures.bytes in
     subst (ActsAs c.args.context.now.caller b (g.T.RecordsTx.seen c.act.new.tx).rows c.act.result)
-    (ap (acted b c.args.context.now.caller (names_of c.args.context.now.words)) (sym meant)) (c.act.ensures.ok good honest b starts)
+    (ap (acted b c.args.context.now.caller (names_of c.args.context.now.words)) (sym meant)) (c.act.ensures.told good honest b starts)
 
-pub returns-in-Tokens-clause-ok : goal.returns-in-Tokens-clause-ok
-returns-in-Tokens-clause-ok g c formed honest b starts =
+pub returns-in-Tokens-clause-told : goal.returns-in-Tokens-clause-told
+returns-in-Tokens-clause-told g c formed honest b starts =
     let route = c.args.route.now in
     let is : route.operation ≡ c.route.inside.operation = sym (ap (λ (r : Route). r.operation) c.route.view_is) in
     let meant = meant_on_tokens route c.args.ask.now c.in-Tokens.operation c.as_slice-body.result.now (is ∙ c.in-Tokens.is) c.as_slice-body.ensures.bytes in
     subst (ActsAs c.args.context.now.caller b (g.T.RecordsTx.seen c.act-in-Tokens.new.tx).rows c.act-in-Tokens.result)
-    (ap (acted b c.args.context.now.caller (names_of c.args.context.now.words)) (sym meant)) (c.act-in-Tokens.ensures.ok honest b starts)
+    (ap (acted b c.args.context.now.caller (names_of c.args.context.now.words)) (sym meant)) (c.act-in-Tokens.ensures.told honest b starts)
 
-pub returns-in-Secrets-clause-ok : goal.returns-in-Secrets-clause-ok
-returns-in-Secrets-clause-ok g c formed honest b starts =
+pub returns-in-Secrets-clause-told : goal.returns-in-Secrets-clause-told
+returns-in-Secrets-clause-told g c formed honest b starts =
     let route = c.args.route.now in
     let is : route.operation ≡ c.route.inside.operation = sym (ap (λ (r : Route). r.operation) c.route.view_is) in
     let of_secrets = is ∙ c.in-Secrets.is in
@@ -48,47 +49,47 @@ returns-in-Secrets-clause-ok g c formed honest b starts =
     c.as_slice-version.result.now c.as_slice-body.result.now of_secrets place c.as_slice-version.ensures c.as_slice-body.ensures.bytes in
     subst (ActsAs c.args.context.now.caller b (g.T.RecordsTx.seen c.act-in-Secrets.new.tx).rows c.act-in-Secrets.result)
     (ap (acted b c.args.context.now.caller (names_of c.args.context.now.words)) (sym meant))
-    (c.act-in-Secrets.ensures.ok named good honest b starts)
+    (c.act-in-Secrets.ensures.told named good honest b starts)
 
-pub returns-in-Policies-clause-ok : goal.returns-in-Policies-clause-ok
-returns-in-Policies-clause-ok g c formed honest b starts =
+pub returns-in-Policies-clause-told : goal.returns-in-Policies-clause-told
+returns-in-Policies-clause-told g c formed honest b starts =
     let route = c.args.route.now in
     let is : route.operation ≡ c.route.inside.operation = sym (ap (λ (r : Route). r.operation) c.route.view_is) in
     let there : route.parameter ≡ c.route.inside.parameter.now = sym (ap (λ (r : Route). r.parameter) c.route.view_is) in
     let meant = meant_on_policies route c.args.ask.now c.in-Policies.operation c.route.inside.parameter.now c.as_slice-body.result.now
     (is ∙ c.in-Policies.is) there c.as_slice-body.ensures.bytes in
     subst (ActsAs c.args.context.now.caller b (g.T.RecordsTx.seen c.act-in-Policies.new.tx).rows c.act-in-Policies.result)
-    (ap (acted b c.args.context.now.caller (names_of c.args.context.now.words)) (sym meant)) (c.act-in-Policies.ensures.ok honest b starts)
+    (ap (acted b c.args.context.now.caller (names_of c.args.context.now.words)) (sym meant)) (c.act-in-Policies.ensures.told honest b starts)
 
-pub returns-in-Cubbyholes-clause-undamaged : goal.returns-in-Cubbyholes-clause-undamaged
-returns-in-Cubbyholes-clause-undamaged g c honest =
+pub returns-in-Cubbyholes-clause-readable : goal.returns-in-Cubbyholes-clause-readable
+returns-in-Cubbyholes-clause-readable g c honest =
     let route = c.args.route.now in
     let is : route.operation ≡ c.route.inside.operation = sym (ap (λ (r : Route). r.operation) c.route.view_is) in
     let there : route.parameter ≡ c.route.inside.parameter.now = sym (ap (λ (r : Route). r.parameter) c.route.view_is) in
     cubbyholes_read (g.T.RecordsTx.seen c.args.tx.now).rows c.args.context.now.caller c.args.ask.now route c.act.result c.in-Cubbyholes.operation
-    c.route.inside.parameter.now c.as_slice-body.result.now (is ∙ c.in-Cubbyholes.is) there c.as_slice-body.ensures.bytes (c.act.ensures.undamaged honest)
+    c.route.inside.parameter.now c.as_slice-body.result.now (is ∙ c.in-Cubbyholes.is) there c.as_slice-body.ensures.bytes (c.act.ensures.readable honest)
 
-pub returns-in-Tokens-clause-undamaged : goal.returns-in-Tokens-clause-undamaged
-returns-in-Tokens-clause-undamaged g c honest =
+pub returns-in-Tokens-clause-readable : goal.returns-in-Tokens-clause-readable
+returns-in-Tokens-clause-readable g c honest =
     let route = c.args.route.now in
     let is : route.operation ≡ c.route.inside.operation = sym (ap (λ (r : Route). r.operation) c.route.view_is) in
     tokens_read (g.T.RecordsTx.seen c.args.tx.now).rows c.args.context.now.caller c.args.ask.now route c.act-in-Tokens.result c.in-Tokens.operation
-    c.as_slice-body.result.now (is ∙ c.in-Tokens.is) c.as_slice-body.ensures.bytes (c.act-in-Tokens.ensures.undamaged honest)
+    c.as_slice-body.result.now (is ∙ c.in-Tokens.is) c.as_slice-body.ensures.bytes (c.act-in-Tokens.ensures.readable honest)
 
-pub returns-in-Secrets-clause-undamaged : goal.returns-in-Secrets-clause-undamaged
-returns-in-Secrets-clause-undamaged g c honest =
+pub returns-in-Secrets-clause-readable : goal.returns-in-Secrets-clause-readable
+returns-in-Secrets-clause-readable g c honest =
     let route = c.args.route.now in
     let is : route.operation ≡ c.route.inside.operation = sym (ap (λ (r : Route). r.operation) c.route.view_is) in
     let place : place_of route ≡ at c.route.inside.mount.now c.route.inside.parameter.now = sym (ap place_of c.route.view_is) in
     secrets_read (g.T.RecordsTx.seen c.args.tx.now).rows c.args.context.now.caller c.args.ask.now route c.act-in-Secrets.result c.in-Secrets.operation
     (at c.route.inside.mount.now c.route.inside.parameter.now) c.as_slice-version.result.now c.as_slice-body.result.now
-    (is ∙ c.in-Secrets.is) place c.as_slice-version.ensures c.as_slice-body.ensures.bytes (c.act-in-Secrets.ensures.undamaged honest)
+    (is ∙ c.in-Secrets.is) place c.as_slice-version.ensures c.as_slice-body.ensures.bytes (c.act-in-Secrets.ensures.readable honest)
 
-pub returns-in-Policies-clause-undamaged : goal.returns-in-Policies-clause-undamaged
-returns-in-Policies-clause-undamaged g c honest =
+pub returns-in-Policies-clause-readable : goal.returns-in-Policies-clause-readable
+returns-in-Policies-clause-readable g c honest =
     let route = c.args.route.now in
     let is : route.operation ≡ c.route.inside.operation = sym (ap (λ (r : Route). r.operation) c.route.view_is) in
     let there : route.parameter ≡ c.route.inside.parameter.now = sym (ap (λ (r : Route). r.parameter) c.route.view_is) in
     policies_read (g.T.RecordsTx.seen c.args.tx.now).rows c.args.context.now.caller c.args.ask.now route c.act-in-Policies.result c.in-Policies.operation
     c.route.inside.parameter.now c.as_slice-body.result.now (is ∙ c.in-Policies.is) there c.as_slice-body.ensures.bytes
-    (c.act-in-Policies.ensures.undamaged honest)
+    (c.act-in-Policies.ensures.readable honest)

@@ -3,12 +3,11 @@ use Rattle.api_json.specs.Objects.{keys_object}
 use Rattle.api_json.specs.Reply.{plain_reply}
 use Rattle.broker_types.specs.Names.{names_of}
 use Rattle.broker_types.specs.Operation.{reply}
-use Rattle.broker.proofs.PolicyAnswers.{policies_there}
-use Rattle.broker.proofs.Serving.{still_represented}
+use Rattle.broker.specs.RepresentingLaws.{policies_there, still_represented}
 use Rattle.broker.proofs.parts.acl_policies.list.Goals as goal
 
-pub returns-clause-ok : goal.returns-clause-ok
-returns-clause-ok g c honest b starts =
+pub returns-clause-told : goal.returns-clause-told
+returns-clause-told g c honest b starts =
     let seen = g.T.RecordsTx.seen in
     let old = (seen c.args.tx.now).rows in
     let new = (seen c.list.new.tx).rows in
@@ -17,5 +16,5 @@ returns-clause-ok g c honest b starts =
       c.in_ok-shown.ensures
           ∙ ap (λ o. reply (plain_reply request o) None)
           (c.in_ok-object.ensures ∙ ap keys_object (c.deref.ensures.value ∙ c.in_ok-names.ensures.told honest b.policies (policies_there b old st))),
-      still_represented b old new (c.in_ok-names.ensures.same honest) st,
+      still_represented b old new (c.in_ok-names.ensures.call.same honest) st,
     )

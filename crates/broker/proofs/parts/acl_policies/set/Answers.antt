@@ -9,11 +9,12 @@ use Rattle.policies.specs.Policies as policies
 use Rattle.policies.specs.PolicyRows.{ArePolicies}
 use Rattle.policies.specs.SoundLaws.{set_sound}
 use Rattle.broker.specs.declared.answered.Answered.TheVariants.{Nothing}
-use Rattle.broker.proofs.PolicyAnswers.{policies_there, acts_bad_body, acts_no_text, acts_meant, acts_changed, acts_refused}
+use Rattle.broker.specs.RepresentingLaws.{policies_there}
+use Rattle.broker.proofs.AclPolicyAnswers.{acts_bad_body, acts_no_text, acts_meant, acts_changed, acts_refused}
 use Rattle.broker.proofs.parts.acl_policies.set.Goals as goal
 
-pub returns-in_err-members-clause-ok : goal.returns-in_err-members-clause-ok
-returns-in_err-members-clause-ok g c honest b starts =
+pub returns-in_err-members-clause-told : goal.returns-in_err-members-clause-told
+returns-in_err-members-clause-told g c honest b starts =
     let old = (g.T.RecordsTx.seen c.args.tx.now).rows in
     let known = c.args.context.now in
     let p = err_from_is_err_and c.from_residual.result c.from_residual.ensures.1 in
@@ -21,8 +22,8 @@ returns-in_err-members-clause-ok g c honest b starts =
     (acts_bad_body b old known.caller c.args.name.now (names_of known.words) c.args.body.now c.in_err-members.field-0.0 starts.represents
     c.in_err-members.ensures)
 
-pub returns-in_err-text-clause-ok : goal.returns-in_err-text-clause-ok
-returns-in_err-text-clause-ok g c honest b starts =
+pub returns-in_err-text-clause-told : goal.returns-in_err-text-clause-told
+returns-in_err-text-clause-told g c honest b starts =
     let old = (g.T.RecordsTx.seen c.args.tx.now).rows in
     let known = c.args.context.now in
     let p = err_from_is_err_and c.from_residual-in_err-text.result c.from_residual-in_err-text.ensures.1 in
@@ -30,8 +31,8 @@ returns-in_err-text-clause-ok g c honest b starts =
     (acts_no_text b old known.caller c.args.name.now (names_of known.words) c.args.body.now (members_of c.in_ok-members.members)
     c.in_ok-members.ensures c.in_err-text.field-0.0 starts.represents c.in_err-text.ensures.reads)
 
-pub returns-in_err-set-clause-ok : goal.returns-in_err-set-clause-ok
-returns-in_err-set-clause-ok g c honest b starts =
+pub returns-in_err-set-clause-told : goal.returns-in_err-set-clause-told
+returns-in_err-set-clause-told g c honest b starts =
     let seen = g.T.RecordsTx.seen in
     let old = (seen c.args.tx.now).rows in
     let new = (seen c.set.new.tx).rows in
@@ -47,8 +48,8 @@ returns-in_err-set-clause-ok g c honest b starts =
     (subst (λ text. EndsErr (new ≡ old) error (policies.set b.policies name text)) c.as_str.ensures
     (c.in_err-set.ensures.told honest b.policies (policies_there b old st)))))
 
-pub returns-clause-ok : goal.returns-clause-ok
-returns-clause-ok g c honest b starts =
+pub returns-clause-told : goal.returns-clause-told
+returns-clause-told g c honest b starts =
     let seen = g.T.RecordsTx.seen in
     let old = (seen c.args.tx.now).rows in
     let new = (seen c.set.new.tx).rows in
@@ -63,4 +64,4 @@ returns-clause-ok g c honest b starts =
     (λ next is. set_sound b next is_object (Some known.caller) name text st.sound short is)
     (subst (λ text. EndsOk (λ _ next. ArePolicies (table_of new) next) c.in_ok-set.field-0 (policies.set b.policies name text)) c.as_str.ensures
     (c.in_ok-set.ensures.told honest b.policies (policies_there b old st)))
-    (c.in_ok-set.ensures.others honest))
+    (c.in_ok-set.ensures.call.others honest))

@@ -8,20 +8,19 @@ use Rattle.broker_types.specs.Operation.{reply, plainly}
 use Rattle.broker_types.specs.Text.{Text}
 use Rattle.records.specs.ValueLaws.{none_of}
 use Rattle.policies.specs.Policies.{text_of}
-use Rattle.broker.proofs.PolicyAnswers.{policies_there}
+use Rattle.broker.specs.RepresentingLaws.{policies_there, still_represented}
 use Rattle.broker.proofs.SecretAnswers.{acts_found, acts_absent}
-use Rattle.broker.proofs.Serving.{still_represented}
 use Rattle.broker.proofs.parts.acl_policies.show.Goals as goal
 
-pub returns-in_err-text-clause-ok : goal.returns-in_err-text-clause-ok
-returns-in_err-text-clause-ok g c honest b starts =
+pub returns-in_err-text-clause-told : goal.returns-in_err-text-clause-told
+returns-in_err-text-clause-told g c honest b starts =
     let old = (g.T.RecordsTx.seen c.args.tx.now).rows in
     let st = starts.represents in
     let p = err_from_is_err_and c.from_residual.result c.from_residual.ensures.1 in
-    rw (p.1 ∙ ap Err p.2) (c.in_err-text.ensures.undamaged honest is_object b.policies st.sound.policies (policies_there b old st))
+    rw (p.1 ∙ ap Err p.2) (c.in_err-text.ensures.wants honest is_object b.policies st.sound.policies (policies_there b old st))
 
-pub returns-in_default-clause-ok : goal.returns-in_default-clause-ok
-returns-in_default-clause-ok g c honest b starts =
+pub returns-in_default-clause-told : goal.returns-in_default-clause-told
+returns-in_default-clause-told g c honest b starts =
     let seen = g.T.RecordsTx.seen in
     let old = (seen c.args.tx.now).rows in
     let new = (seen c.get.new.tx).rows in
@@ -31,10 +30,10 @@ returns-in_default-clause-ok g c honest b starts =
     acts_absent b new known.caller (λ (text : Text). plainly (reply (plain_reply (names_of known.words).request (policy_object name text)) None) b)
     (text_of b.policies name)
     (sym (c.in_ok-text.ensures.told honest b.policies (policies_there b old st)) ∙ none_of _ c.in_default.not-Some)
-    (still_represented b old new (c.in_ok-text.ensures.same honest) st)
+    (still_represented b old new (c.in_ok-text.ensures.call.same honest) st)
 
-pub returns-clause-ok : goal.returns-clause-ok
-returns-clause-ok g c honest b starts =
+pub returns-clause-told : goal.returns-clause-told
+returns-clause-told g c honest b starts =
     let seen = g.T.RecordsTx.seen in
     let old = (seen c.args.tx.now).rows in
     let new = (seen c.get.new.tx).rows in
@@ -48,11 +47,11 @@ returns-clause-ok g c honest b starts =
       c.in_ok-shown.ensures
           ∙ ap (λ o. reply (plain_reply request o) None)
           (c.in_ok-object.ensures ∙ ap (policy_object name) c.as_str.ensures),
-      still_represented b old new (c.in_ok-text.ensures.same honest) st,
+      still_represented b old new (c.in_ok-text.ensures.call.same honest) st,
     )
 
-pub returns-in_default-clause-undamaged : goal.returns-in_default-clause-undamaged
-returns-in_default-clause-undamaged g c honest = (c.in_ok-text.field-0, c.in_ok-text.ensures.short, c.in_ok-text.ensures.found honest)
+pub returns-in_default-clause-readable : goal.returns-in_default-clause-readable
+returns-in_default-clause-readable g c honest = (c.in_ok-text.field-0, c.in_ok-text.ensures.short, c.in_ok-text.ensures.found honest)
 
-pub returns-clause-undamaged : goal.returns-clause-undamaged
-returns-clause-undamaged g c honest = (c.in_ok-text.field-0, c.in_ok-text.ensures.short, c.in_ok-text.ensures.found honest)
+pub returns-clause-readable : goal.returns-clause-readable
+returns-clause-readable g c honest = (c.in_ok-text.field-0, c.in_ok-text.ensures.short, c.in_ok-text.ensures.found honest)

@@ -3,16 +3,16 @@ use Rattle.api_json.specs.Json.{has_members}
 use Rattle.api_json.specs.Kept.{is_object, IsKept}
 use Rattle.api_json.specs.Parsed.{members_of}
 use Rattle.broker_types.specs.Names.{names_of}
-use Rattle.mounts.specs.declared.operation.Cubbyhole.TheVariants as operations
+use Rattle.mounts.specs.declared.operation.CubbyholeOperation.TheVariants as operations
 use Rattle.broker.specs.Command.{on_cubbyholes}
 use Rattle.broker.specs.Operating.{Operates}
 use Rattle.broker.specs.declared.answered.Answered.TheVariants.{Nothing}
-use Rattle.broker.proofs.CubbyholeAnswers.{caller_len, represents-write, acts_written}
-use Rattle.broker.proofs.Serving.{tells_part, everything}
+use Rattle.broker.specs.RepresentingLaws.{caller_len, everything, tells_part}
+use Rattle.broker.proofs.CubbyholeAnswers.{represents-write, acts_written}
 use Rattle.broker.proofs.parts.cubbyholes.write.Goals as goal
 
-pub returns-clause-ok : goal.returns-clause-ok
-returns-clause-ok g c good =
+pub returns-clause-told : goal.returns-clause-told
+returns-clause-told g c good =
     let seen = g.T.RecordsTx.seen in
     let caller = c.context.inside.caller.now in
     let text = c.as_str.ensures in

@@ -7,14 +7,14 @@ use Rattle.kv2.specs.SoundLaws.{delete_sound, is_secret_name}
 use Rattle.kv2.specs.Versions.{soft_deleted}
 use Rattle.broker.specs.Context.{Context}
 use Rattle.broker.specs.Forms.{forms}
+use Rattle.broker.specs.RepresentingLaws.{tells_part}
 use Rattle.broker.proofs.SecretAnswers.{acts_changed}
 use Rattle.broker.proofs.SecretReads.{changed_readable}
 use Rattle.broker.proofs.SecretTables.{keeps_outside}
-use Rattle.broker.proofs.Serving.{tells_part}
 use Rattle.broker.proofs.parts.secrets.changes.delete_current.Goals as goal
 
-pub returns-clause-ok : goal.returns-clause-ok
-returns-clause-ok g c named good honest b starts =
+pub returns-clause-told : goal.returns-clause-told
+returns-clause-told g c named good honest b starts =
     let seen = g.T.RecordsTx.seen in
     let old = (seen c.args.tx.now).rows in
     let new = (seen c.delete.new.tx).rows in
@@ -26,14 +26,14 @@ returns-clause-ok g c named good honest b starts =
     (c.in_ok-delete.ensures.told honest forms b st.sound.secrets (tells_part of_secrets b old st)
     (ap (λ (x : Context). x.clock) c.context.view_is ∙ sym starts.clock)
     (is_secret_name mount path named (record { good = good; utf8 = c.utf8.path })))
-    (keeps_outside (secret_name mount path) (table_of old) (table_of new) (c.in_ok-delete.ensures.others honest))
+    (keeps_outside (secret_name mount path) (table_of old) (table_of new) (c.in_ok-delete.ensures.call.others honest))
 
-pub returns-clause-undamaged : goal.returns-clause-undamaged
-returns-clause-undamaged g c honest =
+pub returns-clause-readable : goal.returns-clause-readable
+returns-clause-readable g c honest =
     let seen = g.T.RecordsTx.seen in
     let old = table_of (seen c.args.tx.now).rows in
     let new = table_of (seen c.delete.new.tx).rows in
-    let key = c.in_ok-delete.ensures.damaged honest in (
+    let key = c.in_ok-delete.ensures.readable honest in (
       key.0,
       key.1,
       changed_readable (soft_deleted c.context.inside.clock) (current_of key.0) (secret_name c.args.mount.now c.args.path.now) old new

@@ -4,13 +4,13 @@ use Rattle.records.specs.Table.{table_of}
 use Rattle.kv2.specs.Secrets.{secret_name, remove_key}
 use Rattle.kv2.specs.SoundLaws.{remove_key_sound, is_secret_name}
 use Rattle.broker.specs.Forms.{forms}
+use Rattle.broker.specs.RepresentingLaws.{tells_part}
 use Rattle.broker.proofs.SecretAnswers.{acts_changed}
 use Rattle.broker.proofs.SecretTables.{keeps_outside}
-use Rattle.broker.proofs.Serving.{tells_part}
 use Rattle.broker.proofs.parts.secrets.changes.remove.Goals as goal
 
-pub returns-clause-ok : goal.returns-clause-ok
-returns-clause-ok g c named good honest b starts =
+pub returns-clause-told : goal.returns-clause-told
+returns-clause-told g c named good honest b starts =
     let seen = g.T.RecordsTx.seen in
     let old = (seen c.args.tx.now).rows in
     let new = (seen c.remove_key.new.tx).rows in
@@ -21,4 +21,4 @@ returns-clause-ok g c named good honest b starts =
     acts_changed b caller old new (remove_key b mount path).secrets st (remove_key_sound forms (Some caller) b st.sound mount path)
     (c.in_ok-remove_key.ensures.told honest b (tells_part of_secrets b old st)
     (is_secret_name mount path named (record { good = good; utf8 = c.utf8.path })))
-    (keeps_outside (secret_name mount path) (table_of old) (table_of new) (c.in_ok-remove_key.ensures.others honest))
+    (keeps_outside (secret_name mount path) (table_of old) (table_of new) (c.in_ok-remove_key.ensures.call.others honest))

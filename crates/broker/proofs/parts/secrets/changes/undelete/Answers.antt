@@ -13,22 +13,22 @@ use Rattle.broker.specs.Forms.{forms}
 use Rattle.broker.specs.Reads.{AreReadableSecrets}
 use Rattle.broker.specs.declared.answered.Answered.TheVariants.{Nothing}
 use Rattle.broker.specs.parts.SecretCommands.{at, undelete_versions}
+use Rattle.broker.specs.RepresentingLaws.{tells_part}
 use Rattle.broker.proofs.SecretAnswers.{acts_meant, acts_changed}
 use Rattle.broker.proofs.SecretReads.{no_members_read, none_read, this_read, changed_readable}
 use Rattle.broker.proofs.SecretTables.{changes_inside}
-use Rattle.broker.proofs.Serving.{tells_part}
 use Rattle.broker.proofs.parts.secrets.changes.undelete.Goals as goal
 
-pub returns-in_err-undelete-clause-ok : goal.returns-in_err-undelete-clause-ok
-returns-in_err-undelete-clause-ok g c named good honest b starts =
+pub returns-in_err-undelete-clause-told : goal.returns-in_err-undelete-clause-told
+returns-in_err-undelete-clause-told g c named good honest b starts =
     let p = err_from_is_err_and c.from_residual-in_err-undelete.result c.from_residual-in_err-undelete.ensures.1 in
     rw (p.1 ∙ ap Err p.2)
-    (c.in_err-undelete.ensures.undamaged honest forms b starts.represents.sound.secrets
+    (c.in_err-undelete.ensures.wants honest forms b starts.represents.sound.secrets
     (tells_part of_secrets b (g.T.RecordsTx.seen c.args.tx.now).rows starts.represents)
     (is_secret_name c.args.mount.now c.args.path.now named (record { good = good; utf8 = c.utf8.path })))
 
-pub returns-clause-ok : goal.returns-clause-ok
-returns-clause-ok g c named good honest b starts =
+pub returns-clause-told : goal.returns-clause-told
+returns-clause-told g c named good honest b starts =
     let seen = g.T.RecordsTx.seen in
     let old = (seen c.args.tx.now).rows in
     let new = (seen c.undelete.new.tx).rows in
@@ -45,23 +45,23 @@ returns-clause-ok g c named good honest b starts =
     (is_secret_name mount path named (record { good = good; utf8 = c.utf8.path }))))
     (changes_inside restored c.as_slice.result.now (secret_name mount path) (table_of old) (table_of new) (c.in_ok-undelete.ensures.rows honest)))
 
-pub returns-in_err-members-clause-undamaged : goal.returns-in_err-members-clause-undamaged
-returns-in_err-members-clause-undamaged g c honest d means =
+pub returns-in_err-members-clause-readable : goal.returns-in_err-members-clause-readable
+returns-in_err-members-clause-readable g c honest d means =
     let readable = AreReadableSecrets (g.T.RecordsTx.seen c.args.tx.now).rows (at c.args.mount.now c.args.path.now) in
     let p = err_from_is_err_and c.from_residual.result c.from_residual.ensures.1 in
     rw (p.1 ∙ ap Err p.2)
     (no_members_read readable reader.versions undelete_versions c.args.body.now d means c.in_err-members.field-0.0 c.in_err-members.ensures)
 
-pub returns-in_err-numbers-clause-undamaged : goal.returns-in_err-numbers-clause-undamaged
-returns-in_err-numbers-clause-undamaged g c honest d means =
+pub returns-in_err-numbers-clause-readable : goal.returns-in_err-numbers-clause-readable
+returns-in_err-numbers-clause-readable g c honest d means =
     let readable = AreReadableSecrets (g.T.RecordsTx.seen c.args.tx.now).rows (at c.args.mount.now c.args.path.now) in
     let p = err_from_is_err_and c.from_residual-in_err-numbers.result c.from_residual-in_err-numbers.ensures.1 in
     rw (p.1 ∙ ap Err p.2)
     (none_read readable reader.versions undelete_versions c.args.body.now d means
     (members_of c.in_ok-members.members) c.in_ok-members.ensures c.in_err-numbers.field-0.0 c.in_err-numbers.ensures)
 
-pub returns-clause-undamaged : goal.returns-clause-undamaged
-returns-clause-undamaged g c honest d means =
+pub returns-clause-readable : goal.returns-clause-readable
+returns-clause-readable g c honest d means =
     let seen = g.T.RecordsTx.seen in
     let old = (seen c.args.tx.now).rows in
     let new = (seen c.undelete.new.tx).rows in

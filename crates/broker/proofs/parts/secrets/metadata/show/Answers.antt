@@ -9,12 +9,12 @@ use Rattle.kv2.specs.Metadata.{Metadata}
 use Rattle.kv2.specs.Secrets as secrets
 use Rattle.broker.specs.Forms.{forms}
 use Rattle.broker.specs.parts.SecretReplies.{metadata_reply}
+use Rattle.broker.specs.RepresentingLaws.{still_represented, tells_part}
 use Rattle.broker.proofs.SecretAnswers.{acts_found, acts_absent}
-use Rattle.broker.proofs.Serving.{still_represented, tells_part}
 use Rattle.broker.proofs.parts.secrets.metadata.show.Goals as goal
 
-pub returns-in_default-clause-ok : goal.returns-in_default-clause-ok
-returns-in_default-clause-ok g c honest b starts =
+pub returns-in_default-clause-told : goal.returns-in_default-clause-told
+returns-in_default-clause-told g c honest b starts =
     let seen = g.T.RecordsTx.seen in
     let old = (seen c.args.tx.now).rows in
     let new = (seen c.metadata.new.tx).rows in
@@ -23,10 +23,10 @@ returns-in_default-clause-ok g c honest b starts =
     acts_absent b new known.caller (λ (m : Metadata). plainly (reply (metadata_reply (names_of known.words).request m) None) b)
     (secrets.metadata b c.args.mount.now c.args.path.now)
     (sym (c.in_ok-found.ensures.told honest forms b st.sound.secrets (tells_part of_secrets b old st)) ∙ none_of _ c.in_default.not-Some)
-    (still_represented b old new (c.in_ok-found.ensures.same honest) st)
+    (still_represented b old new (c.in_ok-found.ensures.call.same honest) st)
 
-pub returns-clause-ok : goal.returns-clause-ok
-returns-clause-ok g c honest b starts =
+pub returns-clause-told : goal.returns-clause-told
+returns-clause-told g c honest b starts =
     let seen = g.T.RecordsTx.seen in
     let old = (seen c.args.tx.now).rows in
     let new = (seen c.metadata.new.tx).rows in
@@ -39,5 +39,5 @@ returns-clause-ok g c honest b starts =
       c.in_ok-shown.ensures
           ∙ ap (λ o. reply (plain_reply request o) None)
           (c.in_ok-object.ensures ∙ ap key_object c.in_ok-told.ensures),
-      still_represented b old new (c.in_ok-found.ensures.same honest) st,
+      still_represented b old new (c.in_ok-found.ensures.call.same honest) st,
     )

@@ -10,14 +10,14 @@ use Rattle.broker.specs.Forms.{forms}
 use Rattle.broker.specs.Reads.{AreReadableSecrets}
 use Rattle.broker.specs.declared.answered.Answered.TheVariants.{Nothing}
 use Rattle.broker.specs.parts.SecretCommands.{at, set_settings}
+use Rattle.broker.specs.RepresentingLaws.{tells_part}
 use Rattle.broker.proofs.SecretAnswers.{acts_meant}
 use Rattle.broker.proofs.SecretReads.{no_members_read, none_read, this_read}
 use Rattle.broker.proofs.SecretTables.{represents-settings}
-use Rattle.broker.proofs.Serving.{tells_part}
 use Rattle.broker.proofs.parts.secrets.settings.set.Goals as goal
 
-pub returns-clause-ok : goal.returns-clause-ok
-returns-clause-ok g c path honest b starts =
+pub returns-clause-told : goal.returns-clause-told
+returns-clause-told g c path honest b starts =
     let seen = g.T.RecordsTx.seen in
     let old = (seen c.args.tx.now).rows in
     let new = (seen c.set_config.new.tx).rows in
@@ -31,28 +31,28 @@ returns-clause-ok g c path honest b starts =
       represents-settings b old new st mount (set_config b mount asked.cas_required asked.max_versions).mounts
           (set_config_sound forms (Some caller) b st.sound mount asked.cas_required asked.max_versions c.in_ok-set_config.ensures.wide)
           (c.in_ok-set_config.ensures.told honest b st.sound.mounts (tells_part of_mounts b old st))
-          (c.in_ok-set_config.ensures.others honest),
+          (c.in_ok-set_config.ensures.call.others honest),
     )
 
-pub returns-in_err-members-clause-undamaged : goal.returns-in_err-members-clause-undamaged
-returns-in_err-members-clause-undamaged g c honest path d means =
+pub returns-in_err-members-clause-readable : goal.returns-in_err-members-clause-readable
+returns-in_err-members-clause-readable g c honest path d means =
     let readable = AreReadableSecrets (g.T.RecordsTx.seen c.args.tx.now).rows (at c.args.mount.now path) in
     let p = err_from_is_err_and c.from_residual.result c.from_residual.ensures.1 in
     rw (p.1 ∙ ap Err p.2)
     (no_members_read readable reader.mount_settings set_settings c.args.body.now d means c.in_err-members.field-0.0 c.in_err-members.ensures)
 
-pub returns-in_err-asked-clause-undamaged : goal.returns-in_err-asked-clause-undamaged
-returns-in_err-asked-clause-undamaged g c honest path d means =
+pub returns-in_err-asked-clause-readable : goal.returns-in_err-asked-clause-readable
+returns-in_err-asked-clause-readable g c honest path d means =
     let readable = AreReadableSecrets (g.T.RecordsTx.seen c.args.tx.now).rows (at c.args.mount.now path) in
     let p = err_from_is_err_and c.from_residual-in_err-asked.result c.from_residual-in_err-asked.ensures.1 in
     rw (p.1 ∙ ap Err p.2)
     (none_read readable reader.mount_settings set_settings c.args.body.now d means
     (members_of c.in_ok-members.members) c.in_ok-members.ensures c.in_err-asked.field-0.0 c.in_err-asked.ensures)
 
-pub returns-clause-undamaged : goal.returns-clause-undamaged
-returns-clause-undamaged g c honest path d means =
+pub returns-clause-readable : goal.returns-clause-readable
+returns-clause-readable g c honest path d means =
     let readable = AreReadableSecrets (g.T.RecordsTx.seen c.args.tx.now).rows (at c.args.mount.now path) in
     subst readable
     (this_read readable reader.mount_settings set_settings c.args.body.now d means (members_of c.in_ok-members.members) c.in_ok-members.ensures
     c.in_ok-asked.asked c.in_ok-asked.ensures)
-    (c.in_ok-set_config.ensures.damaged honest)
+    (c.in_ok-set_config.ensures.readable honest)

@@ -9,12 +9,12 @@ use Rattle.kv2.specs.Secrets as secrets
 use Rattle.broker.specs.Forms.{forms}
 use Rattle.broker.specs.parts.SecretCommands.{at}
 use Rattle.broker.specs.parts.SecretReplies.{version_answered}
+use Rattle.broker.specs.RepresentingLaws.{still_represented, tells_part}
 use Rattle.broker.proofs.SecretAnswers.{acts_asked, acts_found, acts_absent}
-use Rattle.broker.proofs.Serving.{still_represented, tells_part}
 use Rattle.broker.proofs.parts.secrets.versions.read.Goals as goal
 
-pub returns-in_default-clause-ok : goal.returns-in_default-clause-ok
-returns-in_default-clause-ok g c honest b starts =
+pub returns-in_default-clause-told : goal.returns-in_default-clause-told
+returns-in_default-clause-told g c honest b starts =
     let seen = g.T.RecordsTx.seen in
     let old = (seen c.args.tx.now).rows in
     let new = (seen c.read.new.tx).rows in
@@ -27,10 +27,10 @@ returns-in_default-clause-ok g c honest b starts =
     (acts_absent b new known.caller (λ v. plainly (version_answered (names_of known.words).request v) b)
     (secrets.read b mount path c.in_ok-number.number)
     (sym (c.in_ok-found.ensures.told honest forms b st.sound.secrets (tells_part of_secrets b old st)) ∙ none_of _ c.in_default.not-Some)
-    (still_represented b old new (c.in_ok-found.ensures.same honest) st))
+    (still_represented b old new (c.in_ok-found.ensures.call.same honest) st))
 
-pub returns-clause-ok : goal.returns-clause-ok
-returns-clause-ok g c honest b starts =
+pub returns-clause-told : goal.returns-clause-told
+returns-clause-told g c honest b starts =
     let seen = g.T.RecordsTx.seen in
     let old = (seen c.args.tx.now).rows in
     let new = (seen c.read.new.tx).rows in
@@ -43,4 +43,4 @@ returns-clause-ok g c honest b starts =
     (acts_found b new known.caller (λ v. plainly (version_answered (names_of known.words).request v) b)
     (secrets.read b mount path c.in_ok-number.number) c.in-Some.found (Ok c.in_ok-version_answered.field-0)
     (sym (c.in_ok-found.ensures.told honest forms b st.sound.secrets (tells_part of_secrets b old st)) ∙ c.in-Some.is)
-    (c.in_ok-version_answered.ensures, still_represented b old new (c.in_ok-found.ensures.same honest) st))
+    (c.in_ok-version_answered.ensures, still_represented b old new (c.in_ok-found.ensures.call.same honest) st))

@@ -1,10 +1,8 @@
-use Rattle.std.proofs.Common.{refl}
-use Rattle.broker.specs.parts.TokenCreation.{of_caller}
 use Rattle.broker.proofs.parts.tokens.creation.create.Goals as goal
 
 pub make-requires : goal.make-requires
 make-requires g c = c.in_ok-asked.ensures.kept c.args.body.now c.requires c.in_ok-members.ensures
 
-pub returns-clause-ok : goal.returns-clause-ok
-returns-clause-ok g c honest b starts =
-    rw c.in_ok-members.ensures (rw c.in_ok-asked.ensures.reads (c.make.ensures.ok of_caller refl honest b starts))
+pub returns-clause-told : goal.returns-clause-told
+returns-clause-told g c honest b starts =
+    rw c.in_ok-members.ensures (rw c.in_ok-asked.ensures.reads (c.make.ensures.told honest b starts))

@@ -14,13 +14,13 @@ use Rattle.broker.specs.Forms.{forms}
 use Rattle.broker.specs.declared.answered.Answered.TheVariants.{Made}
 use Rattle.broker.specs.parts.TokenMaking.{PutsToken}
 use Rattle.broker.specs.parts.TokenReplies.{auth_reply}
-use Rattle.broker.proofs.Expired.{represents_tokens}
+use Rattle.broker.specs.RepresentingLaws.{represents_tokens}
 use Rattle.broker.proofs.TokenMade.{made_done}
 use Rattle.broker.proofs.parts.tokens.creation.put.Goals as goal
 
-pub returns-clause-ok : goal.returns-clause-ok
+pub returns-clause-told : goal.returns-clause-told
 unfolding names_of
-returns-clause-ok g c =
+returns-clause-told g c =
     let seen = g.T.RecordsTx.seen in
     let names = names_of c.context.inside.words.now in
     subst (λ x. PutsToken x (seen c.args.tx.now) (seen c.use_up-2.new.tx) c.args.token (Ok (Made c.in_ok-reply.reply c.in_ok-accessor.accessor)))
@@ -37,11 +37,11 @@ returns-clause-ok g c =
     let given : c.in_ok-accessor.accessor ≡ y.accessor = c.in_ok-accessor.ensures ∙ c.as_str.ensures
     ∙ ap (λ (e : TokenEntry). e.accessor) (c.token.view_is ∙ sym entry) in
     let tells = subst (λ t. Tells of_tokens (table_of (seen c.create.new.tx).rows) (with_token b t y)) text
-    (c.in_ok-create.ensures.ok made forms b (represents_tokens b rows st) y entry st.sound.identifiers.all_used
+    (c.in_ok-create.ensures.told made forms b (represents_tokens b rows st) y entry st.sound.identifiers.all_used
     (subst (λ t. IsNew b (token_identifier t)) (sym text) can.token_is_new) can.accessor_is_new) in
     let marks = c.in_ok-use_up-2.ensures.rows honest
     ∙ (λ i. with_row (c.in_ok-use_up.ensures.rows once i) kind.Used (identifier i) used_row)
     ∙ (λ i. with_row (with_row (table_of (seen c.create.new.tx).rows) kind.Used ((c.as_str-3.ensures ∙ given) i) used_row) kind.Used names.token used_row) in
-    made_done b names y rows (seen c.create.new.tx).rows (seen c.use_up-2.new.tx).rows st can bare named tells (c.in_ok-create.ensures.others made) marks
+    made_done b names y rows (seen c.create.new.tx).rows (seen c.use_up-2.new.tx).rows st can bare named tells (c.in_ok-create.ensures.call.others made) marks
     c.in_ok-reply.reply c.in_ok-accessor.accessor
     (c.in_ok-reply.ensures ∙ (λ i. auth_reply (request i) (sym starts.clock i) (shown i) (sym entry i))) given)

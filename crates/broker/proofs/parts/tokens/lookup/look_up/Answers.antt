@@ -7,9 +7,9 @@ use Rattle.broker.specs.parts.TokenCommands.{lookup_token}
 use Rattle.broker.proofs.CommandReads.{meant_as}
 use Rattle.broker.proofs.parts.tokens.lookup.look_up.Goals as goal
 
-pub returns-clause-undamaged : goal.returns-clause-undamaged
-returns-clause-undamaged g c honest command meant =
+pub returns-clause-readable : goal.returns-clause-readable
+returns-clause-readable g c honest command meant =
     subst (λ x. OnAnswer c.show.result (AreReadableTokens (g.T.RecordsTx.seen c.args.tx.now).rows c.args.context.now.caller x))
     (meant_as reader.token lookup_token c.args.body.now (members_of c.in_ok-members.members) c.as_str.result.now command c.in_ok-members.ensures
     (c.in_ok-token.ensures ∙ ap Ok (sym c.as_str.ensures)) meant)
-    (c.show.ensures.undamaged honest)
+    (c.show.ensures.readable honest)

@@ -1,4 +1,4 @@
-use Rattle.std.proofs.Common.{Ok, sym, ap, ◌∙◌, subst}
+use Rattle.std.proofs.Common.{subst}
 use Rattle.api_json.specs.Parsed.{members_of}
 use Rattle.api_json.specs.Readers as reader
 use Rattle.records.specs.Calls.{OnAnswer}
@@ -8,10 +8,10 @@ use Rattle.broker.specs.parts.TokenCommands.{renew_token}
 use Rattle.broker.proofs.CommandReads.{meant_as}
 use Rattle.broker.proofs.parts.tokens.renewal.renew.Goals as goal
 
-pub returns-clause-undamaged : goal.returns-clause-undamaged
-returns-clause-undamaged g c honest command meant =
+pub returns-clause-readable : goal.returns-clause-readable
+returns-clause-readable g c honest command meant =
     subst (λ x. OnAnswer c.renew_to.result (AreReadableTokens (g.T.RecordsTx.seen c.args.tx.now).rows c.args.context.now.caller x))
     (meant_as reader.token_renewal renew_token c.args.body.now (members_of c.in_ok-members.members) c.in_ok-asked.asked command c.in_ok-members.ensures
     c.in_ok-asked.ensures meant)
     (subst (λ t. OnAnswer c.renew_to.result (IsReadableToken (g.T.RecordsTx.seen c.args.tx.now).rows t)) c.as_str.ensures
-    (c.renew_to.ensures.undamaged honest))
+    (c.renew_to.ensures.readable honest))

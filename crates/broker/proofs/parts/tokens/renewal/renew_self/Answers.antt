@@ -1,4 +1,4 @@
-use Rattle.std.proofs.Common.{Ok, sym, ap, ◌∙◌, subst}
+use Rattle.std.proofs.Common.{ap, subst}
 use Rattle.api_json.specs.Parsed.{members_of}
 use Rattle.api_json.specs.Readers as reader
 use Rattle.records.specs.Calls.{OnAnswer}
@@ -9,10 +9,10 @@ use Rattle.broker.specs.parts.TokenCommands.{renew_self}
 use Rattle.broker.proofs.CommandReads.{meant_as}
 use Rattle.broker.proofs.parts.tokens.renewal.renew_self.Goals as goal
 
-pub returns-clause-undamaged : goal.returns-clause-undamaged
-returns-clause-undamaged g c honest command meant =
+pub returns-clause-readable : goal.returns-clause-readable
+returns-clause-readable g c honest command meant =
     subst (λ x. OnAnswer c.renew_to.result (AreReadableTokens (g.T.RecordsTx.seen c.args.tx.now).rows c.args.context.now.caller x))
     (meant_as reader.increment renew_self c.args.body.now (members_of c.in_ok-members.members) c.in_ok-asked.asked command c.in_ok-members.ensures
     c.in_ok-asked.ensures meant)
     (subst (λ t. OnAnswer c.renew_to.result (IsReadableToken (g.T.RecordsTx.seen c.args.tx.now).rows t))
-    (ap (λ (x : Context). x.caller) c.context.view_is) (c.renew_to.ensures.undamaged honest))
+    (ap (λ (x : Context). x.caller) c.context.view_is) (c.renew_to.ensures.readable honest))

@@ -2,23 +2,23 @@ use Rattle.std.proofs.Common.{refl, sym, ap, ◌∙◌, subst, Err}
 use Rattle.std.proofs.lemmas.Result.{err_from_is_err_and}
 use Rattle.broker_types.specs.Broker.{revoke}
 use Rattle.broker_types.specs.Lineage.{without_descendants}
-use Rattle.cubbyhole.specs.Laws.{without_owners}
+use Rattle.cubbyhole.specs.Laws.{without_cubbyholes}
 use Rattle.records.specs.CallLaws.{honest_before}
 use Rattle.token_tree.specs.Tokens.{AreEnded}
 use Rattle.broker.specs.Forms.{forms}
-use Rattle.broker.proofs.Expired.{represents_tokens}
+use Rattle.broker.specs.RepresentingLaws.{represents_tokens}
 use Rattle.broker.proofs.TokenTables.{revoked_keep, gone_long, gone_lost, gone_left, represents-revoked}
 use Rattle.broker.proofs.parts.tokens.revocation.end.Goals as goal
 
-pub returns-in_err-ended-clause-ok : goal.returns-in_err-ended-clause-ok
-returns-in_err-ended-clause-ok g c honest b starts =
+pub returns-in_err-ended-clause-told : goal.returns-in_err-ended-clause-told
+returns-in_err-ended-clause-told g c honest b starts =
     let seen = g.T.RecordsTx.seen in
     let p = err_from_is_err_and c.from_residual.result c.from_residual.ensures.1 in
     rw (p.1 ∙ ap Err p.2)
-    (c.in_err-ended.ensures.undamaged honest forms b (represents_tokens b (seen c.args.tx.now).rows starts.represents))
+    (c.in_err-ended.ensures.wants honest forms b (represents_tokens b (seen c.args.tx.now).rows starts.represents))
 
-pub returns-clause-ok : goal.returns-clause-ok
-returns-clause-ok g c honest b starts =
+pub returns-clause-told : goal.returns-clause-told
+returns-clause-told g c honest b starts =
     let seen = g.T.RecordsTx.seen in
     let t = c.args.token.now in
     let ended = c.deref.result.now in
@@ -31,16 +31,16 @@ returns-clause-ok g c honest b starts =
     let us = without_descendants b.tokens t in
     let keep = revoked_keep b.tokens t in
     let are = subst (AreEnded b (revoke b t)) (sym c.deref.ensures.value) (c.in_ok-ended.ensures.ended revoked forms b tokens) in
-    let others = c.in_ok-ended.ensures.others revoked in
+    let others = c.in_ok-ended.ensures.call.others revoked in
     let objects = c.in_ok-drop_cubbyholes.ensures.told honest b (revoke b t) (gone_long b us old st ended are) (gone_lost b us old st ended keep are)
     (gone_left b us old st mid others) in (
       refl,
       represents-revoked b t old mid new ended st others (c.in_ok-drop_cubbyholes.ensures.rows honest) are
-          (c.in_ok-ended.ensures.ok revoked forms b tokens) objects,
+          (c.in_ok-ended.ensures.told revoked forms b tokens) objects,
     )
 
-pub returns-clause-undamaged : goal.returns-clause-undamaged
-returns-clause-undamaged g c honest =
+pub returns-clause-readable : goal.returns-clause-readable
+returns-clause-readable g c honest =
     let seen = g.T.RecordsTx.seen in
     let revoked = honest_before (seen c.revoke.new.tx) (seen c.drop_cubbyholes.new.tx) _ c.drop_cubbyholes.ensures.call.goes_on honest in
     let ends = c.in_ok-ended.ensures.rows revoked in
@@ -54,5 +54,5 @@ returns-clause-rows g c honest =
       c.in_ok-ended.ended.items,
       ends.descent,
       ends.readable,
-      c.in_ok-drop_cubbyholes.ensures.rows honest ∙ (λ i. without_owners (ends.rows i) (c.deref.ensures.value i)),
+      c.in_ok-drop_cubbyholes.ensures.rows honest ∙ (λ i. without_cubbyholes (ends.rows i) (c.deref.ensures.value i)),
     )

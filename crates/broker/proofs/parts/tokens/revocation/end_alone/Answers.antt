@@ -2,25 +2,25 @@ use Rattle.std.proofs.Common.{refl, sym, ap, ◌∙◌, subst, Err}
 use Rattle.std.proofs.lemmas.Result.{err_from_is_err_and}
 use Rattle.broker_types.specs.Broker.{revoke_orphan}
 use Rattle.broker_types.specs.Lineage.{without_parent}
-use Rattle.cubbyhole.specs.Laws.{without_owners}
+use Rattle.cubbyhole.specs.Laws.{without_cubbyholes}
 use Rattle.records.specs.Table.{table_of}
 use Rattle.records.specs.CallLaws.{honest_before}
 use Rattle.token_tree.specs.Tokens.{AreEnded}
 use Rattle.broker.specs.Forms.{forms}
-use Rattle.broker.proofs.Expired.{represents_tokens}
+use Rattle.broker.specs.RepresentingLaws.{represents_tokens}
+use Rattle.broker.specs.ReadableLaws.{readable_alone}
 use Rattle.broker.proofs.TokenTables.{orphaned_keep, gone_long, gone_lost, gone_left, represents-revoked_alone}
-use Rattle.broker.proofs.CommandReads.{readable_alone}
 use Rattle.broker.proofs.parts.tokens.revocation.end_alone.Goals as goal
 
-pub returns-in_err-ended-clause-ok : goal.returns-in_err-ended-clause-ok
-returns-in_err-ended-clause-ok g c honest b starts =
+pub returns-in_err-ended-clause-told : goal.returns-in_err-ended-clause-told
+returns-in_err-ended-clause-told g c honest b starts =
     let seen = g.T.RecordsTx.seen in
     let p = err_from_is_err_and c.from_residual.result c.from_residual.ensures.1 in
     rw (p.1 ∙ ap Err p.2)
-    (c.in_err-ended.ensures.undamaged honest forms b (represents_tokens b (seen c.args.tx.now).rows starts.represents))
+    (c.in_err-ended.ensures.wants honest forms b (represents_tokens b (seen c.args.tx.now).rows starts.represents))
 
-pub returns-clause-ok : goal.returns-clause-ok
-returns-clause-ok g c honest b starts =
+pub returns-clause-told : goal.returns-clause-told
+returns-clause-told g c honest b starts =
     let seen = g.T.RecordsTx.seen in
     let t = c.args.token.now in
     let ended = c.deref.result.now in
@@ -33,16 +33,16 @@ returns-clause-ok g c honest b starts =
     let us = without_parent b.tokens t in
     let keep = orphaned_keep b.tokens t in
     let are = subst (AreEnded b (revoke_orphan b t)) (sym c.deref.ensures.value) (c.in_ok-ended.ensures.ended revoked forms b tokens) in
-    let others = c.in_ok-ended.ensures.others revoked in
+    let others = c.in_ok-ended.ensures.call.others revoked in
     let objects = c.in_ok-drop_cubbyholes.ensures.told honest b (revoke_orphan b t) (gone_long b us old st ended are) (gone_lost b us old st ended keep are)
     (gone_left b us old st mid others) in (
       refl,
       represents-revoked_alone b t old mid new ended st others (c.in_ok-drop_cubbyholes.ensures.rows honest) are
-          (c.in_ok-ended.ensures.ok revoked forms b tokens) objects,
+          (c.in_ok-ended.ensures.told revoked forms b tokens) objects,
     )
 
-pub returns-clause-undamaged : goal.returns-clause-undamaged
-returns-clause-undamaged g c honest =
+pub returns-clause-readable : goal.returns-clause-readable
+returns-clause-readable g c honest =
     let seen = g.T.RecordsTx.seen in
     let revoked = honest_before (seen c.revoke_one.new.tx) (seen c.drop_cubbyholes.new.tx) _ c.drop_cubbyholes.ensures.call.goes_on honest in
     readable_alone c.args.token.now (seen c.args.tx.now).rows c.in_ok-ended.ended.items (seen c.revoke_one.new.tx).rows
@@ -56,5 +56,5 @@ returns-clause-rows g c honest =
       alone,
       c.in_ok-ended.ended.items,
       c.in_ok-ended.ensures.rows revoked,
-      c.in_ok-drop_cubbyholes.ensures.rows honest ∙ ap (without_owners (table_of alone)) c.deref.ensures.value,
+      c.in_ok-drop_cubbyholes.ensures.rows honest ∙ ap (without_cubbyholes (table_of alone)) c.deref.ensures.value,
     )

@@ -8,9 +8,9 @@ use Rattle.broker.specs.parts.TokenCommands.{revoke_self}
 use Rattle.broker.proofs.CommandReads.{meant_whole}
 use Rattle.broker.proofs.parts.tokens.revocation.revoke_self.Goals as goal
 
-pub returns-clause-undamaged : goal.returns-clause-undamaged
-returns-clause-undamaged g c honest command meant =
+pub returns-clause-readable : goal.returns-clause-readable
+returns-clause-readable g c honest command meant =
     subst (λ x. OnAnswer c.end.result (AreReadableTokens (g.T.RecordsTx.seen c.args.tx.now).rows c.args.context.now.caller x))
     (meant_whole revoke_self c.args.body.now (members_of c.in_ok-read_body.field-0) command c.in_ok-read_body.ensures meant)
     (subst (λ t. OnAnswer c.end.result (IsReadableDescent (g.T.RecordsTx.seen c.args.tx.now).rows t))
-    (ap (λ (x : Context). x.caller) c.context.view_is) (c.end.ensures.undamaged honest))
+    (ap (λ (x : Context). x.caller) c.context.view_is) (c.end.ensures.readable honest))

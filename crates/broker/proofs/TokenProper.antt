@@ -1,23 +1,21 @@
 -- The part of tokens: what its commands give out, and that they let a broker evolve.
-use Rattle.std.specs.Prelude.{◌≡◌, ℕ, [], ◌∷◌, true, Option, Some, None, is_none, is_some, Result, Ok, Err, ⊤}
+use Rattle.std.specs.Prelude.{◌≡◌, ℕ, [], true, is_some, Ok}
 use Rattle.std.proofs.Common.{refl, subst, inr}
-use Rattle.std.proofs.lemmas.Bool.{false≢true, and_parts}
 use Rattle.broker_types.specs.Text.{Text}
-use Rattle.broker_types.specs.Map.{Map, get, empty}
+use Rattle.broker_types.specs.Map.{empty}
 use Rattle.broker_types.specs.Token.{Token}
 use Rattle.broker_types.specs.TokenText.{token_text}
 use Rattle.broker_types.specs.Broker.{Broker}
 use Rattle.broker_types.specs.Evolves.{Evolves, IsNew}
 use Rattle.broker_types.specs.Names.{Names}
-use Rattle.broker_types.specs.Operation.{nothing, reply, Done, plainly}
-use Rattle.broker_types.specs.Refuse.{◌>>=◌, unless}
+use Rattle.broker_types.specs.Operation.{Done}
+use Rattle.broker_types.specs.Refuse.{unless}
+use Rattle.broker_types.specs.RefuseLaws.{ok_step}
 use Rattle.broker_types.specs.RemovalLaws.{revoke_evolves, revoke_orphan_evolves}
-use Rattle.broker_types.specs.SpendingLaws.{evolves_self}
 use Rattle.broker_types.specs.Used.{are_new}
-use Rattle.broker_types.specs.declared.refusal.Refusal.{Refusal}
+use Rattle.broker_types.specs.UsedLaws.{first_new}
 use Rattle.broker_types.specs.declared.refusal.Refusal.TheVariants as refusal
 use Rattle.broker_types.specs.declared.refusal.Reason.TheVariants as reason
-use Rattle.broker_types.specs.declared.reply.Reply.{Reply}
 use Rattle.api_json.specs.declared.token_bodies.TokenCreation.{TokenCreation}
 use Rattle.records.specs.TokenEntry.{token_entry}
 use Rattle.records.specs.ValueLaws.{ok_inj}
@@ -28,27 +26,13 @@ use Rattle.broker.specs.Order.{IsProper}
 use Rattle.broker.specs.parts.TokenCommands.{TokenCommand, create_token, create_orphan, lookup_token, lookup_accessor, lookup_self}
 use Rattle.broker.specs.parts.TokenCommands.{renew_token, renew_self, revoke_token, revoke_orphan, revoke_accessor, revoke_self, list_accessors}
 use Rattle.broker.specs.parts.TokenCommands.{token_names, token_traits}
-use Rattle.broker.specs.parts.TokenCreation.{Making, of_caller, without_parent, makes_orphans, making_path, is_privileged, may_make, new_policies}
+use Rattle.broker.specs.declared.parts.tokens.making.Making.{Making}
+use Rattle.broker.specs.declared.parts.tokens.making.Making.TheVariants.{OfCaller, WithoutParent}
+use Rattle.broker.specs.parts.TokenCreation.{making_path, is_privileged, may_make, new_policies}
 use Rattle.broker.specs.parts.TokenCreation.{new_token, new_parent}
 use Rattle.broker.specs.parts.TokenReplies.{auth_reply}
 use Rattle.broker.specs.parts.Tokens.{act_on_tokens, known, named, made, create, look_up, renew, new_end, revoke, revoke_alone}
-use Rattle.broker.proofs.Operations.{plainly_proper}
-
--- ---- a definition's steps
-
--- a step that is not refused, and what follows
-pub ok_step : {A B : Type 0} (r : Result A Refusal) (f : A → Result B Refusal) (d : B) → (r >>= f) ≡ Ok d → (x : A) × (r ≡ Ok x) × (f x ≡ Ok d)
-ok_step (Ok x) f d e = (x, refl, e)
-ok_step (Err r) f d e = absurd (cc)
-
--- ---- one identifier is new
-
-pub is_nothing : {X : Type 0} (o : Option X) → is_none o ≡ true → o ≡ None
-is_nothing None h = refl
-is_nothing (Some x) h = absurd (false≢true h)
-
-pub first_new : (used : Map ⊤) (i j : Text) → are_new used (i ∷ j ∷ []) ≡ true → get used i ≡ None
-first_new used i j new = is_nothing (get used i) (and_parts (is_none (get used i)) _ new).0
+use Rattle.broker.proofs.Operations.{shown_proper, changed_proper, silent_proper}
 
 -- ---- creation
 
@@ -76,20 +60,16 @@ module _ (b : Broker) (c : Text) (names : Names) where
       let x = ok_step (known b c) _ d e in
       let privileged = is_privileged b (making_path making) x.0 in
       let policies = new_policies privileged x.0 asked in
-      let may = ok_step (may_make privileged (makes_orphans making) x.0 policies asked) _ d x.2 in
+      let may = ok_step (may_make privileged making x.0 policies asked) _ d x.2 in
       subst (IsProper b (token_names names)) (ok_inj may.2)
-      (made_proper b names (new_token b.clock (new_parent c (makes_orphans making) asked) names.accessor policies asked) refl new)
+      (made_proper b names (new_token b.clock (new_parent c making asked) names.accessor policies asked) refl new)
 
 -- ---- commands that need no identifier
-
--- one that replies and leaves the broker as it is
-told_proper : (b : Broker) (r : Reply) (made : Option Text) → IsProper b [] (plainly (reply r made) b)
-told_proper b r made = plainly_proper b b (reply r made) refl (λ r n. absurd (cc)) (λ t n. absurd (cc)) (evolves_self b)
 
 look_up_proper : (b : Broker) (names : Names) (t id : Text) (d : Done) → look_up b names t id ≡ Ok d → IsProper b [] d
 look_up_proper b names t id d e =
     let x = ok_step (known b t) _ d e in
-    subst (IsProper b []) (ok_inj x.2) (told_proper b _ None)
+    subst (IsProper b []) (ok_inj x.2) (shown_proper b _)
 
 renew_proper : (b : Broker) (names : Names) (t : Text) (increment : ℕ) (d : Done) → renew b names t increment ≡ Ok d → IsProper b [] d
 renew_proper b names t increment d e =
@@ -97,22 +77,22 @@ renew_proper b names t increment d e =
     let ending = ok_step (unless (is_some x.0.ends) (refusal.BadRequest reason.TokenNotRenewable)) _ d x.2 in
     let next = new_end b.clock (token_entry x.0) increment in
     subst (IsProper b []) (ok_inj ending.2)
-    (plainly_proper b (tree.renew b t next) (reply (auth_reply names.request b.clock t (token_entry (with_end next x.0))) None) refl
-    (λ r n. absurd (cc)) (λ t n. absurd (cc)) (renew_evolves b t next))
+    (changed_proper b (tree.renew b t next) (auth_reply names.request b.clock t (token_entry (with_end next x.0))) refl
+    (renew_evolves b t next))
 
 revoke_proper : (b : Broker) (t : Text) → IsProper b [] (revoke b t)
-revoke_proper b t = plainly_proper b _ nothing refl (λ r n. absurd (cc)) (λ t n. absurd (cc)) (revoke_evolves b t)
+revoke_proper b t = silent_proper b _ refl (revoke_evolves b t)
 
 revoke_alone_proper : (b : Broker) (t : Text) → IsProper b [] (revoke_alone b t)
-revoke_alone_proper b t = plainly_proper b _ nothing refl (λ r n. absurd (cc)) (λ t n. absurd (cc)) (revoke_orphan_evolves b t)
+revoke_alone_proper b t = silent_proper b _ refl (revoke_orphan_evolves b t)
 
 -- ---- the part
 
 -- a command that is not refused gives out its own identifiers or none, and lets the broker evolve
 pub acts : (b : Broker) (c : Text) (names : Names) (command : TokenCommand) (d : Done) → are_new b.used ((token_traits command).own names) ≡ true
     → act_on_tokens b c names command ≡ Ok d → IsProper b ((token_traits command).own names) d
-acts b c names (create_token asked) d new e = create_proper b c names of_caller asked d new e
-acts b c names (create_orphan asked) d new e = create_proper b c names without_parent asked d new e
+acts b c names (create_token asked) d new e = create_proper b c names OfCaller asked d new e
+acts b c names (create_orphan asked) d new e = create_proper b c names WithoutParent asked d new e
 acts b c names (lookup_token t) d new e = look_up_proper b names t t d e
 acts b c names (lookup_accessor accessor) d new e =
     let t = ok_step (named b accessor) _ d e in
@@ -126,4 +106,4 @@ acts b c names (revoke_accessor accessor) d new e =
     let t = ok_step (named b accessor) _ d e in
     subst (IsProper b []) (ok_inj t.2) (revoke_proper b t.0)
 acts b c names revoke_self d new e = subst (IsProper b []) (ok_inj e) (revoke_proper b c)
-acts b c names list_accessors d new e = subst (IsProper b []) (ok_inj e) (told_proper b _ None)
+acts b c names list_accessors d new e = subst (IsProper b []) (ok_inj e) (shown_proper b _)

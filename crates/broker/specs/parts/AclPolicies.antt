@@ -11,7 +11,7 @@ use Rattle.broker_types.specs.Text.{Text}
 use Rattle.broker_types.specs.declared.refusal.Refusal.{Refusal}
 use Rattle.broker_types.specs.declared.refusal.Refusal.TheVariants as refusal
 use Rattle.policies.specs.Policies as policies
-use Rattle.broker.specs.parts.PolicyCommands.{PolicyCommand, list_policies, show_policy, set_policy, remove_policy}
+use Rattle.broker.specs.parts.AclPolicyCommands.{PolicyCommand, list_policies, show_policy, set_policy, remove_policy}
 
 -- the names of all policies
 abbrev pub list : Broker → Names → Result Done Refusal

@@ -25,14 +25,14 @@ use Rattle.records.specs.Splits.{slash}
 use Rattle.records.specs.Table.{Table, without_under}
 use Rattle.token_tree.specs.Tokens.{AreEnded}
 use Rattle.cubbyhole.specs.Cubbyhole.{object_at}
-use Rattle.cubbyhole.specs.Laws.{without_owners}
+use Rattle.cubbyhole.specs.Laws.{without_cubbyholes}
 use Rattle.cubbyhole.specs.Objects.{object_key}
 use Rattle.broker.specs.Ending.{of_ended, AreTokenLong, LosesObjects, HaveNoLeases}
 
 -- ---- on any rows
 
 -- only rows of cubbyholes are dropped
-pub others_kept : (ended : List Text) (rows : Table) → KeepsOthers of_cubbyholes rows (without_owners rows ended)
+pub others_kept : (ended : List Text) (rows : Table) → KeepsOthers of_cubbyholes rows (without_cubbyholes rows ended)
 others_kept [] rows k q h = refl
 others_kept (t ∷ ended) rows k q h = others_kept ended (without_under rows kind.Cubby (object_key t [])) k q h ∙ one k h
   where
@@ -62,7 +62,7 @@ neither false b h = (refl, h)
 
 -- the cubbyhole of a token that has not ended is as it was
 pub left_alone : (ended : List Text) (rows : Table) (t path : Text) → length t ≡ token_len → AreTokenLong ended → has ended t ≡ false
-    → without_owners rows ended kind.Cubby (object_key t path) ≡ rows kind.Cubby (object_key t path)
+    → without_cubbyholes rows ended kind.Cubby (object_key t path) ≡ rows kind.Cubby (object_key t path)
 left_alone [] rows t path long all apart = refl
 left_alone (u ∷ ended) rows t path long all apart =
     let parts = neither (same t u) (has ended t) apart in
@@ -177,3 +177,7 @@ module _ (b : Broker) (us : Tokens) (ended : List Text) (are : AreEnded b (recor
       other_tokens b us old new was (λ k q h. kept k q (no_cubbyhole k h) ∙ tells k q h) objects
       (λ k q h. let parts = neither (of_tokens k) (of_cubbyholes k) h in kept k q parts.1 ∙ others k q parts.0)
       none none_after
+
+pub no_token : (k : Kind) → of_cubbyholes k ≡ true → of_tokens k ≡ false
+no_token kind.Cubby h = refl
+no_token _ h = absurd (false≢true h)

@@ -1,19 +1,16 @@
 -- The part of policies: from rows that a call on policies left to the broker that they represent; what is answered; what is given out.
-use Rattle.std.specs.Prelude.{◌≡◌, ℕ, List, [], Option, Some, None, Result, Ok, Err}
+use Rattle.std.specs.Prelude.{◌≡◌, ℕ, List, Some, Result, Ok, Err}
 use Rattle.std.proofs.Common.{refl, sym, subst}
 use Rattle.broker_types.specs.Broker.{Broker}
 use Rattle.broker_types.specs.Fault.{IsMemoryOrStorage}
 use Rattle.broker_types.specs.Map.{Map}
 use Rattle.broker_types.specs.Names.{Names}
-use Rattle.broker_types.specs.Operation.{nothing, reply, Done, plainly}
-use Rattle.broker_types.specs.Refuse.{◌>>=◌, some_or}
+use Rattle.broker_types.specs.Operation.{nothing, Done, plainly}
+use Rattle.broker_types.specs.Refuse.{◌>>=◌}
 use Rattle.broker_types.specs.RequestError.{EndsOk, EndsErr}
 use Rattle.broker_types.specs.Sound.{Sound}
-use Rattle.broker_types.specs.SpendingLaws.{evolves_self}
 use Rattle.broker_types.specs.Text.{Text}
 use Rattle.broker_types.specs.declared.refusal.Refusal.{Refusal}
-use Rattle.broker_types.specs.declared.refusal.Refusal.TheVariants as refusal
-use Rattle.broker_types.specs.declared.reply.Reply.{Reply}
 use Rattle.broker_types.specs.declared.request_error.RequestError.{RequestError}
 use Rattle.broker_types.specs.declared.request_error.RequestError.TheVariants.{Refused, Fault}
 use Rattle.serde_json.specs.Data.{Members}
@@ -24,31 +21,21 @@ use Rattle.records.specs.PartLaws.{joined_rows, rows_of-other_policies}
 use Rattle.records.specs.Parts.{KeepsOthers, of_policies}
 use Rattle.records.specs.Table.{table_of}
 use Rattle.records.specs.Transaction.{Rows}
-use Rattle.records.specs.ValueLaws.{ok_inj}
-use Rattle.policies.specs.Policies as policies
 use Rattle.policies.specs.PolicyRows.{ArePolicies}
-use Rattle.policies.specs.SoundLaws.{policies_evolve}
-use Rattle.policies.specs.TellLaws.{policies_told, told_policies}
+use Rattle.policies.specs.TellLaws.{told_policies}
 use Rattle.mounts.specs.declared.operation.PolicyOperation.TheVariants as operation
 use Rattle.broker.specs.Command.{on_policy, on_policies}
 use Rattle.broker.specs.Forms.{forms}
-use Rattle.broker.specs.Order.{IsProper}
 use Rattle.broker.specs.Representing.{AsServed, Represents}
 use Rattle.broker.specs.Serving.{acted}
 use Rattle.broker.specs.declared.answered.Answered as Code
 use Rattle.broker.specs.declared.answered.Answered.TheVariants.{Nothing}
-use Rattle.broker.specs.parts.Policies.{set, act_on_policies}
-use Rattle.broker.specs.parts.PolicyCommands.{PolicyCommand, list_policies, show_policy, set_policy, remove_policy}
-use Rattle.broker.proofs.CubbyholeAnswers.{ActsAs}
-use Rattle.broker.proofs.Operations.{plainly_proper}
-use Rattle.broker.proofs.Serving.{still_represented, tells_part}
-use Rattle.broker.proofs.TokenAnswers.{ok_step}
+use Rattle.broker.specs.parts.AclPolicies.{set}
+use Rattle.broker.specs.parts.AclPolicyCommands.{set_policy}
+use Rattle.broker.specs.Operating.{ActsAs}
+use Rattle.broker.specs.RepresentingLaws.{still_represented}
 
 -- ---- a broker with other policies
-
--- the rows of policies that a broker has are those of its policies
-pub policies_there : {who : Option Text} (b : Broker) (rows : Rows) → Represents who rows b → ArePolicies (table_of rows) b.policies
-policies_there b rows st = policies_told (table_of rows) b (tells_part of_policies b rows st)
 
 -- what the requests served so far can leave is so with any policies
 served_still : (b : Broker) (next : Map Text) → AsServed b → AsServed (record b { policies = next })
@@ -113,26 +100,3 @@ module _ (b : Broker) (rows : Rows) (c name : Text) (names : Names) (body : List
     acts_meant text result read acts =
         subst (λ read. ActsAs c b rows result (meant read)) (sym members)
         (subst (λ read. ActsAs c b rows result (meant_by read)) (sym read) acts)
-
--- ---- what a command gives out
-
-module _ (b : Broker) (names : Names) where
-  shown_proper : (r : Reply) → IsProper b [] (plainly (reply r None) b)
-  shown_proper r = plainly_proper b b (reply r None) refl (λ r n. absurd (cc)) (λ t n. absurd (cc)) (evolves_self b)
-
-  changed_proper : (next : Map Text) → IsProper b [] (plainly nothing (record b { policies = next }))
-  changed_proper next =
-      plainly_proper b (record b { policies = next }) nothing refl (λ r n. absurd (cc)) (λ t n. absurd (cc)) (policies_evolve b next)
-
-  -- a command that is not refused gives out no identifiers, and lets the broker evolve
-  pub acts : (command : PolicyCommand) (d : Done) → act_on_policies b names command ≡ Ok d → IsProper b [] d
-  acts list_policies d e = subst (IsProper b []) (ok_inj e) (shown_proper _)
-  acts (show_policy name) d e =
-      let text = ok_step (some_or refusal.NotFound (policies.text_of b.policies name)) _ d e in
-      subst (IsProper b []) (ok_inj text.2) (shown_proper _)
-  acts (set_policy name text) d e =
-      let next = ok_step (policies.set b.policies name text) _ d e in
-      subst (IsProper b []) (ok_inj next.2) (changed_proper next.0)
-  acts (remove_policy name) d e =
-      let next = ok_step (policies.deleted b.policies name) _ d e in
-      subst (IsProper b []) (ok_inj next.2) (changed_proper next.0)

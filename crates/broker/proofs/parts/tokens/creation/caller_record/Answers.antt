@@ -1,7 +1,7 @@
 use Rattle.broker.specs.Forms.{forms}
-use Rattle.broker.proofs.Expired.{represents_tokens}
+use Rattle.broker.specs.RepresentingLaws.{represents_tokens}
 use Rattle.broker.proofs.TokenMade.{no_empty_token}
-use Rattle.broker.proofs.parts.tokens.creation.find_caller.Goals as goal
+use Rattle.broker.proofs.parts.tokens.creation.caller_record.Goals as goal
 
 pub returns-then-is_empty-clause-told : goal.returns-then-is_empty-clause-told
 returns-then-is_empty-clause-told g c honest b st =
@@ -13,4 +13,4 @@ returns-clause-told g c honest b st =
 
 pub returns-clause-wants : goal.returns-clause-wants
 returns-clause-wants g c honest b st =
-    c.find.ensures.undamaged honest forms b (represents_tokens b (g.T.RecordsTx.seen c.args.tx.now).rows st)
+    c.find.ensures.wants honest forms b (represents_tokens b (g.T.RecordsTx.seen c.args.tx.now).rows st)

@@ -3,23 +3,23 @@ use Rattle.std.specs.Prelude.{List, map}
 use Rattle.broker_types.specs.Text.{Text}
 use Rattle.broker_types.specs.declared.ask.Verb.{Verb}
 use Rattle.mounts.specs.declared.operation.Operation.{Operation}
-use Rattle.mounts.specs.declared.table.Row as code
+use Rattle.mounts.specs.declared.table.RouteRow as code
 
 -- a row
-pub record Row : Type 0 where
+pub record RouteRow : Type 0 where
   pub verb : Verb
   -- within the mount; `{name}` is one segment, `{*path}` one or more
   pub pattern : Text
   pub operation : Operation
 
 -- the row of a verb, a pattern and an operation
-abbrev pub on : Verb → Text → Operation → Row
+abbrev pub on : Verb → Text → Operation → RouteRow
 on verb pattern operation = record { verb = verb; pattern = pattern; operation = operation }
 
 -- a row, as the code has it
-abbrev pub shown : code.Row → Row
+abbrev pub shown : code.RouteRow → RouteRow
 shown r = on r.0 r.1.now r.2
 
 -- rows, as the code has them
-abbrev pub rows_in : List code.Row → List Row
+abbrev pub rows_in : List code.RouteRow → List RouteRow
 rows_in rows = map shown rows

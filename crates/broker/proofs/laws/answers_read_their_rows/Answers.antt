@@ -1,0 +1,111 @@
+use Rattle.std.specs.Prelude.{◌≡◌, ◌≢◌, ◌⊎◌, ℕ, true, false, Option, Some, None, Ok, option_map}
+use Rattle.std.proofs.Common.{refl, sym, ap, ◌∙◌, inl, inr}
+use Rattle.std.proofs.lemmas.Bool.{true≢false}
+use Rattle.std.proofs.lemmas.Option.{none-some}
+use Rattle.broker_types.specs.Answer.{Response}
+use Rattle.broker_types.specs.Broker.{Mount}
+use Rattle.broker_types.specs.Text.{Text}
+use Rattle.broker_types.specs.declared.ask.Ask.{Ask}
+use Rattle.broker_types.specs.declared.ask.Verb.{Verb}
+use Rattle.records.specs.declared.kind.Kind.TheVariants as kind
+use Rattle.records.specs.Table.{Table, table_of}
+use Rattle.records.specs.TokenEntry.{TokenEntry}
+use Rattle.records.specs.Transaction.{Rows}
+use Rattle.token_tree.specs.TokenRows.{ChangesToken, IsTokenAt, spent_entry, with_entry}
+use Rattle.mounts.specs.MountRows.{IsKnownAt, IsReadableAt}
+use Rattle.mounts.specs.Route.{Route, cut, route_at}
+use Rattle.mounts.specs.declared.operation.CubbyholeOperation.TheVariants as cubbyhole
+use Rattle.mounts.specs.declared.operation.Operation.TheVariants.{Cubbyholes}
+use Rattle.broker.specs.Command.{command_by, on_cubbyhole}
+use Rattle.broker.specs.Ending.{HasTokenKeys, IsSpentAt}
+use Rattle.broker.specs.PermittedRows.{IsAllowedFor, IsPermittedAt}
+use Rattle.broker.specs.ReadableLaws.{readable_before, readable_gone, unspent_gone}
+use Rattle.broker.specs.ReadableRow.{IsReadableObject, IsReadableToken, IsDenied}
+use Rattle.broker.specs.Reads.{AreAtCommand, Asks, IsAnsweredBy, IsCarriedOutOrForbidden, IsForbiddenThen, MayBeDone}
+use Rattle.broker.specs.parts.Cubbyholes.{read_object}
+use Rattle.broker.proofs.CommandReads.{asks_spent, asks_still, ended_or_unspent, forbidden_or, objects_unspent, others_unspent}
+use Rattle.broker.proofs.Expired.{damaged_before, mount_before, objects_before}
+use Rattle.broker.proofs.Routes.{readable_still}
+use Rattle.broker.proofs.laws.answers_read_their_rows.Goals as goal
+
+-- who may ask has a row
+permitted_here : (rows : Rows) (t : Text) (verb : Verb) (path : Text) → IsPermittedAt rows t verb path true → table_of rows kind.Token t ≢ None
+permitted_here rows t verb path p = has_entry p.entry p.token p.allowed
+  where
+    has_entry : (o : Option TokenEntry) → IsTokenAt (table_of rows) t o → IsAllowedFor rows o verb path p.asked true
+        → table_of rows kind.Token t ≢ None
+    has_entry None at allowed none = true≢false allowed
+    has_entry (Some e) at allowed none = none-some _ (sym none ∙ at)
+
+-- no use is spent without a row
+spender_gone : (old new : Rows) (t : Text) → ChangesToken t spent_entry (table_of old) (table_of new) → table_of old kind.Token t ≡ None
+    → table_of new kind.Token t ≡ None
+spender_gone old new t spent none = without_entry spent.entry spent.was spent.is
+  where
+    without_entry : (o : Option TokenEntry) → IsTokenAt (table_of old) t o → table_of new ≡ with_entry (table_of old) t (option_map spent_entry o)
+        → table_of new kind.Token t ≡ None
+    without_entry None at is = ap (λ (z : Table). z kind.Token t) is ∙ none
+    without_entry (Some e) at is = absurd (none-some _ (sym none ∙ at))
+
+module _ (moment : ℕ) (t : Text) (old new : Rows) (ask : Ask) (response : Response) where
+  -- a row of a cubbyhole that could be read by the command can be read before
+  object_before : HasTokenKeys old → (mount : Option Mount) (r : Route) → IsKnownAt (table_of old) (cut ask.path).0 mount
+      → route_at mount ask.verb ask.path ≡ Ok r → r.operation ≡ Cubbyholes cubbyhole.Read → (rows : Rows) → AreAtCommand moment t old rows
+      → MayBeDone rows t ask → IsReadableObject old t r.parameter
+  object_before keys mount r known found reads rows at may =
+      let here : table_of at.expired kind.Token t ≢ None =
+      λ none. permitted_here rows t ask.verb ask.path may.permitted (spender_gone at.expired rows t at.spends none) in
+      let command = on_cubbyhole (read_object r.parameter) in
+      let asks : Asks old ask command =
+      record { mount = mount; route = r; known = known; found = found; meant = ap (λ o. command_by o r ask) reads } in
+      let mounted = mount_before moment at.now old at.expired at.expires (cut ask.path).0 in
+      readable_before old at.expired t r.parameter (objects_before moment at.now old at.expired at.expires keys) here
+      (objects_unspent at.expired rows t r.parameter at.spends
+      (may.readable command (asks_spent at.expired rows t ask command at.spends (asks_still old at.expired ask command mounted asks))))
+
+  -- whether the token may ask is told by the row of the mount
+  mount_asked : (rows : Rows) → IsCarriedOutOrForbidden rows new t ask response → IsReadableAt (table_of rows) (cut ask.path).0
+  mount_asked rows (inl done) = (done.may.permitted.asks.0, done.may.permitted.asks.1)
+  mount_asked rows (inr told) = (told.forbidden.asks.0, told.forbidden.asks.1)
+
+  -- the token has ended by then if it has no uses left
+  ended_then : (rows : Rows) → IsCarriedOutOrForbidden rows new t ask response → IsSpentAt new t false
+  ended_then rows (inl done) = ended_or_unspent t done.done new done.ends
+  ended_then rows (inr told) = ended_or_unspent t rows new told.ends
+
+  by_object : IsAnsweredBy moment t old new ask response → HasTokenKeys old → (mount : Option Mount) (r : Route)
+      → IsKnownAt (table_of old) (cut ask.path).0 mount → route_at mount ask.verb ask.path ≡ Ok r → r.operation ≡ Cubbyholes cubbyhole.Read
+      → IsReadableObject old t r.parameter ⊎ (IsForbiddenThen moment t old new ask response ⊎ IsDenied moment response old new t)
+  by_object (inl at) keys mount r known found reads =
+      forbidden_or (λ done. object_before keys mount r known found reads at.0 at.1 done.may) (λ told. (at.0, at.1, told)) at.2
+  by_object (inr denied) keys mount r known found reads = inr (inr denied)
+
+  by_mount : IsAnsweredBy moment t old new ask response → IsReadableAt (table_of old) (cut ask.path).0 ⊎ IsDenied moment response old new t
+  by_mount (inl at) =
+      let name = (cut ask.path).0 in
+      let same = others_unspent at.1.expired at.0 t at.1.spends kind.Mount name refl
+      ∙ mount_before moment at.1.now old at.1.expired at.1.expires name in
+      inl (readable_still old at.0 name same (mount_asked at.0 at.2))
+  by_mount (inr denied) = inr denied
+
+  by_caller : IsAnsweredBy moment t old new ask response → IsReadableToken old t
+  by_caller (inl at) =
+      let spent = at.1.spends in
+      damaged_before moment at.1.now old at.1.expired at.1.expires t (spent.entry, spent.in_range, spent.was)
+  by_caller (inr denied) = damaged_before moment denied.2 old new denied.3 t (readable_gone new t denied.1)
+
+  by_end : IsAnsweredBy moment t old new ask response → IsSpentAt new t false
+  by_end (inl at) = ended_then at.0 at.2
+  by_end (inr denied) = unspent_gone new t denied.1
+
+pub returns-clause-cubbyholes : goal.returns-clause-cubbyholes
+returns-clause-cubbyholes c = λ moment t old new ask response. by_object moment t old new ask response
+
+pub returns-clause-mount : goal.returns-clause-mount
+returns-clause-mount c = λ moment t old new ask response. by_mount moment t old new ask response
+
+pub returns-clause-caller : goal.returns-clause-caller
+returns-clause-caller c = λ moment t old new ask response. by_caller moment t old new ask response
+
+pub returns-clause-ends : goal.returns-clause-ends
+returns-clause-ends c = λ moment t old new ask response. by_end moment t old new ask response
