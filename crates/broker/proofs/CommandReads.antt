@@ -1,5 +1,4 @@
 -- What a command reads: what an ask means, whether it may be asked, and the rows when it is carried out.
-use Rattle.serde_json.specs.Data.{Members}
 use Rattle.std.specs.Prelude.{◌≡◌, ◌⊎◌, ◌&&◌, ◌||◌, not, ℕ, List, [], ◌∷◌, Bool, true, false, cond}
 use Rattle.std.specs.Prelude.{if◌then◌else◌, Option, Some, None, option_map, Result, Ok, Err, IfOk, OnOk, ⊤}
 use Rattle.std.specs.FinMap.{find}
@@ -11,7 +10,6 @@ use Rattle.broker_types.specs.Text.{Text, text_cmp, same}
 use Rattle.broker_types.specs.TextLaws.{same_true, same-text_cmp}
 use Rattle.broker_types.specs.Answer.{response_of, refused}
 use Rattle.broker_types.specs.Broker.{Mount}
-use Rattle.broker_types.specs.Refuse.{◌>>=◌}
 use Rattle.broker_types.specs.RequestError.{EndsRefused}
 use Rattle.broker_types.specs.declared.answer.Answer.{Answer}
 use Rattle.broker_types.specs.declared.ask.Ask.{Ask}
@@ -32,9 +30,6 @@ use Rattle.records.specs.TokenEntry.{TokenEntry}
 use Rattle.records.specs.Transaction.{Rows, rows_under}
 use Rattle.records.specs.ValueLaws.{ok_inj}
 use Rattle.token_tree.specs.Ended.{AllStay, is_named, of_owner}
-use Rattle.api_json.specs.Json.{body_members}
-use Rattle.api_json.specs.Readers.{token_creation}
-use Rattle.api_json.specs.declared.token_bodies.TokenCreation.{TokenCreation}
 use Rattle.records.specs.Calls.{OnAnswer}
 use Rattle.mounts.specs.MountRows.{IsKnownAt, IsReadableAt}
 use Rattle.mounts.specs.Route.{Route, cut, route_at}
@@ -43,27 +38,27 @@ use Rattle.mounts.specs.declared.operation.Operation.TheVariants.{Cubbyholes, To
 use Rattle.mounts.specs.declared.operation.PolicyOperation.{PolicyOperation}
 use Rattle.mounts.specs.declared.operation.SecretOperation.{SecretOperation}
 use Rattle.mounts.specs.declared.operation.TokenOperation.{TokenOperation}
-use Rattle.broker.specs.Command.{Command, on_cubbyhole, on_token, on_secret, on_policy, command_for, place_of}
-use Rattle.broker.specs.Order.{permission_denied}
-use Rattle.broker.proofs.CubbyholeAnswers.{meant_there}
-use Rattle.broker.specs.EndingLaws.{others_kept}
-use Rattle.broker.proofs.Routes.{known_still, meant_on_tokens, meant_on_policies}
-use Rattle.broker.proofs.SecretRoutes.{meant_on_secrets}
+use Rattle.broker_model.specs.Command.{Command, on_cubbyhole, on_token, on_secret, on_policy, command_for, place_of}
+use Rattle.broker_model.specs.Order.{permission_denied}
+use Rattle.broker_model.specs.parts.Cubbyholes.{CubbyholeCommand, cubbyhole_command}
+use Rattle.broker_model.specs.parts.AclPolicyCommands.{PolicyCommand, policy_command}
+use Rattle.broker_model.specs.parts.SecretCommands.{Place, SecretCommand, secret_command}
+use Rattle.broker_model.specs.parts.TokenCommands.{TokenCommand, token_command}
 use Rattle.std.specs.FinMap as map
 use Rattle.broker_types.specs.RefuseLaws.{ok_step}
 use Rattle.cubbyhole.specs.Objects.{object_key}
 use Rattle.token_tree.specs.Endings.{without_tokens}
 use Rattle.token_tree.specs.TokenRows.{ChangesToken, spent_entry, with_entry}
-use Rattle.broker.specs.Ending.{EndsCaller, Expires, EndsBelow, IsSpentAt}
-use Rattle.broker.specs.ReadableRow.{IsReadableObject, IsDenied}
+use Rattle.broker_rows.specs.EndingLaws.{others_kept}
+use Rattle.broker_rows.specs.Ending.{EndsCaller, Expires, EndsBelow, IsSpentAt}
+use Rattle.broker_rows.specs.ReadableRow.{IsReadableObject, IsDenied}
+use Rattle.broker_rows.specs.Reads.{AreReadableObjects, AreReadablePolicies, AreReadableTokens, AreReadableSecrets}
+use Rattle.broker_rows.specs.ReadableLaws.{unspent_gone}
+use Rattle.broker.proofs.Routes.{meant_there, known_still, meant_on_tokens, meant_on_policies}
+use Rattle.broker.proofs.SecretRoutes.{meant_on_secrets}
 use Rattle.broker.specs.PermittedRows.{IsPermittedAt}
-use Rattle.broker.specs.Reads.{AreAtCommand, IsReadableCommand, AreReadableObjects, AreReadablePolicies, AreReadableTokens, AreReadableSecrets, Asks}
-use Rattle.broker.specs.Reads.{IsForbidden, IsCarriedOutOrForbidden, MayBeDone}
-use Rattle.broker.specs.parts.Cubbyholes.{CubbyholeCommand, cubbyhole_command}
-use Rattle.broker.specs.parts.AclPolicyCommands.{PolicyCommand, policy_command}
-use Rattle.broker.specs.parts.SecretCommands.{Place, SecretCommand, secret_command}
-use Rattle.broker.specs.parts.TokenCommands.{TokenCommand, token_command, read_as, read_none}
-use Rattle.broker.specs.ReadableLaws.{unspent_gone}
+use Rattle.broker.specs.Answering.{AreAtCommand, IsReadableCommand, Asks, IsForbidden, IsCarriedOutOrForbidden}
+use Rattle.broker.specs.Answering.{MayBeDone}
 
 -- ---- what an ask means
 
@@ -264,25 +259,3 @@ permitted_before old new t u path q verb found v w same_rows at same_path is rea
 pub asks_spent : (old new : Rows) (t : Text) (a : Ask) (c : Command) → ChangesToken t spent_entry (table_of old) (table_of new) → Asks old a c
     → Asks new a c
 asks_spent old new t a c spent asks = asks_still old new a c (others_unspent old new t spent kind.Mount (cut a.path).0 refl) asks
-
--- ---- what a body means
-
--- the command is that of what a reader finds
-pub meant_as : {X : Type 0} (read : Members → Result X Refusal) (command : X → TokenCommand) (body : List ℕ) (ms : Members) (x : X)
-    (c : TokenCommand) → body_members body ≡ Ok ms → read ms ≡ Ok x → read_as read command body ≡ Ok c → command x ≡ c
-meant_as read command body ms x c parsed found meant =
-    ok_inj (sym (ap (λ m. m >>= (λ members. read members >>= (λ y. Ok (command y)))) parsed ∙ ap (λ m. m >>= (λ y. Ok (command y))) found) ∙ meant)
-
--- the same of a body that is only an object
-pub meant_whole : (command : TokenCommand) (body : List ℕ) (ms : Members) (c : TokenCommand) → body_members body ≡ Ok ms → read_none command body ≡ Ok c
-    → command ≡ c
-meant_whole command body ms c parsed meant = ok_inj (sym (ap (λ m. m >>= (λ members. Ok command)) parsed) ∙ meant)
-
--- what the command of a creation reads is not said of it
-pub creation_reads : (rows : Rows) (caller : Text) (command : TokenCreation → TokenCommand) (body : List ℕ) (c : TokenCommand)
-    → ((asked : TokenCreation) → AreReadableTokens rows caller (command asked)) → read_as token_creation command body ≡ Ok c
-    → AreReadableTokens rows caller c
-creation_reads rows caller command body c reads meant =
-    let members = ok_step (body_members body) _ c meant in
-    let asked = ok_step (token_creation members.0) _ c members.2 in
-    subst (AreReadableTokens rows caller) (ok_inj asked.2) (reads asked.0)

@@ -8,10 +8,11 @@ use Rattle.broker_types.specs.Spending.{end_spent}
 use Rattle.broker_types.specs.declared.answer.Answer.{Answer}
 use Rattle.broker_types.specs.declared.refusal.Refusal.{Refusal}
 use Rattle.records.specs.Transaction.{Rows}
-use Rattle.broker.specs.Order.{Wrapped, finish, response_to}
-use Rattle.broker.specs.Representing.{Represents, Gives}
-use Rattle.broker.specs.Stages.{answered_of, counted, HasServed}
-use Rattle.broker.specs.declared.answered.Answered.{Answered}
+use Rattle.broker_model.specs.Order.{Wrapped, finish, response_to}
+use Rattle.broker_rows.specs.Representing.{Represents, Gives}
+use Rattle.broker_rows.specs.Done.{answered_of, counted}
+use Rattle.broker_rows.specs.declared.answered.Answered.{Answered}
+use Rattle.broker.specs.Stages.{HasServed}
 
 -- whether the caller was served or refused, the rows represent a broker
 pub represents_some : (c : Text) (rows : Rows) (b : Broker) (served : Result Answered Refusal) (m : Result Wrapped Refusal) → HasServed c rows b served m

@@ -16,7 +16,7 @@ use Rattle.policies.specs.PolicyLaws.{readable_policies}
 use Rattle.policies.specs.PolicyRows.{ArePoliciesAt, IsReadable, IsUnreadable}
 use Rattle.policies.specs.Rules.{Rules}
 use Rattle.policies.specs.declared.capability.Capability.{Capability}
-use Rattle.broker.specs.Permission.{may}
+use Rattle.broker_model.specs.Permission.{may}
 use Rattle.broker.specs.PermittedRows.{IsAllowedAt, IsUntold}
 
 -- ---- the policies

@@ -21,8 +21,8 @@ use Rattle.mounts.specs.declared.mount_type.MountType.TheVariants as mount
 use Rattle.mounts.specs.declared.operation.Operation.{Operation}
 use Rattle.mounts.specs.declared.operation.Operation.TheVariants.{Cubbyholes, Tokens, Secrets, Policies}
 use Rattle.mounts.specs.declared.operation.SecretOperation.{SecretOperation}
-use Rattle.broker.specs.Command.{command_by, command_for, on_secrets, place_of}
-use Rattle.broker.specs.parts.SecretCommands.{Place}
+use Rattle.broker_model.specs.Command.{command_by, command_for, on_secrets, place_of}
+use Rattle.broker_model.specs.parts.SecretCommands.{Place}
 use Rattle.broker.proofs.RoutedBy.{routed_by}
 
 -- whether the operation is on no secrets

@@ -6,7 +6,6 @@ use Rattle.broker_types.specs.Map.{Map}
 use Rattle.broker_types.specs.Text.{Text}
 use Rattle.broker_types.specs.declared.ask.Ask.{Ask}
 use Rattle.broker_types.specs.declared.ask.Verb.{Verb}
-use Rattle.broker_types.specs.declared.ask.Verb.TheVariants as verb
 use Rattle.records.specs.declared.kind.Kind.TheVariants as kind
 use Rattle.records.specs.Ranges.{IsTokenInRange}
 use Rattle.records.specs.Reading.{IsSomeIn}
@@ -18,14 +17,13 @@ use Rattle.cubbyhole.specs.Objects.{object_key}
 use Rattle.kv2.specs.Secrets.{secret_name}
 use Rattle.mounts.specs.MountRows.{IsKnownAt}
 use Rattle.mounts.specs.Route.{cut, route_at}
-use Rattle.policies.specs.Grants.{rules_of, grants}
+use Rattle.policies.specs.Grants.{rules_of}
 use Rattle.policies.specs.PolicyRows.{ArePoliciesAt, IsReadable, IsUnreadable}
 use Rattle.policies.specs.declared.capability.Capability.{Capability}
-use Rattle.policies.specs.declared.capability.Capability.TheVariants.{Sudo}
-use Rattle.broker.specs.Capabilities.{Stored, object, secret, asked_by}
-use Rattle.broker.specs.Ending.{EndsCaller}
-use Rattle.broker.specs.Order.{permission_denied}
-use Rattle.broker.specs.Permission.{may}
+use Rattle.broker_model.specs.Capabilities.{Stored, object, secret, asked_by}
+use Rattle.broker_model.specs.Order.{permission_denied}
+use Rattle.broker_model.specs.Permission.{may}
+use Rattle.broker_rows.specs.Ending.{EndsCaller}
 
 -- whether there is a row of what a request of the token t stores; the row itself is not read
 abbrev pub has_row : Rows → Text → Stored → Bool
@@ -60,13 +58,6 @@ pub record IsPermittedAt (rows : Rows) (t : Text) (verb : Verb) (path : Text) (v
   pub asked : Capability
   pub asks : IsAskedAt rows t verb path asked
   pub allowed : IsAllowedFor rows entry verb path asked v
-
--- v is whether these policies grant `sudo` for a write to a path: their rows can be read, where they are there
-pub record IsSudoAt (rows : Rows) (names : List Text) (path : Text) (v : Bool) : Type 0 where
-  pub policies : Map Text
-  pub known : ArePoliciesAt (table_of rows) names policies
-  pub readable : All (IsReadable (table_of rows)) names
-  pub is : v ≡ grants policies names verb.Write path Sudo
 
 -- it cannot be told whether the token t may ask: its row is damaged, or that of one of its policies
 abbrev pub IsUntold : Rows → Text → Type 0

@@ -6,8 +6,8 @@ use Rattle.broker_types.specs.Fault.{IsMemoryOrStorage}
 use Rattle.broker_types.specs.declared.answer.Answer.{Answer}
 use Rattle.broker_types.specs.declared.fault.Fault.{Fault}
 use Rattle.records.specs.Transaction.{Seen, IsHonest, GoesOn, is_storage}
-use Rattle.broker.specs.Listed.{IsListed}
-use Rattle.broker.specs.Representing.{Represents}
+use Rattle.broker_model.specs.Listed.{IsListed}
+use Rattle.broker_rows.specs.Representing.{Represents}
 
 -- P is what is known of the broker and of the request
 pub record AnswersSafely (old new : Seen) (P : Broker → Type 0) (result : Result Answer Fault) : Type 0 where

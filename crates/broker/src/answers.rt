@@ -1,21 +1,21 @@
-//! Answers of every part.
+//! Answers to requests.
 
-ghost use Rattle.std.specs.Prelude.{◌≡◌, None, IfOk, IfErr};
-ghost use Rattle.broker.specs.Listed.{IsListed};
-ghost use Rattle.api_json.specs.Reply.{plain_reply, reply_text};
-ghost use Rattle.broker_types.specs.Names.{names_of};
-ghost use Rattle.broker_types.specs.Operation as operation;
-ghost use Rattle.broker.specs.Order.{response_to};
-ghost use Rattle.broker.specs.Responses.{ok, not_found};
-ghost use Rattle.broker.specs.Stages.{answered_of};
+ghost use Rattle.std.specs.Prelude.{◌≡◌, IfOk, IfErr};
+ghost use Rattle.broker_model.specs.Listed.{IsListed};
+ghost use Rattle.api_json.specs.Reply.{reply_text};
+ghost use Rattle.broker_model.specs.Order.{response_to};
+ghost use Rattle.broker_model.specs.Responses.{ok, not_found};
+ghost use Rattle.broker_rows.specs.Done.{answered_of};
 ghost use Rattle.broker_types.specs.Answer.{HasRoom, response_of, refused};
 ghost use Rattle.broker_types.specs.declared.fault.Fault.TheVariants.{Memory};
 
-use crate::answered::Answered;
-use crate::context::Context;
-use api_json::{plain_reply, reply_text};
-use broker_types::{Answer, Fault, Methods, Refusal, Reply, Status, TextBuf, id_text};
+use api_json::reply_text;
+use broker_rows::Answered;
+use broker_types::{Answer, Denial, Fault, Methods, Refusal, Reply, Status, TextBuf};
 use std::alloc::{AllocError, Global};
+
+/// 403 `permission denied`.
+pub(crate) const PERMISSION_DENIED: Refusal = Refusal::Forbidden(Denial::PermissionDenied);
 
 /// The answer to a refused request.
 pub(crate) fn refuse(alloc: Global, refusal: Refusal) -> Result<Answer, Fault>
@@ -42,19 +42,6 @@ pub(crate) fn answer(alloc: Global, answered: Answered) -> Result<Answer, AllocE
         Answered::Made(reply, _) => success(alloc, &reply),
         Answered::Missing(reply) => missing(alloc, &reply),
     }
-}
-
-/// What an operation answers that shows an object: 200 with the reply to the request.
-pub(crate) fn shown(
-    alloc: Global,
-    context: &Context<'_>,
-    object: TextBuf,
-) -> Result<Answered, AllocError>
-    ensures { IfOk result (λ a. answered_of a
-        ≡ operation.reply (plain_reply (names_of context.now.words).request object) None) }
-{
-    let request = id_text(alloc, context.words.0[0])?;
-    Ok(Answered::Given(plain_reply(alloc, request.as_str(), object)?))
 }
 
 /// 200 with a reply.

@@ -2,10 +2,7 @@
 
 pub(crate) mod caller;
 pub(crate) mod capability;
-pub(crate) mod ending;
-pub(crate) mod expiry;
 pub(crate) mod finishing;
-pub(crate) mod identifiers;
 pub(crate) mod permission;
 pub(crate) mod routing;
 pub(crate) mod serving;

@@ -1,8 +1,8 @@
 -- A run of the hub, one event after another.
 use Rattle.std.proofs.Common.{arith, ◌≡◌, ◌∙◌, ℕ, ◌+◌, ◌<◌, ◌≤◌, List, [], ◌∷◌, ◌++◌, length, take, get_or, sym, ap, subst, None}
 use Rattle.std.proofs.lemmas.List.{take_more, take_all}
+use Rattle.broker_rows.specs.Representing.{Represents}
 use Rattle.broker.specs.Kept.{Kept, IsHonestStore}
-use Rattle.broker.specs.Representing.{Represents}
 use Rattle.records.specs.Transaction.{Rows}
 use Rattle.broker_types.specs.declared.fault.Fault.{Fault}
 use Rattle.hub.specs.AnyRows.{FaultsAt, NextConnections, RunConnections}

@@ -16,8 +16,8 @@ pub struct Hub<S: Store> {
 impl<S: Store> Hub<S> {
     ghost use Rattle.std.specs.Prelude.{◌≡◌, ◌≢◌, ℕ, List, [], Some, IfOk, IfErr, IsOk, OnOk, true, false};
     ghost use Rattle.broker_types.specs.Broker.{Broker};
+    ghost use Rattle.broker_rows.specs.Representing.{Represents};
     ghost use Rattle.broker.specs.Kept.{IsHonestStore};
-    ghost use Rattle.broker.specs.Representing.{Represents};
     ghost use Rattle.hub.specs.AnyRows.{EventGives, EventNeedsClock};
     ghost use Rattle.hub.specs.Feeding.{Feeds, Keeps};
     ghost use Rattle.hub.specs.Listed.{IsListedReply};

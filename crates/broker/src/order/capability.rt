@@ -6,10 +6,10 @@ ghost use Rattle.broker_types.specs.Fault.{IsMemoryOrStorage};
 ghost use Rattle.broker_types.specs.Map.{get};
 ghost use Rattle.records.specs.Calls.{IsReading};
 ghost use Rattle.records.specs.Transaction.{IsHonest};
-ghost use Rattle.broker.specs.Capabilities as capabilities;
-ghost use Rattle.broker.specs.Capabilities.{stored_by, has_stored};
+ghost use Rattle.broker_model.specs.Capabilities as capabilities;
+ghost use Rattle.broker_model.specs.Capabilities.{stored_by, has_stored};
+ghost use Rattle.broker_rows.specs.Representing.{Represents};
 ghost use Rattle.broker.specs.PermittedRows.{has_row};
-ghost use Rattle.broker.specs.Representing.{Represents};
 
 use broker_types::{Fault, Refusal, Verb};
 use mounts::{CubbyholeOperation, Operation, Route, SecretOperation};

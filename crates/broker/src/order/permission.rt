@@ -1,33 +1,25 @@
 //! Whether the caller may ask at all.
 
-ghost use Rattle.std.specs.Prelude.{◌≡◌, ◌≢◌, None, Some, Option, Any, IfOk, IfErr};
+ghost use Rattle.std.specs.Prelude.{◌≡◌, ◌≢◌, None, Some, Option, IfOk, IfErr};
 ghost use Rattle.broker_types.specs.Broker.{Broker, Mount};
 ghost use Rattle.broker_types.specs.Fault.{IsMemoryOrStorage};
 ghost use Rattle.broker_types.specs.Map.{get};
-ghost use Rattle.broker_types.specs.Text.{Text};
-ghost use Rattle.broker_types.specs.declared.ask.Verb.TheVariants as verb;
 ghost use Rattle.records.specs.Calls.{IsReadFault, IsReading};
 ghost use Rattle.records.specs.Table.{table};
 ghost use Rattle.records.specs.Transaction.{IsHonest};
 ghost use Rattle.mounts.specs.MountRows.{IsKnownAt};
 ghost use Rattle.mounts.specs.Route.{cut, route_at, route_of};
-ghost use Rattle.policies.specs.Grants.{grants};
-ghost use Rattle.policies.specs.PolicyRows.{IsUnreadable};
-ghost use Rattle.policies.specs.declared.capability.Capability.TheVariants as capability;
-ghost use Rattle.broker.specs.Permission as permission;
-ghost use Rattle.broker.specs.PermittedRows.{IsPermittedAt, IsSudoAt, IsUntold};
-ghost use Rattle.broker.specs.Representing.{Represents};
+ghost use Rattle.broker_model.specs.Permission as permission;
+ghost use Rattle.broker_rows.specs.Representing.{Represents};
+ghost use Rattle.broker.specs.PermittedRows.{IsPermittedAt, IsUntold};
 
 use crate::order::capability::capability;
-use broker_types::{Denial, Fault, Refusal, TextBuf, Verb};
+use broker_types::{Fault, Refusal, Verb};
 use mounts::Route;
 use policies::{Capability, Rules, allows, rules_of};
 use records::RecordsTx;
 use std::alloc::Global;
 use token_tree::find;
-
-/// 403 `permission denied`.
-pub(crate) const PERMISSION_DENIED: Refusal = Refusal::Forbidden(Denial::PermissionDenied);
 
 /// Whether the caller may ask with a verb at a path: its policies allow the capability that is asked for, and `sudo`
 /// too where the path asks for it (Vault's documentation, "Policies"). The route of the path has been looked up.
@@ -67,28 +59,6 @@ fn may(rules: &Rules, path: &str, asked: Capability) -> bool
     ensures { result ≡ permission.may rules.now path.now asked }
 {
     allows(rules, path, asked) && (!needs_sudo(path) || allows(rules, path, Capability::Sudo))
-}
-
-/// Whether policies grant `sudo` for a write to a path, by which a caller may give more than it has.
-pub(crate) fn grant_sudo<T: RecordsTx>(
-    alloc: Global,
-    tx: &mut T,
-    policies: &[TextBuf],
-    path: &str,
-) -> Result<bool, Fault>
-    ensures told { IsHonest (T.seen tx.new) → (who : Option Text) (b : Broker) → Represents who (T.seen tx.old).rows b
-        → IfOk result (λ v. v ≡ grants b.policies policies.now verb.Write path.now capability.Sudo) }
-
-    // Whatever the rows are: those of these policies can be read, and they decide.
-    ensures found { IsHonest (T.seen tx.new)
-        → IfOk result (IsSudoAt (T.seen tx.old).rows policies.now path.now) }
-    ensures wants { IsHonest (T.seen tx.new) → (who : Option Text) (b : Broker) → Represents who (T.seen tx.old).rows b
-        → IfErr result IsMemoryOrStorage }
-    ensures call { IsReading (T.seen tx.old) (T.seen tx.new) result
-        (IsReadFault (IsHonest (T.seen tx.new) → Any (IsUnreadable (table (T.seen tx.old))) policies.now)) }
-{
-    let rules = rules_of(alloc, tx, policies, Verb::Write)?;
-    Ok(allows(&rules, path, Capability::Sudo))
 }
 
 /// Whether a path asks for `sudo` (Vault's documentation, "Policies", root-protected API endpoints).

@@ -11,26 +11,26 @@ ghost use Rattle.records.specs.Table.{table_of, table};
 ghost use Rattle.records.specs.Transaction.{IsHonest, Rows};
 ghost use Rattle.token_tree.specs.TokenRows.{ChangesToken, spent_entry};
 ghost use Rattle.records.specs.Calls.{OnAnswer, IsRequestCall};
-ghost use Rattle.broker.specs.Command.{Command, command_for};
-ghost use Rattle.broker.specs.Operating.{Begins, Operates, IsWellFormed};
-ghost use Rattle.broker.specs.Reads.{IsReadableCommand, IsForbidden, IsCarriedOutOrForbidden, MayBeDone};
-ghost use Rattle.broker.specs.Representing.{Represents, Gives};
+ghost use Rattle.broker_model.specs.Command.{Command, command_for};
+ghost use Rattle.broker_model.specs.Serving.{called, served};
+ghost use Rattle.broker_rows.specs.Operating.{Begins, Operates, IsWellFormed};
+ghost use Rattle.broker_rows.specs.Representing.{Represents, Gives};
+ghost use Rattle.broker.specs.Answering.{IsReadableCommand, IsForbidden, IsCarriedOutOrForbidden, MayBeDone};
 ghost use Rattle.broker.specs.Safely.{AnswersSafely};
-ghost use Rattle.broker.specs.Serving.{called, served};
 ghost use Rattle.broker.specs.Stages.{IsServed};
 
-use crate::answered::Answered;
-use crate::context::Context;
-use crate::order::caller::spend;
+use crate::answers::PERMISSION_DENIED;
 use crate::order::finishing::finish;
-use crate::order::permission::{PERMISSION_DENIED, is_permitted};
+use crate::order::permission::is_permitted;
 use crate::order::routing::find_route;
-use crate::parts::secrets::Place;
-use crate::parts::{acl_policies, cubbyholes, secrets, tokens};
+use broker_rows::{Answered, Context, spend};
 use broker_types::{Answer, Ask, Fault, RequestError};
 use mounts::{Operation, Route};
 use records::RecordsTx;
+use secret_operations::{Place, act_on_cubbyholes, act_on_secrets};
 use std::alloc::Global;
+use system_operations::act_on_policies;
+use token_operations::act_on_tokens;
 
 /// Answers an ask of the caller: a use is spent, the ask is served or refused, and a caller without uses left ends.
 pub(crate) fn answer_caller<T: RecordsTx>(
@@ -109,19 +109,19 @@ fn operate<T: RecordsTx>(
     let body = ask.body.as_slice();
     match route.operation {
         Operation::Cubbyholes(operation) => {
-            cubbyholes::act(alloc, tx, context, operation, route.parameter, body)
+            act_on_cubbyholes(alloc, tx, context, operation, route.parameter, body)
         }
-        Operation::Tokens(operation) => tokens::act(alloc, tx, context, operation, body),
+        Operation::Tokens(operation) => act_on_tokens(alloc, tx, context, operation, body),
         Operation::Secrets(operation) => {
             let place = Place {
                 mount: route.mount,
                 path: route.parameter,
             };
             let version = ask.version.as_slice();
-            secrets::act(alloc, tx, context, operation, &place, version, body)
+            act_on_secrets(alloc, tx, context, operation, &place, version, body)
         }
         Operation::Policies(operation) => {
-            acl_policies::act(alloc, tx, context, operation, route.parameter, body)
+            act_on_policies(alloc, tx, context, operation, route.parameter, body)
         }
     }
 }

@@ -16,15 +16,17 @@ use Rattle.mounts.specs.MountRows.{IsKnownAt, IsReadableAt}
 use Rattle.mounts.specs.Route.{Route, cut, route_at}
 use Rattle.mounts.specs.declared.operation.CubbyholeOperation.TheVariants as cubbyhole
 use Rattle.mounts.specs.declared.operation.Operation.TheVariants.{Cubbyholes}
-use Rattle.broker.specs.Command.{command_by, on_cubbyhole}
-use Rattle.broker.specs.Ending.{HasTokenKeys, IsSpentAt}
+use Rattle.broker_model.specs.Command.{command_by, on_cubbyhole}
+use Rattle.broker_model.specs.parts.Cubbyholes.{read_object}
+use Rattle.broker_rows.specs.Ending.{HasTokenKeys, IsSpentAt}
+use Rattle.broker_rows.specs.ReadableLaws.{readable_before, readable_gone, unspent_gone}
+use Rattle.broker_rows.specs.ReadableRow.{IsReadableObject, IsReadableToken, IsDenied}
+use Rattle.broker_rows.specs.ExpiryLaws.{damaged_before, mount_before, objects_before}
 use Rattle.broker.specs.PermittedRows.{IsAllowedFor, IsPermittedAt}
-use Rattle.broker.specs.ReadableLaws.{readable_before, readable_gone, unspent_gone}
-use Rattle.broker.specs.ReadableRow.{IsReadableObject, IsReadableToken, IsDenied}
-use Rattle.broker.specs.Reads.{AreAtCommand, Asks, IsAnsweredBy, IsCarriedOutOrForbidden, IsForbiddenThen, MayBeDone}
-use Rattle.broker.specs.parts.Cubbyholes.{read_object}
-use Rattle.broker.proofs.CommandReads.{asks_spent, asks_still, ended_or_unspent, forbidden_or, objects_unspent, others_unspent}
-use Rattle.broker.proofs.Expired.{damaged_before, mount_before, objects_before}
+use Rattle.broker.specs.Answering.{AreAtCommand, Asks, IsAnsweredBy, IsCarriedOutOrForbidden, IsForbiddenThen}
+use Rattle.broker.specs.Answering.{MayBeDone}
+use Rattle.broker.proofs.CommandReads.{asks_spent, asks_still, ended_or_unspent, forbidden_or, objects_unspent}
+use Rattle.broker.proofs.CommandReads.{others_unspent}
 use Rattle.broker.proofs.Routes.{readable_still}
 use Rattle.broker.proofs.laws.answers_read_their_rows.Goals as goal
 

@@ -2,7 +2,7 @@ use Rattle.std.proofs.Common.{sym, subst}
 use Rattle.broker_types.specs.Answer.{response_of}
 use Rattle.records.specs.ListRows.{list_rows, tx_rows}
 use Rattle.records.specs.Transaction.{Rows}
-use Rattle.broker.specs.Reads.{IsAnsweredBy}
+use Rattle.broker.specs.Answering.{IsAnsweredBy}
 use Rattle.broker.proofs.list_store.ListStoreStore.one.Goals as goal
 
 pub returns-clause-answers : goal.returns-clause-answers

@@ -5,9 +5,9 @@ use Rattle.records.specs.Parts.{of_cubbyholes}
 use Rattle.mounts.specs.Route.{Route}
 use Rattle.mounts.specs.declared.operation.Operation.{Operation}
 use Rattle.mounts.specs.declared.operation.Operation.TheVariants.{Cubbyholes}
-use Rattle.broker.specs.Capabilities as capabilities
-use Rattle.broker.specs.Capabilities.{stored_by, has_stored}
-use Rattle.broker.specs.RepresentingLaws.{caller_len, tells_part}
+use Rattle.broker_model.specs.Capabilities as capabilities
+use Rattle.broker_model.specs.Capabilities.{stored_by, has_stored}
+use Rattle.broker_rows.specs.RepresentingLaws.{caller_len, tells_part}
 use Rattle.broker.proofs.order.capability.is_there.Goals as goal
 
 pub returns-in-Cubbyholes-Write-clause-told : goal.returns-in-Cubbyholes-Write-clause-told

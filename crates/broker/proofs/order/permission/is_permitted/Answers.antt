@@ -12,12 +12,12 @@ use Rattle.records.specs.ValueLaws.{none_of}
 use Rattle.token_tree.specs.TokenRows.{IsTokenAt}
 use Rattle.api_json.specs.Kept.{is_object}
 use Rattle.policies.specs.Grants.{rules_of}
-use Rattle.broker.specs.Capabilities as capabilities
-use Rattle.broker.specs.Capabilities.{asked_by, has_stored}
-use Rattle.broker.specs.Forms.{forms}
-use Rattle.broker.specs.Permission.{may, may_ask}
+use Rattle.broker_model.specs.Capabilities as capabilities
+use Rattle.broker_model.specs.Capabilities.{asked_by, has_stored}
+use Rattle.broker_model.specs.Forms.{forms}
+use Rattle.broker_model.specs.Permission.{may, may_ask}
+use Rattle.broker_rows.specs.RepresentingLaws.{named_policies_there, represents_tokens, still_represented}
 use Rattle.broker.specs.PermittedRows.{IsUntold, IsAllowedFor, has_row}
-use Rattle.broker.specs.RepresentingLaws.{named_policies_there, represents_tokens, still_represented}
 use Rattle.broker.proofs.Permitted.{allowed_here, unknown_denied, entry_told, untold_policy}
 use Rattle.broker.proofs.order.permission.is_permitted.Goals as goal
 

@@ -3,7 +3,7 @@ use Rattle.std.specs.List.{starts_with}
 use Rattle.std.proofs.Common.{sym, ◌∙◌, ap}
 use Rattle.std.proofs.lemmas.Bool.{true≢false}
 use Rattle.broker_types.specs.Text.{same}
-use Rattle.broker.specs.Permission as permission
+use Rattle.broker_model.specs.Permission as permission
 use Rattle.broker.proofs.order.permission.needs_sudo.Goals.{then-eq, else-eq}
 use Rattle.broker.proofs.order.permission.needs_sudo.Goals as goal
 

@@ -10,15 +10,15 @@ use Rattle.broker_types.specs.declared.answer.Answer.{Answer}
 use Rattle.records.specs.CallLaws.{fault_goes_on, honest_before, goes_further}
 use Rattle.records.specs.Table.{table_of}
 use Rattle.token_tree.specs.TokenRows.{ChangesToken, spent_entry}
-use Rattle.broker.specs.Context.{Context}
-use Rattle.broker.specs.Operating.{Begins}
-use Rattle.broker.specs.Order.{Wrapped, finish}
-use Rattle.broker.specs.Ending.{EndsCaller}
-use Rattle.broker.specs.Reads.{IsForbidden, MayBeDone}
-use Rattle.broker.specs.Representing.{Represents, Gives}
-use Rattle.broker.specs.Serving.{served}
+use Rattle.broker_model.specs.Order.{Wrapped, finish}
+use Rattle.broker_model.specs.Serving.{served}
+use Rattle.broker_rows.specs.Context.{Context}
+use Rattle.broker_rows.specs.Operating.{Begins}
+use Rattle.broker_rows.specs.Ending.{EndsCaller}
+use Rattle.broker_rows.specs.Representing.{Represents, Gives}
+use Rattle.broker_rows.specs.declared.answered.Answered.{Answered}
+use Rattle.broker.specs.Answering.{IsForbidden, MayBeDone}
 use Rattle.broker.specs.Stages.{HasServed}
-use Rattle.broker.specs.declared.answered.Answered.{Answered}
 use Rattle.broker.proofs.CommandReads.{may_served, may_refused, ok_with}
 use Rattle.broker.proofs.order.serving.answer_caller.Goals as goal
 

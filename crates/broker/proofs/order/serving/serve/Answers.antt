@@ -6,13 +6,14 @@ use Rattle.broker_types.specs.Map.{get}
 use Rattle.broker_types.specs.declared.request_error.RequestError.TheVariants.{Refused}
 use Rattle.broker_types.specs.Names.{names_of}
 use Rattle.records.specs.Calls.{OnAnswer}
-use Rattle.broker.specs.Command.{Command}
-use Rattle.broker.specs.Context.{Context}
-use Rattle.broker.specs.Permission.{permits}
-use Rattle.broker.specs.Reads.{IsReadableCommand, Asks}
-use Rattle.broker.specs.Representing.{Represents}
-use Rattle.broker.specs.RepresentingLaws.{mounts_there, still_represented}
-use Rattle.broker.proofs.CommandReads.{known_by, meant_by_route, no_route, on_answer_all, on_answer_if, permitted_before}
+use Rattle.broker_model.specs.Command.{Command}
+use Rattle.broker_model.specs.Permission.{permits}
+use Rattle.broker_rows.specs.Context.{Context}
+use Rattle.broker_rows.specs.Representing.{Represents}
+use Rattle.broker_rows.specs.RepresentingLaws.{mounts_there, still_represented}
+use Rattle.broker.specs.Answering.{IsReadableCommand, Asks}
+use Rattle.broker.proofs.CommandReads.{known_by, meant_by_route, no_route, on_answer_all, on_answer_if}
+use Rattle.broker.proofs.CommandReads.{permitted_before}
 use Rattle.broker.proofs.Routes.{not_served, operated_by, operated_nowhere, served_permitted}
 use Rattle.broker.proofs.SecretRoutes.{mount_named}
 use Rattle.broker.proofs.order.serving.serve.Goals as goal

@@ -1,6 +1,0 @@
-use Rattle.std.proofs.Common.{sym, ◌∙◌}
-use Rattle.broker.specs.Forms.{forms}
-use Rattle.broker.proofs.laws.rows_represent_one_broker.Goals as goal
-
-pub returns : goal.returns
-returns c = λ rows v w x y in_x in_y. c.rows_determine_the_broker.ensures forms v w x y in_x.sound in_y.sound (sym in_x.rows ∙ in_y.rows)

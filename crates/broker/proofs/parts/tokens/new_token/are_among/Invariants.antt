@@ -1,7 +1,0 @@
-use Rattle.std.proofs.Common.{◌≡◌, drop}
-use Rattle.std.specs.List.{list_all}
-use Rattle.records.specs.Children.{has}
-use Rattle.broker.proofs.parts.tokens.new_token.are_among.Given as goal
-
-abbrev pub invariant-loop-text : goal.invariant-loop-text
-invariant-loop-text l = list_all (has l.list) l.texts ≡ list_all (has l.list) (drop l.text-index l.texts)

@@ -1,0 +1,84 @@
+-- When a request of a client token is answered, whatever the rows are (this project's definition).
+use Rattle.std.specs.Prelude.{◌≡◌, ◌⊎◌, ℕ, true, false, Option, Result, Ok, Err}
+use Rattle.broker_types.specs.Answer.{Response}
+use Rattle.broker_types.specs.Broker.{Mount}
+use Rattle.broker_types.specs.Text.{Text}
+use Rattle.broker_types.specs.declared.ask.Ask.{Ask}
+use Rattle.broker_types.specs.declared.request_error.RequestError.{RequestError}
+use Rattle.broker_types.specs.declared.request_error.RequestError.TheVariants.{Refused}
+use Rattle.records.specs.Table.{table_of}
+use Rattle.records.specs.Transaction.{Rows}
+use Rattle.token_tree.specs.TokenRows.{ChangesToken, spent_entry}
+use Rattle.mounts.specs.MountRows.{IsKnownAt}
+use Rattle.mounts.specs.Route.{Route, cut, route_at}
+use Rattle.broker_model.specs.Command.{Command, on_cubbyhole, on_token, on_secret, on_policy, command_for}
+use Rattle.broker_model.specs.Order.{permission_denied}
+use Rattle.broker_rows.specs.Ending.{EndsCaller, Expires}
+use Rattle.broker_rows.specs.ReadableRow.{IsDenied}
+use Rattle.broker_rows.specs.Reads.{AreReadableObjects, AreReadableTokens, AreReadableSecrets, AreReadablePolicies}
+use Rattle.broker.specs.PermittedRows.{IsPermittedAt, IsToldForbidden}
+
+-- ---- what an ask means
+
+-- none of the rows that a command of the caller reads is damaged
+abbrev pub IsReadableCommand : Rows → Text → Command → Type 0
+IsReadableCommand rows caller (on_cubbyhole command) = AreReadableObjects rows caller command
+IsReadableCommand rows caller (on_token command) = AreReadableTokens rows caller command
+IsReadableCommand rows caller (on_secret place command) = AreReadableSecrets rows place command
+IsReadableCommand rows caller (on_policy command) = AreReadablePolicies rows command
+
+-- The ask means this command: what is at the first segment of its path is known, and by that the route and the command
+-- are found.
+pub record Asks (rows : Rows) (a : Ask) (command : Command) : Type 0 where
+  pub mount : Option Mount
+  pub route : Route
+  pub known : IsKnownAt (table_of rows) (cut a.path).0 mount
+  pub found : route_at mount a.verb a.path ≡ Ok route
+  pub meant : command_for route a ≡ Ok command
+
+-- ---- when the rows are read
+
+-- the rows when a command of the token t is carried out: tokens have expired, and t has spent a use
+pub record AreAtCommand (moment : ℕ) (t : Text) (old rows : Rows) : Type 0 where
+  pub now : ℕ
+  pub expired : Rows
+  pub expires : Expires moment now old expired
+  pub spends : ChangesToken t spent_entry (table_of expired) (table_of rows)
+
+-- ---- a caller that may not ask
+
+-- the ask is refused since the rows say that the token t may not ask; no row has changed
+pub record IsForbidden {A : Type 0} (old new : Rows) (t : Text) (ask : Ask) (result : Result A RequestError) :
+    Type 0 where
+  pub refused : result ≡ Err (Refused permission_denied)
+  pub forbidden : IsPermittedAt old t ask.verb ask.path false
+  pub same : new ≡ old
+
+-- the rows say that the token t may ask, and none of those that its command reads is damaged, if the ask means one
+pub record MayBeDone (rows : Rows) (t : Text) (ask : Ask) : Type 0 where
+  pub permitted : IsPermittedAt rows t ask.verb ask.path true
+  pub readable : (command : Command) → Asks rows ask command → IsReadableCommand rows t command
+
+-- The token t may ask, and what it asks for can be read. From what was done since, t has ended, if it has no uses left.
+pub record IsCarriedOut (rows new : Rows) (t : Text) (ask : Ask) : Type 0 where
+  pub may : MayBeDone rows t ask
+  pub done : Rows
+  pub ends : EndsCaller t done new
+
+-- the token t may ask, and what it asks for can be read; or it is told that it may not ask
+abbrev pub IsCarriedOutOrForbidden : Rows → Rows → Text → Ask → Response → Type 0
+IsCarriedOutOrForbidden rows new t ask r = IsCarriedOut rows new t ask ⊎ IsToldForbidden rows new t ask r
+
+-- once tokens have expired and t has spent a use, it is told that it may not ask
+abbrev pub IsForbiddenThen : ℕ → Text → Rows → Rows → Ask → Response → Type 0
+IsForbiddenThen moment t old new ask r =
+    (rows : Rows) × AreAtCommand moment t old rows × IsToldForbidden rows new t ask r
+
+-- ---- what is answered, whatever the rows are
+
+-- The rows decide whether the token t may ask. If it may, its command is not answered if a row that it reads is
+-- damaged; else it is told that it may not, and nothing is done. Either way t has ended then, if it has no uses left.
+-- Or it is denied since it is not there any more.
+abbrev pub IsAnsweredBy : ℕ → Text → Rows → Rows → Ask → Response → Type 0
+IsAnsweredBy moment t old new ask r =
+    ((rows : Rows) × AreAtCommand moment t old rows × IsCarriedOutOrForbidden rows new t ask r) ⊎ IsDenied moment r old new t

@@ -1,0 +1,65 @@
+-- Wrapping, computed on a small broker.
+use Rattle.std.specs.Prelude.{◌≡◌, [], ◌∷◌, None, Some, true, false, codes}
+use Rattle.std.specs.Fmt.{digits}
+use Rattle.std.proofs.Common.{refl}
+use Rattle.json.specs.Print.{escape_byte}
+use Rattle.broker_types.specs.Text.{same}
+use Rattle.broker_types.specs.Map.{get}
+use Rattle.broker_types.specs.MapLaws.{get-put}
+use Rattle.broker_types.specs.Broker.{Broker, Waiting}
+use Rattle.broker_types.specs.First.{first_broker}
+use Rattle.broker_types.specs.Names.{Names}
+use Rattle.broker_types.specs.Operation.{nothing, reply, plainly}
+use Rattle.broker_types.specs.Time.{civil, day_from_year, day_from_month}
+use Rattle.broker_types.specs.declared.ask.Ask.{Ask}
+use Rattle.broker_types.specs.declared.reply.Reply.{Reply}
+use Rattle.api_json.specs.Printing as printing
+use Rattle.api_json.specs.Reply.{reply_text}
+use Rattle.broker_model.specs.Act.{act}
+use Rattle.broker_model.specs.Command.{Command, on_cubbyhole, on_token, on_secret, on_policy}
+use Rattle.broker_model.specs.Order.{wrap_info, wraps, wrap_200, Wrapped, unwrapped}
+use Rattle.broker_model.specs.Permission.{permits}
+use Rattle.broker_model.specs.Step.{traits, request_of}
+
+abbrev broker : Broker
+broker = first_broker 100 1 2
+
+-- a response that waits from 100 for 5 seconds
+abbrev response : Waiting
+response = record { accessor = codes "a"; created = 100; ttl = 5; path = codes "p"; origin = codes "o"; reply = codes "{}" }
+
+told : wrap_info (codes "hvs.t") response (Some (codes "m"))
+    ≡ codes "{\"accessor\":\"a\",\"creation_path\":\"p\",\"creation_time\":\"1970-01-01T00:01:40Z\",\"token\":\"hvs.t\",\"ttl\":5,\"wrapped_accessor\":\"m\"}"
+unfolding wrap_info digits escape_byte civil day_from_year day_from_month printing.with_member printing.with_item printing.quoted
+told = refl
+
+-- a request with a wrap TTL of 5 seconds is wrapped, and one without is not
+wraps_with_ttl : (a : Ask) (command : Command) → wraps permits traits act (record (request_of a) { wrap_ttl = 5 }) command ≡ true
+wraps_with_ttl a (on_cubbyhole command) = refl
+wraps_with_ttl a (on_token command) = refl
+wraps_with_ttl a (on_secret place command) = refl
+wraps_with_ttl a (on_policy command) = refl
+
+not_without : (a : Ask) (command : Command) → wraps permits traits act (request_of a) command ≡ false
+not_without a (on_cubbyhole command) = refl
+not_without a (on_token command) = refl
+not_without a (on_secret place command) = refl
+not_without a (on_policy command) = refl
+
+-- the reply r to a request for the path `p`, wrapped under `w` with the accessor `x`
+wrapped_in : Names → Reply → Wrapped
+wrapped_in names r = wrap_200 broker (codes "p") 5 names (plainly (reply r None) broker) (reply r None)
+
+waits_under_it : (names : Names) (r : Reply) → names.wrapping_token ≡ codes "w" → names.wrapping_accessor ≡ codes "x"
+    → get (wrapped_in names r).done.next.waiting (codes "hvs.w")
+    ≡ Some (record { accessor = codes "x"; created = 100; ttl = 5; path = codes "p"; origin = codes "w"; reply = reply_text r })
+unfolding wrapped_in same
+waits_under_it names r w x = rw w (rw x (get-put broker.waiting (codes "hvs.w") _ (codes "hvs.w")))
+
+takes_both : (names : Names) (r : Reply) → (wrapped_in names r).done.taken ≡ names.wrapping_token ∷ names.wrapping_accessor ∷ []
+unfolding wrapped_in
+takes_both names r = refl
+
+-- a 204 is not wrapped
+nothing_to_wrap : (names : Names) → wrap_200 broker (codes "p") 5 names (plainly nothing broker) nothing ≡ unwrapped (plainly nothing broker)
+nothing_to_wrap names = refl

@@ -1,0 +1,253 @@
+-- The part of tokens, computed.
+use Rattle.std.specs.Prelude.{◌≡◌, ◌++◌, ℕ, List, [], ◌∷◌, Bool, true, false, Option, Some, None, Ok, Err, codes, map, ⊤}
+use Rattle.std.specs.Cmp.Lexicographic.{nat_list_cmp_total}
+use Rattle.std.specs.Fmt.{digits}
+use Rattle.std.specs.FinMap as fin
+use Rattle.std.specs.FinMap.{entries-insert}
+use Rattle.std.proofs.Common.{refl, ◌∙◌, ap}
+use Rattle.json.specs.Print.{escape_byte}
+use Rattle.broker_types.specs.Text.{Text, text_cmp, same}
+use Rattle.broker_types.specs.Map.{get, empty, entries, keys}
+use Rattle.broker_types.specs.MapLaws.{entries-empty, get-put_self}
+use Rattle.broker_types.specs.Lineage.{ParentsExist}
+use Rattle.broker_types.specs.First.{root_token, first_broker}
+use Rattle.broker_types.specs.Identifier.{id}
+use Rattle.broker_types.specs.TokenText.{token_text}
+use Rattle.broker_types.specs.Token.{Token}
+use Rattle.broker_types.specs.Broker.{Broker}
+use Rattle.broker_types.specs.Names.{Names}
+use Rattle.broker_types.specs.Operation.{nothing, plainly}
+use Rattle.broker_types.specs.Time.{civil, day_from_year, day_from_month}
+use Rattle.broker_types.specs.LineageLaws.{revoke_unknown}
+use Rattle.broker_types.specs.TreeLaws.{orphan_unknown}
+use Rattle.broker_types.specs.declared.refusal.Refusal.TheVariants as refusal
+use Rattle.broker_types.specs.declared.refusal.Reason.{Reason}
+use Rattle.broker_types.specs.declared.refusal.Reason.TheVariants as reason
+use Rattle.broker_types.specs.declared.refusal.Denial.TheVariants as denial
+use Rattle.records.specs.Children.{set_of}
+use Rattle.records.specs.TokenEntry.{token_entry}
+use Rattle.broker_types.specs.declared.refusal.Field.TheVariants as field
+use Rattle.api_json.specs.Members.{optional}
+use Rattle.api_json.specs.Readers as reader
+use Rattle.api_json.specs.Names.{name_text}
+use Rattle.api_json.specs.Objects as object
+use Rattle.api_json.specs.Printing as printing
+use Rattle.api_json.specs.Reply.{reply_text}
+use Rattle.api_json.specs.declared.token_bodies.TokenCreation.{TokenCreation}
+use Rattle.policies.specs.Allows.{allows}
+use Rattle.policies.specs.Grants.{rules_of}
+use Rattle.broker_model.specs.declared.making.Making.{Making}
+use Rattle.broker_model.specs.declared.making.Making.TheVariants.{OfCaller, WithoutParent}
+use Rattle.broker_model.specs.parts.TokenCreation.{new_token, new_policies, may_make}
+use Rattle.broker_model.specs.parts.TokenReplies.{seconds_left, looked_up, auth_reply}
+use Rattle.broker_model.specs.parts.TokenCommands.{create_token, renew_self, revoke_self, create_meant, revoke_meant}
+use Rattle.broker_model.specs.parts.TokenCommands.{revoke_self_meant}
+use Rattle.broker_model.specs.parts.Tokens.{act_on_tokens, made, look_up, new_end, revoke, revoke_alone}
+
+-- ---- times
+
+-- a body that asks for policies, times and a use limit
+asked : List Text → ℕ → ℕ → Bool → Bool → TokenCreation
+asked policies ttl explicit_max_ttl no_parent no_default_policy =
+    record {
+      policies = policies;
+      meta = [];
+      ttl = ttl;
+      explicit_max_ttl = explicit_max_ttl;
+      num_uses = 0;
+      no_parent = no_parent;
+      no_default_policy = no_default_policy;
+    }
+
+abbrev accessor : Text
+accessor = codes "00000000-0000-0000-0000-000000000012"
+
+abbrev child_text : Text
+child_text = codes "hvs.00000000-0000-0000-0000-000000000011"
+
+-- root makes a token at 1000: ttl 100, at most 150
+child : Token
+unfolding asked
+child = new_token 1000 (Some (codes "hvs.r")) accessor (codes "root" ∷ []) (asked [] 100 150 false false)
+
+ends : child.ends ≡ Some 1100
+unfolding child asked same
+ends = refl
+
+-- at 1040 it is renewed for its creation ttl, at 1060 for 500 seconds
+renewed : new_end 1040 (token_entry child) 0 ≡ 1140
+unfolding child asked same
+renewed = refl
+
+renewed_at_most : new_end 1060 (token_entry child) 500 ≡ 1150
+unfolding child asked same
+renewed_at_most = refl
+
+left : seconds_left 1060 (Some 1150) ≡ 90
+left = refl
+
+-- a root token has no end if the body names no time, and a token of no times lasts for 32 days
+endless : (new_token 1000 None accessor (codes "root" ∷ []) (asked [] 0 0 false false)).ends ≡ None
+unfolding asked same
+endless = refl
+
+longest : (new_token 1000 None accessor (codes "n" ∷ []) (asked [] 0 0 false false)).ends ≡ Some 2765800
+unfolding asked same
+longest = refl
+
+-- ---- refusals, in their order
+
+abbrev n : Text
+n = codes "n"
+
+-- a caller with policies, a limit of its uses, and an end
+caller : List Text → Option ℕ → Option ℕ → Token
+caller policies uses ends = record (root_token 1000 (codes "c")) { policies = policies; uses_left = uses; ends = ends }
+
+abbrev default_and_n : List Text
+default_and_n = codes "default" ∷ n ∷ []
+
+abbrev refused : Bool → Making → Token → List Text → TokenCreation → Reason → Type 0
+refused privileged making x policies a why = may_make privileged making x policies a ≡ Err (refusal.BadRequest why)
+
+all_at_once : TokenCreation
+all_at_once = asked (codes "a b" ∷ codes "root" ∷ codes "x" ∷ []) 0 0 true false
+
+limited : refused false OfCaller (caller default_and_n (Some 8) (Some 2765800)) [] all_at_once reason.RestrictedToken
+unfolding caller same
+limited = refl
+
+no_name : refused false OfCaller (caller default_and_n None (Some 2765800)) [] all_at_once reason.InvalidName
+unfolding all_at_once asked caller same
+no_name = refl
+
+no_root : refused false OfCaller (caller default_and_n None (Some 2765800)) [] (asked (codes "root" ∷ codes "x" ∷ []) 0 0 true false) reason.RootByRootAlone
+unfolding asked caller same
+no_root = refl
+
+beyond : refused false OfCaller (caller default_and_n None (Some 2765800)) [] (asked (codes "x" ∷ []) 0 0 true false) reason.PoliciesBeyondParent
+unfolding asked caller same
+beyond = refl
+
+no_orphan : refused false OfCaller (caller default_and_n None (Some 2765800)) [] (asked (n ∷ []) 0 0 true false) reason.OrphanNeedsSudo
+unfolding asked caller same
+no_orphan = refl
+
+by_its_own_route : may_make false WithoutParent (caller default_and_n None (Some 2765800)) default_and_n (asked (n ∷ []) 0 0 true false) ≡ Ok tt
+unfolding asked caller same
+by_its_own_route = refl
+
+expiring : refused true OfCaller (caller (codes "root" ∷ []) None (Some 1100)) (codes "root" ∷ []) (asked [] 0 0 false false) reason.ExpiringRoot
+unfolding asked caller same
+expiring = refl
+
+-- ---- policies
+
+-- names put in their order, one after another
+listed : List Text → List (Text × ⊤)
+listed [] = []
+listed (t ∷ ts) = fin.put text_cmp t tt (listed ts)
+
+set_listed : (ts : List Text) → entries (set_of ts) ≡ listed ts
+unfolding listed
+set_listed [] = entries-empty
+set_listed (t ∷ ts) = entries-insert nat_list_cmp_total (set_of ts) t tt ∙ ap (fin.put text_cmp t tt) (set_listed ts)
+
+names_of : (ts : List Text) → keys (set_of ts) ≡ map (λ e. e.0) (listed ts)
+names_of ts = ap (map (λ e. e.0)) (set_listed ts)
+
+-- root and callers with `default` add `default`
+added : new_policies true (root_token 1000 (codes "r")) (asked (n ∷ []) 0 0 false false) ≡ default_and_n
+unfolding asked same listed
+added = names_of (codes "default" ∷ n ∷ [])
+
+once : new_policies true (root_token 1000 (codes "r")) (asked (n ∷ codes "default" ∷ []) 0 0 false false) ≡ default_and_n
+unfolding asked same listed
+once = names_of (codes "default" ∷ n ∷ codes "default" ∷ [])
+
+-- other callers do not, and no list is that of the caller
+not_added : new_policies false (caller (n ∷ []) None None) (asked (n ∷ []) 0 0 false false) ≡ n ∷ []
+unfolding asked caller same listed
+not_added = names_of (n ∷ [])
+
+-- without `default`
+less_default : new_policies false (caller default_and_n None None) (asked [] 0 0 false true) ≡ n ∷ []
+unfolding asked caller same listed
+less_default = names_of (n ∷ [])
+
+none_left : new_policies false (caller default_and_n None None) (asked (codes "default" ∷ []) 0 0 false true) ≡ []
+unfolding asked caller same listed
+none_left = names_of []
+
+-- `root` is alone
+root_alone : new_policies true (root_token 1000 (codes "r")) (asked (n ∷ codes "root" ∷ []) 0 0 false true) ≡ codes "root" ∷ []
+unfolding asked same
+root_alone = refl
+
+-- ---- texts
+
+-- the reply to the creation of `child`
+auth_text : reply_text (auth_reply (codes "00000000-0000-0000-0000-000000000010") 1000 child_text (token_entry (record child { meta = empty })))
+    ≡ codes "{\"auth\":{\"accessor\":\"00000000-0000-0000-0000-000000000012\","
+    ++ codes "\"client_token\":\"hvs.00000000-0000-0000-0000-000000000011\",\"entity_id\":\"\",\"lease_duration\":100,"
+    ++ codes "\"metadata\":null,\"num_uses\":0,\"orphan\":false,\"policies\":[\"root\"],\"renewable\":true,"
+    ++ codes "\"token_policies\":[\"root\"],\"token_type\":\"service\"},\"data\":null,\"lease_duration\":0,"
+    ++ codes "\"lease_id\":\"\",\"renewable\":false,\"request_id\":\"00000000-0000-0000-0000-000000000010\","
+    ++ codes "\"warnings\":null,\"wrap_info\":null}\n"
+unfolding child asked same reply_text object.auth_object name_text digits escape_byte printing.with_member printing.with_item printing.quoted
+    printing.null_text printing.whole_number printing.bool_text printing.or_null printing.texts printing.pairs
+auth_text = rw entries-empty refl
+
+-- its look-up, when it has been renewed at 1040
+token_text_at_1040 : object.token_object (looked_up 1040 child_text (token_entry (record child { ends = Some 1140; meta = empty })))
+    ≡ codes "{\"accessor\":\"00000000-0000-0000-0000-000000000012\",\"creation_time\":1000,\"creation_ttl\":100,"
+    ++ codes "\"expire_time\":\"1970-01-01T00:19:00Z\",\"explicit_max_ttl\":150,"
+    ++ codes "\"id\":\"hvs.00000000-0000-0000-0000-000000000011\",\"issue_time\":\"1970-01-01T00:16:40Z\",\"meta\":null,"
+    ++ codes "\"num_uses\":0,\"orphan\":false,\"policies\":[\"root\"],\"renewable\":true,\"ttl\":100,\"type\":\"service\"}"
+unfolding child asked same object.token_object name_text digits escape_byte printing.with_member printing.with_item printing.quoted
+    printing.null_text printing.whole_number printing.bool_text printing.texts printing.pairs printing.time printing.time_or
+    civil day_from_year day_from_month
+token_text_at_1040 = rw entries-empty refl
+
+-- ---- bodies
+
+no_body : revoke_self_meant [] ≡ Ok revoke_self
+no_body = refl
+
+no_token : revoke_meant [] ≡ Err (refusal.BadRequest (reason.MissingField field.Token))
+unfolding reader.token optional
+no_token = refl
+
+nothing_asked : create_meant [] ≡ Ok (create_token (asked [] 0 0 false false))
+unfolding reader.token_creation optional asked
+nothing_asked = refl
+
+-- ---- the root token of the start
+
+abbrev first : Broker
+first = first_broker 1000 1 2
+
+abbrev root_text : Text
+root_text = token_text (id 1)
+
+-- it has no end
+not_renewable : (names : Names) → act_on_tokens first root_text names (renew_self 0) ≡ Err (refusal.BadRequest reason.TokenNotRenewable)
+not_renewable names = rw (get-put_self empty root_text (root_token 1000 (id 2))) refl
+
+-- it makes a token without policies of its own
+makes : (names : Names) → act_on_tokens first root_text names (create_token (asked [] 100 150 false false))
+    ≡ Ok (made first names (new_token 1000 (Some root_text) names.accessor (codes "root" ∷ []) (asked [] 100 150 false false)))
+unfolding asked same allows rules_of
+makes names = rw (get-put_self empty root_text (root_token 1000 (id 2))) refl
+
+-- ---- what is unknown
+
+unknown : (b : Broker) (names : Names) (t id : Text) → get b.tokens t ≡ None → look_up b names t id ≡ Err (refusal.Forbidden denial.BadToken)
+unknown b names t id none = rw none refl
+
+-- a text that is no token, as the empty one, ends nothing
+ends_nothing : (b : Broker) (t : Text) → get b.tokens t ≡ None → revoke b t ≡ plainly nothing b
+ends_nothing b t none = ap (λ ts. plainly nothing (record b { tokens = ts })) (revoke_unknown b.tokens t none)
+
+ends_none_alone : (b : Broker) (t : Text) → ParentsExist b.tokens → get b.tokens t ≡ None → revoke_alone b t ≡ plainly nothing b
+ends_none_alone b t parents none = ap (λ ts. plainly nothing (record b { tokens = ts })) (orphan_unknown b.tokens t parents none)

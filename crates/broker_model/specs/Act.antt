@@ -1,0 +1,25 @@
+-- What each command does to the maps, part by part (this project's definition).
+use Rattle.std.specs.Prelude.{Option, Some, None, Result, Err}
+use Rattle.broker_types.specs.Text.{Text}
+use Rattle.broker_types.specs.Broker.{Broker}
+use Rattle.broker_types.specs.Names.{Names}
+use Rattle.broker_types.specs.Operation.{Done}
+use Rattle.broker_types.specs.declared.refusal.Refusal.{Refusal}
+use Rattle.broker_model.specs.Command.{Command, on_cubbyhole, on_token, on_secret, on_policy}
+use Rattle.broker_model.specs.parts.Cubbyholes.{act_on_cubbyhole}
+use Rattle.broker_model.specs.parts.AclPolicies.{act_on_policies}
+use Rattle.broker_model.specs.parts.Secrets.{act_on_secrets}
+use Rattle.broker_model.specs.parts.Tokens.{act_on_tokens}
+use Rattle.broker_model.specs.Order.{permission_denied}
+
+-- by a caller
+abbrev pub act_for : Broker → Text → Names → Command → Result Done Refusal
+act_for b c names (on_cubbyhole command) = act_on_cubbyhole b c names command
+act_for b c names (on_token command) = act_on_tokens b c names command
+act_for b c names (on_secret place command) = act_on_secrets b names place command
+act_for b c names (on_policy command) = act_on_policies b names command
+
+-- without a caller nothing of this is done
+abbrev pub act : Broker → Option Text → Names → Command → Result Done Refusal
+act b None names command = Err permission_denied
+act b (Some c) names command = act_for b c names command

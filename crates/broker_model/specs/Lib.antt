@@ -1,0 +1,13 @@
+pub mod Act
+pub mod Capabilities
+pub mod Command
+pub mod Forms
+pub mod Laws
+pub mod Listed
+pub mod Order
+pub mod Permission
+pub mod Request
+pub mod Responses
+pub mod Serving
+pub mod Step
+pub mod parts

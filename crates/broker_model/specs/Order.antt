@@ -1,0 +1,230 @@
+-- The order of one request: what is answered, what is there afterwards, and which identifiers were given out (Vault's
+-- documentation, "Tokens", use limits; "Policies"; "Response wrapping"; the order is this project's).
+--
+-- 1. The clock moves on, and what has ended is gone.
+-- 2. An open request has no caller. Else the client token is found; a wrapping token is removed and denied.
+-- 3. The caller spends a use, if its uses are limited.
+-- 4. Policies allow the path, unless the request is open.
+-- 5. There is a route, and the body and the version can be read.
+-- 6. The identifiers that the request needs are new, and a request to wrap has a wrap TTL.
+-- 7. The operation runs.
+-- 8. A reply of status 200 is wrapped, if a wrap TTL asks for it.
+-- 9. A caller without uses left ends, with its descendants.
+--
+-- A refusal at any step keeps the clock, what the clock ended, the response that step 2 removed and the use of step 3
+-- (with step 9), and nothing else.
+use Rattle.std.specs.Prelude.{◌≡◌, ◌≢◌, ◌⊎◌, ℕ, List, [], ◌∷◌, Bool, false, not, ◌&&◌, ◌||◌, nat_lt, if◌then◌else◌}
+use Rattle.std.specs.Prelude.{Option, Some, None, Result, Ok, Err, is_some, codes, decimal}
+use Rattle.broker_types.specs.Text.{Text}
+use Rattle.broker_types.specs.Map.{get, put}
+use Rattle.broker_types.specs.TokenText.{token_text}
+use Rattle.broker_types.specs.Time.{time_text}
+use Rattle.broker_types.specs.Broker.{Broker, Waiting, at_moment}
+use Rattle.broker_types.specs.Answer.{Response, refused}
+use Rattle.broker_types.specs.Evolves.{Evolves}
+use Rattle.broker_types.specs.Names.{Names}
+use Rattle.broker_types.specs.Operation.{Answered, nothing, reply, kept_text, missing, Done}
+use Rattle.broker_types.specs.Refuse.{◌>>=◌, unless}
+use Rattle.broker_types.specs.Spending.{spend, end_spent, drop_waiting}
+use Rattle.broker_types.specs.Used.{are_new, use_up}
+use Rattle.broker_types.specs.declared.ask.Verb.{Verb}
+use Rattle.broker_types.specs.declared.reply.Reply.{Reply}
+use Rattle.broker_types.specs.declared.refusal.Refusal.{Refusal}
+use Rattle.broker_types.specs.declared.refusal.Refusal.TheVariants as refusal
+use Rattle.broker_types.specs.declared.refusal.Reason.TheVariants as reason
+use Rattle.broker_types.specs.declared.refusal.Denial.TheVariants as denial
+use Rattle.api_json.specs.Printing.{object_of, quoted}
+use Rattle.api_json.specs.Reply.{reply_text}
+use Rattle.broker_model.specs.Responses.{ok, no_content, not_found}
+use Rattle.broker_model.specs.Request.{Request}
+
+-- ---- what an operation leaves
+
+-- what it left, and the origin of the response that its wrapping made
+pub record Wrapped : Type 0 where
+  pub done : Done
+  pub born : Option Text
+
+-- What a request leaves: its response, the next broker, the identifiers given out, the origin of the response that was
+-- handed out, and that of the response that was kept.
+pub record Outcome : Type 0 where
+  pub response : Response
+  pub next : Broker
+  pub taken : List Text
+  pub handed : Option Text
+  pub born : Option Text
+
+-- what a command is, beside what it does
+pub record Traits : Type 0 where
+  -- the operation's own identifiers
+  pub own : Names → List Text
+  -- whether its reply is wrapped if a wrap TTL asks for it, and whether it must have one
+  pub may_wrap : Bool
+  pub must_wrap : Bool
+
+-- ---- the caller
+
+-- 403 `permission denied`
+abbrev pub permission_denied : Refusal
+permission_denied = refusal.Forbidden denial.PermissionDenied
+
+-- the broker denies the request, and gives out nothing
+abbrev pub denied : Broker → Outcome
+denied b = record { response = refused permission_denied; next = b; taken = []; handed = None; born = None }
+
+-- what the client token leads to: a wrapping token is removed, and one that is not there is denied
+abbrev pub for_caller : Broker → Option Text → (Text → Outcome) → Outcome
+for_caller b None go = denied b
+for_caller b (Some t) go =
+    if is_some (get b.waiting t) then denied (drop_waiting b t)
+    else (if is_some (get b.tokens t) then go t else denied b)
+
+-- ---- wrapping (Vault's documentation, "Response wrapping")
+
+-- the accessor of a token that the reply made, if there is one
+abbrev pub accessor_member : Option Text → List (Text × Text)
+accessor_member None = []
+accessor_member (Some a) = (codes "wrapped_accessor", quoted a) ∷ []
+
+-- what the reply says of a wrapping token, with the accessor of the token that the kept reply made
+unfoldable pub wrap_info : Text → Waiting → Option Text → Text
+wrap_info t w made =
+    object_of (
+    (codes "accessor", quoted w.accessor)
+    ∷ (codes "creation_path", quoted w.path)
+    ∷ (codes "creation_time", quoted (time_text w.created))
+    ∷ (codes "token", quoted t)
+    ∷ (codes "ttl", decimal w.ttl)
+    ∷ accessor_member made)
+
+-- a reply with nothing but a wrapping token
+abbrev pub info_reply : Text → Text → Reply
+info_reply request info =
+    record {
+      auth = None;
+      payload = None;
+      lease_duration = 0;
+      lease_id = [];
+      renewable = false;
+      request_id = request;
+      wrap_info = Some info;
+    }
+
+-- the reply, as it waits under its wrapping token
+abbrev pub kept_entry : Broker → Text → ℕ → Names → Reply → Waiting
+kept_entry b path ttl names r =
+    record {
+      accessor = names.wrapping_accessor;
+      created = b.clock;
+      ttl = ttl;
+      path = path;
+      origin = names.wrapping_token;
+      reply = reply_text r;
+    }
+
+-- the reply is kept, and the caller gets a wrapping token in its place
+abbrev pub wrap : Broker → Text → ℕ → Names → Done → Reply → Option Text → Wrapped
+wrap b path ttl names d r made =
+    let entry = kept_entry b path ttl names r in
+    let token = token_text names.wrapping_token in
+    record {
+      done = record {
+        answered = reply (info_reply names.request (wrap_info token entry made)) None;
+        next = record d.next { waiting = put d.next.waiting token entry };
+        taken = names.wrapping_token ∷ names.wrapping_accessor ∷ d.taken;
+        handed = d.handed;
+      };
+      born = Some names.wrapping_token;
+    }
+
+-- not wrapped
+abbrev pub unwrapped : Done → Wrapped
+unwrapped d = record { done = d; born = None }
+
+-- only a reply of status 200 is wrapped
+abbrev pub wrap_200 : Broker → Text → ℕ → Names → Done → Answered → Wrapped
+wrap_200 b path ttl names d nothing = unwrapped d
+wrap_200 b path ttl names d (reply r made) = wrap b path ttl names d r made
+wrap_200 b path ttl names d (kept_text t) = unwrapped d
+wrap_200 b path ttl names d (missing r) = unwrapped d
+
+-- ---- the answer
+
+-- the response of what an operation answered (RFC 9110, section 15)
+abbrev pub response_to : Answered → Response
+response_to nothing = no_content
+response_to (reply r made) = ok (reply_text r)
+response_to (kept_text t) = ok t
+response_to (missing r) = not_found (reply_text r)
+
+-- what is left when the request has been served, or refused
+abbrev pub finish : Broker → Option Text → Result Wrapped Refusal → Outcome
+finish b c (Err r) = record { response = refused r; next = end_spent b c; taken = []; handed = None; born = None }
+finish b c (Ok v) =
+    record {
+      response = response_to v.done.answered;
+      next = end_spent (record v.done.next { used = use_up v.done.next.used v.done.taken }) c;
+      taken = v.done.taken;
+      handed = v.done.handed;
+      born = v.born;
+    }
+
+-- ---- the order
+
+module _ {Command : Type 0} (permits : Broker → Option Text → Verb → Text → Bool) (traits : Command → Traits)
+    (act : Broker → Option Text → Names → Command → Result Done Refusal) where
+  -- whether the reply of this command is wrapped
+  abbrev pub wraps : Request Command → Command → Bool
+  wraps q command = nat_lt 0 q.wrap_ttl && (traits command).may_wrap
+
+  -- the identifiers that the request needs
+  abbrev pub needed : Request Command → Names → Command → List Text
+  needed q names command =
+      if wraps q command then names.wrapping_token ∷ names.wrapping_accessor ∷ (traits command).own names
+      else (traits command).own names
+
+  -- what the operation left, wrapped if it is to be
+  abbrev pub wrapped : Broker → Request Command → Names → Command → Done → Wrapped
+  wrapped b q names command d =
+      if wraps q command then wrap_200 b q.path q.wrap_ttl names d d.answered else unwrapped d
+
+  -- policies, route and body, identifiers, operation, wrapping
+  abbrev pub serve : Broker → Option Text → Request Command → Names → Result Wrapped Refusal
+  serve b c q names = do
+    allowed ← unless (q.is_open || permits b c q.verb q.path) permission_denied
+    command ← q.command b
+    fresh ← unless (are_new b.used (needed q names command)) refusal.IdentifierUsed
+    asked ← unless (not (traits command).must_wrap || nat_lt 0 q.wrap_ttl) (refusal.BadRequest reason.WrappingRequired)
+    done ← act b c names command
+    Ok (wrapped b q names command done)
+
+  -- the order of one request, for any policies, commands and operations
+  abbrev pub ordered : Broker → ℕ → Request Command → Names → Outcome
+  ordered b moment q names =
+      let now = at_moment b moment in
+      if q.is_open then finish now None (serve now None q names)
+      else for_caller now q.token (λ c. finish (spend now c) (Some c) (serve (spend now c) (Some c) q names))
+
+-- ---- operations
+
+-- The response of the origin o is handed out: it waited, its text is the answer, and it is gone (Vault's documentation,
+-- "Response wrapping", single use).
+pub record HandsOut (b : Broker) (d : Done) (o : Text) : Type 0 where
+  pub token : Text
+  pub entry : Waiting
+  pub waited : get b.waiting token ≡ Some entry
+  pub origin : entry.origin ≡ o
+  pub text : d.answered ≡ kept_text entry.reply
+  pub gone : get d.next.waiting token ≡ None
+
+-- What each operation keeps, by its own identifiers. It gives them out or none: none with a 204 or a 404. It marks none
+-- as used, which the order does; a 404 changes nothing; what it hands out waited until then, and a kept text is
+-- answered only so; and the broker evolves.
+pub record IsProper (b : Broker) (own : List Text) (d : Done) : Type 0 where
+  pub used : d.next.used ≡ b.used
+  pub gives_own : (d.taken ≡ []) ⊎ (d.taken ≡ own)
+  pub none_at_204 : d.answered ≡ nothing → d.taken ≡ []
+  pub none_at_404 : (r : Reply) → d.answered ≡ missing r → (d.next ≡ b) × (d.taken ≡ [])
+  pub hands_out : (o : Text) → d.handed ≡ Some o → HandsOut b d o
+  pub keeps_text : (t : Text) → d.answered ≡ kept_text t → d.handed ≢ None
+  pub evolves : Evolves b d.next

@@ -1,0 +1,34 @@
+-- What a caller may ask (Vault's documentation, "Policies").
+use Rattle.std.specs.Prelude.{Bool, false, not, ◌||◌, ◌&&◌, nat_eq, codes, Option, Some, None}
+use Rattle.std.specs.List.{starts_with}
+use Rattle.std.specs.Option.{option_map_or}
+use Rattle.broker_types.specs.Text.{Text, same}
+use Rattle.broker_types.specs.Map.{get}
+use Rattle.broker_types.specs.Token.{Token}
+use Rattle.broker_types.specs.Broker.{Broker}
+use Rattle.broker_types.specs.declared.ask.Verb.{Verb}
+use Rattle.policies.specs.Allows.{allows}
+use Rattle.policies.specs.Grants.{rules_of}
+use Rattle.policies.specs.Rules.{Rules}
+use Rattle.policies.specs.declared.capability.Capability.{Capability}
+use Rattle.policies.specs.declared.capability.Capability.TheVariants.{Sudo}
+use Rattle.broker_model.specs.Capabilities.{asked}
+
+-- whether a path asks for the capability `sudo` too ("Policies", root-protected API endpoints)
+unfoldable pub needs_sudo : Text → Bool
+needs_sudo path =
+    same path (codes "auth/token/accessors") || same path (codes "auth/token/revoke-orphan")
+    || starts_with nat_eq path (codes "sys/leases/revoke-prefix/")
+
+-- whether rules allow the capability at a path, and `sudo` as well if the path asks for it
+abbrev pub may : Rules → Text → Capability → Bool
+may rules path c = allows rules path c && (not (needs_sudo path) || allows rules path Sudo)
+
+-- whether the token x of the caller c may ask with a verb at a path: its policies decide
+abbrev pub may_ask : Broker → Text → Verb → Text → Token → Bool
+may_ask b c verb path x = may (rules_of b.policies x.policies verb) path (asked b c verb path)
+
+-- whether a caller may ask; without a caller nothing is allowed
+abbrev pub permits : Broker → Option Text → Verb → Text → Bool
+permits b None verb path = false
+permits b (Some c) verb path = option_map_or (may_ask b c verb path) (get b.tokens c) false

@@ -1,0 +1,42 @@
+-- One request of the broker of three maps (this project's definition).
+use Rattle.std.specs.Prelude.{ℕ, false}
+use Rattle.broker_types.specs.Broker.{Broker}
+use Rattle.broker_types.specs.declared.ask.Ask.{Ask}
+use Rattle.broker_types.specs.declared.words.Words.{Words}
+use Rattle.broker_model.specs.Request.{Request}
+use Rattle.broker_types.specs.Names.{names_of}
+use Rattle.broker_model.specs.Command.{Command, on_cubbyhole, on_token, on_secret, on_policy, command_of}
+use Rattle.broker_model.specs.parts.Cubbyholes.{cubbyhole_traits}
+use Rattle.broker_model.specs.parts.AclPolicyCommands.{policy_traits}
+use Rattle.broker_model.specs.parts.SecretCommands.{secret_traits}
+use Rattle.broker_model.specs.parts.TokenCommands.{token_traits}
+use Rattle.broker_model.specs.Act.{act}
+use Rattle.broker_model.specs.Order.{Traits, Outcome, ordered}
+use Rattle.broker_model.specs.Permission.{permits}
+
+-- what each command is, part by part
+abbrev pub traits : Command → Traits
+traits (on_cubbyhole command) = cubbyhole_traits command
+traits (on_token command) = token_traits command
+traits (on_secret place command) = secret_traits command
+traits (on_policy command) = policy_traits command
+
+-- so far no wrap TTL is read, and no request is open
+abbrev pub request_of : Ask → Request Command
+request_of a =
+    record {
+      verb = a.verb;
+      path = a.path;
+      token = a.token;
+      wrap_ttl = 0;
+      command = λ b. command_of b.mounts a;
+      is_open = false;
+    }
+
+-- step b moment words ask: what the broker b answers to the ask, and what it leaves
+unfoldable pub step : Broker → ℕ → Words → Ask → Outcome
+step b moment words a = ordered permits traits act b moment (request_of a) (names_of words)
+
+-- the ask without its wrap TTL: what `step` answers to it is what a wrapped reply would have been
+abbrev pub unwrapped_ask : Ask → Ask
+unwrapped_ask a = record a { wrap_ttl = 0 }

@@ -1,0 +1,10 @@
+pub mod AclPolicies
+pub mod AclPolicyCommands
+pub mod Cubbyholes
+pub mod SecretCommands
+pub mod SecretReplies
+pub mod Secrets
+pub mod TokenCommands
+pub mod TokenCreation
+pub mod TokenReplies
+pub mod Tokens

@@ -1,0 +1,144 @@
+-- The part of tokens: what the commands of the routes under `auth/token/` do to the maps (Vault's documentation, "Token
+-- auth method (API)"). No response waits so far: `revoke`, `revoke_alone` and `revoke_named` end no wrapping tokens.
+use Rattle.std.specs.Prelude.{ℕ, ◌+◌, ◌==◌, min, List, [], Bool, Some, None, is_some, Result, Ok, if◌then◌else◌}
+use Rattle.broker_types.specs.Text.{Text}
+use Rattle.broker_types.specs.Map.{get}
+use Rattle.broker_types.specs.Limits.{longest_ttl}
+use Rattle.broker_types.specs.Names.{Names}
+use Rattle.broker_types.specs.Token.{Token}
+use Rattle.broker_types.specs.TokenText.{token_text}
+use Rattle.broker_types.specs.Broker as broker
+use Rattle.broker_types.specs.Broker.{Broker}
+use Rattle.broker_types.specs.Operation.{nothing, reply, plainly, Done}
+use Rattle.broker_types.specs.Refuse.{◌>>=◌, some_or, unless}
+use Rattle.broker_types.specs.Used.{are_new}
+use Rattle.broker_types.specs.declared.refusal.Refusal.{Refusal}
+use Rattle.broker_types.specs.declared.refusal.Refusal.TheVariants as refusal
+use Rattle.broker_types.specs.declared.refusal.Reason.TheVariants as reason
+use Rattle.broker_types.specs.declared.refusal.Denial.TheVariants as denial
+use Rattle.records.specs.TokenEntry.{TokenEntry, token_entry}
+use Rattle.token_tree.specs.Tokens as tree
+use Rattle.api_json.specs.Objects.{keys_object}
+use Rattle.api_json.specs.Reply.{plain_reply}
+use Rattle.api_json.specs.declared.token_bodies.TokenCreation.{TokenCreation}
+use Rattle.broker_model.specs.declared.making.Making.{Making}
+use Rattle.broker_model.specs.declared.making.Making.TheVariants.{OfCaller, WithoutParent}
+use Rattle.broker_model.specs.parts.TokenCommands.{TokenCommand, create_token, create_orphan, lookup_token}
+use Rattle.broker_model.specs.parts.TokenCommands.{lookup_accessor, lookup_self, renew_token, renew_self, revoke_token}
+use Rattle.broker_model.specs.parts.TokenCommands.{revoke_orphan, revoke_accessor, revoke_self, list_accessors}
+use Rattle.broker_model.specs.parts.TokenCommands.{token_names}
+use Rattle.broker_model.specs.parts.TokenCreation.{making_path, is_privileged, new_policies, may_make, new_parent}
+use Rattle.broker_model.specs.parts.TokenCreation.{new_token, or_longest}
+use Rattle.broker_model.specs.parts.TokenReplies.{auth_reply, token_reply}
+
+-- ---- tokens that are named
+
+-- the token t; one that is not there is 403 `bad token`
+abbrev pub known : Broker → Text → Result Token Refusal
+known b t = some_or (refusal.Forbidden denial.BadToken) (get b.tokens t)
+
+-- the token of an accessor; an accessor of none is 400 `invalid accessor`
+abbrev pub named : Broker → Text → Result Text Refusal
+named b accessor = some_or (refusal.BadRequest reason.InvalidAccessor) (tree.find_accessor b accessor)
+
+-- ---- creation
+
+-- the token x is made
+abbrev pub made : Broker → Names → Token → Done
+made b names x =
+    let t = token_text names.token in
+    record {
+      answered = reply (auth_reply names.request b.clock t (token_entry x)) (Some names.accessor);
+      next = tree.with_token b t x;
+      taken = token_names names;
+      handed = None;
+    }
+
+-- the caller c, whose token is x, makes a token with these policies, if it may
+abbrev pub create_with : Broker → Text → Token → Names → Making → Bool → List Text → TokenCreation → Result Done Refusal
+create_with b c x names making privileged policies asked = do
+  allowed ← may_make privileged making x policies asked
+  Ok (made b names (new_token b.clock (new_parent c making asked) names.accessor policies asked))
+
+-- the caller c makes a token by the route, if it may
+abbrev pub create : Broker → Text → Names → Making → TokenCreation → Result Done Refusal
+create b c names making asked = do
+  x ← known b c
+  let privileged = is_privileged b (making_path making) x in
+      create_with b c x names making privileged (new_policies privileged x asked) asked
+
+-- what is done with the identifiers of a new token, which have to be new
+abbrev pub if_new : Broker → Names → Result Done Refusal → Result Done Refusal
+if_new b names done = do
+  fresh ← unless (are_new b.used (token_names names)) refusal.IdentifierUsed
+  done
+
+-- ---- look-up
+
+-- the token t, shown under this id
+abbrev pub look_up : Broker → Names → Text → Text → Result Done Refusal
+look_up b names t id = do
+  x ← known b t
+  Ok (plainly (reply (token_reply names.request b.clock id (token_entry x)) None) b)
+
+-- the token of the accessor, without its id
+abbrev pub look_up_accessor : Broker → Names → Text → Result Done Refusal
+look_up_accessor b names accessor = do
+  t ← named b accessor
+  look_up b names t []
+
+-- the accessors of all tokens, in the order of their bytes
+abbrev pub all_accessors : Broker → Names → Done
+all_accessors b names =
+    plainly (reply (plain_reply names.request (keys_object (tree.accessors_of b))) None) b
+
+-- ---- renewal
+
+-- The new end of the token x: after the increment, or after the time that it was made for if that is 0; and no later
+-- than 32 days, or its own longest time, after its issue.
+abbrev pub new_end : ℕ → TokenEntry → ℕ → ℕ
+new_end now x increment =
+    min (now + (if increment == 0 then x.ttl else increment))
+    (x.issued + min longest_ttl (or_longest x.explicit_max_ttl))
+
+-- the token t is renewed; one without an end is 400 `lease is not renewable`
+abbrev pub renew : Broker → Names → Text → ℕ → Result Done Refusal
+renew b names t increment = do
+  x ← known b t
+  ending ← unless (is_some x.ends) (refusal.BadRequest reason.TokenNotRenewable)
+  let next = new_end b.clock (token_entry x) increment in
+      Ok (plainly (reply (auth_reply names.request b.clock t (token_entry (tree.with_end next x))) None)
+      (tree.renew b t next))
+
+-- ---- revocation
+
+-- the token t ends, with all under it; an unknown text changes nothing
+abbrev pub revoke : Broker → Text → Done
+revoke b t = plainly nothing (broker.revoke b t)
+
+-- the token t ends alone: its children have no parent then; an unknown text changes nothing
+abbrev pub revoke_alone : Broker → Text → Done
+revoke_alone b t = plainly nothing (broker.revoke_orphan b t)
+
+-- the token of the accessor ends, with all under it
+abbrev pub revoke_named : Broker → Text → Result Done Refusal
+revoke_named b accessor = do
+  t ← named b accessor
+  Ok (revoke b t)
+
+-- ---- the part
+
+-- what a command of the caller c does
+abbrev pub act_on_tokens : Broker → Text → Names → TokenCommand → Result Done Refusal
+act_on_tokens b c names (create_token asked) = create b c names OfCaller asked
+act_on_tokens b c names (create_orphan asked) = create b c names WithoutParent asked
+act_on_tokens b c names (lookup_token t) = look_up b names t t
+act_on_tokens b c names (lookup_accessor accessor) = look_up_accessor b names accessor
+act_on_tokens b c names lookup_self = look_up b names c c
+act_on_tokens b c names (renew_token asked) = renew b names asked.token asked.increment
+act_on_tokens b c names (renew_self increment) = renew b names c increment
+act_on_tokens b c names (revoke_token t) = Ok (revoke b t)
+act_on_tokens b c names (revoke_orphan t) = Ok (revoke_alone b t)
+act_on_tokens b c names (revoke_accessor accessor) = revoke_named b accessor
+act_on_tokens b c names revoke_self = Ok (revoke b c)
+act_on_tokens b c names list_accessors = Ok (all_accessors b names)

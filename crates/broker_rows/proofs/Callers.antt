@@ -1,0 +1,152 @@
+-- The use that a caller spends, and its end: from the rows to the broker.
+use Rattle.std.specs.Prelude.{◌≡◌, ◌==◌, Bool, true, false, not, take, drop, ◌+◌, if◌then◌else◌, List}
+use Rattle.std.specs.Prelude.{Option, Some, None, option_map, option_and_then}
+use Rattle.std.specs.Option.{option_map_or}
+use Rattle.std.proofs.Common.{refl, sym, ◌∙◌, ap, subst}
+use Rattle.std.proofs.lemmas.Bool.{false≢true}
+use Rattle.std.proofs.lemmas.Option.{none-some, same_Some}
+use Rattle.broker_types.specs.Text.{Text, same}
+use Rattle.broker_types.specs.Map.{get}
+use Rattle.broker_types.specs.Token.{Token}
+use Rattle.broker_types.specs.Broker.{Broker, revoke}
+use Rattle.broker_types.specs.Lineage.{is_under, without_descendants}
+use Rattle.broker_types.specs.MapLaws.{get-change}
+use Rattle.broker_types.specs.OptionLaws.{mapped}
+use Rattle.broker_types.specs.SearchLaws.{kept_get}
+use Rattle.broker_types.specs.Spending.{spend, one_less, is_spent, end_spent}
+use Rattle.broker_types.specs.SpendingLaws.{spend_sound, end_spent_sound}
+use Rattle.records.specs.declared.kind.Kind.{Kind}
+use Rattle.records.specs.declared.kind.Kind.TheVariants as kind
+use Rattle.records.specs.Parts.{Tells, KeepsOthers, of_tokens, of_cubbyholes}
+use Rattle.records.specs.RowForms.{cubby_row}
+use Rattle.records.specs.Rows.{rows_of, token_len, has_slash, object_row}
+use Rattle.records.specs.Table.{Table, table_of}
+use Rattle.records.specs.TokenEntry.{TokenEntry, token_entry}
+use Rattle.records.specs.Transaction.{Rows}
+use Rattle.token_tree.specs.Tokens.{AreEnded}
+use Rattle.cubbyhole.specs.Laws.{without_cubbyholes}
+use Rattle.broker_model.specs.Forms.{forms}
+use Rattle.broker_rows.specs.Ending.{AreTokenLong, LosesObjects, HaveNoLeases}
+use Rattle.broker_rows.specs.Representing.{AsServed, Represents}
+use Rattle.broker_rows.specs.EndingLaws.{neither, others_kept, KeepCubbyholes, other_tokens, ended_long, objects_lost}
+use Rattle.broker_rows.specs.EndingLaws.{rows_left, no_token}
+use Rattle.broker_rows.specs.RepresentingLaws.{tells_part, tokens_long}
+
+-- ---- a use is spent
+
+module _ (b : Broker) (c : Text) where
+  -- no object changes
+  spent_objects : (t path : Text) → object_row (spend b c).tokens t path ≡ object_row b.tokens t path
+  spent_objects t path =
+      ap (option_and_then (λ (x : Token). option_map (cubby_row t) (get x.cubbyhole path))) (get-change b.tokens c one_less t)
+      ∙ inner (same t c) (get b.tokens t)
+    where
+      inner : (v : Bool) (o : Option Token)
+          → option_and_then (λ (x : Token). option_map (cubby_row t) (get x.cubbyhole path)) (option_map (λ x. if v then one_less x else x) o)
+          ≡ option_and_then (λ (x : Token). option_map (cubby_row t) (get x.cubbyhole path)) o
+      inner v None = refl
+      inner true (Some x) = refl
+      inner false (Some x) = refl
+
+  spent_cubbyholes : (k : Kind) (q : Text) → of_cubbyholes k ≡ true → rows_of b k q ≡ rows_of (spend b c) k q
+  unfolding rows_of
+  spent_cubbyholes kind.Cubby q h =
+      ap (λ o. if has_slash q then o else None) (sym (spent_objects (take token_len q) (drop (token_len + 1) q)))
+  spent_cubbyholes _ q h = absurd (false≢true h)
+
+  spent_no_leases : HaveNoLeases b.tokens → HaveNoLeases (spend b c).tokens
+  spent_no_leases none t y is =
+      let x = mapped (λ x. if same t c then one_less x else x) (get b.tokens t) y (sym (get-change b.tokens c one_less t) ∙ is) in
+      ap (λ (z : Token). z.leases) x.2 ∙ leases (same t c) x.0 ∙ none t x.0 x.1
+    where
+      leases : (v : Bool) (x : Token) → (if v then one_less x else x).leases ≡ x.leases
+      leases true x = refl
+      leases false x = refl
+
+  served-spend : AsServed b → AsServed (spend b c)
+  served-spend s = record {
+    no_leases = spent_no_leases s.no_leases;
+    none_waits = s.none_waits;
+    no_roles = s.no_roles;
+  }
+
+  -- rows of tokens that are those after a use was spent, where nothing else has changed
+  pub represents-spend : (old new : Rows) → Represents None old b → Tells of_tokens (table_of new) (spend b c)
+      → KeepsOthers of_tokens (table_of old) (table_of new) → Represents (Some c) new (spend b c)
+  represents-spend old new st tells others = record {
+    rows = other_tokens b (spend b c).tokens (table_of old) (table_of new) st.rows tells
+        (λ k q h. others k q (no_token k h) ∙ ap (λ (t : Table). t k q) st.rows ∙ spent_cubbyholes k q h)
+        (λ k q h. others k q (neither (of_tokens k) (of_cubbyholes k) h).0)
+        st.served.no_leases (spent_no_leases st.served.no_leases);
+    sound = spend_sound forms b c st.sound;
+    served = served-spend st.served;
+  }
+
+-- ---- a caller that has spent its last use ends
+
+module _ (b : Broker) (c : Text) (old : Rows) (st : Represents (Some c) old b) where
+  left_no_leases : HaveNoLeases (without_descendants b.tokens c)
+  left_no_leases t y is = st.served.no_leases t y (kept_get (λ q. not (is_under b.tokens q c)) b.tokens t y is).0
+
+  left_keep : KeepCubbyholes b.tokens (without_descendants b.tokens c)
+  left_keep t y is = (y, (kept_get (λ q. not (is_under b.tokens q c)) b.tokens t y is).0, refl)
+
+  served-revoke : AsServed (revoke b c)
+  served-revoke = record {
+    no_leases = left_no_leases;
+    none_waits = st.served.none_waits;
+    no_roles = st.served.no_roles;
+  }
+
+  abbrev IsSpent : Bool → Type 0
+  IsSpent v = v ≡ option_map_or is_spent (get b.tokens c) false
+
+  -- what a call that drops the cubbyholes asks
+  pub revoked_long : (ended : List Text) → AreEnded b (revoke b c) ended → AreTokenLong ended
+  revoked_long ended are = ended_long b (without_descendants b.tokens c) ended are (tokens_long b old st)
+
+  pub revoked_lost : (ended : List Text) → AreEnded b (revoke b c) ended → LosesObjects ended b (revoke b c)
+  revoked_lost ended are = objects_lost b (without_descendants b.tokens c) ended are left_keep
+
+  pub revoked_left : (mid : Rows) → KeepsOthers of_tokens (table_of old) (table_of mid) → Tells of_cubbyholes (table_of mid) b
+  revoked_left mid others k q h = others k q (no_token k h) ∙ tells_part of_cubbyholes b old st k q h
+
+  -- it is revoked, and the cubbyholes are dropped
+  pub represents-revoked : (mid new : Rows) (ended : List Text) (v : Bool) → IsSpent v → v ≡ true → AreEnded b (revoke b c) ended
+      → Tells of_tokens (table_of mid) (revoke b c) → KeepsOthers of_tokens (table_of old) (table_of mid)
+      → table_of new ≡ without_cubbyholes (table_of mid) ended → Tells of_cubbyholes (table_of new) (revoke b c)
+      → Represents None new (end_spent b (Some c))
+  represents-revoked mid new ended v told is are tells others dropped objects =
+      let us = without_descendants b.tokens c in
+      let ends : end_spent b (Some c) ≡ revoke b c = ap (λ v. if v then revoke b c else b) (sym told ∙ is) in
+      let kept = subst (KeepsOthers of_cubbyholes (table_of mid)) (sym dropped) (others_kept ended (table_of mid)) in
+      record {
+        rows = rows_left b us ended are (table_of old) (table_of mid) (table_of new) st.rows tells others objects kept st.served.no_leases left_no_leases
+            ∙ ap rows_of (sym ends);
+        sound = end_spent_sound forms (Some c) b st.sound;
+        served = subst AsServed (sym ends) served-revoke;
+      }
+
+  -- it has uses left, and nothing changes
+  pub represents-unspent : (new : Rows) (v : Bool) → IsSpent v → v ≡ false → new ≡ old → Represents None new (end_spent b (Some c))
+  represents-unspent new v told is same_rows =
+      let ends : end_spent b (Some c) ≡ b = ap (λ v. if v then revoke b c else b) (sym told ∙ is) in
+      record {
+        rows = ap table_of same_rows ∙ st.rows ∙ ap rows_of (sym ends);
+        sound = end_spent_sound forms (Some c) b st.sound;
+        served = subst AsServed (sym ends) st.served;
+      }
+
+-- ---- whether a caller has spent its last use
+
+-- an unknown text has not, nor has a token without a limit; another has if it has no uses left
+pub unknown_unspent : (o : Option Token) (found : Option TokenEntry) → found ≡ option_map token_entry o → found ≡ None
+    → false ≡ option_map_or is_spent o false
+unknown_unspent None found e none = refl
+unknown_unspent (Some x) found e none = absurd (none-some _ (sym none ∙ e))
+
+pub limit_told : (o : Option Token) (found : Option TokenEntry) (entry : TokenEntry) (v : Bool) → found ≡ option_map token_entry o
+    → found ≡ Some entry → v ≡ option_map_or (λ n. n == 0) entry.uses_left false → v ≡ option_map_or is_spent o false
+limit_told None found entry v e some is = absurd (none-some _ (sym e ∙ some))
+limit_told (Some x) found entry v e some is =
+    is ∙ ap (λ (z : TokenEntry). option_map_or (λ n. n == 0) z.uses_left false) (sym (same_Some _ _ (sym e ∙ some)))

@@ -1,0 +1,82 @@
+use Rattle.std.proofs.Common.{sym, ap, ◌∙◌, subst}
+use Rattle.std.proofs.lemmas.Result.{err_from_is_err_and, on_ok_weaker}
+use Rattle.broker_types.specs.Broker.{revoke}
+use Rattle.records.specs.CallLaws.{honest_before, on_both}
+use Rattle.token_tree.specs.Tokens.{AreEnded}
+use Rattle.broker_model.specs.Forms.{forms}
+use Rattle.broker_rows.proofs.Callers.{revoked_long, revoked_lost, revoked_left, represents-revoked, represents-unspent}
+use Rattle.std.specs.Prelude.{true, false}
+use Rattle.std.proofs.lemmas.Bool.{true≢false, false≢true}
+use Rattle.records.specs.Transaction.{Rows}
+use Rattle.cubbyhole.specs.Laws.{without_cubbyholes}
+use Rattle.token_tree.specs.Ended.{is_named}
+use Rattle.token_tree.specs.Endings.{EndsDescent}
+use Rattle.broker_rows.specs.Ending.{IsSpentAt}
+use Rattle.broker_rows.specs.RepresentingLaws.{represents_tokens, still_represented}
+use Rattle.broker_rows.proofs.ending.end_spent.Goals as goal
+
+pub returns-then-not-branch-clause-told : goal.returns-then-not-branch-clause-told
+returns-then-not-branch-clause-told g c honest b st =
+    let seen = g.T.RecordsTx.seen in
+    represents-unspent b c.args.caller.now (seen c.args.tx.now).rows st (seen c.is_spent.new.tx).rows c.in_ok-is_spent.field-0
+    (c.in_ok-is_spent.ensures.told honest b st) c.if-not-branch.true (c.in_ok-is_spent.ensures.call.same honest)
+
+pub returns-in_err-ended-clause-wants : goal.returns-in_err-ended-clause-wants
+returns-in_err-ended-clause-wants g c honest b st =
+    let seen = g.T.RecordsTx.seen in
+    let asked = honest_before (seen c.is_spent.new.tx) (seen c.revoke.new.tx) _ c.revoke.ensures.call.goes_on honest in
+    let old = (seen c.args.tx.now).rows in
+    let still = still_represented b old (seen c.is_spent.new.tx).rows (c.in_ok-is_spent.ensures.call.same asked) st in
+    let p = err_from_is_err_and c.from_residual-in_err-ended.result c.from_residual-in_err-ended.ensures.1 in
+    rw (p.1, p.2) (c.in_err-ended.ensures.wants honest forms b (represents_tokens b (seen c.is_spent.new.tx).rows still))
+
+pub returns-clause-told : goal.returns-clause-told
+returns-clause-told g c honest b st =
+    let seen = g.T.RecordsTx.seen in
+    let caller = c.args.caller.now in
+    let ended = c.deref.result.now in
+    let revoked = honest_before (seen c.revoke.new.tx) (seen c.drop_cubbyholes.new.tx) _ c.drop_cubbyholes.ensures.call.goes_on honest in
+    let asked = honest_before (seen c.is_spent.new.tx) (seen c.revoke.new.tx) _ c.revoke.ensures.call.goes_on revoked in
+    let old = (seen c.is_spent.new.tx).rows in
+    let mid = (seen c.revoke.new.tx).rows in
+    let new = (seen c.drop_cubbyholes.new.tx).rows in
+    let still = still_represented b (seen c.args.tx.now).rows old (c.in_ok-is_spent.ensures.call.same asked) st in
+    let tokens = represents_tokens b old still in
+    let are = subst (AreEnded b (revoke b caller)) (sym c.deref.ensures.value) (c.in_ok-ended.ensures.ended revoked forms b tokens) in
+    let others = c.in_ok-ended.ensures.call.others revoked in
+    on_both c.drop_cubbyholes.result (λ dropped objects.
+    represents-revoked b caller old still mid new ended c.in_ok-is_spent.field-0 (c.in_ok-is_spent.ensures.told asked b st) c.if-not-branch.false are
+    (c.in_ok-ended.ensures.told revoked forms b tokens) others dropped objects)
+    (c.drop_cubbyholes.ensures.rows honest)
+    (c.drop_cubbyholes.ensures.told honest b (revoke b caller) (revoked_long b caller old still ended are) (revoked_lost b caller old still ended are)
+    (revoked_left b caller old still mid others))
+
+pub returns-then-not-branch-clause-rows : goal.returns-then-not-branch-clause-rows
+returns-then-not-branch-clause-rows g c honest = record {
+  spent = false;
+  told = subst (IsSpentAt (g.T.RecordsTx.seen c.args.tx.now).rows c.args.caller.now) c.if-not-branch.true (c.in_ok-is_spent.ensures.found honest);
+  stays = λ _. c.in_ok-is_spent.ensures.call.same honest;
+  ends = λ e. absurd (false≢true e);
+}
+
+pub returns-clause-rows : goal.returns-clause-rows
+returns-clause-rows g c honest =
+    let seen = g.T.RecordsTx.seen in
+    let caller = c.args.caller.now in
+    let ended = c.deref.result.now in
+    let old = (seen c.args.tx.now).rows in
+    let mid = (seen c.revoke.new.tx).rows in
+    let revoked = honest_before (seen c.revoke.new.tx) (seen c.drop_cubbyholes.new.tx) _ c.drop_cubbyholes.ensures.call.goes_on honest in
+    let asked = honest_before (seen c.is_spent.new.tx) (seen c.revoke.new.tx) _ c.revoke.ensures.call.goes_on revoked in
+    let ends : EndsDescent (is_named caller) old ended mid =
+    subst (λ (z : Rows). EndsDescent (is_named caller) z ended mid) (c.in_ok-is_spent.ensures.call.same asked)
+    (subst (λ list. EndsDescent (is_named caller) (seen c.is_spent.new.tx).rows list mid) (sym c.deref.ensures.value)
+    (c.in_ok-ended.ensures.rows revoked)) in
+    on_ok_weaker c.drop_cubbyholes.result
+    (λ dropped. record {
+      spent = true;
+      told = subst (IsSpentAt old caller) c.if-not-branch.false (c.in_ok-is_spent.ensures.found asked);
+      stays = λ e. absurd (true≢false e);
+      ends = λ _. (ended, ends.descent, ends.readable, dropped ∙ ap (λ z. without_cubbyholes z ended) ends.rows);
+    })
+    (c.drop_cubbyholes.ensures.rows honest)

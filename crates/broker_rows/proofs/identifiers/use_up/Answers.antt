@@ -1,0 +1,13 @@
+use Rattle.std.proofs.Common.{ap, ◌∙◌}
+use Rattle.std.proofs.lemmas.Result.{on_ok_weaker}
+use Rattle.records.specs.Table.{table_of, with_row}
+use Rattle.records.specs.TableLaws.{table_of-insert}
+use Rattle.records.specs.declared.kind.Kind.TheVariants as kind
+use Rattle.broker_rows.proofs.identifiers.use_up.Goals as goal
+
+pub returns-clause-rows : goal.returns-clause-rows
+returns-clause-rows g c honest =
+    let rows = (g.T.RecordsTx.seen c.args.tx.now).rows in
+    on_ok_weaker c.put.result (λ put.
+    ap table_of put ∙ table_of-insert rows kind.Used c.args.identifier.now c.in_ok-write_used.field-0
+    ∙ ap (with_row (table_of rows) kind.Used c.args.identifier.now) c.in_ok-write_used.ensures) (c.put.ensures.rows honest)

@@ -1,0 +1,16 @@
+pub mod ClockRow
+pub mod Context
+pub mod Done
+pub mod Ending
+pub mod EndingLaws
+pub mod ExpiryLaws
+pub mod Laws
+pub mod Marks
+pub mod Operating
+pub mod OperatingLaws
+pub mod ReadableLaws
+pub mod ReadableRow
+pub mod Reads
+pub mod Representing
+pub mod RepresentingLaws
+pub use Rattle.records.specs.Transaction

@@ -1,0 +1,26 @@
+-- Laws of operations that look for something.
+use Rattle.std.specs.Prelude.{◌≡◌, Option, Some, None, Result, Ok, Err}
+use Rattle.std.proofs.Common.{refl, sym, subst}
+use Rattle.broker_types.specs.Broker.{Broker}
+use Rattle.broker_types.specs.Operation.{Done}
+use Rattle.broker_types.specs.Refuse.{◌>>=◌, some_or}
+use Rattle.broker_types.specs.Text.{Text}
+use Rattle.broker_types.specs.declared.refusal.Refusal.TheVariants as refusal
+use Rattle.broker_types.specs.declared.request_error.RequestError.{RequestError}
+use Rattle.broker_types.specs.declared.request_error.RequestError.TheVariants.{Refused}
+use Rattle.records.specs.Transaction.{Rows}
+use Rattle.broker_rows.specs.Representing.{Represents}
+use Rattle.broker_rows.specs.declared.answered.Answered as Code
+use Rattle.broker_rows.specs.Operating.{ActsAs}
+
+module _ {X : Type 0} (b : Broker) (rows : Rows) (c : Text) (f : X → Done) (o : Option X) where
+  -- the answer that shows what was found
+  pub acts_found : (x : X) (result : Result Code.Answered RequestError) → o ≡ Some x → ActsAs c b rows result (Ok (f x))
+      → ActsAs c b rows result (some_or refusal.NotFound o >>= (λ x. Ok (f x)))
+  acts_found x result is acts = subst (λ o. ActsAs c b rows result (some_or refusal.NotFound o >>= (λ x. Ok (f x)))) (sym is) acts
+
+  -- 404 where nothing was
+  pub acts_absent : o ≡ None → Represents (Some c) rows b
+      → ActsAs c b rows (Err (Refused refusal.NotFound)) (some_or refusal.NotFound o >>= (λ x. Ok (f x)))
+  acts_absent is st =
+      subst (λ o. ActsAs c b rows (Err (Refused refusal.NotFound)) (some_or refusal.NotFound o >>= (λ x. Ok (f x)))) (sym is) (refl, st)

@@ -1,0 +1,33 @@
+-- Which rows represent which broker (this project's definition).
+use Rattle.std.specs.Prelude.{◌≡◌, Option, None}
+use Rattle.broker_types.specs.Text.{Text}
+use Rattle.broker_types.specs.Map.{empty}
+use Rattle.broker_types.specs.Broker.{Broker}
+use Rattle.broker_types.specs.Sound.{Sound}
+use Rattle.broker_types.specs.Answer.{response_of}
+use Rattle.broker_types.specs.declared.answer.Answer.{Answer}
+use Rattle.broker_model.specs.Forms.{forms}
+use Rattle.broker_model.specs.Order.{Outcome}
+use Rattle.records.specs.Transaction.{Rows}
+use Rattle.records.specs.Table.{table_of}
+use Rattle.records.specs.Rows.{rows_of}
+use Rattle.broker_rows.specs.Ending.{HaveNoLeases}
+
+-- What the requests served so far can leave: tokens of every form, but without leases; secrets and settings of mounts
+-- of every form; policies; no roles and no waiting responses.
+pub record AsServed (b : Broker) : Type 0 where
+  pub no_leases : HaveNoLeases b.tokens
+  pub none_waits : b.waiting ≡ empty
+  pub no_roles : b.roles ≡ empty
+
+-- The rows are those of the broker, which is sound, but for the caller who may have spent its last use: none between
+-- two requests. And it is one that the requests served so far can leave.
+pub record Represents (who : Option Text) (kept : Rows) (b : Broker) : Type 0 where
+  pub rows : table_of kept ≡ rows_of b
+  pub sound : Sound forms who b
+  pub served : AsServed b
+
+-- the answer is the response of the outcome, and the rows represent its next broker
+pub record Gives (a : Answer) (rows : Rows) (o : Outcome) : Type 0 where
+  pub response : response_of a ≡ o.response
+  pub represents : Represents None rows o.next

@@ -1,0 +1,67 @@
+-- Laws of rows that represent a broker.
+use Rattle.std.proofs.Common.{sym, ap, subst, inl, inr}
+use Rattle.std.specs.Prelude.{◌≡◌, true, Option, Some, None, ◌≢◌, List, length}
+use Rattle.broker_types.specs.Broker.{Broker}
+use Rattle.broker_types.specs.Map.{get}
+use Rattle.broker_types.specs.OptionLaws.{found_or_not}
+use Rattle.broker_types.specs.Text.{Text}
+use Rattle.broker_types.specs.Token.{Token}
+use Rattle.records.specs.CubbyKeyLaws.{length-token}
+use Rattle.records.specs.Parts.{Part, Tells, of_tokens, of_mounts, of_policies}
+use Rattle.records.specs.Rows.{token_len}
+use Rattle.records.specs.Table.{Table, table_of}
+use Rattle.records.specs.Transaction.{Rows}
+use Rattle.token_tree.specs.Tokens.{RepresentsTokens}
+use Rattle.mounts.specs.MountRows.{AreMounts}
+use Rattle.mounts.specs.TellLaws.{mounts_told}
+use Rattle.policies.specs.PolicyLaws.{told_at}
+use Rattle.policies.specs.PolicyRows.{ArePoliciesAt, ArePolicies}
+use Rattle.policies.specs.TellLaws.{policies_told}
+use Rattle.broker_model.specs.Forms.{forms}
+use Rattle.broker_rows.specs.Representing.{Represents}
+
+-- they represent the same broker
+pub still_represented : {who : Option Text} (b : Broker) (old new : Rows) → new ≡ old → Represents who old b → Represents who new b
+still_represented {who} b old new e st = subst (λ rows. Represents who rows b) (sym e) st
+
+-- rows that are a broker's tell each part of it
+pub tells_part : {who : Option Text} (part : Part) (b : Broker) (rows : Rows) → Represents who rows b → Tells part (table_of rows) b
+tells_part part b rows st k q _ = ap (λ (t : Table). t k q) st.rows
+
+-- every kind of rows
+abbrev pub everything : Part
+everything k = true
+
+-- rows that represent a broker represent its tokens
+pub represents_tokens : {who : Option Text} (b : Broker) (rows : Rows) → Represents who rows b → RepresentsTokens forms (table_of rows) b
+represents_tokens b rows st = record {
+  sound = st.sound.tokens;
+  one_place = st.sound.identifiers.one_place;
+  tells = tells_part of_tokens b rows st;
+}
+
+-- the tokens of a broker have the length of tokens
+pub tokens_long : {who : Option Text} (b : Broker) (rows : Rows) → Represents who rows b → (t : Text) (x : Token)
+    → get b.tokens t ≡ Some x → length t ≡ token_len
+tokens_long b rows st t x is = length-token t (st.sound.tokens.each t x is).name
+
+-- the token of a caller that is there has forty bytes
+pub caller_len : {who : Option Text} (b : Broker) (rows : Rows) (t : Text) → Represents who rows b → get b.tokens t ≢ None → length t ≡ token_len
+caller_len b rows t st here =
+    elim (found_or_not (get b.tokens t)) [
+      | inl none ↦ absurd (here none)
+      | inr some ↦ length-token t (st.sound.tokens.each t some.0 some.1).name
+    ]
+
+-- the rows of mounts that a broker has are those of its mounts
+pub mounts_there : {who : Option Text} (b : Broker) (rows : Rows) → Represents who rows b → AreMounts (table_of rows) b.mounts
+mounts_there b rows st = mounts_told (table_of rows) b st.sound.mounts (tells_part of_mounts b rows st)
+
+-- the rows of policies that a broker has are those of its policies
+pub policies_there : {who : Option Text} (b : Broker) (rows : Rows) → Represents who rows b → ArePolicies (table_of rows) b.policies
+policies_there b rows st = policies_told (table_of rows) b (tells_part of_policies b rows st)
+
+-- the rows that a broker has are those of its policies
+pub named_policies_there : {who : Option Text} (b : Broker) (rows : Rows) (names : List Text) → Represents who rows b
+    → ArePoliciesAt (table_of rows) names b.policies
+named_policies_there b rows names st = told_at (table_of rows) b names (tells_part of_policies b rows st)

@@ -1,0 +1,74 @@
+//! The clock of a request, and what has ended by it.
+
+ghost use Rattle.std.specs.Prelude.{◌≡◌, ⊤, max, None, IfOk, IfErr, OnOk};
+ghost use Rattle.std.specs.FinMap as map;
+ghost use Rattle.broker_types.specs.Broker.{Broker, at_moment};
+ghost use Rattle.broker_types.specs.Fault.{IsMemoryOrStorage};
+ghost use Rattle.records.specs.Calls.{IsChange};
+ghost use Rattle.records.specs.ClockLaws.{with_clock};
+ghost use Rattle.records.specs.Parts.{KeepsOthers, of_clock};
+ghost use Rattle.records.specs.Transaction.{IsHonest};
+ghost use Rattle.broker_rows.specs.ClockRow.{NeedsClock};
+ghost use Rattle.broker_rows.specs.Ending.{of_expired, Advances, Expires};
+ghost use Rattle.broker_rows.specs.ReadableRow.{KeepsDamaged};
+ghost use Rattle.broker_rows.specs.Representing.{Represents};
+
+use crate::ending::drop_cubbyholes;
+use broker_types::{Fault, Moment};
+use records::{Kind, RecordsTx, read_clock, write_clock};
+use std::alloc::Global;
+use token_tree::sweep_tokens;
+
+/// Moves the clock on to the moment, unless it is later already, and answers it. Each token that has come to its end by
+/// then ends with all below it, and their cubbyholes go with them (Vault's documentation, "Tokens"). It fails with
+/// `BadStart` if the clock has no row, with `Memory` if memory runs out, with `Storage` if the transaction's storage
+/// failed, and with `Damaged` if a row that it asks for cannot be read.
+pub fn expire<T: RecordsTx>(alloc: Global, tx: &mut T, moment: Moment) -> Result<Moment, Fault>
+    ensures told { IsHonest (T.seen tx.new) → (b : Broker) → Represents None (T.seen tx.old).rows b
+        → IfOk result (λ now. (now ≡ (at_moment b moment).clock)
+        × Represents None (T.seen tx.new).rows (at_moment b moment)) }
+    ensures wants { IsHonest (T.seen tx.new) → (b : Broker) → Represents None (T.seen tx.old).rows b
+        → IfErr result IsMemoryOrStorage }
+    ensures clock { IsHonest (T.seen tx.new) → NeedsClock (T.seen tx.old).rows result }
+
+    // Whatever the rows are: the clock moves on, and what has come to its end ends.
+    ensures rows { IsHonest (T.seen tx.new)
+        → IfOk result (λ now. Expires moment now (T.seen tx.old).rows (T.seen tx.new).rows) }
+
+    // A token stays if its row is damaged.
+    ensures kept { IsHonest (T.seen tx.new)
+        → OnOk result (KeepsDamaged (T.seen tx.old).rows (T.seen tx.new).rows) }
+
+    // No row changes but those of the clock, of tokens and of cubbyholes.
+    ensures call { IsChange (KeepsOthers of_expired) (T.seen tx.old) (T.seen tx.new) result (λ _. ⊤) }
+{
+    let now = advance_clock(alloc, tx, moment)?;
+    let ended = sweep_tokens(alloc, tx, now)?;
+    drop_cubbyholes(alloc, tx, &ended)?;
+    Ok(now)
+}
+
+/// Moves the clock on to the moment, unless it is later already, and answers it.
+fn advance_clock<T: RecordsTx>(alloc: Global, tx: &mut T, moment: Moment) -> Result<Moment, Fault>
+    ensures told { IsHonest (T.seen tx.new) → (b : Broker) → Represents None (T.seen tx.old).rows b
+        → IfOk result (λ now. (now ≡ max b.clock moment) × Represents None (T.seen tx.new).rows (with_clock b now)) }
+    ensures wants { IsHonest (T.seen tx.new) → (b : Broker) → Represents None (T.seen tx.old).rows b
+        → IfErr result IsMemoryOrStorage }
+    ensures clock { IsHonest (T.seen tx.new) → NeedsClock (T.seen tx.old).rows result }
+
+    // Whatever the rows are: the clock's row is read and written.
+    ensures rows { IsHonest (T.seen tx.new)
+        → IfOk result (λ now. Advances moment now (T.seen tx.old).rows (T.seen tx.new).rows) }
+
+    // No other row changes.
+    ensures call { IsChange (KeepsOthers of_clock) (T.seen tx.old) (T.seen tx.new) result (λ _. ⊤) }
+{
+    let Some(kept) = tx.get(Kind::Clock, "")? else {
+        return Err(Fault::BadStart);
+    };
+    let clock = read_clock(&kept)?;
+    let now = clock.later(moment);
+    let row = write_clock(alloc, now)?;
+    tx.put(Kind::Clock, "", row)?;
+    Ok(now)
+}

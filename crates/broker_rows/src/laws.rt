@@ -1,0 +1,18 @@
+//! Laws of rows and brokers, each the contract of a function that does nothing.
+
+ghost use Rattle.broker_rows.specs.Laws.{RowsRepresentOneBroker, TheFirstBrokerIsRepresented};
+
+use records::rows_determine_the_broker;
+
+/// A law: rows represent one broker at most.
+pub fn rows_represent_one_broker()
+    ensures { RowsRepresentOneBroker }
+{
+    rows_determine_the_broker();
+}
+
+/// A law: the rows of the broker that a start makes of two different words, at a moment that is accepted,
+/// represent it; so a law with this premise is not empty.
+pub fn the_first_broker_is_represented()
+    ensures { TheFirstBrokerIsRepresented }
+{}

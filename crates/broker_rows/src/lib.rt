@@ -1,0 +1,23 @@
+//! A broker as rows: which rows represent which broker, what an operation on them owes, and the steps that every
+//! request makes on them.
+#![tactic(auto)]
+
+mod answered;
+mod context;
+mod ending;
+mod expiry;
+mod identifiers;
+mod laws;
+mod moments;
+mod spending;
+mod start;
+
+pub use answered::Answered;
+pub use context::Context;
+pub use ending::{drop_cubbyholes, end_spent};
+pub use expiry::expire;
+pub use identifiers::{are_both_new, use_up};
+pub use laws::{rows_represent_one_broker, the_first_broker_is_represented};
+pub use moments::{moment, moment_or_none};
+pub use spending::spend;
+pub use start::write_first_rows;

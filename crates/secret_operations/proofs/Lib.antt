@@ -1,0 +1,4 @@
+pub mod CubbyholeAnswers
+pub mod SecretAnswers
+pub mod SecretReads
+pub mod SecretTables

@@ -1,0 +1,91 @@
+-- The part of secrets: from rows that a call on secrets left to the broker that they represent.
+use Rattle.std.specs.Prelude.{◌≡◌, ◌==◌, ◌&&◌, ℕ, List, true, false, Option}
+use Rattle.std.proofs.Common.{refl}
+use Rattle.std.proofs.lemmas.Bool.{true≢false, false≢true}
+use Rattle.broker_types.specs.Broker.{Broker, Mount}
+use Rattle.broker_types.specs.Map.{Map}
+use Rattle.broker_types.specs.Secret.{Key, Version}
+use Rattle.broker_types.specs.Sound.{Sound}
+use Rattle.broker_types.specs.Text.{Text}
+use Rattle.records.specs.declared.kind.Kind.{Kind}
+use Rattle.records.specs.declared.kind.Kind.TheVariants as kind
+use Rattle.records.specs.Kind.{kind_number}
+use Rattle.records.specs.PartLaws.{joined_rows, rows_of-other_secrets, rows_of-other_mounts}
+use Rattle.records.specs.Parts.{Tells, KeepsOthers, of_secrets, of_mounts, of_tokens}
+use Rattle.records.specs.Table.{Table, table_of, is_at, has_prefix}
+use Rattle.records.specs.Transaction.{Rows}
+use Rattle.kv2.specs.SecretRows.{AreChanged, KeepsOtherNames, KeepsOtherMounts, is_key_of, versions_prefix}
+use Rattle.broker_model.specs.Forms.{forms}
+use Rattle.broker_rows.specs.Ending.{of_expired}
+use Rattle.broker_rows.specs.Representing.{AsServed, Represents}
+
+-- ---- rows of other parts
+
+-- rows of no secret are of no name
+outside_secrets : (name : Text) (k : Kind) (q : Text) → of_secrets k ≡ false
+    → (is_at kind.KvKey name k q ≡ false) × (has_prefix kind.KvVersion (versions_prefix name) k q ≡ false)
+outside_secrets name kind.KvKey q h = absurd (true≢false h)
+outside_secrets name kind.KvVersion q h = absurd (true≢false h)
+outside_secrets name _ q h = (refl, refl)
+
+pub keeps_outside : (name : Text) (old new : Table) → KeepsOtherNames name old new → KeepsOthers of_secrets old new
+keeps_outside name old new keeps k q h =
+    let o = outside_secrets name k q h in
+    keeps k q o.0 o.1
+
+-- nor of a version
+outside_versions : (ns : List ℕ) (name : Text) (k : Kind) (q : Text) → of_secrets k ≡ false
+    → ((kind_number k == kind_number kind.KvVersion) && is_key_of ns name q) ≡ false
+outside_versions ns name kind.KvKey q h = absurd (true≢false h)
+outside_versions ns name kind.KvVersion q h = absurd (true≢false h)
+outside_versions ns name _ q h = refl
+
+pub changes_inside : (f : Version → Version) (ns : List ℕ) (name : Text) (old new : Table) → AreChanged f ns name old new → KeepsOthers of_secrets old new
+changes_inside f ns name old new changed k q h = changed.others k q (outside_versions ns name k q h)
+
+-- rows of no mount are of no mount's name
+outside_mounts : (name : Text) (k : Kind) (q : Text) → of_mounts k ≡ false → is_at kind.Mount name k q ≡ false
+outside_mounts name kind.Mount q h = absurd (true≢false h)
+outside_mounts name _ q h = refl
+
+-- ---- a broker with other secrets, or other settings
+
+-- what the requests served so far can leave is so with any secrets and mounts
+served_still : (b : Broker) (secrets : Map Key) (mounts : Map Mount) → AsServed b → AsServed (record b { secrets = secrets; mounts = mounts })
+served_still b secrets mounts s =
+    record { no_leases = s.no_leases; none_waits = s.none_waits; no_roles = s.no_roles }
+
+module _ {who : Option Text} (b : Broker) (old new : Rows) (st : Represents who old b) where
+  pub represents-secrets : (secrets : Map Key) → Sound forms who (record b { secrets = secrets })
+      → Tells of_secrets (table_of new) (record b { secrets = secrets }) → KeepsOthers of_secrets (table_of old) (table_of new)
+      → Represents who new (record b { secrets = secrets })
+  represents-secrets secrets sound tells keeps = record {
+    rows = joined_rows of_secrets (table_of old) (table_of new) b (record b { secrets = secrets }) st.rows tells keeps
+        (rows_of-other_secrets b secrets);
+    sound = sound;
+    served = served_still b secrets b.mounts st.served;
+  }
+
+  pub represents-settings : (name : Text) (mounts : Map Mount) → Sound forms who (record b { mounts = mounts })
+      → Tells of_mounts (table_of new) (record b { mounts = mounts }) → KeepsOtherMounts name (table_of old) (table_of new)
+      → Represents who new (record b { mounts = mounts })
+  represents-settings name mounts sound tells keeps = record {
+    rows = joined_rows of_mounts (table_of old) (table_of new) b (record b { mounts = mounts }) st.rows tells
+        (λ k q h. keeps k q (outside_mounts name k q h)) (rows_of-other_mounts b mounts);
+    sound = sound;
+    served = served_still b b.secrets mounts st.served;
+  }
+
+-- ---- reads, whatever the rows are
+
+-- rows of secrets are of no token
+pub of_no_token : (k : Kind) → of_secrets k ≡ true → of_tokens k ≡ false
+of_no_token kind.KvKey h = refl
+of_no_token kind.KvVersion h = refl
+of_no_token _ h = absurd (false≢true h)
+
+-- nor do they go when tokens expire
+pub of_none_expired : (k : Kind) → of_secrets k ≡ true → of_expired k ≡ false
+of_none_expired kind.KvKey h = refl
+of_none_expired kind.KvVersion h = refl
+of_none_expired _ h = absurd (false≢true h)

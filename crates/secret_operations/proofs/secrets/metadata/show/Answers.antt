@@ -1,0 +1,43 @@
+use Rattle.std.proofs.Common.{None, Ok, ap, sym, ◌∙◌}
+use Rattle.api_json.specs.Objects.{key_object}
+use Rattle.api_json.specs.Reply.{plain_reply}
+use Rattle.broker_types.specs.Names.{names_of}
+use Rattle.broker_types.specs.Operation.{reply, plainly}
+use Rattle.records.specs.Parts.{of_secrets}
+use Rattle.records.specs.ValueLaws.{none_of}
+use Rattle.kv2.specs.Metadata.{Metadata}
+use Rattle.kv2.specs.Secrets as secrets
+use Rattle.broker_model.specs.Forms.{forms}
+use Rattle.broker_model.specs.parts.SecretReplies.{metadata_reply}
+use Rattle.broker_rows.specs.RepresentingLaws.{still_represented, tells_part}
+use Rattle.broker_rows.specs.OperatingLaws.{acts_found, acts_absent}
+use Rattle.secret_operations.proofs.secrets.metadata.show.Goals as goal
+
+pub returns-in_default-clause-told : goal.returns-in_default-clause-told
+returns-in_default-clause-told g c honest b starts =
+    let seen = g.T.RecordsTx.seen in
+    let old = (seen c.args.tx.now).rows in
+    let new = (seen c.metadata.new.tx).rows in
+    let known = c.args.context.now in
+    let st = starts.represents in
+    acts_absent b new known.caller (λ (m : Metadata). plainly (reply (metadata_reply (names_of known.words).request m) None) b)
+    (secrets.metadata b c.args.mount.now c.args.path.now)
+    (sym (c.in_ok-found.ensures.told honest forms b st.sound.secrets (tells_part of_secrets b old st)) ∙ none_of _ c.in_default.not-Some)
+    (still_represented b old new (c.in_ok-found.ensures.call.same honest) st)
+
+pub returns-clause-told : goal.returns-clause-told
+returns-clause-told g c honest b starts =
+    let seen = g.T.RecordsTx.seen in
+    let old = (seen c.args.tx.now).rows in
+    let new = (seen c.metadata.new.tx).rows in
+    let known = c.args.context.now in
+    let request = (names_of known.words).request in
+    let st = starts.represents in
+    acts_found b new known.caller (λ (m : Metadata). plainly (reply (metadata_reply request m) None) b)
+    (secrets.metadata b c.args.mount.now c.args.path.now) c.in-Some.found (Ok c.in_ok-shown.field-0)
+    (sym (c.in_ok-found.ensures.told honest forms b st.sound.secrets (tells_part of_secrets b old st)) ∙ c.in-Some.is) (
+      c.in_ok-shown.ensures
+          ∙ ap (λ o. reply (plain_reply request o) None)
+          (c.in_ok-object.ensures ∙ ap key_object c.in_ok-told.ensures),
+      still_represented b old new (c.in_ok-found.ensures.call.same honest) st,
+    )

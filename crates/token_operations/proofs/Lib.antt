@@ -1,0 +1,14 @@
+pub mod Revocations
+pub mod TokenChecks
+pub mod TokenCreations
+pub mod TokenLists
+pub mod TokenLookups
+pub mod TokenMade
+pub mod TokenPolicies
+pub mod TokenReads
+pub mod TokenRecords
+pub mod TokenRenewals
+pub mod TokenRules
+pub mod TokenSets
+pub mod TokenSound
+pub mod TokenTables

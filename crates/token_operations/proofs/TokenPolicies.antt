@@ -1,0 +1,151 @@
+-- The policies of a new token are names, in order, and few.
+use Rattle.std.specs.Prelude.{◌≡◌, ◌≤◌, ◌<◌, ◌^◌, ◌+◌, ◌&&◌, ℕ, suc, List, [], ◌∷◌, length, map, Bool, true, false, cond, not, ◌||◌, T, Some, codes}
+use Rattle.std.specs.Prelude.{All, if◌then◌else◌}
+use Rattle.std.specs.Cmp.Lexicographic.{nat_list_cmp_total}
+use Rattle.std.specs.FinMap.{from_entries, len-insert, len-empty, len-entries, entries_sorted, contains_key, is_sorted}
+use Rattle.std.specs.List.{list_all}
+use Rattle.std.proofs.Common.{refl, sym, ◌∙◌, subst, lit<, lt_of_le_of_lt, arith}
+use Rattle.std.proofs.lemmas.Bool.{and_parts}
+use Rattle.std.proofs.lemmas.Option.{same_Some}
+use Rattle.std.proofs.lemmas.List.{length-map}
+use Rattle.std.proofs.lemmas.List.Sums.{length-filter, count_by-le-length}
+use Rattle.std.proofs.lemmas.List.Elements.{All-nil, All-cons, All-head, All-tail, All-map, All-filter}
+use Rattle.broker_types.specs.Text.{Text, text_cmp, same}
+use Rattle.broker_types.specs.Map.{Map, get, len, entries, keys}
+use Rattle.broker_types.specs.MapLaws.{get-put, no_entry}
+use Rattle.broker_types.specs.Name.{is_name}
+use Rattle.broker_types.specs.SearchLaws.{each_entry}
+use Rattle.broker_types.specs.Sound.{is_ascending}
+use Rattle.broker_types.specs.TextLaws.{same_true}
+use Rattle.broker_types.specs.Token.{Token}
+use Rattle.api_json.specs.declared.token_bodies.TokenCreation.{TokenCreation}
+use Rattle.records.specs.Children.{has, set_of, member}
+use Rattle.broker_model.specs.parts.TokenCreation.{default_name, have_root, policies_given, without_default}
+use Rattle.broker_model.specs.parts.TokenCreation.{new_policies}
+
+-- ---- maps of lists of entries
+
+is_true : (b : Bool) → T b → b ≡ true
+is_true true h = refl
+is_true false h = absurd h
+
+more : (v : Bool) (n m : ℕ) → n ≤ m → cond v n (n + 1) ≤ suc m
+more true n m h = omega arith
+more false n m h = omega arith
+
+module _ {X : Type 0} where
+  -- what holds of each entry of the list holds of each of the map
+  pub each_listed : (P : Text → X → Type 0) (es : List (Text × X)) → All (λ e. P e.0 e.1) es → (q : Text) (x : X)
+      → get (from_entries {R = text_cmp} es) q ≡ Some x → P q x
+  each_listed P [] all q x is = absurd (no_entry q x is)
+  each_listed P (e ∷ es) all q x is =
+      elim (same q e.0) as (λ v. same q e.0 ≡ v → cond v (Some e.1) (get (from_entries {R = text_cmp} es) q) ≡ Some x → P q x) [
+        | true ↦ λ s g. at (same_true q e.0 s) g
+        | false ↦ λ _ g. each_listed P es (All-tail (λ e. P e.0 e.1) e es all) q x g
+      ] refl (sym (get-put (from_entries {R = text_cmp} es) e.0 e.1 q) ∙ is)
+    where
+      at : q ≡ e.0 → Some e.1 ≡ Some x → P q x
+      at s g = subst (λ k. P k x) (sym s) (subst (P e.0) (same_Some _ _ g) (All-head (λ e. P e.0 e.1) e es all))
+
+  -- the map has no more entries than the list
+  pub few_listed : (es : List (Text × X)) → len (from_entries {R = text_cmp} es) ≤ length es
+  few_listed [] = subst (λ n. n ≤ 0) (sym (len-empty text_cmp X)) (omega arith)
+  few_listed (e ∷ es) =
+      let m = from_entries {R = text_cmp} es in
+      subst (λ n. n ≤ suc (length es)) (sym (len-insert nat_list_cmp_total m e.0 e.1)) (more (contains_key m e.0) (len m) (length es) (few_listed es))
+
+  sorted_ascend : (es : List (Text × X)) → is_sorted text_cmp es ≡ true → is_ascending (map (λ e. e.0) es) ≡ true
+  sorted_ascend [] h = refl
+  sorted_ascend (x ∷ []) h = refl
+  sorted_ascend (x ∷ y ∷ es) h =
+      let outer = and_parts _ _ h in
+      let inner = and_parts _ _ outer.0 in
+      λ i. inner.0 i && sorted_ascend (y ∷ es) outer.1 i
+
+  -- the keys of a map ascend
+  pub keys_ascend : (m : Map X) → is_ascending (keys m) ≡ true
+  keys_ascend m = sorted_ascend (entries m) (is_true _ (entries_sorted m))
+
+-- ---- sets of texts
+
+-- what holds of each text holds of each in the set
+pub each_in_set : (P : Text → Type 0) (ts : List Text) → All P ts → All P (keys (set_of ts))
+each_in_set P ts all =
+    All-map P (λ e. e.0) (entries (set_of ts))
+    (each_entry (λ e. P e.0) (set_of ts) (λ t x is. each_listed (λ t x. P t) (map member ts) (All-map (λ e. P e.0) member ts all) t x is))
+
+-- and it has no more of them
+pub few_in_set : (ts : List Text) → length (keys (set_of ts)) ≤ length ts
+few_in_set ts =
+    subst (λ n. n ≤ length ts) (len-entries (set_of ts) ∙ sym (length-map (entries (set_of ts)) (λ e. e.0)))
+    (subst (λ n. len (set_of ts) ≤ n) (length-map ts member) (few_listed (map member ts)))
+
+-- ---- the policies of a new token
+
+-- policies as tokens have them: each as P says, in order, and few
+pub record ArePolicies (P : Text → Type 0) (ps : List Text) : Type 0 where
+  pub names : All P ps
+  pub ascend : is_ascending ps ≡ true
+  pub few : length ps < 2 ^ 32
+
+-- names of policies
+abbrev pub IsPolicyName : Text → Type 0
+IsPolicyName p = is_name p ≡ true
+
+-- what passes one by one
+pub each_passes : (ts : List Text) → list_all is_name ts ≡ true → All IsPolicyName ts
+each_passes [] h = All-nil IsPolicyName
+each_passes (t ∷ ts) h =
+    let two = and_parts _ _ h in
+    All-cons IsPolicyName t ts two.0 (each_passes ts two.1)
+
+one_more : (n m : ℕ) → n + 1 < m → suc n < m
+one_more n m h = omega arith
+
+fewer : (n m : ℕ) → n + 1 < m → n < m
+fewer n m h = omega arith
+
+given_few : (adds : Bool) (own asked : List Text) → length own < 2 ^ 32 → length asked + 1 < 2 ^ 32 → length (policies_given adds own asked) < 2 ^ 32
+given_few adds own [] h g = h
+given_few true own (p ∷ ps) h g = one_more (length (p ∷ ps)) (2 ^ 32) g
+given_few false own (p ∷ ps) h g = fewer (length (p ∷ ps)) (2 ^ 32) g
+
+without_few : (ts : List Text) → length (without_default ts) ≤ length ts
+without_few ts =
+    omega (arith, length-filter (λ p. not (same p default_name)) ts, count_by-le-length (λ p. not (same p default_name)) ts)
+
+module _ (P : Text → Type 0) (root : P (codes "root")) (default : P default_name) where
+  set_policies : (ts : List Text) → All P ts → length ts < 2 ^ 32 → ArePolicies P (keys (set_of ts))
+  set_policies ts names few = record {
+    names = each_in_set P ts names;
+    ascend = keys_ascend (set_of ts);
+    few = lt_of_le_of_lt (few_in_set ts) few;
+  }
+
+  root_policies : ArePolicies P (codes "root" ∷ [])
+  root_policies = record { names = All-cons P (codes "root") [] root (All-nil P); ascend = refl; few = lit< tt }
+
+  given_names : (adds : Bool) (own asked : List Text) → All P own → All P asked → All P (policies_given adds own asked)
+  given_names adds own [] h g = h
+  given_names true own (p ∷ ps) h g = All-cons P default_name (p ∷ ps) default g
+  given_names false own (p ∷ ps) h g = g
+
+  module _ (privileged : Bool) (x : Token) (asked : TokenCreation) where
+    abbrev given : List Text
+    given = policies_given (privileged || has x.policies default_name) x.policies asked.policies
+
+    -- those of a caller that has such, and of a body that asks for such, are such policies
+    pub new_policies_are : ArePolicies P x.policies → All P asked.policies → length asked.policies + 1 < 2 ^ 32
+        → ArePolicies P (new_policies privileged x asked)
+    new_policies_are own named few =
+        let all = given_names (privileged || has x.policies default_name) x.policies asked.policies own.names named in
+        let short = given_few (privileged || has x.policies default_name) x.policies asked.policies own.few few in
+        elim (have_root given)
+        as (λ v. ArePolicies P (if v then codes "root" ∷ [] else keys (set_of (if asked.no_default_policy then without_default given else given)))) [
+          | true ↦ root_policies
+          | false ↦ elim (asked.no_default_policy) as (λ v. ArePolicies P (keys (set_of (if v then without_default given else given)))) [
+            | true ↦ set_policies (without_default given) (All-filter (λ p. not (same p default_name)) P given all)
+                (lt_of_le_of_lt (without_few given) short)
+            | false ↦ set_policies given all short
+          ]
+        ]

@@ -1,0 +1,93 @@
+-- Renewals of tokens: from what the rows tell to what the commands answer.
+use Rattle.std.specs.Prelude.{◌≡◌, ◌≤◌, ◌+◌, ◌==◌, min, if◌then◌else◌, ℕ, Bool, true, false, Option, Some, None, is_some, option_map, Result, Ok, Err}
+use Rattle.std.proofs.Common.{refl, sym, ◌∙◌, ap, subst, arith}
+use Rattle.std.proofs.Math.Nat.{le_trans, min-le_left, min-le_right}
+use Rattle.broker_types.specs.Text.{Text}
+use Rattle.broker_types.specs.Limits.{longest_ttl}
+use Rattle.broker_types.specs.Map.{get}
+use Rattle.broker_types.specs.Moment.{greatest_moment}
+use Rattle.broker_types.specs.Token.{Token}
+use Rattle.broker_types.specs.Broker.{Broker}
+use Rattle.broker_types.specs.Names.{Names}
+use Rattle.broker_types.specs.Operation.{reply, Done, plainly}
+use Rattle.broker_types.specs.OptionLaws.{mapped, mapped_none}
+use Rattle.broker_types.specs.Refuse.{◌>>=◌, some_or, unless}
+use Rattle.broker_types.specs.Sound.{IsEnd}
+use Rattle.broker_types.specs.declared.refusal.Refusal.{Refusal}
+use Rattle.broker_types.specs.declared.refusal.Refusal.TheVariants as refusal
+use Rattle.broker_types.specs.declared.refusal.Denial.TheVariants as denial
+use Rattle.broker_types.specs.declared.refusal.Reason.TheVariants as reason
+use Rattle.broker_types.specs.declared.reply.Reply.{Reply}
+use Rattle.broker_types.specs.declared.request_error.RequestError.TheVariants.{Refused}
+use Rattle.records.specs.Ranges.{IsTokenInRange}
+use Rattle.records.specs.TokenEntry.{TokenEntry, token_entry}
+use Rattle.records.specs.Transaction.{Rows}
+use Rattle.token_tree.specs.Tokens.{with_end}
+use Rattle.token_tree.specs.Tokens as tree
+use Rattle.broker_model.specs.parts.TokenCreation.{or_longest}
+use Rattle.broker_model.specs.parts.TokenReplies.{auth_reply}
+use Rattle.broker_model.specs.parts.Tokens.{renew, new_end}
+use Rattle.broker_rows.specs.Representing.{Represents}
+use Rattle.broker_rows.specs.declared.answered.Answered.TheVariants.{Given}
+use Rattle.broker_rows.specs.Operating.{ActsAs}
+
+-- ---- the new end
+
+near : (issued ttl : ℕ) → issued ≤ greatest_moment → ttl ≤ longest_ttl → IsEnd (issued + ttl)
+near issued ttl h g = omega arith
+
+-- the new end of what a row holds is no further ahead than ends are set
+pub new_end_near : (now increment : ℕ) (x : TokenEntry) → IsTokenInRange x → IsEnd (new_end now x increment)
+new_end_near now increment x range =
+    let longest = min longest_ttl (or_longest x.explicit_max_ttl) in
+    le_trans (min-le_right (now + (if increment == 0 then x.ttl else increment)) (x.issued + longest))
+    (near x.issued longest range.issued (min-le_left longest_ttl (or_longest x.explicit_max_ttl)))
+
+-- ---- how a renewal ends
+
+abbrev given_end : Broker → Names → Text → Token → ℕ → Done
+given_end b names t x ends =
+    plainly (reply (auth_reply names.request b.clock t (token_entry (with_end ends x))) None) (tree.renew b t ends)
+
+-- what a renewal answers of a token that may have an end
+abbrev renewed_if : Broker → Names → Text → ℕ → Token → Bool → Result Done Refusal
+renewed_if b names t increment x has_end =
+    unless has_end (refusal.BadRequest reason.TokenNotRenewable)
+    >>= (λ ending. Ok (given_end b names t x (new_end b.clock (token_entry x) increment)))
+
+-- and of one that may be there
+abbrev renewed_as : Broker → Names → Text → ℕ → Option Token → Result Done Refusal
+renewed_as b names t increment o =
+    some_or (refusal.Forbidden denial.BadToken) o >>= (λ x. renewed_if b names t increment x (is_some x.ends))
+
+module _ (b : Broker) (rows : Rows) (c t : Text) (names : Names) (increment : ℕ) (found : Option TokenEntry)
+    (told : found ≡ option_map token_entry (get b.tokens t)) where
+  -- an unknown token is refused
+  pub acts_unknown : Represents (Some c) rows b → found ≡ None
+      → ActsAs c b rows (Err (Refused (refusal.Forbidden denial.BadToken))) (renew b names t increment)
+  acts_unknown st none =
+      subst (λ o. ActsAs c b rows (Err (Refused (refusal.Forbidden denial.BadToken))) (renewed_as b names t increment o))
+      (sym (mapped_none token_entry (get b.tokens t) (sym told ∙ none))) (refl, st)
+
+  -- and so is one without an end
+  pub acts_endless : (entry : TokenEntry) → Represents (Some c) rows b → found ≡ Some entry → is_some entry.ends ≡ false
+      → ActsAs c b rows (Err (Refused (refusal.BadRequest reason.TokenNotRenewable))) (renew b names t increment)
+  acts_endless entry st some endless =
+      let x = mapped token_entry (get b.tokens t) entry (sym told ∙ some) in
+      subst (λ o. ActsAs c b rows (Err (Refused (refusal.BadRequest reason.TokenNotRenewable))) (renewed_as b names t increment o)) (sym x.1)
+      (subst (λ v. ActsAs c b rows (Err (Refused (refusal.BadRequest reason.TokenNotRenewable))) (renewed_if b names t increment x.0 v))
+      (sym (sym (ap (λ (z : TokenEntry). is_some z.ends) x.2) ∙ endless)) (refl, st))
+
+  -- another is given its new end
+  pub acts_renewed : (request : Text) (now ends : ℕ) (entry : TokenEntry) (r : Reply) → names.request ≡ request → b.clock ≡ now
+      → found ≡ Some entry → is_some entry.ends ≡ true → ends ≡ new_end now entry increment
+      → r ≡ auth_reply request now t (record entry { ends = Some ends }) → Represents (Some c) rows (tree.renew b t ends)
+      → ActsAs c b rows (Ok (Given r)) (renew b names t increment)
+  acts_renewed request now ends entry r named clock some ending is replied st =
+      let x = mapped token_entry (get b.tokens t) entry (sym told ∙ some) in
+      let next : ends ≡ new_end b.clock (token_entry x.0) increment = is ∙ (λ i. new_end (sym clock i) (x.2 i) increment) in
+      subst (λ o. ActsAs c b rows (Ok (Given r)) (renewed_as b names t increment o)) (sym x.1)
+      (subst (λ v. ActsAs c b rows (Ok (Given r)) (renewed_if b names t increment x.0 v))
+      (sym (sym (ap (λ (z : TokenEntry). is_some z.ends) x.2) ∙ ending))
+      (subst (λ n. ActsAs c b rows (Ok (Given r)) (Ok (given_end b names t x.0 n))) next
+      (ap (λ r. reply r None) (replied ∙ (λ i. auth_reply (sym named i) (sym clock i) t (record (x.2 i) { ends = Some ends }))), st)))

@@ -1,0 +1,276 @@
+-- What commands on tokens leave: a sound broker, and one that the requests served so far can leave.
+use Rattle.std.specs.Prelude.{◌≡◌, ◌≢◌, ◌≤◌, ◌<◌, ◌^◌, ◌+◌, ◌==◌, ◌||◌, ◌&&◌, ℕ, min, List, [], Bool, All, ⊤, true, false, not, cond, if◌then◌else◌}
+use Rattle.std.specs.Prelude.{Option, Some, None, is_some, is_none, Ok}
+use Rattle.std.proofs.Common.{refl, sym, ◌∙◌, ap, subst, arith, lt_of_le_of_lt}
+use Rattle.std.proofs.Math.Nat.{le_trans, min-le_left, min-le_right}
+use Rattle.std.proofs.lemmas.Bool.{false≢true, and_parts}
+use Rattle.std.proofs.lemmas.Option.{none-some, same_Some}
+use Rattle.broker_types.specs.Text.{Text, same}
+use Rattle.broker_types.specs.Map.{Map, get, put, empty, change}
+use Rattle.broker_types.specs.MapLaws.{no_entry, get-put, get-change}
+use Rattle.broker_types.specs.Moment.{greatest_moment}
+use Rattle.broker_types.specs.Limits.{longest_ttl}
+use Rattle.broker_types.specs.Lineage.{is_under, without_descendants, without_parent}
+use Rattle.broker_types.specs.Names.{Names}
+use Rattle.broker_types.specs.OptionLaws.{mapped, is_nothing}
+use Rattle.broker_types.specs.Token.{Token, Tokens}
+use Rattle.broker_types.specs.TokenText.{token_text}
+use Rattle.broker_types.specs.Broker.{Broker}
+use Rattle.broker_types.specs.Operation.{Done}
+use Rattle.broker_types.specs.Refuse.{unless, some_or}
+use Rattle.broker_types.specs.RefuseLaws.{ok_step}
+use Rattle.broker_types.specs.RemovalLaws.{revoke_sound, revoke_orphan_sound}
+use Rattle.broker_types.specs.SearchLaws.{kept_get}
+use Rattle.broker_types.specs.Sound.{Forms, Sound, IsSoundToken, IsEnd, IsShortText}
+use Rattle.broker_types.specs.TreeLaws.{orphaned_is}
+use Rattle.broker_types.specs.Used.{are_new, use_up}
+use Rattle.broker_types.specs.TextLaws.{same_self}
+use Rattle.broker_types.specs.UsedLaws.{first_new}
+use Rattle.broker_types.specs.declared.refusal.Denial.TheVariants as denial
+use Rattle.broker_types.specs.declared.refusal.Refusal.TheVariants as refusal
+use Rattle.broker_types.specs.declared.refusal.Reason.TheVariants as reason
+use Rattle.api_json.specs.declared.token_bodies.TokenCreation.{TokenCreation}
+use Rattle.records.specs.TokenEntry.{token_entry}
+use Rattle.records.specs.ValueLaws.{ok_inj}
+use Rattle.token_tree.specs.SoundLaws.{create_sound, renew_sound}
+use Rattle.token_tree.specs.Tokens.{MayBeMade, created, with_end}
+use Rattle.token_tree.specs.Tokens as tree
+use Rattle.broker_model.specs.parts.TokenCommands.{TokenCommand, create_token, create_orphan, lookup_token}
+use Rattle.broker_model.specs.parts.TokenCommands.{lookup_accessor, lookup_self, renew_token, renew_self, revoke_token}
+use Rattle.broker_model.specs.parts.TokenCommands.{revoke_orphan, revoke_accessor, revoke_self, list_accessors}
+use Rattle.broker_model.specs.parts.TokenCommands.{token_names, token_traits}
+use Rattle.broker_model.specs.declared.making.Making.{Making}
+use Rattle.broker_model.specs.declared.making.Making.TheVariants.{OfCaller, WithoutParent}
+use Rattle.broker_model.specs.parts.TokenCreation.{makes_orphans, making_path, is_privileged, may_make, new_policies}
+use Rattle.broker_model.specs.parts.TokenCreation.{new_token, new_parent, or_longest, asked_ttl, has_no_end, use_limit}
+use Rattle.broker_model.specs.parts.Tokens.{act_on_tokens, known, named, create, look_up, renew, new_end, revoke}
+use Rattle.broker_model.specs.parts.Tokens.{revoke_alone}
+use Rattle.broker_rows.specs.Ending.{HaveNoLeases}
+use Rattle.broker_rows.specs.Representing.{AsServed}
+use Rattle.broker_rows.specs.Done.{counted}
+use Rattle.token_operations.specs.TokenRanges.{IsInRange, IsCommandInRange, AreTokenNames}
+use Rattle.token_operations.proofs.TokenRules.{allowed}
+use Rattle.token_operations.proofs.TokenPolicies.{ArePolicies, IsPolicyName, each_passes, each_listed, few_listed}
+use Rattle.token_operations.proofs.TokenPolicies.{new_policies_are}
+
+-- ---- the token of a caller
+
+pub known_is : (b : Broker) (t : Text) (x : Token) → known b t ≡ Ok x → get b.tokens t ≡ Some x
+known_is b t x e = by (get b.tokens t) refl e
+  where
+    by : (o : Option Token) → get b.tokens t ≡ o → some_or (refusal.Forbidden denial.BadToken) o ≡ Ok x → get b.tokens t ≡ Some x
+    by None none e = absurd (cc)
+    by (Some y) some e = some ∙ ap Some (ok_inj e)
+
+-- ---- a new token is sound
+
+pub ttl_short : (asked : TokenCreation) → asked_ttl asked ≤ longest_ttl
+ttl_short asked =
+    le_trans (min-le_right (or_longest asked.ttl) (min longest_ttl (or_longest asked.explicit_max_ttl)))
+    (min-le_left longest_ttl (or_longest asked.explicit_max_ttl))
+
+pub end_near : (now ttl : ℕ) → now ≤ greatest_moment → ttl ≤ longest_ttl → IsEnd (now + ttl)
+end_near now ttl h g = omega arith
+
+module _ (forms : Forms) (names : Names) (good : AreTokenNames names) (now : ℕ) (within : now ≤ greatest_moment) (asked : TokenCreation)
+    (range : IsInRange asked) where
+  pub new_sound : (parent : Option Text) (ps : List Text) → ArePolicies IsPolicyName ps
+      → IsSoundToken forms (token_text names.token) (new_token now parent names.accessor ps asked)
+  new_sound parent ps are =
+      record {
+        name = (names.token, good.token, refl);
+        accessor = good.accessor;
+        policy_names = are.names;
+        policies_ascend = are.ascend;
+        few_policies = are.few;
+        issued = within;
+        ends = ends (has_no_end ps asked);
+        ttl = ttl (has_no_end ps asked);
+        explicit_max_ttl = range.explicit_max_ttl;
+        period = omega arith;
+        uses_left = uses (asked.num_uses == 0);
+        few_meta = lt_of_le_of_lt (few_listed asked.meta) range.kept.meta.few;
+        meta = each_listed (λ name value. IsShortText name × IsShortText value) asked.meta texts;
+        cubbyhole = λ path object is. absurd (no_entry path object is);
+        leases = λ lease_id l is. absurd (no_entry lease_id l is);
+      }
+    where
+      ends : (v : Bool) (m : ℕ) → (if v then None else Some (now + asked_ttl asked)) ≡ Some m → IsEnd m
+      ends true m e = absurd (none-some _ e)
+      ends false m e = subst IsEnd (same_Some _ _ e) (end_near now (asked_ttl asked) within (ttl_short asked))
+
+      ttl : (v : Bool) → (if v then 0 else asked_ttl asked) ≤ longest_ttl
+      ttl true = omega arith
+      ttl false = ttl_short asked
+
+      uses : (v : Bool) (n : ℕ) → (if v then None else Some asked.num_uses) ≡ Some n → n < 2 ^ 64
+      uses true n e = absurd (none-some _ e)
+      uses false n e = subst (λ k. k < 2 ^ 64) (same_Some _ _ e) range.num_uses
+
+      texts : All (λ e. IsShortText e.0 × IsShortText e.1) asked.meta
+      texts k d lt =
+          let u = range.texts k d lt in
+          let s = range.kept.meta.short k d lt in
+          (record { utf8 = u.0; short = s.0 }, record { utf8 = u.1; short = s.1 })
+
+-- its uses are not spent
+new_unspent : (n : ℕ) → use_limit n ≢ Some 0
+new_unspent n = by (n == 0) refl
+  where
+    by : (v : Bool) → (n == 0) ≡ v → (if v then None else Some n) ≢ Some 0
+    by true is e = none-some _ e
+    by false is e = false≢true (sym is ∙ ap (λ k. k == 0) (same_Some _ _ e))
+
+-- ---- what is left
+
+-- sound, but for the caller who, and one that the requests served so far can leave
+pub record IsLeft (forms : Forms) (who : Option Text) (b : Broker) : Type 0 where
+  pub sound : Sound forms who b
+  pub served : AsServed b
+
+-- other tokens without leases
+pub served_tokens : (b : Broker) (us : Tokens) (used : Map ⊤) → AsServed b → HaveNoLeases us → AsServed (record b { tokens = us; used = used })
+served_tokens b us used s none = record {
+  no_leases = none;
+  none_waits = s.none_waits;
+  no_roles = s.no_roles;
+}
+
+-- and one more without leases
+pub no_leases_put : (ts : Tokens) (t : Text) (x : Token) → HaveNoLeases ts → x.leases ≡ empty → HaveNoLeases (put ts t x)
+no_leases_put ts t x none empty_leases q y is =
+    elim (same q t) as (λ v. cond v (Some x) (get ts q) ≡ Some y → y.leases ≡ empty) [
+      | true ↦ λ e. ap (λ (z : Token). z.leases) (sym (same_Some _ _ e)) ∙ empty_leases
+      | false ↦ λ e. none q y e
+    ] (sym (get-put ts t x q) ∙ is)
+
+no_leases_renewed : (ts : Tokens) (t : Text) (ends : ℕ) → HaveNoLeases ts → HaveNoLeases (change ts t (with_end ends))
+no_leases_renewed ts t ends none q y is =
+    let x = mapped (λ x. if same q t then with_end ends x else x) (get ts q) y (sym (get-change ts t (with_end ends) q) ∙ is) in
+    ap (λ (z : Token). z.leases) x.2 ∙ leases (same q t) x.0 ∙ none q x.0 x.1
+  where
+    leases : (v : Bool) (x : Token) → (if v then with_end ends x else x).leases ≡ x.leases
+    leases true x = refl
+    leases false x = refl
+
+pub no_leases_revoked : (ts : Tokens) (t : Text) → HaveNoLeases ts → HaveNoLeases (without_descendants ts t)
+no_leases_revoked ts t none q y is = none q y (kept_get (λ q. not (is_under ts q t)) ts q y is).0
+
+pub no_leases_orphaned : (ts : Tokens) (t : Text) → HaveNoLeases ts → HaveNoLeases (without_parent ts t)
+no_leases_orphaned ts t none q y is =
+    let x = orphaned_is ts t q y is in
+    ap (λ (z : Token). z.leases) x.2 ∙ none q x.0 x.1
+
+-- ---- by creation
+
+-- the policies of a sound token
+pub sound_policies : (forms : Forms) (t : Text) (x : Token) → IsSoundToken forms t x → ArePolicies IsPolicyName x.policies
+sound_policies forms t x s = record { names = s.policy_names; ascend = s.policies_ascend; few = s.few_policies }
+
+module _ (forms : Forms) (who : Option Text) (b : Broker) (sound : Sound forms who b) (names : Names) (good : AreTokenNames names)
+    (new : are_new b.used (token_names names) ≡ true) where
+  rest_new : (not (same names.token names.accessor || false) ≡ true) × ((is_none (get b.used names.accessor) && true) ≡ true)
+  rest_new = and_parts _ _ (and_parts (is_none (get b.used names.token)) _ new).1
+
+  differ : names.token ≢ names.accessor
+  differ e =
+      false≢true (sym (ap (λ v. not (v || false)) (same_self names.token)) ∙ ap (λ k. not (same names.token k || false)) e ∙ rest_new.0)
+
+  parent_stands : (c : Text) (v : Bool) (p : Text) → get b.tokens c ≢ None → (if v then None else Some c) ≡ Some p → get b.tokens p ≢ None
+  parent_stands c true p here e = absurd (none-some _ e)
+  parent_stands c false p here e = subst (λ q. get b.tokens q ≢ None) (same_Some _ _ e) here
+
+  -- a token with good policies may be made
+  pub may_be_made : (c : Text) (making : Making) (ps : List Text) (asked : TokenCreation) → IsInRange asked → get b.tokens c ≢ None
+      → ArePolicies IsPolicyName ps
+      → MayBeMade forms b (token_text names.token) (new_token b.clock (new_parent c making asked) names.accessor ps asked)
+  may_be_made c making ps asked range here are = record {
+    sound = new_sound forms names good b.clock sound.clock asked range (new_parent c making asked) ps are;
+    token_is_new = first_new b.used names.token names.accessor new;
+    accessor_is_new = is_nothing (get b.used names.accessor) (and_parts (is_none (get b.used names.accessor)) true rest_new.1).0;
+    differ = differ;
+    parent = λ p e. parent_stands c (makes_orphans making || asked.no_parent) p here e;
+    no_lease = refl;
+    unspent = new_unspent asked.num_uses;
+  }
+
+  -- and leaves a sound broker
+  pub left_by_creation : (c : Text) (making : Making) (asked : TokenCreation) (d : Done) → AsServed b → IsInRange asked
+      → create b c names making asked ≡ Ok d → IsLeft forms who (counted d)
+  left_by_creation c making asked d served range e =
+      let x = ok_step (known b c) _ d e in
+      let is = known_is b c x.0 x.1 in
+      let privileged = is_privileged b (making_path making) x.0 in
+      let ps = new_policies privileged x.0 asked in
+      let may = ok_step (may_make privileged making x.0 ps asked) _ d x.2 in
+      let are = new_policies_are IsPolicyName refl refl privileged x.0 asked (sound_policies forms c x.0 (sound.tokens.each c x.0 is))
+      (each_passes asked.policies (allowed privileged making x.0 ps asked may.0 may.1).named) range.kept.few_policies in
+      let t = token_text names.token in
+      let y = new_token b.clock (new_parent c making asked) names.accessor ps asked in
+      let can = may_be_made c making ps asked range (λ none. none-some _ (sym none ∙ is)) are in
+      subst (λ d. IsLeft forms who (counted d)) (ok_inj may.2)
+      (record {
+        sound = create_sound b t y forms who sound can;
+        served = served_tokens b (put b.tokens t y) (use_up b.used (token_names names)) served (no_leases_put b.tokens t y served.no_leases refl);
+      })
+
+-- ---- by the other commands
+
+module _ (forms : Forms) (who : Option Text) (b : Broker) (left : IsLeft forms who b) where
+  pub left_by_revocation : (t : Text) → IsLeft forms who (counted (revoke b t))
+  left_by_revocation t = record {
+    sound = revoke_sound forms who b left.sound t;
+    served = served_tokens b (without_descendants b.tokens t) b.used left.served (no_leases_revoked b.tokens t left.served.no_leases);
+  }
+
+  pub left_by_one_revocation : (t : Text) → IsLeft forms who (counted (revoke_alone b t))
+  left_by_one_revocation t = record {
+    sound = revoke_orphan_sound forms who b left.sound t;
+    served = served_tokens b (without_parent b.tokens t) b.used left.served (no_leases_orphaned b.tokens t left.served.no_leases);
+  }
+
+  -- the new end of a sound token is no further ahead than ends are set
+  pub new_end_near : (t : Text) (x : Token) (increment : ℕ) → get b.tokens t ≡ Some x → IsEnd (new_end b.clock (token_entry x) increment)
+  new_end_near t x increment is =
+      let issued = (left.sound.tokens.each t x is).issued in
+      let longest = min-le_left longest_ttl (or_longest x.explicit_max_ttl) in
+      le_trans (min-le_right (b.clock + (if increment == 0 then x.ttl else increment)) (x.issued + min longest_ttl (or_longest x.explicit_max_ttl)))
+      (end_near x.issued (min longest_ttl (or_longest x.explicit_max_ttl)) issued longest)
+
+  pub left_by_renewal : (t : Text) (ends : ℕ) → IsEnd ends → IsLeft forms who (tree.renew b t ends)
+  left_by_renewal t ends near = record {
+    sound = renew_sound forms who b t ends left.sound near;
+    served = served_tokens b (change b.tokens t (with_end ends)) b.used left.served (no_leases_renewed b.tokens t ends left.served.no_leases);
+  }
+
+  renewed : (names : Names) (t : Text) (increment : ℕ) (d : Done) → renew b names t increment ≡ Ok d → IsLeft forms who (counted d)
+  renewed names t increment d e =
+      let x = ok_step (known b t) _ d e in
+      let ending = ok_step (unless (is_some x.0.ends) (refusal.BadRequest reason.TokenNotRenewable)) _ d x.2 in
+      subst (λ d. IsLeft forms who (counted d)) (ok_inj ending.2)
+      (left_by_renewal t (new_end b.clock (token_entry x.0) increment) (new_end_near t x.0 increment (known_is b t x.0 x.1)))
+
+  looked_up : (names : Names) (t id : Text) (d : Done) → look_up b names t id ≡ Ok d → IsLeft forms who (counted d)
+  looked_up names t id d e = subst (λ d. IsLeft forms who (counted d)) (ok_inj (ok_step (known b t) _ d e).2) left
+
+  -- ---- the part
+
+  -- what a command of a caller leaves, whoever may have spent its last use
+  pub leave : (c : Text) (names : Names) (command : TokenCommand) (d : Done) → AreTokenNames names → IsCommandInRange command
+      → are_new b.used ((token_traits command).own names) ≡ true → act_on_tokens b c names command ≡ Ok d → IsLeft forms who (counted d)
+  leave c names (create_token asked) d good range new e = left_by_creation forms who b left.sound names good new c OfCaller asked d left.served range e
+  leave c names (create_orphan asked) d good range new e = left_by_creation forms who b left.sound names good new c WithoutParent asked d left.served range e
+  leave c names (lookup_token t) d good range new e = looked_up names t t d e
+  leave c names (lookup_accessor accessor) d good range new e =
+      let t = ok_step (named b accessor) _ d e in
+      looked_up names t.0 [] d t.2
+  leave c names lookup_self d good range new e = looked_up names c c d e
+  leave c names (renew_token asked) d good range new e = renewed names asked.token asked.increment d e
+  leave c names (renew_self increment) d good range new e = renewed names c increment d e
+  leave c names (revoke_token t) d good range new e = subst (λ d. IsLeft forms who (counted d)) (ok_inj e) (left_by_revocation t)
+  leave c names (revoke_orphan t) d good range new e = subst (λ d. IsLeft forms who (counted d)) (ok_inj e) (left_by_one_revocation t)
+  leave c names (revoke_accessor accessor) d good range new e =
+      let t = ok_step (named b accessor) _ d e in
+      subst (λ d. IsLeft forms who (counted d)) (ok_inj t.2) (left_by_revocation t.0)
+  leave c names revoke_self d good range new e = subst (λ d. IsLeft forms who (counted d)) (ok_inj e) (left_by_revocation c)
+  leave c names list_accessors d good range new e = subst (λ d. IsLeft forms who (counted d)) (ok_inj e) left

@@ -1,0 +1,47 @@
+use Rattle.std.proofs.Common.{◌≡◌, Ok, sym, ◌∙◌, ap, subst}
+use Rattle.broker_types.specs.Evolves.{IsNew}
+use Rattle.broker_types.specs.Names.{names_of}
+use Rattle.broker_types.specs.Places.{token_identifier}
+use Rattle.broker_types.specs.TokenText.{token_text}
+use Rattle.records.specs.CallLaws.{honest_before}
+use Rattle.records.specs.Parts.{Tells, of_tokens}
+use Rattle.records.specs.RowForms.{used_row}
+use Rattle.records.specs.Table.{table_of, with_row}
+use Rattle.records.specs.TokenEntry.{TokenEntry}
+use Rattle.records.specs.declared.kind.Kind.TheVariants as kind
+use Rattle.token_tree.specs.Tokens.{with_token}
+use Rattle.broker_model.specs.Forms.{forms}
+use Rattle.broker_model.specs.parts.TokenReplies.{auth_reply}
+use Rattle.broker_rows.specs.declared.answered.Answered.TheVariants.{Made}
+use Rattle.broker_rows.specs.RepresentingLaws.{represents_tokens}
+use Rattle.token_operations.specs.TokenMaking.{PutsToken}
+use Rattle.token_operations.proofs.TokenMade.{made_done}
+use Rattle.token_operations.proofs.creation.put.Goals as goal
+
+pub returns-clause-told : goal.returns-clause-told
+unfolding names_of
+returns-clause-told g c =
+    let seen = g.T.RecordsTx.seen in
+    let names = names_of c.context.inside.words.now in
+    subst (λ x. PutsToken x (seen c.args.tx.now) (seen c.use_up-2.new.tx) c.args.token (Ok (Made c.in_ok-reply.reply c.in_ok-accessor.accessor)))
+    c.context.view_is
+    (λ honest b starts y entry can bare named.
+    let rows = (seen c.args.tx.now).rows in
+    let st = starts.represents in
+    let once = honest_before (seen c.use_up.new.tx) (seen c.use_up-2.new.tx) _ c.in_ok-use_up-2.ensures.call.goes_on honest in
+    let made = honest_before (seen c.create.new.tx) (seen c.use_up.new.tx) _ c.in_ok-use_up.ensures.call.goes_on once in
+    let text : c.as_str-2.result.now ≡ token_text names.token = c.as_str-2.ensures ∙ c.in_ok-text.ensures in
+    let identifier : c.as_str-4.result.now ≡ names.token = c.as_str-4.ensures.value ∙ c.in_ok-identifier.ensures in
+    let request : c.as_str-5.result.now ≡ names.request = c.as_str-5.ensures.value ∙ c.in_ok-request.ensures in
+    let shown : c.as_str-6.result.now ≡ token_text names.token = c.as_str-6.ensures ∙ c.in_ok-text.ensures in
+    let given : c.in_ok-accessor.accessor ≡ y.accessor = c.in_ok-accessor.ensures ∙ c.as_str.ensures
+    ∙ ap (λ (e : TokenEntry). e.accessor) (c.token.view_is ∙ sym entry) in
+    let tells = subst (λ t. Tells of_tokens (table_of (seen c.create.new.tx).rows) (with_token b t y)) text
+    (c.in_ok-create.ensures.told made forms b (represents_tokens b rows st) y entry st.sound.identifiers.all_used
+    (subst (λ t. IsNew b (token_identifier t)) (sym text) can.token_is_new) can.accessor_is_new) in
+    let marks = c.in_ok-use_up-2.ensures.rows honest
+    ∙ (λ i. with_row (c.in_ok-use_up.ensures.rows once i) kind.Used (identifier i) used_row)
+    ∙ (λ i. with_row (with_row (table_of (seen c.create.new.tx).rows) kind.Used ((c.as_str-3.ensures ∙ given) i) used_row) kind.Used names.token used_row) in
+    made_done b names y rows (seen c.create.new.tx).rows (seen c.use_up-2.new.tx).rows st can bare named tells (c.in_ok-create.ensures.call.others made) marks
+    c.in_ok-reply.reply c.in_ok-accessor.accessor
+    (c.in_ok-reply.ensures ∙ (λ i. auth_reply (request i) (sym starts.clock i) (shown i) (sym entry i))) given)

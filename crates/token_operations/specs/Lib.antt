@@ -1,0 +1,6 @@
+pub mod Sudo
+pub mod TokenEntries
+pub mod TokenMaking
+pub mod TokenRanges
+pub mod TokenSets
+pub use Rattle.records.specs.Transaction

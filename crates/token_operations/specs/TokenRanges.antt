@@ -1,0 +1,31 @@
+-- What commands on tokens may bring so that a broker can keep it (this project's definition).
+use Rattle.std.specs.Prelude.{◌<◌, ◌≤◌, ◌^◌, All, IsUtf8, ⊤}
+use Rattle.broker_types.specs.Duration.{longest_duration}
+use Rattle.broker_types.specs.Names.{Names}
+use Rattle.broker_types.specs.Sound.{IsIdentifier}
+use Rattle.broker_types.specs.Text.{Text}
+use Rattle.api_json.specs.Kept.{IsKeptCreation}
+use Rattle.api_json.specs.declared.token_bodies.TokenCreation.{TokenCreation}
+use Rattle.broker_model.specs.parts.TokenCommands.{TokenCommand, create_token, create_orphan}
+
+-- both are texts
+abbrev pub IsTextPair : Text × Text → Type 0
+IsTextPair e = IsUtf8 e.0 × IsUtf8 e.1
+
+-- the members of a new token are in range: they can be kept, and the metadata are texts
+pub record IsInRange (asked : TokenCreation) : Type 0 where
+  pub kept : IsKeptCreation asked
+  pub explicit_max_ttl : asked.explicit_max_ttl ≤ longest_duration
+  pub num_uses : asked.num_uses < 2 ^ 64
+  pub texts : All IsTextPair asked.meta
+
+-- what the command brings is in range
+abbrev pub IsCommandInRange : TokenCommand → Type 0
+IsCommandInRange (create_token asked) = IsInRange asked
+IsCommandInRange (create_orphan asked) = IsInRange asked
+IsCommandInRange _ = ⊤
+
+-- the names of a new token and of its accessor are identifiers
+pub record AreTokenNames (names : Names) : Type 0 where
+  pub token : IsIdentifier names.token
+  pub accessor : IsIdentifier names.accessor

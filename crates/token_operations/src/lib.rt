@@ -1,0 +1,16 @@
+//! Operations on tokens, each over the rows of a transaction.
+#![tactic(auto)]
+
+mod acting;
+mod creation;
+mod lookup;
+mod new_policies;
+mod new_token;
+mod renewal;
+mod revocation;
+mod shown;
+
+pub use acting::act_on_tokens;
+
+/// The longest time that a token is made or renewed for, in seconds.
+const LONGEST_TTL: u64 = 2_764_800;

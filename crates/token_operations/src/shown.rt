@@ -1,0 +1,91 @@
+//! What replies show of a token.
+
+ghost use Rattle.std.specs.Prelude.{◌≡◌, IfOk, None};
+ghost use Rattle.broker_types.specs.Sound.{IsEnd};
+ghost use Rattle.records.specs.Ranges.{IsTokenInRange};
+ghost use Rattle.records.specs.Reading.{IsSomeIn};
+ghost use Rattle.broker_model.specs.parts.TokenReplies as part;
+
+use api_json::{AuthObject, EndTime, Pairs, Texts, TokenObject, auth_object};
+use broker_rows::moment;
+use broker_types::{Moment, Reply, TextBuf};
+use records::{Due, TokenRecord};
+use std::alloc::{AllocError, Global};
+
+/// A token that is looked up at a moment, under an id.
+pub(crate) fn looked_up(
+    alloc: Global,
+    token: TokenRecord,
+    now: Moment,
+    id: &str,
+) -> Result<TokenObject, AllocError>
+    requires { IsTokenInRange token }
+    ensures { IfOk result (λ shown. shown ≡ part.looked_up now id.now token) }
+{
+    let ends = end_time(token.ends);
+    Ok(TokenObject {
+        accessor: token.accessor,
+        issued: moment(token.issued),
+        creation_ttl: token.ttl,
+        ends,
+        explicit_max_ttl: token.explicit_max_ttl,
+        id: TextBuf::copied(alloc, id)?,
+        meta: Pairs::new(token.meta),
+        num_uses: token.uses_left.unwrap_or(0),
+        orphan: token.parent.is_none(),
+        policies: Texts::new(token.policies),
+        ttl: seconds_left(now, token.ends),
+    })
+}
+
+/// The reply that shows a token that was made or renewed.
+pub(crate) fn auth_reply(
+    alloc: Global,
+    request: &str,
+    now: Moment,
+    token: &str,
+    found: TokenRecord,
+) -> Result<Reply, AllocError>
+    ensures { IfOk result (λ r. r ≡ part.auth_reply request.now now token.now found) }
+{
+    let auth = AuthObject {
+        accessor: found.accessor,
+        client_token: TextBuf::copied(alloc, token)?,
+        lease_duration: seconds_left(now, found.ends),
+        metadata: Pairs::new(found.meta),
+        num_uses: found.uses_left.unwrap_or(0),
+        orphan: found.parent.is_none(),
+        policies: Texts::new(found.policies),
+        renewable: found.ends.is_some(),
+    };
+    Ok(Reply {
+        auth: Some(auth_object(alloc, &auth)?),
+        payload: None,
+        lease_duration: 0,
+        lease_id: TextBuf::new(String::new(alloc)),
+        renewable: false,
+        request_id: TextBuf::copied(alloc, request)?,
+        wrap_info: None,
+    })
+}
+
+/// The seconds from a moment to an end; 0 without one, and for an end that has come.
+pub(crate) fn seconds_left(now: Moment, ends: Option<Due>) -> u64
+    ensures { result ≡ part.seconds_left now ends }
+{
+    match ends {
+        None => 0,
+        Some(end) => end.seconds().saturating_sub(now.seconds()),
+    }
+}
+
+/// The end of a token that a row can hold.
+fn end_time(ends: Option<Due>) -> Option<EndTime>
+    requires { IsSomeIn IsEnd ends }
+    ensures { result ≡ ends }
+{
+    match ends {
+        None => None,
+        Some(end) => EndTime::new(end.seconds()),
+    }
+}
