@@ -3,6 +3,7 @@
 ghost use Rattle.std.specs.Prelude.{◌≡◌};
 ghost use Rattle.records.specs.declared.list.ListTx.{ListTx};
 ghost use Rattle.records.specs.Determined.{RowsDetermineTheBroker};
+ghost use Rattle.records.specs.DueRows.{DueRowsHaveOneOrder};
 ghost use Rattle.records.specs.ListRows.{tx_seen};
 ghost use Rattle.records.specs.VersionKeys.{DigitsTellTheVersion, OnlyDigitsTellAVersion};
 ghost use Rattle.records.specs.VersionKeys.{DigitsAreInOrder, NamesAreSplitOff};
@@ -19,6 +20,11 @@ pub fn memory_returns_what_was_written()
 /// A law: sound brokers with equal rows are equal.
 pub fn rows_determine_the_broker()
     ensures { RowsDetermineTheBroker }
+{}
+
+/// A law: of the rows that are due there is one list in the order of when they are due.
+pub fn due_rows_have_one_order()
+    ensures { DueRowsHaveOneOrder }
 {}
 
 /// A law: the key of a version's row says its secret and its version, and the keys of one secret's

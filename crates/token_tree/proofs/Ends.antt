@@ -1,5 +1,5 @@
 -- What revocation and expiry leave of the rows, and which tokens they end.
-use Rattle.std.specs.Prelude.{◌≡◌, ◌||◌, ℕ, List, [], ◌∷◌, Bool, true, false, not, None}
+use Rattle.std.specs.Prelude.{◌≡◌, ◌||◌, ℕ, List, [], ◌∷◌, Bool, true, false, not, None, Result, Ok, Err, IfOk, OnOk}
 use Rattle.std.proofs.Common.{refl, sym, ◌∙◌, ap, subst, inl, inr}
 use Rattle.std.proofs.Math.Bool.{not-not}
 use Rattle.broker_types.specs.Text.{Text}
@@ -26,10 +26,19 @@ use Rattle.records.specs.Children.{has}
 use Rattle.token_tree.specs.Ended.{has_come, is_named, IsDescent, Start}
 use Rattle.token_tree.specs.Tokens.{RepresentsTokens, AreEnded, has_ended, without_expired}
 use Rattle.token_tree.specs.EndedLaws.{ended_by_revocation, ended_by_now}
-use Rattle.token_tree.specs.Removed.{without_ended, IsTokenRow, AreReadableEnded}
+use Rattle.token_tree.specs.Endings.{EndsDescent}
+use Rattle.token_tree.specs.Removed.{IsTokenRow}
+use Rattle.token_tree.specs.Walks.{HasDamagedDescent}
+use Rattle.token_tree.proofs.Taken.{without_ended, AreReadableEnded}
 use Rattle.token_tree.proofs.Fates.{IsFate, fated, under_fate, expired_fate}
 use Rattle.token_tree.proofs.Listed.{each_listed, lists_tokens}
-use Rattle.token_tree.proofs.Removals.{tells_kept, tells_changed}
+use Rattle.token_tree.proofs.Removals.{tells_kept, tells_changed, others_stay}
+use Rattle.token_tree.proofs.TokenEnds.{table_of-without_tokens, rows_read}
+
+-- what follows from each answer
+pub on_each : {X E P : Type 0} (r : Result X E) (Q : X → Type 0) → ((x : X) → Q x → P) → IfOk r Q → OnOk r P
+on_each (Ok x) Q f h = f x h
+on_each (Err e) Q f h = tt
 
 module _ (forms : Forms) (b : Broker) (rows : Rows) (stands : RepresentsTokens forms (table_of rows) b) where
   unnamed : get b.tokens [] ≡ None
@@ -112,3 +121,36 @@ module _ (forms : Forms) (b : Broker) (rows : Rows) (stands : RepresentsTokens f
       at : (k : Kind) (q : Text) (v : Bool) → of_tokens k ≡ v → table_of new k q ≡ table_of rows k q
       at k q true h = after k q h ∙ ap (λ ts. rows_of (record b { tokens = ts }) k q) (revoke_unknown b.tokens t none) ∙ sym (stands.tells k q h)
       at k q false h = others k q h
+
+  -- ---- as clauses
+
+  ended_rows : (s : Start) (ended : List Text) (new : Rows) → EndsDescent s rows ended new
+      → new ≡ without_ended ended (rows_under rows kind.Token []) rows
+  ended_rows s ended new ends = table_of-injective new _ (ends.rows ∙ sym (table_of-without_tokens rows ended))
+
+  -- no row of a token is damaged
+  pub undamaged : (s : Start) → HasDamagedDescent s rows → ⊥
+  undamaged s found = found.damage (rows_read rows found.ended (readable found.ended (rows_under rows kind.Token []) refl))
+
+  module _ (t : Text) (ended : List Text) (new : Rows) (ends : EndsDescent (is_named t) rows ended new) where
+    pub revocation_told : Tells of_tokens (table_of new) (revoke b t)
+    revocation_told =
+        revoked_rows t (rows_under rows kind.Token []) (rows_under rows kind.Token []) ended refl refl ends.descent new (ended_rows (is_named t) ended new ends)
+
+    pub revocation_ended : AreEnded b (revoke b t) ended
+    revocation_ended = revoked_each t (rows_under rows kind.Token []) ended refl ends.descent
+
+    pub revocation_unknown : get b.tokens t ≡ None → (ended ≡ []) × (new ≡ rows)
+    revocation_unknown none =
+        revoked_unknown t none new revocation_told
+        (subst (λ m. KeepsOthers of_tokens (table_of rows) (table_of m)) (sym (ended_rows (is_named t) ended new ends))
+        (others_stay ended (rows_under rows kind.Token []) rows))
+        ended revocation_ended
+
+  module _ (now : ℕ) (ended : List Text) (new : Rows) (ends : EndsDescent (has_come now) rows ended new) where
+    pub expiry_told : Tells of_tokens (table_of new) (without_expired b now)
+    expiry_told =
+        swept_rows now (rows_under rows kind.Token []) (rows_under rows kind.Token []) ended refl refl ends.descent new (ended_rows (has_come now) ended new ends)
+
+    pub expiry_ended : AreEnded b (without_expired b now) ended
+    expiry_ended = swept_each now (rows_under rows kind.Token []) ended refl ends.descent

@@ -35,7 +35,8 @@ use Rattle.records.specs.Transaction.{Rows}
 use Rattle.records.specs.TableLaws.{table_of-remove}
 use Rattle.records.specs.RangeLaws.{token_in_range}
 use Rattle.records.specs.Children.{has}
-use Rattle.token_tree.specs.Removed.{accessor_in, without_token, without_ended}
+use Rattle.token_tree.specs.Removed.{accessor_in, without_token}
+use Rattle.token_tree.proofs.Taken.{without_ended}
 use Rattle.token_tree.specs.Tokens.{has_accessor}
 use Rattle.token_tree.proofs.Listed.{node, listing}
 

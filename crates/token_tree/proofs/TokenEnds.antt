@@ -20,10 +20,11 @@ use Rattle.records.specs.Table.{Table, table_of}
 use Rattle.records.specs.TableLaws.{table_of-insert}
 use Rattle.records.specs.Transaction.{Rows, rows_under}
 use Rattle.token_tree.specs.Ended.{IsClosed, IsDescent, Start, Starts, of_owner, AllStay}
-use Rattle.token_tree.specs.Endings.{AreTokenRows, EndsDescent, IsDamagedDescent, EndsAlone, is_told, without_tokens, orphan_row, without_children_of}
+use Rattle.token_tree.specs.Endings.{AreTokenRows, EndsAlone, is_told, without_tokens, orphan_row, without_children_of}
 use Rattle.token_tree.specs.Orphaned.{is_child, orphaned, without_parent}
 use Rattle.token_tree.specs.TokenRows.{IsDamagedToken}
-use Rattle.token_tree.specs.Removed.{accessor_in, without_ended, AreReadableEnded}
+use Rattle.token_tree.specs.Removed.{accessor_in}
+use Rattle.token_tree.proofs.Taken.{without_ended, AreReadableEnded}
 use Rattle.token_tree.proofs.Removals.{takes, table_of-without_ended, others_stay}
 use Rattle.token_tree.proofs.Orphans.{parents_keep, parents_accessors, turned}
 use Rattle.token_tree.proofs.Fates.{both_ways}
@@ -262,21 +263,6 @@ module _ (t : Text) where
         at kind.Role q = keeps kind.Role q refl
 
 -- ---- as clauses
-
-module _ (s : Start) (rows : Rows) (es fs : List (RowKey × Row)) (list ended : List Text) (listed : es ≡ rows_under rows kind.Token [])
-    (again : fs ≡ rows_under rows kind.Token []) (one : list ≡ ended) (down : IsDescent s es ended) where
-  pub ends_descent : AreReadableEnded list fs → (new : Rows) → new ≡ without_ended list fs rows → EndsDescent s rows ended new
-  ends_descent read new is = record {
-    descent = subst (λ l. IsDescent s l ended) listed down;
-    readable = rows_read rows ended (subst (λ l. AreReadableEnded ended l) again (subst (λ l. AreReadableEnded l fs) one read));
-    rows = ap table_of is ∙ (λ i. table_of (without_ended (one i) (again i) rows)) ∙ table_of-without_tokens rows ended;
-  }
-
-  pub damage_within : (AreReadableEnded list fs → ⊥) → IsDamagedDescent s rows
-  damage_within damage other below all =
-      damage (subst (λ l. AreReadableEnded list l) (sym again)
-      (read_rows rows list (λ t r gone row. all t r
-      (descent_within s es ended other down (subst (λ l. IsDescent s l other) (sym listed) below) t (ap (λ l. has l t) (sym one) ∙ gone)) row)))
 
 module _ (rows : Rows) (t : Text) (row : Row) (here : table_of rows kind.Token t ≡ Some row) (es : List (RowKey × Row)) (list : List Text)
     (listed : es ≡ rows_under rows kind.Token []) (one : list ≡ t ∷ []) where

@@ -1,5 +1,5 @@
--- Passes over the rows of tokens that collect what ends (this project's definition).
-use Rattle.std.specs.Prelude.{◌≡◌, ℕ, List, [], ◌∷◌, ◌++◌, Bool, true, false, not, ◌&&◌, ◌||◌, nat_le, if◌then◌else◌}
+-- Which tokens end: those that do so by themselves, and all below them (this project's definition).
+use Rattle.std.specs.Prelude.{◌≡◌, ℕ, List, [], ◌∷◌, Bool, true, false, not, ◌&&◌, ◌||◌, nat_le}
 use Rattle.std.specs.Prelude.{map}
 use Rattle.std.specs.List.{IsDistinct, AllByRecursion}
 use Rattle.std.specs.Option.{option_map_or}
@@ -33,16 +33,7 @@ of_owner p (c ∷ t) = p (c ∷ t)
 abbrev pub goes : Start → List Text → RowKey × Row → Bool
 goes t ended e = not (has ended e.0.1) && (t e || of_owner (has ended) e.1.owner)
 
--- the ended, with the row's token if it goes
-abbrev pub ends_too : Start → RowKey × Row → List Text → List Text
-ends_too t e ended = if goes t ended e then ended ++ e.0.1 ∷ [] else ended
-
--- one pass
-abbrev pub grown : Start → List (RowKey × Row) → List Text → List Text
-grown t [] ended = ended
-grown t (e ∷ es) ended = grown t es (ends_too t e ended)
-
--- the rows that no pass would add
+-- no row goes
 abbrev pub AllStay : Start → List Text → List (RowKey × Row) → Type 0
 AllStay t ended es = AllByRecursion (λ e. goes t ended e ≡ false) es
 

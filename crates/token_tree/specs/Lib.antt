@@ -9,3 +9,4 @@ pub mod SoundLaws
 pub mod Starts
 pub mod Tokens
 pub mod TokenRows
+pub mod Walks

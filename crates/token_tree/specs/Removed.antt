@@ -1,12 +1,10 @@
 -- The rows of tokens that ended, and of their accessors, taken out (this project's definition).
-use Rattle.std.specs.Prelude.{◌≡◌, ℕ, List, [], ◌∷◌, true, take, if◌then◌else◌}
-use Rattle.std.specs.List.{AllByRecursion}
+use Rattle.std.specs.Prelude.{◌≡◌, ℕ, List, [], ◌∷◌, take}
 use Rattle.std.specs.Int.{w32, from_be_bytes}
 use Rattle.std.specs.FinMap as fin
 use Rattle.broker_types.specs.Text.{Text}
 use Rattle.records.specs.declared.kind.Kind.TheVariants as kind
 use Rattle.records.specs.declared.row.Row.{Row}
-use Rattle.records.specs.Children.{has}
 use Rattle.records.specs.Kind.{RowKey}
 use Rattle.records.specs.Ranges.{IsTokenInRange}
 use Rattle.records.specs.RowForms.{entry_row}
@@ -26,15 +24,11 @@ accessor_in row = first_text row.body
 abbrev pub IsTokenRow : RowKey × Row → Type 0
 IsTokenRow e = (x : TokenEntry) × IsTokenInRange x × (e.1 ≡ entry_row x)
 
--- the rows of the ended among the entries can be read
-abbrev pub AreReadableEnded : List Text → List (RowKey × Row) → Type 0
-AreReadableEnded ended es = AllByRecursion (λ e. has ended e.0.1 ≡ true → IsTokenRow e) es
-
 -- the rows without that of a token and that of its accessor
 abbrev pub without_token : Rows → RowKey × Row → Rows
 without_token rows e = fin.remove (fin.remove rows (kind.Accessor, accessor_in e.1)) (kind.Token, e.0.1)
 
--- the rows without those of the ended among the entries, and of their accessors
-abbrev pub without_ended : List Text → List (RowKey × Row) → Rows → Rows
-without_ended ended [] rows = rows
-without_ended ended (e ∷ es) rows = without_ended ended es (if has ended e.0.1 then without_token rows e else rows)
+-- the rows without those of the tokens, and of their accessors
+abbrev pub without_each : List (RowKey × Row) → Rows → Rows
+without_each [] rows = rows
+without_each (e ∷ es) rows = without_each es (without_token rows e)

@@ -1,15 +1,18 @@
-//! The tokens that end, found by passes over the rows of all tokens.
+//! The tokens that end: those that do so by themselves, and all below them, by the owners of their rows.
 
-ghost use Rattle.std.specs.Prelude.{◌≡◌, IfOk, IfErr, OnOk};
+ghost use Rattle.std.specs.Prelude.{◌≡◌, ◌++◌, filter, not, IfOk, OnOk};
+ghost use Rattle.broker_types.specs.Fault.{IsMemoryOrStorage};
 ghost use Rattle.broker_types.specs.Text.{same};
+ghost use Rattle.records.specs.Calls.{IsReading};
 ghost use Rattle.records.specs.Children.{has};
-ghost use Rattle.token_tree.specs.Ended.{grown, of_owner, IsDescent};
+ghost use Rattle.records.specs.Transaction.{IsHonest};
 ghost use Rattle.token_tree.specs.Starts.{starts};
+ghost use Rattle.token_tree.specs.Walks.{children, AreStarted, AreDescending};
 
 use crate::start::Start;
 use broker_types::{Fault, TextBuf};
-use records::Entry;
-use std::alloc::Global;
+use records::{Entry, Kind, RecordsTx};
+use std::alloc::{AllocError, Global};
 
 /// Whether two texts are one.
 pub(crate) fn is_same(a: &str, b: &str) -> bool
@@ -43,49 +46,55 @@ fn begins(start: &Start<'_>, entry: &Entry) -> bool
     }
 }
 
-/// Whether a row is a child of one of the list, by its owner. A row without owner is a child of nobody.
-fn is_child_of(list: &[TextBuf], owner: &str) -> bool
-    ensures { result ≡ of_owner (has list.now) owner.now }
+/// The rows of a token's children. A row without owner is a child of nobody.
+fn children_of<T: RecordsTx>(
+    alloc: Global,
+    tx: &mut T,
+    token: &str,
+) -> Result<Vec<Entry>, Fault>
+    ensures found { IsHonest (T.seen tx.new)
+        → IfOk result (λ list. list.items ≡ children (T.seen tx.old).rows token.now) }
+    ensures call { IsReading (T.seen tx.old) (T.seen tx.new) result IsMemoryOrStorage }
 {
-    !owner.is_empty() && is_among(list, owner)
+    if token.is_empty() {
+        return Ok(Vec::new(alloc));
+    }
+    tx.by_owner(Kind::Token, token)
 }
 
-/// One pass: adds what ends by itself, and each child of a token that ends.
+/// Adds the children that do not end by themselves. Those that do have been there from the start.
 fn add_children(
-    alloc: Global,
-    entries: &[Entry],
+    ended: &mut Vec<Entry>,
+    children: Vec<Entry>,
     start: &Start<'_>,
-    ended: &mut Vec<TextBuf>,
-) -> Result<(), Fault>
-    ensures found { OnOk result (ended.new.items ≡ grown (starts start.now) entries.now ended.old.items) }
-    ensures memory { IfErr result (λ fault. fault ≡ Fault.Memory) }
+) -> Result<(), AllocError>
+    ensures { OnOk result (ended.new.items ≡ ended.old.items ++ filter (λ e. not (starts start.now e)) children.items) }
 {
-    for entry in entries {
-        let key = entry.key.as_str();
-        if !is_among(ended, key)
-            && (begins(start, entry) || is_child_of(ended, entry.row.owner.as_str()))
-        {
-            ended.push(TextBuf::copied(alloc, key)?)?;
+    for child in children {
+        if !begins(start, &child) {
+            ended.push(child)?;
         }
     }
     Ok(())
 }
 
-/// What ends by itself and all below it, each once.
-pub(crate) fn descent(
+/// The rows of the tokens that end, each once: those of the start, and then the children of one after the other.
+pub(crate) fn descend<T: RecordsTx>(
     alloc: Global,
-    entries: &[Entry],
+    tx: &mut T,
     start: &Start<'_>,
-) -> Result<Vec<TextBuf>, Fault>
-    ensures found { IfOk result (λ list. IsDescent (starts start.now) entries.now list.items) }
-    ensures memory { IfErr result (λ fault. fault ≡ Fault.Memory) }
+    started: Vec<Entry>,
+) -> Result<Vec<Entry>, Fault>
+    ensures found { IsHonest (T.seen tx.new) → AreStarted (starts start.now) (T.seen tx.old).rows started.items
+        → IfOk result (λ list. AreDescending (starts start.now) (T.seen tx.old).rows list.items) }
+    ensures call { IsReading (T.seen tx.old) (T.seen tx.new) result IsMemoryOrStorage }
 {
-    let mut ended = Vec::new(alloc);
-    loop {
-        let before = ended.len();
-        add_children(alloc, entries, start, &mut ended)?;
-        if ended.len() == before {
-            return Ok(ended);
-        }
+    let mut ended = started;
+    let mut next = 0;
+    while next < ended.len() {
+        let children = children_of(alloc, tx, ended[next].key.as_str())?;
+        add_children(&mut ended, children, start)?;
+        next += 1;
     }
+    Ok(ended)
 }

@@ -14,7 +14,7 @@ ghost use Rattle.token_tree.specs.TokenRows.{IsDamagedToken};
 ghost use Rattle.token_tree.specs.Tokens.{RepresentsTokens, AreEnded};
 
 use crate::descending::is_same;
-use crate::ending::remove_ended;
+use crate::ending::remove_token;
 use broker_types::{Fault, TextBuf};
 use records::{Entry, Kind, RecordsTx};
 use std::alloc::Global;
@@ -41,15 +41,18 @@ pub fn revoke_one<T: RecordsTx>(
     ensures call { IsChange (KeepsOthers of_tokens) (T.seen tx.old) (T.seen tx.new) result
         (IsReadFault (IsHonest (T.seen tx.new) → IsDamagedToken (table (T.seen tx.old)) token.now)) }
 {
-    let Some(_) = tx.get(Kind::Token, token)? else {
+    let Some(row) = tx.get(Kind::Token, token)? else {
         return Ok(Vec::new(alloc));
     };
-    let entries = tx.under(Kind::Token, "")?;
-    let one = TextBuf::copied(alloc, token)?;
-    let ended = vec![in alloc; one]?;
-    remove_ended(alloc, tx, &entries, &ended)?;
-    orphan_children(alloc, tx, &entries, token)?;
-    Ok(ended)
+    let children = tx.by_owner(Kind::Token, token)?;
+    let entry = Entry {
+        kind: Kind::Token,
+        key: TextBuf::copied(alloc, token)?,
+        row,
+    };
+    remove_token(alloc, tx, &entry)?;
+    orphan_children(alloc, tx, &children, token)?;
+    Ok(vec![in alloc; entry.key]?)
 }
 
 /// Takes the parent out of the rows of a token's children.

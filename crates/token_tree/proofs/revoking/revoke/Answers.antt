@@ -1,88 +1,66 @@
-use Rattle.std.proofs.Common.{rules, sym, ap, ◌∙◌, subst}
-use Rattle.std.proofs.lemmas.Result.{err_from_is_err_and}
+use Rattle.std.proofs.Common.{rules, sym, subst}
+use Rattle.std.specs.Prelude.{IfOk, OnOk}
+use Rattle.std.proofs.lemmas.Result.{IfOk-weaker}
+use Rattle.records.specs.CallLaws.{honest_before, fault_then, not_damaged, each_fault}
 use Rattle.records.specs.Parts.{of_tokens, KeepsOthers}
 use Rattle.records.specs.Table.{table_of}
-use Rattle.records.specs.Transaction.{IsHonest}
-use Rattle.records.specs.CallLaws.{honest_before, fault_then, not_damaged}
-use Rattle.token_tree.specs.Ended.{IsDescent, is_named}
-use Rattle.token_tree.specs.Endings.{IsDamagedDescent}
-use Rattle.token_tree.specs.Removed.{without_ended, AreReadableEnded}
-use Rattle.token_tree.proofs.Removals.{others_stay}
-use Rattle.token_tree.proofs.TokenEnds.{ends_descent, damage_within}
-use Rattle.token_tree.proofs.Ends.{readable, revoked_each, revoked_rows, revoked_unknown}
+use Rattle.token_tree.specs.Ended.{is_named}
+use Rattle.token_tree.specs.Endings.{EndsDescent}
+use Rattle.token_tree.specs.Walks.{AreStarted, HasDamagedDescent}
+use Rattle.token_tree.proofs.Ends.{on_each, undamaged, revocation_told, revocation_ended, revocation_unknown}
+use Rattle.token_tree.proofs.Found.{damaged_descent}
 use Rattle.token_tree.proofs.revoking.revoke.Goals as goal
-
-pub returns-in_err-remove_ended-clause-wants : goal.returns-in_err-remove_ended-clause-wants
-returns-in_err-remove_ended-clause-wants g c honest forms b stands =
-    let seen = g.T.RecordsTx.seen in
-    let mid = honest_before (seen c.under.new.self) (seen c.remove_ended.new.tx) _ c.remove_ended.ensures.call.goes_on honest in
-    let p = err_from_is_err_and c.from_residual-in_err-remove_ended.result c.from_residual-in_err-remove_ended.ensures.1 in
-    rw (p.1, p.2) (not_damaged (λ damage. damage
-    (readable forms b (seen c.args.tx.now).rows stands c.deref-3.result.now c.deref-2.result.now
-    (c.deref-2.ensures.value ∙ c.in_ok-entries.ensures.listed mid)))
-    _ c.in_err-remove_ended.ensures.call.faults)
-
-pub returns-clause-told : goal.returns-clause-told
-returns-clause-told g c honest forms b stands =
-    let seen = g.T.RecordsTx.seen in
-    let mid = honest_before (seen c.under.new.self) (seen c.remove_ended.new.tx) _ c.remove_ended.ensures.call.goes_on honest in
-    let listed = c.in_ok-entries.ensures.listed mid in
-    revoked_rows forms b (seen c.args.tx.now).rows stands c.args.token.now c.deref.result.now c.deref-2.result.now c.deref-3.result.now
-    (c.deref.ensures.value ∙ listed) (c.deref-2.ensures.value ∙ listed)
-    (subst (IsDescent _ _) (sym c.deref-3.ensures.value) c.in_ok-ended.ensures.found) (seen c.remove_ended.new.tx).rows
-    (c.in_ok-remove_ended.ensures.rows honest ∙ ap (without_ended c.deref-3.result.now c.deref-2.result.now) (c.in_ok-entries.ensures.call.same mid))
-
-pub returns-clause-ended : goal.returns-clause-ended
-returns-clause-ended g c honest forms b stands =
-    let seen = g.T.RecordsTx.seen in
-    let mid = honest_before (seen c.under.new.self) (seen c.remove_ended.new.tx) _ c.remove_ended.ensures.call.goes_on honest in
-    revoked_each forms b (seen c.args.tx.now).rows stands c.args.token.now c.deref.result.now c.in_ok-ended.ended.items
-    (c.deref.ensures.value ∙ c.in_ok-entries.ensures.listed mid) c.in_ok-ended.ensures.found
-
-pub returns-clause-call : goal.returns-clause-call
-returns-clause-call g c =
-    record {
-      others = λ honest.
-          let seen = g.T.RecordsTx.seen in
-          let mid = honest_before (seen c.under.new.self) (seen c.remove_ended.new.tx) _ c.remove_ended.ensures.call.goes_on honest in
-          subst (λ rows. KeepsOthers of_tokens (table_of (seen c.args.tx.now).rows) (table_of rows))
-          (sym (c.in_ok-remove_ended.ensures.rows honest ∙ ap (without_ended c.deref-3.result.now c.deref-2.result.now) (c.in_ok-entries.ensures.call.same mid)))
-          (others_stay c.deref-3.result.now c.deref-2.result.now (seen c.args.tx.now).rows);
-      faults = tt;
-      goes_on = search rules;
-    }
-
-pub returns-clause-unknown : goal.returns-clause-unknown
-returns-clause-unknown g c honest forms b stands none =
-    let rows = (g.T.RecordsTx.seen c.args.tx.now).rows in
-    revoked_unknown forms b rows stands c.args.token.now none (g.T.RecordsTx.seen c.remove_ended.new.tx).rows
-    (returns-clause-told g c honest forms b stands) ((returns-clause-call g c).others honest) c.in_ok-ended.ended.items
-    (returns-clause-ended g c honest forms b stands)
 
 pub returns-clause-rows : goal.returns-clause-rows
 returns-clause-rows g c honest =
     let seen = g.T.RecordsTx.seen in
-    let mid = honest_before (seen c.under.new.self) (seen c.remove_ended.new.tx) _ c.remove_ended.ensures.call.goes_on honest in
-    let listed = c.in_ok-entries.ensures.listed mid in
-    ends_descent (is_named c.args.token.now) (seen c.args.tx.now).rows c.deref.result.now c.deref-2.result.now c.deref-3.result.now c.in_ok-ended.ended.items
-    (c.deref.ensures.value ∙ listed) (c.deref-2.ensures.value ∙ listed) c.deref-3.ensures.value
-    c.in_ok-ended.ensures.found
-    c.in_ok-remove_ended.ensures.readable (seen c.remove_ended.new.tx).rows
-    (c.in_ok-remove_ended.ensures.rows honest ∙ ap (without_ended c.deref-3.result.now c.deref-2.result.now) (c.in_ok-entries.ensures.call.same mid))
+    let s = is_named c.args.token.now in
+    let mid = honest_before (seen c.named.new.tx) (seen c.end_all.new.tx) _ c.end_all.ensures.call.goes_on honest in
+    let same = c.in_ok-started.ensures.call.same mid in
+    subst (λ rows. AreStarted s rows c.in_ok-started.started.items
+    → IfOk c.end_all.result (λ list. EndsDescent s rows list.items (seen c.end_all.new.tx).rows)) same
+    (c.end_all.ensures.rows honest) (c.in_ok-started.ensures.found mid)
 
-pub returns-in_err-remove_ended-clause-call : goal.returns-in_err-remove_ended-clause-call
-returns-in_err-remove_ended-clause-call g c =
+pub returns-clause-told : goal.returns-clause-told
+returns-clause-told g c honest forms b stands =
+    on_each c.end_all.result _ (λ list ends. revocation_told forms b (g.T.RecordsTx.seen c.args.tx.now).rows stands c.args.token.now list.items _ ends)
+    (returns-clause-rows g c honest)
+
+pub returns-clause-ended : goal.returns-clause-ended
+returns-clause-ended g c honest forms b stands =
+    IfOk-weaker c.end_all.result _ _ (λ list ends. revocation_ended forms b (g.T.RecordsTx.seen c.args.tx.now).rows stands c.args.token.now list.items _ ends)
+    (returns-clause-rows g c honest)
+
+pub returns-clause-unknown : goal.returns-clause-unknown
+returns-clause-unknown g c honest forms b stands none =
+    IfOk-weaker c.end_all.result _ _ (λ list ends. revocation_unknown forms b (g.T.RecordsTx.seen c.args.tx.now).rows stands c.args.token.now list.items _ ends none)
+    (returns-clause-rows g c honest)
+
+pub returns-clause-wants : goal.returns-clause-wants
+returns-clause-wants g c honest forms b stands =
     let seen = g.T.RecordsTx.seen in
-    let p = err_from_is_err_and c.from_residual-in_err-remove_ended.result c.from_residual-in_err-remove_ended.ensures.1 in
-    let worse : (AreReadableEnded c.deref-3.result.now c.deref-2.result.now → ⊥) → IsHonest (seen c.remove_ended.new.tx) → IsDamagedDescent (is_named c.args.token.now) (seen c.args.tx.now).rows =
-    λ damage honest.
-    let mid = honest_before (seen c.under.new.self) (seen c.remove_ended.new.tx) _ c.remove_ended.ensures.call.goes_on honest in
-    let listed = c.in_ok-entries.ensures.listed mid in
-    damage_within (is_named c.args.token.now) (seen c.args.tx.now).rows c.deref.result.now c.deref-2.result.now c.deref-3.result.now
-    c.in_ok-ended.ended.items (c.deref.ensures.value ∙ listed) (c.deref-2.ensures.value ∙ listed) c.deref-3.ensures.value
-    c.in_ok-ended.ensures.found damage in
+    let s = is_named c.args.token.now in
+    let mid = honest_before (seen c.named.new.tx) (seen c.end_all.new.tx) _ c.end_all.ensures.call.goes_on honest in
+    let same = c.in_ok-started.ensures.call.same mid in
+    each_fault (λ f. not_damaged (λ damage. undamaged forms b (seen c.args.tx.now).rows stands s
+    (subst (HasDamagedDescent s) same
+    (damage honest (subst (λ rows. AreStarted s rows c.in_ok-started.started.items) (sym same) (c.in_ok-started.ensures.found mid))))) f)
+    c.end_all.result c.end_all.ensures.call.faults
+
+pub returns-clause-call : goal.returns-clause-call
+returns-clause-call g c =
+    let seen = g.T.RecordsTx.seen in
+    let s = is_named c.args.token.now in
     record {
-      others = search rules;
-      faults = rw (p.1, p.2) (fault_then worse _ c.in_err-remove_ended.ensures.call.faults);
+      others = λ honest.
+          let mid = honest_before (seen c.named.new.tx) (seen c.end_all.new.tx) _ c.end_all.ensures.call.goes_on honest in
+          subst (λ rows. OnOk c.end_all.result (KeepsOthers of_tokens (table_of rows) (table_of (seen c.end_all.new.tx).rows)))
+          (c.in_ok-started.ensures.call.same mid) (c.end_all.ensures.call.others honest);
+      faults = each_fault (λ f. fault_then (λ damage honest.
+          let mid = honest_before (seen c.named.new.tx) (seen c.end_all.new.tx) _ c.end_all.ensures.call.goes_on honest in
+          let same = c.in_ok-started.ensures.call.same mid in
+          damaged_descent s (seen c.args.tx.now).rows (subst (HasDamagedDescent s) same
+          (damage honest (subst (λ rows. AreStarted s rows c.in_ok-started.started.items) (sym same) (c.in_ok-started.ensures.found mid))))) f)
+          c.end_all.result c.end_all.ensures.call.faults;
       goes_on = search rules;
     }

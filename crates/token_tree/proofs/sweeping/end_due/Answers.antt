@@ -1,0 +1,29 @@
+use Rattle.std.proofs.Common.{IfOk, sym, subst}
+use Rattle.records.specs.CallLaws.{fault_then, each_fault}
+use Rattle.token_tree.specs.Ended.{has_come}
+use Rattle.token_tree.specs.Endings.{EndsDescent}
+use Rattle.token_tree.specs.Walks.{AreStarted, HasDamagedDescent}
+use Rattle.token_tree.proofs.Beginnings.{due_tokens}
+use Rattle.token_tree.proofs.sweeping.end_due.Goals as goal
+
+pub returns-clause-rows : goal.returns-clause-rows
+returns-clause-rows g c honest due =
+    let seen = g.T.RecordsTx.seen in
+    let rows = (seen c.args.tx.now).rows in
+    let started = subst (AreStarted (has_come c.args.clock) rows) (sym c.in_ok-started.ensures) (due_tokens rows c.args.clock c.args.due.now due) in
+    subst (λ n. AreStarted (has_come n) rows c.in_ok-started.started.items
+    → IfOk c.end_all.result (λ list. EndsDescent (has_come n) rows list.items (seen c.end_all.new.tx).rows))
+    c.seconds.ensures.value (c.end_all.ensures.rows honest) started
+
+pub returns-clause-call : goal.returns-clause-call
+returns-clause-call g c =
+    let rows = (g.T.RecordsTx.seen c.args.tx.now).rows in
+    record {
+      others = c.end_all.ensures.call.others;
+      faults = each_fault (λ f. fault_then (λ damage honest due.
+          subst (λ n. AreStarted (has_come n) rows c.in_ok-started.started.items → HasDamagedDescent (has_come n) rows)
+          c.seconds.ensures.value (damage honest)
+          (subst (AreStarted (has_come c.args.clock) rows) (sym c.in_ok-started.ensures) (due_tokens rows c.args.clock c.args.due.now due))) f)
+          c.end_all.result c.end_all.ensures.call.faults;
+      goes_on = c.end_all.ensures.call.goes_on;
+    }

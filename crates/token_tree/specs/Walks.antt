@@ -1,0 +1,43 @@
+-- The walk from tokens down to their children, and what it finds (this project's definition).
+use Rattle.std.specs.Prelude.{◌≡◌, ◌&&◌, List, [], true, map, filter, Some, All, Contains}
+use Rattle.std.specs.FinMap.{get, entries}
+use Rattle.std.specs.List.{IsDistinct}
+use Rattle.broker_types.specs.Text.{Text, same}
+use Rattle.records.specs.declared.kind.Kind.TheVariants as kind
+use Rattle.records.specs.declared.row.Row.{Row}
+use Rattle.records.specs.Kind.{RowKey, is_of_kind}
+use Rattle.records.specs.Table.{table_of}
+use Rattle.records.specs.Transaction.{Rows, rows_under}
+use Rattle.token_tree.specs.Ended.{IsDescent, Start, of_owner}
+use Rattle.token_tree.specs.Endings.{AreTokenRows}
+
+-- the rows of a token's children
+abbrev pub children : Rows → Text → List (RowKey × Row)
+children rows t = filter (λ e. is_of_kind kind.Token e.0 && of_owner (λ owner. same owner t) e.1.owner) (entries rows)
+
+-- the texts of tokens
+abbrev pub texts : List (RowKey × Row) → List Text
+texts es = map (λ e. e.0.1) es
+
+-- rows of tokens, each once
+pub record AreTokens (rows : Rows) (es : List (RowKey × Row)) : Type 0 where
+  pub each : All (λ e. (e.0.0 ≡ kind.Token) × (get rows e.0 ≡ Some e.1)) es
+  pub once : IsDistinct same (texts es)
+
+-- the rows of all tokens that end by themselves
+pub record AreStarted (s : Start) (rows : Rows) (es : List (RowKey × Row)) : Type 0 where
+  pub tokens : AreTokens rows es
+  pub start : All (λ e. s e ≡ true) es
+  pub whole : (t : Text) (row : Row) → get rows (kind.Token, t) ≡ Some row → s ((kind.Token, t), row) ≡ true
+      → Contains es ((kind.Token, t), row)
+
+-- the rows of all tokens that end
+pub record AreDescending (s : Start) (rows : Rows) (es : List (RowKey × Row)) : Type 0 where
+  pub tokens : AreTokens rows es
+  pub descent : IsDescent s (rows_under rows kind.Token []) (texts es)
+
+-- a row of what ends by itself, or of what is below it, is no row of a token
+pub record HasDamagedDescent (s : Start) (rows : Rows) : Type 0 where
+  pub ended : List Text
+  pub descent : IsDescent s (rows_under rows kind.Token []) ended
+  pub damage : AreTokenRows ended (table_of rows) → ⊥
