@@ -14,3 +14,4 @@ mod routes;
 mod secrets;
 #[cfg(test)]
 mod tokens;
+mod unlisted;

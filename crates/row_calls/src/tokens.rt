@@ -1,5 +1,6 @@
 //! Tokens over rows in memory.
 
+use crate::unlisted::Unlisted;
 use broker_types::{Bytes, Fault, Moment, TextBuf};
 use records::{Due, Kind, ListRecords, ListTx, RecordsTx, Row, read_token};
 use std::alloc::{AllocGlobal, Global};
@@ -126,5 +127,22 @@ fn uses_and_ends(rt: HostRuntime) -> Result<(), Fail> {
     );
     assert!(rt; find_accessor(&mut tx, "low")?.is_some_and(|token| token.as_str() == "low"));
     assert!(rt; find_accessor(&mut tx, "not")?.is_none());
+    Ok(())
+}
+
+#[test]
+fn tokens_end_without_a_list_of_all(rt: HostRuntime) -> Result<(), Fail> {
+    let alloc = rt.alloc();
+    let mut tx = Unlisted {
+        tx: tree(alloc)?,
+        was_listed: false,
+    };
+    assert!(rt; revoke(alloc, &mut tx, "mid")?.len() == 2);
+    assert!(rt; revoke_one(alloc, &mut tx, "top")?.len() == 1);
+    assert!(rt; sweep_tokens(alloc, &mut tx, Moment::new(6).ok_or("no moment")?)?.is_empty());
+    assert!(rt; sweep_tokens(alloc, &mut tx, Moment::new(7).ok_or("no moment")?)?.len() == 2);
+    assert!(rt; !tx.failed());
+    assert!(rt; matches!(accessors(alloc, &mut tx), Err(Fault::Storage)));
+    assert!(rt; tx.failed());
     Ok(())
 }

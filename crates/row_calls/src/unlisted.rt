@@ -1,0 +1,49 @@
+//! A transaction that cannot list the rows under a prefix.
+
+use broker_types::{Fault, Moment};
+use records::{Entry, Kind, ListTx, RecordsTx, Row};
+
+/// A transaction in memory whose `under` fails as `Storage`. What is answered over it has listed nothing.
+#[derive(Drop)]
+pub struct Unlisted {
+    /// The transaction that is asked for all else.
+    pub tx: ListTx,
+    /// Whether `under` has been called.
+    pub was_listed: bool,
+}
+
+impl RecordsTx for Unlisted {
+    ghost use Rattle.std.specs.Prelude.{◌||◌};
+    ghost use Rattle.row_calls.specs.Unlisted.{noting};
+
+    ghost seen = { λ s. noting (⟦<ListTx as RecordsTx>⟧.seen s.tx) s.was_listed };
+
+    fn get(&mut self, kind: Kind, key: &str) -> Result<Option<Row>, Fault> {
+        self.tx.get(kind, key)
+    }
+
+    fn put(&mut self, kind: Kind, key: &str, row: Row) -> Result<(), Fault> {
+        self.tx.put(kind, key, row)
+    }
+
+    fn remove(&mut self, kind: Kind, key: &str) -> Result<(), Fault> {
+        self.tx.remove(kind, key)
+    }
+
+    fn under(&mut self, _kind: Kind, _prefix: &str) -> Result<Vec<Entry>, Fault> {
+        self.was_listed = true;
+        Err(Fault::Storage)
+    }
+
+    fn by_owner(&mut self, kind: Kind, owner: &str) -> Result<Vec<Entry>, Fault> {
+        self.tx.by_owner(kind, owner)
+    }
+
+    fn due_until(&mut self, moment: Moment) -> Result<Vec<Entry>, Fault> {
+        self.tx.due_until(moment)
+    }
+
+    fn failed(&self) -> bool {
+        self.tx.failed() || self.was_listed
+    }
+}
