@@ -81,4 +81,5 @@ IsForbiddenThen moment t old new ask r =
 -- Or it is denied since it is not there any more.
 abbrev pub IsAnsweredBy : ℕ → Text → Rows → Rows → Ask → Response → Type 0
 IsAnsweredBy moment t old new ask r =
-    ((rows : Rows) × AreAtCommand moment t old rows × IsCarriedOutOrForbidden rows new t ask r) ⊎ IsDenied moment r old new t
+    ((rows : Rows) × AreAtCommand moment t old rows × IsCarriedOutOrForbidden rows new t ask r)
+    ⊎ IsDenied moment r old new t

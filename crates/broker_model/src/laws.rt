@@ -15,7 +15,7 @@ pub fn operations_are_proper()
 
 /// A law: whatever mounts there are, reading and writing a path below `cubbyhole/` mean a read and a write of the
 /// caller's cubbyhole, and no row of a mount is asked for it. The path is of bytes, as that of each request is. So what
-/// the law `answers_read_their_rows` says of a read of a cubbyhole, it says of every GET of such a path.
+/// the law `answers_read_their_rows` of `broker` says of a read of a cubbyhole, it says of every GET of such a path.
 pub fn cubbyholes_are_routed()
     ensures read { MeansBelowCubbyhole verb.Get operations.Read }
     ensures write { MeansBelowCubbyhole verb.Write operations.Write }

@@ -93,7 +93,8 @@ IsSpentAt rows t spent =
 abbrev pub EndsBelow : Text → Rows → Rows → Type 0
 EndsBelow t old new =
     (ended : List Text) × IsDescent (is_named t) (rows_under old kind.Token []) ended
-    × AreTokenRows ended (table_of old) × (table_of new ≡ without_cubbyholes (without_tokens ended (table_of old)) ended)
+    × AreTokenRows ended (table_of old)
+    × (table_of new ≡ without_cubbyholes (without_tokens ended (table_of old)) ended)
 
 -- the token t has ended alone, and its cubbyhole has gone with it; no other row has changed but those of its children
 abbrev pub EndsOne : Text → Rows → Rows → Type 0

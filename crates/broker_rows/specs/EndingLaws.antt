@@ -1,6 +1,6 @@
 -- The rows that are left when tokens have ended and their cubbyholes were dropped.
-use Rattle.std.specs.Prelude.{◌≡◌, ◌||◌, ◌&&◌, List, [], ◌∷◌, ◌++◌, length, take, drop, nat_eq, Bool, true, false, not, if◌then◌else◌, is_some, is_none, Option}
-use Rattle.std.specs.Prelude.{Some, None, option_and_then}
+use Rattle.std.specs.Prelude.{◌≡◌, ◌||◌, ◌&&◌, List, [], ◌∷◌, ◌++◌, length, take, drop, nat_eq, Bool, true, false, not}
+use Rattle.std.specs.Prelude.{if◌then◌else◌, is_some, is_none, Option, Some, None, option_and_then}
 use Rattle.std.specs.List.{starts_with}
 use Rattle.std.specs.FinMap.{get-empty}
 use Rattle.std.proofs.Common.{refl, sym, ◌∙◌, ap, append_assoc, inl, inr}
@@ -40,7 +40,8 @@ others_kept (t ∷ ended) rows k q h = others_kept ended (without_under rows kin
     one kind.Cubby h = absurd (true≢false h)
     one _ h = refl
 
-follows : (t q : Text) → starts_with nat_eq q (object_key t []) ≡ true → q ≡ object_key t (drop (length (object_key t [])) q)
+follows : (t q : Text) → starts_with nat_eq q (object_key t []) ≡ true
+    → q ≡ object_key t (drop (length (object_key t [])) q)
 unfolding same
 follows t q h =
     let prefix = object_key t [] in
@@ -53,7 +54,8 @@ not_under : (t u path : Text) → length t ≡ token_len → length u ≡ token_
     → starts_with nat_eq (object_key t path) (object_key u []) ≡ false
 not_under t u path long long_u apart = false_from_ne_true _ (λ h.
     let rest = drop (length (object_key u [])) (object_key t path) in
-    let one : t ≡ u = sym (key_token t path long) ∙ ap (take token_len) (follows u (object_key t path) h) ∙ key_token u rest long_u in
+    let one : t ≡ u =
+    sym (key_token t path long) ∙ ap (take token_len) (follows u (object_key t path) h) ∙ key_token u rest long_u in
     false≢true (sym apart ∙ ap (same t) (sym one) ∙ same_self t))
 
 pub neither : (a b : Bool) → (a || b) ≡ false → (a ≡ false) × (b ≡ false)
@@ -61,13 +63,15 @@ neither true b h = absurd (true≢false h)
 neither false b h = (refl, h)
 
 -- the cubbyhole of a token that has not ended is as it was
-pub left_alone : (ended : List Text) (rows : Table) (t path : Text) → length t ≡ token_len → AreTokenLong ended → has ended t ≡ false
+pub left_alone : (ended : List Text) (rows : Table) (t path : Text) → length t ≡ token_len → AreTokenLong ended
+    → has ended t ≡ false
     → without_cubbyholes rows ended kind.Cubby (object_key t path) ≡ rows kind.Cubby (object_key t path)
 left_alone [] rows t path long all apart = refl
 left_alone (u ∷ ended) rows t path long all apart =
     let parts = neither (same t u) (has ended t) apart in
     let long_u = all u (ap (λ v. v || has ended u) (same_self u)) in
-    left_alone ended (without_under rows kind.Cubby (object_key u [])) t path long (λ v h. all v (or_right (same v u) (has ended v) h)) parts.1
+    left_alone ended (without_under rows kind.Cubby (object_key u [])) t path long
+    (λ v h. all v (or_right (same v u) (has ended v) h)) parts.1
     ∙ ap (λ v. if v then None else rows kind.Cubby (object_key t path)) (not_under t u path long long_u parts.0)
 
 -- ---- tokens without leases have no rows of leases
@@ -78,7 +82,8 @@ no_lease_row b none q = elim (found_or_not (first_where (λ t (x : Token). has_l
   | inl nothing ↦ ap (option_and_then _) nothing
   | inr e ↦
       let is = first_where_is (λ t (x : Token). has_lease q x) b.tokens e.0 e.1 in
-      absurd (false≢true (ap (λ o. not (is_none o)) (sym (ap (λ m. get m q) (none e.0.0 e.0.1 is.0) ∙ get-empty text_cmp q)) ∙ is.1))
+      absurd (false≢true
+      (ap (λ o. not (is_none o)) (sym (ap (λ m. get m q) (none e.0.0 e.0.1 is.0) ∙ get-empty text_cmp q)) ∙ is.1))
 ]
 
 no_credential : (q : Text) (x : Token) → x.leases ≡ empty → lease_of_credential q x ≡ None
@@ -91,22 +96,25 @@ no_credential q x none = elim (found_or_not (lease_of_credential q x)) [
 
 no_credential_row : (b : Broker) → HaveNoLeases b.tokens → (q : Text) → rows_of b kind.Credential q ≡ None
 unfolding rows_of
-no_credential_row b none q = elim (found_or_not (first_where (λ t x. not (is_none (lease_of_credential q x))) b.tokens)) [
-  | inl nothing ↦ ap (option_and_then _) nothing
-  | inr e ↦
-      let is = first_where_is (λ t x. not (is_none (lease_of_credential q x))) b.tokens e.0 e.1 in
-      absurd (false≢true (ap (λ o. not (is_none o)) (sym (no_credential q e.0.1 (none e.0.0 e.0.1 is.0))) ∙ is.1))
-]
+no_credential_row b none q =
+    elim (found_or_not (first_where (λ t x. not (is_none (lease_of_credential q x))) b.tokens)) [
+      | inl nothing ↦ ap (option_and_then _) nothing
+      | inr e ↦
+          let is = first_where_is (λ t x. not (is_none (lease_of_credential q x))) b.tokens e.0 e.1 in
+          absurd (false≢true (ap (λ o. not (is_none o)) (sym (no_credential q e.0.1 (none e.0.0 e.0.1 is.0))) ∙ is.1))
+    ]
 
 -- ---- on the rows of a broker
 
 -- each token is one of the others, with the same cubbyhole
 abbrev pub KeepCubbyholes : Tokens → Tokens → Type 0
-KeepCubbyholes ts us = (t : Text) (y : Token) → get us t ≡ Some y → (x : Token) × (get ts t ≡ Some x) × (y.cubbyhole ≡ x.cubbyhole)
+KeepCubbyholes ts us =
+    (t : Text) (y : Token) → get us t ≡ Some y → (x : Token) × (get ts t ≡ Some x) × (y.cubbyhole ≡ x.cubbyhole)
 
 -- rows of tokens and cubbyholes that are those of other tokens, where nothing else has changed
-pub other_tokens : (b : Broker) (us : Tokens) (old new : Table) → old ≡ rows_of b → Tells of_tokens new (record b { tokens = us })
-    → Tells of_cubbyholes new (record b { tokens = us }) → KeepsOthers of_ended old new → HaveNoLeases b.tokens → HaveNoLeases us
+pub other_tokens : (b : Broker) (us : Tokens) (old new : Table) → old ≡ rows_of b
+    → Tells of_tokens new (record b { tokens = us }) → Tells of_cubbyholes new (record b { tokens = us })
+    → KeepsOthers of_ended old new → HaveNoLeases b.tokens → HaveNoLeases us
     → new ≡ rows_of (record b { tokens = us })
 other_tokens b us old new was tokens objects others none none_after =
     joined_rows of_tokens_and_theirs old new b c was told keeps (rows_of-other_tokens b us)
@@ -119,7 +127,8 @@ other_tokens b us old new was tokens objects others none none_after =
     told kind.Accessor q h = tokens kind.Accessor q refl
     told kind.Cubby q h = objects kind.Cubby q refl
     told kind.Lease q h =
-        others kind.Lease q refl ∙ ap (λ (t : Table). t kind.Lease q) was ∙ no_lease_row b none q ∙ sym (no_lease_row c none_after q)
+        others kind.Lease q refl ∙ ap (λ (t : Table). t kind.Lease q) was ∙ no_lease_row b none q
+        ∙ sym (no_lease_row c none_after q)
     told kind.Credential q h =
         others kind.Credential q refl ∙ ap (λ (t : Table). t kind.Credential q) was ∙ no_credential_row b none q
         ∙ sym (no_credential_row c none_after q)
@@ -161,7 +170,8 @@ module _ (b : Broker) (us : Tokens) (ended : List Text) (are : AreEnded b (recor
         ∙ sym (ap (λ v. if v then None else object_at b t path) stays)
     | inl none ↦
         ap (option_and_then (λ (z : Token). get z.cubbyhole path)) none
-        ∙ sym (ap (λ v. if v then None else object_at b t path) (are.exact t ∙ ap (λ o. is_some (get b.tokens t) && is_none o) none)
+        ∙ sym (ap (λ v. if v then None else object_at b t path)
+        (are.exact t ∙ ap (λ o. is_some (get b.tokens t) && is_none o) none)
         ∙ gone (get b.tokens t))
   ]
     where
@@ -171,8 +181,9 @@ module _ (b : Broker) (us : Tokens) (ended : List Text) (are : AreEnded b (recor
       gone (Some x) = refl
 
   -- the rows are those of the broker without them
-  pub rows_left : (old mid new : Table) → old ≡ rows_of b → Tells of_tokens mid c → KeepsOthers of_tokens old mid → Tells of_cubbyholes new c
-      → KeepsOthers of_cubbyholes mid new → HaveNoLeases b.tokens → HaveNoLeases us → new ≡ rows_of c
+  pub rows_left : (old mid new : Table) → old ≡ rows_of b → Tells of_tokens mid c → KeepsOthers of_tokens old mid
+      → Tells of_cubbyholes new c → KeepsOthers of_cubbyholes mid new → HaveNoLeases b.tokens → HaveNoLeases us
+      → new ≡ rows_of c
   rows_left old mid new was tells others objects kept none none_after =
       other_tokens b us old new was (λ k q h. kept k q (no_cubbyhole k h) ∙ tells k q h) objects
       (λ k q h. let parts = neither (of_tokens k) (of_cubbyholes k) h in kept k q parts.1 ∙ others k q parts.0)

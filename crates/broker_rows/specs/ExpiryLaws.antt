@@ -43,10 +43,13 @@ walk u (e ∷ es) h none =
     (λ v. is_eq (key_cmp (kind.Token, u) e.0) ≡ v → cond v (Some e.1) (find key_cmp (kind.Token, u) es) ≡ None → ⊥) [
       | true ↦ λ _ n. none-some _ (sym n)
       | false ↦ λ apart n.
-          elim (takes e) as (λ v. takes e ≡ v → has (each (λ e. e.0.1) (cond v (e ∷ filter takes es) (filter takes es))) u ≡ true → ⊥) [
+          elim (takes e) as
+          (λ v. takes e ≡ v → has (each (λ e. e.0.1) (cond v (e ∷ filter takes es) (filter takes es))) u ≡ true → ⊥) [
             | true ↦ λ taken h.
-                elim (same u e.0.1) as (λ v. same u e.0.1 ≡ v → (v || has (each (λ e. e.0.1) (filter takes es)) u) ≡ true → ⊥) [
-                  | true ↦ λ one _. false≢true (sym apart ∙ met-is_at e.0.0 e.0.1 kind.Token u ∙ (λ i. met taken i && one i))
+                elim (same u e.0.1) as
+                (λ v. same u e.0.1 ≡ v → (v || has (each (λ e. e.0.1) (filter takes es)) u) ≡ true → ⊥) [
+                  | true ↦ λ one _.
+                      false≢true (sym apart ∙ met-is_at e.0.0 e.0.1 kind.Token u ∙ (λ i. met taken i && one i))
                   | false ↦ λ _ rest. walk u es rest n
                 ] refl h
             | false ↦ λ _ h. walk u es h n
@@ -56,19 +59,25 @@ walk u (e ∷ es) h none =
     met : takes e ≡ true → (kind_number kind.Token == kind_number e.0.0) ≡ true
     met taken = ap (λ k. kind_number kind.Token == kind_number k) (same_kind e.0.0 kind.Token (and_parts _ _ taken).0)
 
-listed : (rows : Rows) (u : Text) → has_key (rows_under rows kind.Token []) u ≡ true → map.get rows (kind.Token, u) ≢ None
+listed : (rows : Rows) (u : Text) → has_key (rows_under rows kind.Token []) u ≡ true
+    → map.get rows (kind.Token, u) ≢ None
 listed rows u h none = walk u (entries rows) h (sym (get-entries rows (kind.Token, u)) ∙ none)
 
 -- the cubbyhole of a token that is left is as it was
-pub left_expired : (old mid swept new : Rows) (s : Start) (ended : List Text) → KeepsOthers of_clock (table_of old) (table_of mid)
-    → EndsDescent s mid ended swept → table_of new ≡ without_cubbyholes (table_of swept) ended → HasTokenKeys old → KeepsCubbyholes old new
+pub left_expired : (old mid swept new : Rows) (s : Start) (ended : List Text)
+    → KeepsOthers of_clock (table_of old) (table_of mid) → EndsDescent s mid ended swept
+    → table_of new ≡ without_cubbyholes (table_of swept) ended → HasTokenKeys old → KeepsCubbyholes old new
 left_expired old mid swept new s ended clock ends dropped keys t path here =
     let at_t : table_of new kind.Token t ≡ (if has ended t then None else table_of mid kind.Token t) =
-    ap (λ (z : Table). z kind.Token t) dropped ∙ others_kept ended (table_of swept) kind.Token t refl ∙ ap (λ (z : Table). z kind.Token t) ends.rows in
-    let apart : has ended t ≡ false = false_from_ne_true _ (λ h. here (at_t ∙ ap (λ v. if v then None else table_of mid kind.Token t) h)) in
+    ap (λ (z : Table). z kind.Token t) dropped ∙ others_kept ended (table_of swept) kind.Token t refl
+    ∙ ap (λ (z : Table). z kind.Token t) ends.rows in
+    let apart : has ended t ≡ false =
+    false_from_ne_true _ (λ h. here (at_t ∙ ap (λ v. if v then None else table_of mid kind.Token t) h)) in
     let long : length t ≡ token_len =
-    keys t (λ none. here (at_t ∙ ap (λ v. if v then None else table_of mid kind.Token t) apart ∙ clock kind.Token t refl ∙ none)) in
-    let all : AreTokenLong ended = λ u h. keys u (λ none. listed mid u (ends.descent.keys u h) (clock kind.Token u refl ∙ none)) in
+    keys t (λ none. here (at_t ∙ ap (λ v. if v then None else table_of mid kind.Token t) apart
+    ∙ clock kind.Token t refl ∙ none)) in
+    let all : AreTokenLong ended =
+    λ u h. keys u (λ none. listed mid u (ends.descent.keys u h) (clock kind.Token u refl ∙ none)) in
     let key = object_key t path in
     ap (λ (z : Table). z kind.Cubby key) dropped ∙ left_alone ended (table_of swept) t path long all apart
     ∙ ap (λ (z : Table). z kind.Cubby key) ends.rows ∙ clock kind.Cubby key refl
@@ -82,15 +91,17 @@ others_expired old mid swept new clock tokens objects k q h =
     objects k q parts.1 ∙ tokens k q parts.0 ∙ clock k q apart.0
 
 -- a row of a token that can be read then could be read before, and so could that of a token that ended
-pub damaged_still : (old mid swept new : Rows) (s : Start) (ended : List Text) → KeepsOthers of_clock (table_of old) (table_of mid)
-    → EndsDescent s mid ended swept → table_of new ≡ without_cubbyholes (table_of swept) ended → KeepsDamaged old new
+pub damaged_still : (old mid swept new : Rows) (s : Start) (ended : List Text)
+    → KeepsOthers of_clock (table_of old) (table_of mid) → EndsDescent s mid ended swept
+    → table_of new ≡ without_cubbyholes (table_of swept) ended → KeepsDamaged old new
 damaged_still old mid swept new s ended clock ends dropped t readable =
     elim (has ended t) as (λ v. has ended t ≡ v → IsReadableToken old t) [
       | true ↦ λ gone. was gone (table_of mid kind.Token t) refl
       | false ↦ λ left. (
         readable.0,
         readable.1,
-        sym (clock kind.Token t refl) ∙ sym (at_t ∙ ap (λ v. if v then None else table_of mid kind.Token t) left) ∙ readable.2,
+        sym (clock kind.Token t refl) ∙ sym (at_t ∙ ap (λ v. if v then None else table_of mid kind.Token t) left)
+            ∙ readable.2,
       )
     ] refl
   where
@@ -102,8 +113,11 @@ damaged_still old mid swept new s ended clock ends dropped t readable =
     was : has ended t ≡ true → (o : Option Row) → table_of mid kind.Token t ≡ o → IsReadableToken old t
     was gone None none = (None, (λ x e. absurd (none-some _ e)), sym (clock kind.Token t refl) ∙ none)
     was gone (Some row) some =
-        let is = ends.readable t row gone some in
-        (Some is.0, (λ x e. subst IsTokenInRange (same_Some _ _ e) is.1), sym (clock kind.Token t refl) ∙ some ∙ ap Some is.2)
+        let is = ends.readable t row gone some in (
+          Some is.0,
+          (λ x e. subst IsTokenInRange (same_Some _ _ e) is.1),
+          sym (clock kind.Token t refl) ∙ some ∙ ap Some is.2,
+        )
 
 -- ---- the same, as it is said of a request
 

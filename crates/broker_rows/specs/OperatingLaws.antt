@@ -17,10 +17,12 @@ module _ {X : Type 0} (b : Broker) (rows : Rows) (c : Text) (f : X → Done) (o 
   -- the answer that shows what was found
   pub acts_found : (x : X) (result : Result Code.Answered RequestError) → o ≡ Some x → ActsAs c b rows result (Ok (f x))
       → ActsAs c b rows result (some_or refusal.NotFound o >>= (λ x. Ok (f x)))
-  acts_found x result is acts = subst (λ o. ActsAs c b rows result (some_or refusal.NotFound o >>= (λ x. Ok (f x)))) (sym is) acts
+  acts_found x result is acts =
+      subst (λ o. ActsAs c b rows result (some_or refusal.NotFound o >>= (λ x. Ok (f x)))) (sym is) acts
 
   -- 404 where nothing was
   pub acts_absent : o ≡ None → Represents (Some c) rows b
       → ActsAs c b rows (Err (Refused refusal.NotFound)) (some_or refusal.NotFound o >>= (λ x. Ok (f x)))
   acts_absent is st =
-      subst (λ o. ActsAs c b rows (Err (Refused refusal.NotFound)) (some_or refusal.NotFound o >>= (λ x. Ok (f x)))) (sym is) (refl, st)
+      subst (λ o. ActsAs c b rows (Err (Refused refusal.NotFound)) (some_or refusal.NotFound o >>= (λ x. Ok (f x))))
+      (sym is) (refl, st)

@@ -20,8 +20,8 @@ pub readable_gone : (rows : Rows) (t : Text) → map.get rows (kind.Token, t) �
 readable_gone rows t none = (None, (λ x e. absurd (none-some _ e)), none)
 
 -- a row of a cubbyhole that can be read once tokens have expired can be read before
-pub readable_before : (old expired : Rows) (t path : Text) → KeepsCubbyholes old expired → map.get expired (kind.Token, t) ≢ None
-    → IsReadableObject expired t path → IsReadableObject old t path
+pub readable_before : (old expired : Rows) (t path : Text) → KeepsCubbyholes old expired
+    → map.get expired (kind.Token, t) ≢ None → IsReadableObject expired t path → IsReadableObject old t path
 readable_before old expired t path left here readable = (readable.0, readable.1, sym (left t path here) ∙ readable.2)
 
 -- a row that is read where the token ends can be read
@@ -40,7 +40,9 @@ pub unspent_gone : (rows : Rows) (t : Text) → table_of rows kind.Token t ≡ N
 unspent_gone rows t none = (None, (λ x e. absurd (none-some _ e)), none, refl)
 
 -- the row of a token that ends alone can be read
-pub readable_alone : (t : Text) (old : Rows) (ended : List Text) (new : Rows) → EndsAlone t old ended new → IsReadableToken old t
+pub readable_alone : (t : Text) (old : Rows) (ended : List Text) (new : Rows) → EndsAlone t old ended new
+    → IsReadableToken old t
 readable_alone t old ended new ends =
     readable_if_ended old t ended ends.readable
-    (λ row some. ap (λ ts. has ts t) (ends.ends ∙ ap (λ o. if is_some o then t ∷ [] else []) some) ∙ ap (λ v. v || false) (same_self t))
+    (λ row some. ap (λ ts. has ts t) (ends.ends ∙ ap (λ o. if is_some o then t ∷ [] else []) some)
+    ∙ ap (λ v. v || false) (same_self t))

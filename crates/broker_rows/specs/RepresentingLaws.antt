@@ -21,11 +21,13 @@ use Rattle.broker_model.specs.Forms.{forms}
 use Rattle.broker_rows.specs.Representing.{Represents}
 
 -- they represent the same broker
-pub still_represented : {who : Option Text} (b : Broker) (old new : Rows) → new ≡ old → Represents who old b → Represents who new b
+pub still_represented : {who : Option Text} (b : Broker) (old new : Rows) → new ≡ old → Represents who old b
+    → Represents who new b
 still_represented {who} b old new e st = subst (λ rows. Represents who rows b) (sym e) st
 
 -- rows that are a broker's tell each part of it
-pub tells_part : {who : Option Text} (part : Part) (b : Broker) (rows : Rows) → Represents who rows b → Tells part (table_of rows) b
+pub tells_part : {who : Option Text} (part : Part) (b : Broker) (rows : Rows) → Represents who rows b
+    → Tells part (table_of rows) b
 tells_part part b rows st k q _ = ap (λ (t : Table). t k q) st.rows
 
 -- every kind of rows
@@ -33,7 +35,8 @@ abbrev pub everything : Part
 everything k = true
 
 -- rows that represent a broker represent its tokens
-pub represents_tokens : {who : Option Text} (b : Broker) (rows : Rows) → Represents who rows b → RepresentsTokens forms (table_of rows) b
+pub represents_tokens : {who : Option Text} (b : Broker) (rows : Rows) → Represents who rows b
+    → RepresentsTokens forms (table_of rows) b
 represents_tokens b rows st = record {
   sound = st.sound.tokens;
   one_place = st.sound.identifiers.one_place;
@@ -46,7 +49,8 @@ pub tokens_long : {who : Option Text} (b : Broker) (rows : Rows) → Represents 
 tokens_long b rows st t x is = length-token t (st.sound.tokens.each t x is).name
 
 -- the token of a caller that is there has forty bytes
-pub caller_len : {who : Option Text} (b : Broker) (rows : Rows) (t : Text) → Represents who rows b → get b.tokens t ≢ None → length t ≡ token_len
+pub caller_len : {who : Option Text} (b : Broker) (rows : Rows) (t : Text) → Represents who rows b
+    → get b.tokens t ≢ None → length t ≡ token_len
 caller_len b rows t st here =
     elim (found_or_not (get b.tokens t)) [
       | inl none ↦ absurd (here none)
@@ -54,11 +58,13 @@ caller_len b rows t st here =
     ]
 
 -- the rows of mounts that a broker has are those of its mounts
-pub mounts_there : {who : Option Text} (b : Broker) (rows : Rows) → Represents who rows b → AreMounts (table_of rows) b.mounts
+pub mounts_there : {who : Option Text} (b : Broker) (rows : Rows) → Represents who rows b
+    → AreMounts (table_of rows) b.mounts
 mounts_there b rows st = mounts_told (table_of rows) b st.sound.mounts (tells_part of_mounts b rows st)
 
 -- the rows of policies that a broker has are those of its policies
-pub policies_there : {who : Option Text} (b : Broker) (rows : Rows) → Represents who rows b → ArePolicies (table_of rows) b.policies
+pub policies_there : {who : Option Text} (b : Broker) (rows : Rows) → Represents who rows b
+    → ArePolicies (table_of rows) b.policies
 policies_there b rows st = policies_told (table_of rows) b (tells_part of_policies b rows st)
 
 -- the rows that a broker has are those of its policies

@@ -43,8 +43,8 @@ pub fn drop_cubbyholes<T: RecordsTx>(
 
 /// Ends a caller that has spent its last use, with all below it, and their cubbyholes with them (Vault's documentation,
 /// "Tokens").
-/// It fails with `Memory` if memory runs out, with `Storage` if the transaction's storage failed, and with `Damaged` if a
-/// row that it asks for cannot be read.
+/// It fails with `Memory` if memory runs out, with `Storage` if the transaction's storage failed, and with `Damaged` if
+/// a row that it asks for cannot be read.
 pub fn end_spent<T: RecordsTx>(alloc: Global, tx: &mut T, caller: &str) -> Result<(), Fault>
     ensures told { IsHonest (T.seen tx.new) → (b : Broker) → Represents (Some caller.now) (T.seen tx.old).rows b
         → OnOk result (Represents None (T.seen tx.new).rows (spending.end_spent b (Some caller.now))) }

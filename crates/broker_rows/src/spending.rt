@@ -16,8 +16,8 @@ use records::RecordsTx;
 use std::alloc::Global;
 
 /// Takes a use from the caller, if its uses are limited (Vault's documentation, "Token auth method (API)", `num_uses`).
-/// It fails with `Memory` if memory runs out, with `Storage` if the transaction's storage failed, and with `Damaged` if a
-/// row that it asks for cannot be read.
+/// It fails with `Memory` if memory runs out, with `Storage` if the transaction's storage failed, and with `Damaged` if
+/// a row that it asks for cannot be read.
 pub fn spend<T: RecordsTx>(alloc: Global, tx: &mut T, caller: &str) -> Result<(), Fault>
     ensures told { IsHonest (T.seen tx.new) → (b : Broker) → Represents None (T.seen tx.old).rows b
         → OnOk result (Represents (Some caller.now) (T.seen tx.new).rows (spending.spend b caller.now)) }

@@ -10,7 +10,8 @@ use Rattle.broker_types.specs.Broker.{Broker, Mount, Role}
 use Rattle.broker_types.specs.Evolves.{Evolves}
 use Rattle.broker_types.specs.Sound.{Forms, Sound, IsMoment, SoundSecrets, SoundMounts, SoundRoles, SoundPolicies}
 
-module _ (b : Broker) (clock : ℕ) (secrets : Map Key) (mounts : Map Mount) (roles : Map Role) (policies : Map Text) where
+module _ (b : Broker) (clock : ℕ) (secrets : Map Key) (mounts : Map Mount) (roles : Map Role)
+    (policies : Map Text) where
   abbrev pub with_fields : Broker
   with_fields =
       record b { clock = clock; secrets = secrets; mounts = mounts; roles = roles; policies = policies }

@@ -1,5 +1,5 @@
-//! Tests of connections: of the bytes that come and the replies to them, of connections that are served, and of runs that
-//! are replayed. They are here because a crate with tests is proved once more for them.
+//! Tests of connections: of the bytes that come and the replies to them, of connections that are served, and of runs
+//! that are replayed. They are here because a crate with tests is proved once more for them.
 #![tactic(auto)]
 
 #[cfg(test)]

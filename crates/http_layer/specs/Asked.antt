@@ -1,6 +1,6 @@
 -- What a whole request asks (RFC 9110, sections 5 and 9; Vault's documentation, "HTTP API").
-use Rattle.std.specs.Prelude.{◌≢◌, ℕ, Bool, ◌==◌, ◌||◌, ◌&&◌, List, [], ◌∷◌, All, take, drop, length, min, codes}
-use Rattle.std.specs.Prelude.{bytes_eq, Option, Some, None, option_and_then, Result, Ok, Err, if◌then◌else◌, true, false}
+use Rattle.std.specs.Prelude.{◌≢◌, ℕ, Bool, ◌==◌, ◌||◌, ◌&&◌, List, [], ◌∷◌, All, take, drop, length, min, bytes_eq}
+use Rattle.std.specs.Prelude.{codes, Option, Some, None, option_and_then, Result, Ok, Err, if◌then◌else◌, true, false}
 use Rattle.std.specs.List.{prefix_len, before_first, after_first}
 use Rattle.std.specs.Option.{option_or, option_map_or}
 use Rattle.std.specs.Str.{is_utf8}
@@ -74,8 +74,8 @@ bearer_token credentials =
     then not_empty (without_spaces (after_first is_space credentials))
     else None
 
--- The client token (Vault's documentation, "HTTP API", authentication): X-Vault-Token unless it is empty, else the token
--- of Authorization.
+-- The client token (Vault's documentation, "HTTP API", authentication): X-Vault-Token unless it is empty, else the
+-- token of Authorization.
 abbrev pub client_token : Option Text → Option Text → Option Text
 client_token vault authorization =
     option_or (option_and_then not_empty vault) (option_and_then bearer_token authorization)
@@ -121,8 +121,8 @@ path_asked target =
 
 -- ---- the ask
 
--- What a request asks, or its first refusal: of its method, of a field that is not one text, of its target, or of a wrap
--- TTL that is no duration. The order is this project's.
+-- What a request asks, or its first refusal: of its method, of a field that is not one text, of its target, or of a
+-- wrap TTL that is no duration. The order is this project's.
 unfoldable pub asked : HeadParts → List ℕ → Result Ask RefusalParts
 asked head body = do
   verb ← verb_asked head.method (target_query head.target)

@@ -41,7 +41,8 @@ module _ (b : Broker) (secrets : Map Key) where
   -- sound secrets leave a sound broker sound
   pub sound_with_secrets : (forms : Forms) (who : Option Text) → SoundSecrets forms secrets → Sound forms who b
       → Sound forms who (record b { secrets = secrets })
-  sound_with_secrets forms who sound s = sound_with b b.clock secrets b.mounts b.roles b.policies forms who s s.clock sound s.mounts s.roles s.policies
+  sound_with_secrets forms who sound s =
+      sound_with b b.clock secrets b.mounts b.roles b.policies forms who s s.clock sound s.mounts s.roles s.policies
 
   -- any secrets let a broker evolve
   pub secrets_evolve : Evolves b (record b { secrets = secrets })

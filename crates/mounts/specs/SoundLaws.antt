@@ -105,7 +105,8 @@ module _ (b : Broker) (next : Map Mount) where
   -- sound mounts leave a sound broker sound
   pub sound_with_mounts : (forms : Forms) (who : Option Text) → SoundMounts next → Sound forms who b
       → Sound forms who (record b { mounts = next })
-  sound_with_mounts forms who mounts s = sound_with b b.clock b.secrets next b.roles b.policies forms who s s.clock s.secrets mounts s.roles s.policies
+  sound_with_mounts forms who mounts s =
+      sound_with b b.clock b.secrets next b.roles b.policies forms who s s.clock s.secrets mounts s.roles s.policies
 
   -- any mounts let a broker evolve
   pub mounts_evolve : Evolves b (record b { mounts = next })

@@ -116,7 +116,8 @@ module _ (b : Broker) (next : Map Text) where
   -- sound policies leave a sound broker sound
   pub sound_with_policies : (forms : Forms) (who : Option Text) → SoundPolicies forms next → Sound forms who b
       → Sound forms who (record b { policies = next })
-  sound_with_policies forms who policies s = sound_with b b.clock b.secrets b.mounts b.roles next forms who s s.clock s.secrets s.mounts s.roles policies
+  sound_with_policies forms who policies s =
+      sound_with b b.clock b.secrets b.mounts b.roles next forms who s s.clock s.secrets s.mounts s.roles policies
 
   -- any policies let a broker evolve
   pub policies_evolve : Evolves b (record b { policies = next })

@@ -1,5 +1,5 @@
-//! Tests of the calls on rows of one part each: cubbyholes, tokens, mounts, secrets and policies. They are here because a
-//! crate with tests is proved once more for them.
+//! Tests of the calls on rows of one part each: cubbyholes, tokens, mounts, secrets and policies. They are here because
+//! a crate with tests is proved once more for them.
 #![tactic(auto)]
 
 #[cfg(test)]

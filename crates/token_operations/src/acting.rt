@@ -20,8 +20,8 @@ use mounts::TokenOperation;
 use records::RecordsTx;
 use std::alloc::Global;
 
-/// Carries out an operation on tokens. It may be refused. It fails with `Memory` if memory runs out, with `Storage` if the
-/// transaction's storage failed, and with `Damaged` if a row that it asks for cannot be read.
+/// Carries out an operation on tokens. It may be refused. It fails with `Memory` if memory runs out, with `Storage` if
+/// the transaction's storage failed, and with `Damaged` if a row that it asks for cannot be read.
 pub fn act_on_tokens<T: RecordsTx>(
     alloc: Global,
     tx: &mut T,

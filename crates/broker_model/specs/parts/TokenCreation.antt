@@ -93,7 +93,8 @@ may_make privileged making x policies asked = do
   named ← unless (list_all is_name asked.policies) (refusal.BadRequest reason.InvalidName)
   root ← unless (have_root x.policies || not (have_root asked.policies)) (refusal.BadRequest reason.RootByRootAlone)
   had ← unless (privileged || list_all (has x.policies) asked.policies) (refusal.BadRequest reason.PoliciesBeyondParent)
-  parted ← unless (privileged || (makes_orphans making || not asked.no_parent)) (refusal.BadRequest reason.OrphanNeedsSudo)
+  parted ← unless (privileged || (makes_orphans making || not asked.no_parent))
+      (refusal.BadRequest reason.OrphanNeedsSudo)
   unless (is_none x.ends || not (has_no_end policies asked)) (refusal.BadRequest reason.ExpiringRoot)
 
 -- ---- the new token
