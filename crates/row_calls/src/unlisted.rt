@@ -14,9 +14,10 @@ pub struct Unlisted {
 
 impl RecordsTx for Unlisted {
     ghost use Rattle.std.specs.Prelude.{◌||◌};
-    ghost use Rattle.row_calls.specs.Unlisted.{noting};
 
-    ghost seen = { λ s. noting (⟦<ListTx as RecordsTx>⟧.seen s.tx) s.was_listed };
+    ghost seen = { λ s.
+        let within = ⟦<ListTx as RecordsTx>⟧.seen s.tx in
+        record within { has_failed = within.has_failed || s.was_listed } };
 
     fn get(&mut self, kind: Kind, key: &str) -> Result<Option<Row>, Fault> {
         self.tx.get(kind, key)
