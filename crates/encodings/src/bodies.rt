@@ -62,23 +62,35 @@ const VALUES: &str =
     \"0000000000000000007\"|\" a, ,b \"|[]|[\"a\"]|[\"1\",2]|[null]|{}|{\"a\":\"b\"}|\
     {\"a\":null}";
 
-/// Reads a body for each value, which takes the place of `@`, and compares the outcomes.
+/// The outcome of a body in which the value takes the place of `@` in the template.
+fn outcome_at(
+    alloc: Global,
+    (route, field, template): (Route, Field, &str),
+    value: &str,
+) -> Result<char, Fail> {
+    let (before, after) = template.split_once('@').ok_or("no place")?;
+    let text = format!(in alloc; "{before}{value}{after}")?;
+    let body = read_body(alloc, text.as_bytes())?;
+    Ok(char::from(outcome(refused(alloc, route, &body), field)))
+}
+
+/// The outcomes of the bodies that a template has for the values.
+fn outcomes(alloc: Global, case: (Route, Field, &str)) -> Result<String, Fail> {
+    let mut found = String::new(alloc);
+    for value in VALUES.split('|') {
+        found.push(outcome_at(alloc, case, value)?)?;
+    }
+    Ok(found)
+}
+
+/// Compares the outcomes of the bodies of each template.
 fn expect_kinds(
     rt: &(impl Abort + AllocGlobal),
     rows: &[(Route, Field, &str, &str)],
 ) -> Result<(), Fail> {
-    let alloc = rt.alloc();
-    for (route, field, template, outcomes) in rows.iter() {
-        let mut found = String::new(alloc);
-        let (before, after) = template.split_once('@').ok_or("no place")?;
-        for value in VALUES.split('|') {
-            let body = read_body(
-                alloc,
-                format!(in alloc; "{before}{value}{after}")?.as_bytes(),
-            )?;
-            found.push(char::from(outcome(refused(alloc, *route, &body), *field)))?;
-        }
-        assert_eq!(rt; found.as_str(), *outcomes, "{template}");
+    for (route, field, template, want) in rows.iter() {
+        let found = outcomes(rt.alloc(), (*route, *field, template))?;
+        assert!(rt; found.as_str() == *want, "{template}");
     }
     Ok(())
 }
@@ -237,69 +249,67 @@ fn kinds_of_members(rt: HostRuntime) -> Result<(), Fail> {
     )
 }
 
-/// Reads each text as a body, and compares what it is read as; none where it is refused.
-fn expect_bodies(
-    rt: &(impl Abort + AllocGlobal),
-    texts: &[(&str, Option<&str>)],
-) -> Result<(), Fail> {
-    let alloc = rt.alloc();
-    for (text, want) in texts.iter() {
-        match (read_body(alloc, text.as_bytes()), *want) {
-            (Ok(body), Some(want)) => {
-                assert!(rt; body.has_members() == (want != "{}"), "{text}");
-                assert_eq!(rt; body.into_text(alloc)?.as_str(), want);
-            }
-            (Err(error), None) => {
-                assert!(rt;
-                    error == RequestError::Refused(Refusal::BadRequest(Reason::InvalidJson)),
-                    "{text}"
-                );
-            }
-            _ => Err("another outcome")?,
-        }
-    }
-    Ok(())
+/// Whether the bytes are read as this body.
+fn is_read_as(alloc: Global, bytes: &[u8], want: &str) -> Result<bool, RequestError> {
+    let body = read_body(alloc, bytes)?;
+    let has_members = body.has_members();
+    let text = body.into_text(alloc)?;
+    Ok(has_members == (want != "{}") && text.as_str() == want)
 }
 
-/// Which bytes are bodies. Of two members of one name the last counts, also where the first has a float, but what the
-/// reader itself refuses is refused there too.
+/// Whether the bytes are no body.
+fn is_refused(alloc: Global, bytes: &[u8]) -> bool {
+    let refusal = Refusal::BadRequest(Reason::InvalidJson);
+    read_body(alloc, bytes).err() == Some(RequestError::Refused(refusal))
+}
+
+/// The first of the texts that is a body, if one is.
+fn first_body<'t>(alloc: Global, texts: &[&'t str]) -> Option<&'t str> {
+    for text in texts {
+        if !is_refused(alloc, text.as_bytes()) {
+            return Some(text);
+        }
+    }
+    None
+}
+
+/// Which bytes are no bodies. What the reader itself refuses is refused also where a later member has the same name.
+#[test]
+fn no_bodies(rt: HostRuntime) {
+    let first = first_body(
+        rt.alloc(),
+        &[
+            " ",
+            "[]",
+            "1",
+            "\"{}\"",
+            "{\"a\":1}x",
+            "{\"a\":-0}",
+            "{\"a\":1.0}",
+            "{\"a\":1e2}",
+            "{\"a\":18446744073709551616}",
+            "{\"a\":-9223372036854775809}",
+            "{\"a\":[{\"b\":1.5}]}",
+            "{\"a\":1e999,\"a\":2}",
+            "\u{feff}{}",
+        ],
+    );
+    assert_eq!(rt; first, None);
+    assert!(rt; is_refused(rt.alloc(), b"{\"a\":\"\xff\"}"));
+}
+
+/// Which bytes are bodies. Of two members of one name the last counts, also where the first has a float.
 #[test]
 fn bodies(rt: HostRuntime) -> Result<(), Fail> {
-    expect_bodies(
-        &rt,
-        &[
-            ("", Some("{}")),
-            (" null\n", Some("{}")),
-            (" ", None),
-            ("[]", None),
-            ("1", None),
-            ("\"{}\"", None),
-            ("{\"a\":1}x", None),
-            ("{\"a\":-0}", None),
-            ("{\"a\":1.0}", None),
-            ("{\"a\":1e2}", None),
-            ("{\"a\":18446744073709551616}", None),
-            ("{\"a\":-9223372036854775809}", None),
-            ("{\"a\":[{\"b\":1.5}]}", None),
-            ("{\"a\":1.5,\"a\":2}", Some("{\"a\":2}")),
-            ("{\"a\":1e999,\"a\":2}", None),
-            ("\u{feff}{}", None),
-            (
-                " {\"b\":[18446744073709551615, -9223372036854775808],\"10\":null,\"2\":\"\\u00e9\\u0001\\/\"} ",
-                Some(
-                    "{\"10\":null,\"2\":\"é\\u0001/\",\"b\":[18446744073709551615,-9223372036854775808]}",
-                ),
-            ),
-        ],
-    )?;
     let alloc = rt.alloc();
-    assert!(rt; read_body(alloc, b"{\"a\":\"\xff\"}").is_err());
-    assert!(rt; read_body(alloc, nested(alloc, 126)?.as_bytes()).is_ok());
-    assert!(rt; read_body(alloc, nested(alloc, 127)?.as_bytes()).is_err());
-    let mut replaced = nested(alloc, 127)?;
-    replaced.pop();
-    replaced.push_str(",\"a\":2}")?;
-    assert!(rt; read_body(alloc, replaced.as_bytes()).is_err());
+    assert!(rt; is_read_as(alloc, b"", "{}")?);
+    assert!(rt; is_read_as(alloc, b" null\n", "{}")?);
+    assert!(rt; is_read_as(alloc, b"{\"a\":1.5,\"a\":2}", "{\"a\":2}")?);
+    let bytes =
+        b" {\"b\":[18446744073709551615, -9223372036854775808],\"10\":null,\"2\":\"\\u00e9\\u0001\\/\"} ";
+    let text =
+        "{\"10\":null,\"2\":\"é\\u0001/\",\"b\":[18446744073709551615,-9223372036854775808]}";
+    assert!(rt; is_read_as(alloc, bytes, text)?);
     Ok(())
 }
 
@@ -316,17 +326,45 @@ fn nested(alloc: Global, levels: usize) -> Result<String, AllocError> {
     Ok(text)
 }
 
+/// Whether the object with so many arrays in one another is no body.
+fn is_too_deep(alloc: Global, levels: usize) -> Result<bool, AllocError> {
+    let text = nested(alloc, levels)?;
+    Ok(is_refused(alloc, text.as_bytes()))
+}
+
+#[test]
+fn nested_bodies(rt: HostRuntime) -> Result<(), Fail> {
+    let alloc = rt.alloc();
+    assert!(rt; !is_too_deep(alloc, 126)?);
+    assert!(rt; is_too_deep(alloc, 127)?);
+    let mut replaced = nested(alloc, 127)?;
+    replaced.pop();
+    replaced.push_str(",\"a\":2}")?;
+    assert!(rt; is_refused(alloc, replaced.as_bytes()));
+    Ok(())
+}
+
+/// Whether the bytes are an array that is printed as this.
+fn is_array(alloc: Global, bytes: &[u8], want: &str) -> Result<bool, AllocError> {
+    match Tree::read(alloc, bytes)? {
+        Some(tree) => Ok(tree.value().is_array() && prints(tree.to_text(alloc), want)?),
+        None => Ok(false),
+    }
+}
+
+/// Whether the bytes are no tree.
+fn is_no_tree(alloc: Global, bytes: &[u8]) -> Result<bool, AllocError> {
+    let tree = Tree::read(alloc, bytes)?;
+    Ok(tree.is_none())
+}
+
 #[test]
 fn trees(rt: HostRuntime) -> Result<(), Fail> {
     let alloc = rt.alloc();
-    let tree = Tree::read(alloc, b"[1, {\"b\":true, \"a\":null}]")?.ok_or("no tree")?;
-    assert!(rt; tree.value().is_array());
-    assert_eq!(rt;
-        tree.to_text(alloc)?.as_str(),
-        "[1,{\"a\":null,\"b\":true}]"
-    );
-    assert!(rt; Tree::read(alloc, b"[1.5]")?.is_none());
-    assert!(rt; Tree::read(alloc, b"")?.is_none());
+    let bytes = b"[1, {\"b\":true, \"a\":null}]";
+    assert!(rt; is_array(alloc, bytes, "[1,{\"a\":null,\"b\":true}]")?);
+    assert!(rt; is_no_tree(alloc, b"[1.5]")?);
+    assert!(rt; is_no_tree(alloc, b"")?);
     Ok(())
 }
 
@@ -338,33 +376,48 @@ fn moment(seconds: u64) -> Result<Moment, Fail> {
     Ok(Moment::new(seconds).ok_or("no moment")?)
 }
 
-fn version(version: u64, deleted: bool) -> Result<VersionObject, Fail> {
-    let created = moment(1000)?;
+/// A version of second 1,000.
+fn version(version: u64, deleted: Option<Moment>) -> Result<VersionObject, Fail> {
     Ok(VersionObject {
-        created,
-        deleted: if deleted { Some(created) } else { None },
+        created: moment(1000)?,
+        deleted,
         destroyed: false,
         version,
     })
 }
 
+/// Whether this was printed.
+fn prints(printed: Result<TextBuf, AllocError>, want: &str) -> Result<bool, AllocError> {
+    let printed = printed?;
+    Ok(printed.as_str() == want)
+}
+
 #[test]
 fn printed_secrets(rt: HostRuntime) -> Result<(), Fail> {
     let alloc = rt.alloc();
-    assert_eq!(rt;
-        version_object(alloc, &version(1, false)?)?.as_str(),
+    let printed = version_object(alloc, &version(1, None)?);
+    let want =
         "{\"created_time\":\"1970-01-01T00:16:40Z\",\"custom_metadata\":null,\"deletion_time\":\"\",\
-        \"destroyed\":false,\"version\":1}"
-    );
-    assert_eq!(rt;
-        secret_object(alloc, &None, &version(1, true)?)?.as_str(),
+        \"destroyed\":false,\"version\":1}";
+    assert!(rt; prints(printed, want)?);
+    let printed = secret_object(alloc, &None, &version(1, Moment::new(1000))?);
+    let want =
         "{\"data\":null,\"metadata\":{\"created_time\":\"1970-01-01T00:16:40Z\",\"custom_metadata\":null,\
-        \"deletion_time\":\"1970-01-01T00:16:40Z\",\"destroyed\":false,\"version\":1}}"
-    );
+        \"deletion_time\":\"1970-01-01T00:16:40Z\",\"destroyed\":false,\"version\":1}}";
+    assert!(rt; prints(printed, want)?);
+    let printed = settings_object(alloc, true, 18446744073709551615);
+    let want =
+        "{\"cas_required\":true,\"delete_version_after\":\"0s\",\"max_versions\":18446744073709551615}";
+    assert!(rt; prints(printed, want)?);
+    Ok(())
+}
+
+/// A secret with the versions 2, which is deleted, and 10.
+fn two_versions(alloc: Global) -> Result<KeyObject, Fail> {
     let mut kept = Vec::new(alloc);
-    kept.push(version(2, true)?)?;
-    kept.push(version(10, false)?)?;
-    let key = KeyObject {
+    kept.push(version(2, Moment::new(1000))?)?;
+    kept.push(version(10, None)?)?;
+    Ok(KeyObject {
         cas_required: false,
         created: moment(1000)?,
         current_version: 10,
@@ -372,52 +425,63 @@ fn printed_secrets(rt: HostRuntime) -> Result<(), Fail> {
         oldest_version: 2,
         updated: moment(2000)?,
         versions: Versions::new(kept),
-    };
-    assert_eq!(rt;
-        key_object(alloc, &key)?.as_str(),
+    })
+}
+
+#[test]
+fn printed_keys(rt: HostRuntime) -> Result<(), Fail> {
+    let alloc = rt.alloc();
+    let printed = key_object(alloc, &two_versions(alloc)?);
+    let want =
         "{\"cas_required\":false,\"created_time\":\"1970-01-01T00:16:40Z\",\"current_version\":10,\
         \"custom_metadata\":null,\"delete_version_after\":\"0s\",\"max_versions\":0,\"oldest_version\":2,\
         \"updated_time\":\"1970-01-01T00:33:20Z\",\"versions\":{\"10\":{\"created_time\":\"1970-01-01T00:16:40Z\",\
         \"deletion_time\":\"\",\"destroyed\":false},\"2\":{\"created_time\":\"1970-01-01T00:16:40Z\",\
-        \"deletion_time\":\"1970-01-01T00:16:40Z\",\"destroyed\":false}}}"
-    );
-    assert_eq!(rt;
-        settings_object(alloc, true, 18446744073709551615)?.as_str(),
-        "{\"cas_required\":true,\"delete_version_after\":\"0s\",\"max_versions\":18446744073709551615}"
-    );
+        \"deletion_time\":\"1970-01-01T00:16:40Z\",\"destroyed\":false}}}";
+    assert!(rt; prints(printed, want)?);
+    Ok(())
+}
+
+/// The policies `default` and `p`.
+fn two_policies(alloc: Global) -> Result<Vec<TextBuf>, AllocError> {
+    let mut policies = Vec::new(alloc);
+    policies.push(text(alloc, "default")?)?;
+    policies.push(text(alloc, "p")?)?;
+    Ok(policies)
+}
+
+/// One pair, whose name has a quotation mark.
+fn one_pair(alloc: Global) -> Result<Pairs, AllocError> {
+    let mut meta = Vec::new(alloc);
+    meta.push((text(alloc, "a\"")?, text(alloc, "1")?))?;
+    Ok(Pairs::new(meta))
+}
+
+#[test]
+fn printed_auths(rt: HostRuntime) -> Result<(), Fail> {
+    let alloc = rt.alloc();
+    let auth = AuthObject {
+        accessor: text(alloc, "00000000-0000-0000-0000-000000000022")?,
+        client_token: text(alloc, "hvs.00000000-0000-0000-0000-000000000021")?,
+        lease_duration: 2764800,
+        metadata: one_pair(alloc)?,
+        num_uses: 0,
+        orphan: false,
+        policies: Texts::new(two_policies(alloc)?),
+        renewable: true,
+    };
+    let want = "{\"accessor\":\"00000000-0000-0000-0000-000000000022\",\
+        \"client_token\":\"hvs.00000000-0000-0000-0000-000000000021\",\"entity_id\":\"\",\
+        \"lease_duration\":2764800,\"metadata\":{\"a\\\"\":\"1\"},\"num_uses\":0,\"orphan\":false,\
+        \"policies\":[\"default\",\"p\"],\"renewable\":true,\"token_policies\":[\"default\",\"p\"],\
+        \"token_type\":\"service\"}";
+    assert!(rt; prints(auth_object(alloc, &auth), want)?);
     Ok(())
 }
 
 #[test]
 fn printed_tokens(rt: HostRuntime) -> Result<(), Fail> {
     let alloc = rt.alloc();
-    let mut policies = Vec::new(alloc);
-    policies.push(text(alloc, "default")?)?;
-    policies.push(text(alloc, "p")?)?;
-    assert_eq!(rt;
-        keys_object(alloc, policies.as_slice())?.as_str(),
-        "{\"keys\":[\"default\",\"p\"]}"
-    );
-    let mut meta = Vec::new(alloc);
-    meta.push((text(alloc, "a\"")?, text(alloc, "1")?))?;
-    let auth = AuthObject {
-        accessor: text(alloc, "00000000-0000-0000-0000-000000000022")?,
-        client_token: text(alloc, "hvs.00000000-0000-0000-0000-000000000021")?,
-        lease_duration: 2764800,
-        metadata: Pairs::new(meta),
-        num_uses: 0,
-        orphan: false,
-        policies: Texts::new(policies),
-        renewable: true,
-    };
-    assert_eq!(rt;
-        auth_object(alloc, &auth)?.as_str(),
-        "{\"accessor\":\"00000000-0000-0000-0000-000000000022\",\
-        \"client_token\":\"hvs.00000000-0000-0000-0000-000000000021\",\"entity_id\":\"\",\
-        \"lease_duration\":2764800,\"metadata\":{\"a\\\"\":\"1\"},\"num_uses\":0,\"orphan\":false,\
-        \"policies\":[\"default\",\"p\"],\"renewable\":true,\"token_policies\":[\"default\",\"p\"],\
-        \"token_type\":\"service\"}"
-    );
     let token = TokenObject {
         accessor: text(alloc, "00000000-0000-0000-0000-000000000002")?,
         issued: moment(1000)?,
@@ -431,57 +495,80 @@ fn printed_tokens(rt: HostRuntime) -> Result<(), Fail> {
         policies: Texts::new(Vec::new(alloc)),
         ttl: 2764800,
     };
-    assert_eq!(rt;
-        token_object(alloc, &token)?.as_str(),
+    let want =
         "{\"accessor\":\"00000000-0000-0000-0000-000000000002\",\"creation_time\":1000,\"creation_ttl\":0,\
         \"expire_time\":\"1970-02-02T00:16:40Z\",\"explicit_max_ttl\":0,\
         \"id\":\"hvs.00000000-0000-0000-0000-000000000001\",\"issue_time\":\"1970-01-01T00:16:40Z\",\"meta\":null,\
-        \"num_uses\":0,\"orphan\":true,\"policies\":[],\"renewable\":true,\"ttl\":2764800,\"type\":\"service\"}"
-    );
-    assert!(rt; EndTime::new(250002764801).is_none());
-    assert_eq!(rt;
-        policy_object(alloc, "p", "{\"path\":{}}")?.as_str(),
-        "{\"name\":\"p\",\"policy\":\"{\\\"path\\\":{}}\"}"
-    );
+        \"num_uses\":0,\"orphan\":true,\"policies\":[],\"renewable\":true,\"ttl\":2764800,\"type\":\"service\"}";
+    assert!(rt; prints(token_object(alloc, &token), want)?);
     Ok(())
+}
+
+#[test]
+fn printed_lists_and_policies(rt: HostRuntime) -> Result<(), Fail> {
+    let alloc = rt.alloc();
+    let printed = keys_object(alloc, two_policies(alloc)?.as_slice());
+    assert!(rt; prints(printed, "{\"keys\":[\"default\",\"p\"]}")?);
+    let printed = policy_object(alloc, "p", "{\"path\":{}}");
+    assert!(rt; prints(printed, "{\"name\":\"p\",\"policy\":\"{\\\"path\\\":{}}\"}")?);
+    assert!(rt; EndTime::new(250002764801).is_none());
+    Ok(())
+}
+
+/// The reply to the request 0x20 that has only this payload.
+fn plain(alloc: Global, payload: &str) -> Result<Reply, AllocError> {
+    let request = "00000000-0000-0000-0000-000000000020";
+    plain_reply(alloc, request, text(alloc, payload)?)
 }
 
 #[test]
 fn printed_replies(rt: HostRuntime) -> Result<(), Fail> {
     let alloc = rt.alloc();
-    let request = "00000000-0000-0000-0000-000000000020";
-    let printed = reply_text(
-        alloc,
-        &plain_reply(alloc, request, text(alloc, "{\"k\":\"v\"}")?)?,
-    )?;
-    assert!(rt; printed.as_str().len() == 167);
-    assert_eq!(rt;
-        printed.as_str(),
+    let printed = reply_text(alloc, &plain(alloc, "{\"k\":\"v\"}")?);
+    let want =
         "{\"auth\":null,\"data\":{\"k\":\"v\"},\"lease_duration\":0,\"lease_id\":\"\",\"renewable\":false,\
-        \"request_id\":\"00000000-0000-0000-0000-000000000020\",\"warnings\":null,\"wrap_info\":null}\n"
-    );
+        \"request_id\":\"00000000-0000-0000-0000-000000000020\",\"warnings\":null,\"wrap_info\":null}\n";
+    assert!(rt; want.len() == 167);
+    assert!(rt; prints(printed, want)?);
+    Ok(())
+}
+
+/// A reply with a credential and its lease.
+fn leased(alloc: Global) -> Result<Reply, AllocError> {
+    let lease_id = text(alloc, "db/creds/r/00000000-0000-0000-0000-000000000053")?;
     let credential = "{\"credential\":\"00000000-0000-0000-0000-000000000054\"}";
-    let leased = Reply {
-        lease_duration: 60,
-        lease_id: text(alloc, "db/creds/r/00000000-0000-0000-0000-000000000053")?,
-        renewable: true,
-        ..plain_reply(alloc, request, text(alloc, credential)?)?
-    };
-    assert_eq!(rt;
-        reply_text(alloc, &leased)?.as_str(),
-        "{\"auth\":null,\"data\":{\"credential\":\"00000000-0000-0000-0000-000000000054\"},\"lease_duration\":60,\
-        \"lease_id\":\"db/creds/r/00000000-0000-0000-0000-000000000053\",\"renewable\":true,\
-        \"request_id\":\"00000000-0000-0000-0000-000000000020\",\"warnings\":null,\"wrap_info\":null}\n"
-    );
-    let wrapped = Reply {
-        payload: None,
-        wrap_info: Some(text(alloc, "{\"ttl\":5}")?),
-        ..plain_reply(alloc, request, text(alloc, "")?)?
-    };
-    assert_eq!(rt;
-        reply_text(alloc, &wrapped)?.as_str(),
+    let mut reply = plain(alloc, credential)?;
+    reply.lease_duration = 60;
+    reply.lease_id = lease_id;
+    reply.renewable = true;
+    Ok(reply)
+}
+
+#[test]
+fn printed_leases(rt: HostRuntime) -> Result<(), Fail> {
+    let alloc = rt.alloc();
+    let want = "{\"auth\":null,\"data\":{\"credential\":\"00000000-0000-0000-0000-000000000054\"},\
+        \"lease_duration\":60,\"lease_id\":\"db/creds/r/00000000-0000-0000-0000-000000000053\",\"renewable\":true,\
+        \"request_id\":\"00000000-0000-0000-0000-000000000020\",\"warnings\":null,\"wrap_info\":null}\n";
+    assert!(rt; prints(reply_text(alloc, &leased(alloc)?), want)?);
+    Ok(())
+}
+
+/// A reply that is wrapped.
+fn wrapped(alloc: Global) -> Result<Reply, AllocError> {
+    let wrap_info = text(alloc, "{\"ttl\":5}")?;
+    let mut reply = plain(alloc, "")?;
+    reply.payload = None;
+    reply.wrap_info = Some(wrap_info);
+    Ok(reply)
+}
+
+#[test]
+fn printed_wrappings(rt: HostRuntime) -> Result<(), Fail> {
+    let alloc = rt.alloc();
+    let want =
         "{\"auth\":null,\"data\":null,\"lease_duration\":0,\"lease_id\":\"\",\"renewable\":false,\
-        \"request_id\":\"00000000-0000-0000-0000-000000000020\",\"warnings\":null,\"wrap_info\":{\"ttl\":5}}\n"
-    );
+        \"request_id\":\"00000000-0000-0000-0000-000000000020\",\"warnings\":null,\"wrap_info\":{\"ttl\":5}}\n";
+    assert!(rt; prints(reply_text(alloc, &wrapped(alloc)?), want)?);
     Ok(())
 }

@@ -1,36 +1,31 @@
 use broker_types::*;
-use std::alloc::{AllocError, AllocFailed, AllocGlobal};
+use std::alloc::{AllocError, AllocFailed, AllocGlobal, Global};
 use std::borrow::CowStr;
 use std::process::Abort;
 use std::test::Fail;
 
-/// Words with their identifiers.
-fn expect_identifiers(rt: &(impl Abort + AllocGlobal), rows: &[(u128, &str)]) -> Result<(), Fail> {
-    for (word, want) in rows.iter() {
-        assert_eq!(rt; id_text(rt.alloc(), *word)?.as_str(), *want);
-        assert_eq!(rt; id_bytes(*word).as_slice(), want.as_bytes());
-        assert_eq!(rt; Accessor::of_word(rt.alloc(), *word)?.as_str(), *want);
-    }
-    Ok(())
+/// Whether the word is this identifier, as a text, as bytes and as an accessor.
+fn is_identifier(alloc: Global, word: u128, want: &str) -> Result<bool, AllocError> {
+    let text = id_text(alloc, word)?;
+    let accessor = Accessor::of_word(alloc, word)?;
+    Ok(
+        text.as_str() == want
+            && id_bytes(word).as_slice() == want.as_bytes()
+            && accessor.as_str() == want,
+    )
 }
 
 /// Texts that Python's `uuid` prints.
 /// Computes `id`, `token_text`.
 #[test]
 fn identifiers(rt: HostRuntime) -> Result<(), Fail> {
-    expect_identifiers(
-        &rt,
-        &[
-            (0x20, "00000000-0000-0000-0000-000000000020"),
-            (
-                0x0123456789abcdeffedcba9876543210,
-                "01234567-89ab-cdef-fedc-ba9876543210",
-            ),
-            (u128::MAX, "ffffffff-ffff-ffff-ffff-ffffffffffff"),
-        ],
-    )?;
-    let token = TokenText::of_word(rt.alloc(), 0x20)?;
-    assert_eq!(rt; token.as_str(), "hvs.00000000-0000-0000-0000-000000000020");
+    let alloc = rt.alloc();
+    let word = 0x0123456789abcdeffedcba9876543210;
+    assert!(rt; is_identifier(alloc, 0x20, "00000000-0000-0000-0000-000000000020")?);
+    assert!(rt; is_identifier(alloc, word, "01234567-89ab-cdef-fedc-ba9876543210")?);
+    assert!(rt; is_identifier(alloc, u128::MAX, "ffffffff-ffff-ffff-ffff-ffffffffffff")?);
+    let token = TokenText::of_word(alloc, 0x20)?;
+    assert!(rt; token.as_str() == "hvs.00000000-0000-0000-0000-000000000020");
     Ok(())
 }
 
@@ -38,7 +33,8 @@ fn identifiers(rt: HostRuntime) -> Result<(), Fail> {
 fn expect_times(rt: &(impl Abort + AllocGlobal), rows: &[(u64, &str)]) -> Result<(), Fail> {
     for (seconds, want) in rows.iter() {
         assert!(rt; *seconds < 253_402_300_800);
-        assert_eq!(rt; time_text(rt.alloc(), *seconds)?.as_str(), *want);
+        let text = time_text(rt.alloc(), *seconds)?;
+        assert!(rt; text.as_str() == *want, "{want}");
     }
     Ok(())
 }
@@ -65,14 +61,11 @@ fn times(rt: HostRuntime) -> Result<(), Fail> {
 #[test]
 fn limits(rt: HostRuntime) {
     let greatest = Moment::new(250_000_000_000);
-    assert_eq!(rt;
-        greatest.map(|moment| moment.seconds()),
-        Some(250_000_000_000)
-    );
-    assert_eq!(rt; Moment::new(250_000_000_001), None);
+    assert!(rt; greatest.is_some_and(|moment| moment.seconds() == 250_000_000_000));
+    assert!(rt; Moment::new(250_000_000_001).is_none());
     let greatest = 2_764_800;
-    assert_eq!(rt; WrapTtl::cut(Seconds::new(greatest)).count(), greatest);
-    assert_eq!(rt; WrapTtl::cut(Seconds::new(greatest + 1)).count(), greatest);
+    assert!(rt; WrapTtl::cut(Seconds::new(greatest)).count() == greatest);
+    assert!(rt; WrapTtl::cut(Seconds::new(greatest + 1)).count() == greatest);
 }
 
 /// Texts with the seconds of each that is a duration.
@@ -80,7 +73,7 @@ fn expect_durations<R: Abort>(rt: &R, rows: &[(&str, Option<u32>)]) {
     for (text, want) in rows.iter() {
         let found = read_duration(text).map(|found| found.count());
         let refusal = Refusal::BadRequest(Reason::InvalidDuration);
-        assert_eq!(rt; found, want.ok_or(refusal), "at {text}");
+        assert!(rt; found == want.ok_or(refusal), "at {text}");
     }
 }
 
@@ -109,68 +102,78 @@ fn durations(rt: HostRuntime) {
     );
 }
 
-/// Texts with the path that each is, if it is one.
-fn expect_paths<R: Abort>(rt: &R, rows: &[(&str, Option<&str>)]) {
-    for (text, want) in rows.iter() {
-        match (Path::read(CowStr::Borrowed(text)), *want) {
-            (Ok(path), Some(want)) => assert_eq!(rt; path.as_str(), want),
-            (Err(refusal), None) => {
-                assert_eq!(rt; refusal, Refusal::BadRequest(Reason::InvalidPath));
-            }
-            _ => assert!(rt; false, "{text} is read otherwise"),
+/// Whether the text is read as this path.
+fn is_path(text: &str, want: &str) -> bool {
+    match Path::read(CowStr::Borrowed(text)) {
+        Ok(path) => path.as_str() == want,
+        Err(_) => false,
+    }
+}
+
+/// Whether the text is no path.
+fn is_no_path(text: &str) -> bool {
+    let refusal = Refusal::BadRequest(Reason::InvalidPath);
+    Path::read(CowStr::Borrowed(text)).err() == Some(refusal)
+}
+
+/// The first of the texts that is a path, if there is one.
+fn first_path<'t>(texts: &[&'t str]) -> Option<&'t str> {
+    for text in texts {
+        if !is_no_path(text) {
+            return Some(text);
         }
     }
+    None
 }
 
 /// Computes `segments`, `is_segment`, `is_path`, `without_slash`.
 #[test]
-fn paths(rt: HostRuntime) -> Result<(), Fail> {
-    expect_paths(
-        &rt,
-        &[
-            ("a", Some("a")),
-            ("a/", Some("a")),
-            ("secret/data/a b", Some("secret/data/a b")),
-            ("a/...", Some("a/...")),
-            ("", None),
-            ("/", None),
-            ("a//", None),
-            ("a//b", None),
-            ("/a", None),
-            ("..", None),
-            (".", None),
-            ("a/./b", None),
-            ("a/..", None),
-            ("a\u{1f}b", None),
-            ("a\u{7f}", None),
-        ],
-    );
-    let long = "a".repeat(rt.alloc(), 512)?;
-    expect_paths(&rt, &[(long.as_str(), Some(long.as_str()))]);
-    let longer = "a".repeat(rt.alloc(), 513)?;
-    expect_paths(&rt, &[(longer.as_str(), None)]);
+fn paths(rt: HostRuntime) {
+    assert!(rt; is_path("a", "a"));
+    assert!(rt; is_path("a/", "a"));
+    assert!(rt; is_path("secret/data/a b", "secret/data/a b"));
+    assert!(rt; is_path("a/...", "a/..."));
+    let first = first_path(&[
+        "", "/", "a//", "a//b", "/a", "..", ".", "a/./b", "a/..", "a\u{1f}b", "a\u{7f}",
+    ]);
+    assert_eq!(rt; first, None);
+}
+
+/// Whether a text of so many letters is a path.
+fn is_path_of(alloc: Global, letters: usize) -> Result<bool, AllocError> {
+    let text = "a".repeat(alloc, letters)?;
+    Ok(is_path(text.as_str(), text.as_str()))
+}
+
+/// Whether a text of so many letters is no path.
+fn is_no_path_of(alloc: Global, letters: usize) -> Result<bool, AllocError> {
+    let text = "a".repeat(alloc, letters)?;
+    Ok(is_no_path(text.as_str()))
+}
+
+/// Computes `is_path`.
+#[test]
+fn longest_paths(rt: HostRuntime) -> Result<(), Fail> {
+    assert!(rt; is_path_of(rt.alloc(), 512)?);
+    assert!(rt; is_no_path_of(rt.alloc(), 513)?);
     Ok(())
 }
 
-/// The status and the errors of the answer to a refusal.
-fn expect_refusal(
-    rt: &(impl Abort + AllocGlobal),
-    refusal: Refusal,
-    code: u16,
-    errors: &str,
-) -> Result<(), Fail> {
-    let answer = Answer::refused(rt.alloc(), refusal)?;
-    assert_eq!(rt; answer.status.code(), code);
-    assert_eq!(rt; answer.methods, refusal.methods());
-    let body = format!(in rt.alloc(); "{{\"errors\":{errors}}}\n")?;
-    assert_eq!(rt; answer.text.as_str(), body.as_str());
-    Ok(())
+/// Whether the answer to a refusal has this status, the methods of the refusal and this body.
+fn is_refusal(alloc: Global, refusal: Refusal, code: u16, body: &str) -> Result<bool, AllocError> {
+    let answer = Answer::refused(alloc, refusal)?;
+    Ok(
+        answer.status.code() == code
+            && answer.methods == refusal.methods()
+            && answer.text.as_str() == body,
+    )
 }
 
 /// Computes `status_code`, `denial_text`, `refusal_status`, `refusal_methods`, `refusal_text`,
 /// `errors_body`, `refused`.
 #[test]
 fn refusals(rt: HostRuntime) -> Result<(), Fail> {
+    let alloc = rt.alloc();
     let methods = Methods {
         get: true,
         ..Methods::none()
@@ -179,15 +182,18 @@ fn refusals(rt: HostRuntime) -> Result<(), Fail> {
     let missing = Refusal::BadRequest(Reason::MissingField(Field::LeaseId));
     let denied = Refusal::Forbidden(Denial::BadToken);
     let unsupported = Refusal::MethodNotAllowed(methods);
-    let used = Refusal::IdentifierUsed;
-    expect_refusal(&rt, bad, 400, "[\"malformed request\"]")?;
-    expect_refusal(&rt, missing, 400, "[\"missing field: lease_id\"]")?;
-    expect_refusal(&rt, denied, 403, "[\"bad token\"]")?;
-    expect_refusal(&rt, Refusal::NotFound, 404, "[]")?;
-    expect_refusal(&rt, unsupported, 405, "[\"unsupported operation\"]")?;
-    expect_refusal(&rt, used, 500, "[\"identifier already used\"]")?;
-    let body = errors_body(rt.alloc(), Some("a"))?;
-    assert_eq!(rt; body.as_str(), "{\"errors\":[\"a\"]}\n");
+    let body = "{\"errors\":[\"malformed request\"]}\n";
+    assert!(rt; is_refusal(alloc, bad, 400, body)?);
+    let body = "{\"errors\":[\"missing field: lease_id\"]}\n";
+    assert!(rt; is_refusal(alloc, missing, 400, body)?);
+    assert!(rt; is_refusal(alloc, denied, 403, "{\"errors\":[\"bad token\"]}\n")?);
+    assert!(rt; is_refusal(alloc, Refusal::NotFound, 404, "{\"errors\":[]}\n")?);
+    let body = "{\"errors\":[\"unsupported operation\"]}\n";
+    assert!(rt; is_refusal(alloc, unsupported, 405, body)?);
+    let body = "{\"errors\":[\"identifier already used\"]}\n";
+    assert!(rt; is_refusal(alloc, Refusal::IdentifierUsed, 500, body)?);
+    let body = errors_body(alloc, Some("a"))?;
+    assert!(rt; body.as_str() == "{\"errors\":[\"a\"]}\n");
     Ok(())
 }
 
@@ -196,19 +202,17 @@ fn refusals(rt: HostRuntime) -> Result<(), Fail> {
 fn answers(rt: HostRuntime) -> Result<(), Fail> {
     let text = TextBuf::copied(rt.alloc(), "{}\n")?;
     let answer = Answer::new(rt.alloc(), Status::Success, Methods::none(), text)?;
-    assert_eq!(rt; answer.status, Status::Success);
-    let Answer {
-        status: _,
-        methods: _,
-        text,
-        room,
-    } = answer;
-    assert_eq!(rt; text.into_string().as_str(), "{}\n");
-    let bytes = room.into_vec();
-    assert!(rt; bytes.is_empty());
-    assert!(rt; bytes.capacity() >= 1027);
+    assert!(rt; answer.status == Status::Success);
+    assert!(rt; answer.text.into_string().as_str() == "{}\n");
+    let bytes = answer.room.into_vec();
+    assert!(rt; bytes.is_empty() && bytes.capacity() >= 1027);
+    Ok(())
+}
+
+#[test]
+fn rooms(rt: HostRuntime) -> Result<(), Fail> {
     assert!(rt; Room::reserve(rt.alloc(), 7)?.into_vec().capacity() >= 7);
-    assert_eq!(rt; Room::empty(rt.alloc()).into_vec().capacity(), 0);
+    assert!(rt; Room::empty(rt.alloc()).into_vec().capacity() == 0);
     Ok(())
 }
 
@@ -217,32 +221,24 @@ fn converted<E: Drop, F: From<E> + Drop>(error: E) -> F {
     F::from(error)
 }
 
-/// The number and the text of a fault.
-fn expect_fault(
-    rt: &(impl Abort + AllocGlobal),
-    fault: Fault,
-    number: u8,
-    text: &str,
-) -> Result<(), Fail> {
-    assert_eq!(rt; fault.number(), number);
-    assert_eq!(rt; format!(in rt.alloc(); "{fault}")?.as_str(), text);
-    Ok(())
+/// Whether the fault has this number and this text.
+fn is_fault(alloc: Global, fault: Fault, number: u8, text: &str) -> Result<bool, AllocError> {
+    let printed = format!(in alloc; "{fault}")?;
+    Ok(fault.number() == number && printed.as_str() == text)
 }
 
 /// Computes `fault_number`, `fault_text`.
 #[test]
 fn faults(rt: HostRuntime) -> Result<(), Fail> {
+    let alloc = rt.alloc();
     let fault: Fault = converted(AllocFailed { value: 7u8 });
-    assert_eq!(rt; fault, Fault::Memory);
+    assert!(rt; fault == Fault::Memory);
     let error: RequestError = converted(AllocError);
-    assert_eq!(rt; error, RequestError::Fault(Fault::Memory));
-    expect_fault(&rt, Fault::Memory, 1, "out of memory")?;
-    expect_fault(&rt, Fault::Storage, 2, "the storage failed")?;
-    expect_fault(&rt, Fault::Damaged, 3, "a damaged row")?;
-    expect_fault(
-        &rt,
-        Fault::BadStart,
-        4,
-        "the store cannot be started or opened",
-    )
+    assert!(rt; error == RequestError::Fault(Fault::Memory));
+    let bad_start = "the store cannot be started or opened";
+    assert!(rt; is_fault(alloc, Fault::Memory, 1, "out of memory")?);
+    assert!(rt; is_fault(alloc, Fault::Storage, 2, "the storage failed")?);
+    assert!(rt; is_fault(alloc, Fault::Damaged, 3, "a damaged row")?);
+    assert!(rt; is_fault(alloc, Fault::BadStart, 4, bad_start)?);
+    Ok(())
 }
