@@ -26,7 +26,8 @@ module _ (rows : Rows) (moment : ℕ) (list : List (RowKey × Row)) (due : AreDu
   IsDueRow e = (get rows e.0 ≡ Some e.1) × (is_due moment e.1.due ≡ true)
 
   -- each is a row of the kind that is due
-  pub due_each : All (λ e. (e.0.0 ≡ kind) × (get rows e.0 ≡ Some e.1) × (is_due moment e.1.due ≡ true)) (filter of_kind list)
+  pub due_each : All (λ e. (e.0.0 ≡ kind) × (get rows e.0 ≡ Some e.1) × (is_due moment e.1.due ≡ true))
+      (filter of_kind list)
   due_each k d below =
       let row =
       All-filter of_kind IsDueRow list

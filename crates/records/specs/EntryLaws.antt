@@ -1,5 +1,6 @@
 -- Entries of rows, as elements of their list (this project's).
-use Rattle.std.specs.Prelude.{◌≡◌, ◌⊎◌, ◌&&◌, List, [], ◌∷◌, Bool, true, false, cond, T, map, filter, Some, All, Contains}
+use Rattle.std.specs.Prelude.{◌≡◌, ◌⊎◌, ◌&&◌, List, [], ◌∷◌, Bool, true, false, cond, T, map, filter, Some, All}
+use Rattle.std.specs.Prelude.{Contains}
 use Rattle.std.specs.declared.cmp.Ordering.{Ordering}
 use Rattle.std.specs.declared.cmp.Ordering.TheVariants.{Less, Equal, Greater}
 use Rattle.std.specs.Ordering.{eq_by_cmp, is_eq, is_lt, ordering_then}
@@ -38,7 +39,8 @@ module _ {X : Type 0} where
   Contains-filter p (y ∷ ys) x h passes =
       ⊎_elim
       (λ (is : y ≡ x). subst (λ b. Contains (cond b (y ∷ filter p ys) (filter p ys)) x) (sym (ap p is ∙ passes))
-      (subst (λ z. Contains (y ∷ filter p ys) z) is (Contains-append_left (y ∷ []) (filter p ys) y (All-contains_itself (y ∷ []) 0 y (omega arith)))))
+      (subst (λ z. Contains (y ∷ filter p ys) z) is
+      (Contains-append_left (y ∷ []) (filter p ys) y (All-contains_itself (y ∷ []) 0 y (omega arith)))))
       (λ later. shift (p y) (Contains-filter p ys x later passes))
       (element_cases y ys x h)
     where
@@ -73,7 +75,8 @@ right false b h = absurd h
 
 module _ {K X : Type 0} (R : K → K → Ordering) where
   -- what is found is an entry
-  pub found_in : IsAntisymmetric R → (key : K) (x : X) (es : List (K × X)) → find R key es ≡ Some x → Contains es (key, x)
+  pub found_in : IsAntisymmetric R → (key : K) (x : X) (es : List (K × X)) → find R key es ≡ Some x
+      → Contains es (key, x)
   found_in exact key x [] h = absurd (none-some _ h)
   found_in exact key x (e ∷ es) h =
       elim (eq_by_cmp R key e.0) as (λ b. eq_by_cmp R key e.0 ≡ b → cond b (Some e.1) (find R key es) ≡ Some x
@@ -101,7 +104,8 @@ module _ {K X : Type 0} (R : K → K → Ordering) where
   found_as key (e ∷ es) = ap (cond (eq_by_cmp R key e.0) (Some e.1)) (found_as key es)
 
   -- an entry is found
-  pub in_found : IsTotalOrder R → (es : List (K × X)) → T (is_sorted R es) → (e : K × X) → Contains es e → find R e.0 es ≡ Some e.1
+  pub in_found : IsTotalOrder R → (es : List (K × X)) → T (is_sorted R es) → (e : K × X) → Contains es e
+      → find R e.0 es ≡ Some e.1
   in_found total es sorted e h =
       found_as e.0 es ∙ lookup-from_Contains (eq_by_cmp_equiv total) e.0 e.1 es (sorted_once es sorted) h
 

@@ -47,11 +47,7 @@ fn begins(start: &Start<'_>, entry: &Entry) -> bool
 }
 
 /// The rows of a token's children. A row without owner is a child of nobody.
-fn children_of<T: RecordsTx>(
-    alloc: Global,
-    tx: &mut T,
-    token: &str,
-) -> Result<Vec<Entry>, Fault>
+fn children_of<T: RecordsTx>(alloc: Global, tx: &mut T, token: &str) -> Result<Vec<Entry>, Fault>
     ensures found { IsHonest (T.seen tx.new)
         → IfOk result (λ list. list.items ≡ children (T.seen tx.old).rows token.now) }
     ensures call { IsReading (T.seen tx.old) (T.seen tx.new) result IsMemoryOrStorage }

@@ -66,10 +66,10 @@ pub(crate) fn end_all<T: RecordsTx>(
 ) -> Result<Vec<TextBuf>, Fault>
     ensures rows { IsHonest (T.seen tx.new) → AreStarted (starts start.now) (T.seen tx.old).rows started.items
         → IfOk result (λ list.
-            EndsDescent (starts start.now) (T.seen tx.old).rows list.items (T.seen tx.new).rows) }
+        EndsDescent (starts start.now) (T.seen tx.old).rows list.items (T.seen tx.new).rows) }
     ensures call { IsChange (KeepsOthers of_tokens) (T.seen tx.old) (T.seen tx.new) result
         (IsReadFault (IsHonest (T.seen tx.new) → AreStarted (starts start.now) (T.seen tx.old).rows started.items
-            → HasDamagedDescent (starts start.now) (T.seen tx.old).rows)) }
+        → HasDamagedDescent (starts start.now) (T.seen tx.old).rows)) }
 {
     let ended = descend(alloc, tx, start, started)?;
     let texts = texts_of(alloc, &ended)?;

@@ -50,7 +50,7 @@ fn end_due<T: RecordsTx>(
         EndsDescent (has_come clock) (T.seen tx.old).rows list.items (T.seen tx.new).rows) }
     ensures call { IsChange (KeepsOthers of_tokens) (T.seen tx.old) (T.seen tx.new) result
         (IsReadFault (IsHonest (T.seen tx.new) → AreDue (T.seen tx.old).rows clock due.now
-            → HasDamagedDescent (has_come clock) (T.seen tx.old).rows)) }
+        → HasDamagedDescent (has_come clock) (T.seen tx.old).rows)) }
 {
     let started = tokens_among(alloc, due)?;
     end_all(alloc, tx, &Start::DueBy(clock.seconds()), started)

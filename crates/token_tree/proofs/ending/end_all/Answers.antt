@@ -18,7 +18,7 @@ returns-in_err-remove_tokens-clause-call g c =
     let rows = (seen c.args.tx.now).rows in
     let p = err_from_is_err_and c.from_residual-in_err-remove_tokens.result c.from_residual-in_err-remove_tokens.ensures.1 in
     let worse : (AllByRecursion IsTokenRow c.deref-2.result.now → ⊥) → IsHonest (seen c.remove_tokens.new.tx)
-        → AreStarted (starts c.args.start.now) rows c.args.started.items → HasDamagedDescent (starts c.args.start.now) rows =
+    → AreStarted (starts c.args.start.now) rows c.args.started.items → HasDamagedDescent (starts c.args.start.now) rows =
     λ damage honest started.
     let mid = honest_before (seen c.descend.new.tx) (seen c.remove_tokens.new.tx) _ c.remove_tokens.ensures.call.goes_on honest in
     let down = c.in_ok-ended.ensures.found mid started in

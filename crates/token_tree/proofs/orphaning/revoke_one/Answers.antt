@@ -151,7 +151,7 @@ returns-in_err-remove_token-clause-call g c =
     let t = c.args.token.now in
     let p = err_from_is_err_and c.from_residual-in_err-remove_token.result c.from_residual-in_err-remove_token.ensures.1 in
     let worse : (IsTokenRow ((kind.Token, c.in_ok-copied.field-0), c.in-Some.row) → ⊥) → IsHonest (seen c.remove_token.new.tx)
-        → IsDamagedToken (table_of rows) t =
+    → IsDamagedToken (table_of rows) t =
     λ damage honest.
     let early = honest_before (seen c.by_owner.new.self) (seen c.remove_token.new.tx) _ c.remove_token.ensures.call.goes_on honest in
     let first = honest_before (seen c.get.new.self) (seen c.by_owner.new.self) _ c.in_ok-children.ensures.call.goes_on early in
