@@ -131,8 +131,8 @@ pub(crate) fn due_until<S: Alter>(
     )
 }
 
-/// The bound as a value of SQL; without one the empty blob, since each text is below every blob (SQLite's "Datatypes",
-/// "Sort Order").
+/// The bound as a value of SQL; without one the empty blob, since each text is below every blob (SQLite's "Datatypes In
+/// SQLite", "Sort Order").
 fn bound_value<'b>(bound: Option<&'b [u8]>) -> ValueRef<'b>
     ensures { owned result ≡ bound_value (option_copied bound.entry) }
 {
