@@ -1,0 +1,78 @@
+use Rattle.std.proofs.Common.{◌≡◌, Bool, true, false, ◌||◌, map, List, refl, sym, ap, subst, ◌∙◌}
+use Rattle.sqlite.specs.Order.{Row}
+use Rattle.records.specs.DueRows.{AreDue}
+use Rattle.records_sql.specs.Table.{whole_entry, rows_of}
+use Rattle.sqlite.specs.Held.{state}
+use Rattle.records_sql.proofs.StateLemmas.{stays, query_err}
+use Rattle.records_sql.proofs.GetLemmas.{due_reads}
+use Rattle.records_sql.proofs.sql_records.SqlRecords.due_until.Goals as goal
+
+or_true : (b : Bool) → true ≡ (b || true)
+or_true true = refl
+or_true false = refl
+
+pub invariant_of-self-in_default : goal.invariant_of-self-in_default
+invariant_of-self-in_default g c =
+    let old = state g.S.Store c.args.self.now.conn in
+    let new = state g.S.Store c.due_until.new.conn in
+    let it = stays old new _ c.due_until.ensures.survives (λ clean. query_err _ _ old new _ (c.in_default.ensures.err clean)) in
+    record { sound = it.sound c.args.self.now.sound; active = λ t. absurd (let e = t in cc) }
+
+pub returns-in_default-clause-stays : goal.returns-in_default-clause-stays
+returns-in_default-clause-stays g c =
+    let old = state g.S.Store c.args.self.now.conn in
+    let new = state g.S.Store c.due_until.new.conn in
+    stays old new _ c.due_until.ensures.survives (λ clean. query_err _ _ old new _ (c.in_default.ensures.err clean))
+
+pub invariant_of-self-in-Ok-whole_entries : goal.invariant_of-self-in-Ok-whole_entries
+invariant_of-self-in-Ok-whole_entries g c =
+    let old = state g.S.Store c.args.self.now.conn in
+    let new = state g.S.Store c.due_until.new.conn in
+    let it = due_reads old new _ c.due_until.ensures.survives c.args.self.now.sound (c.args.self.now.active c.if-not-self.false) c.args.moment c.in-Ok.rows.items c.in-Ok.ensures.ok in
+    record { sound = it.stays.sound c.args.self.now.sound; active = λ _. it.active }
+
+pub returns-in-Ok-whole_entries-clause-listed : goal.returns-in-Ok-whole_entries-clause-listed
+returns-in-Ok-whole_entries-clause-listed g c clean =
+    let old = state g.S.Store c.args.self.now.conn in
+    let new = state g.S.Store c.due_until.new.conn in
+    let it = due_reads old new _ c.due_until.ensures.survives c.args.self.now.sound (c.args.self.now.active c.if-not-self.false) c.args.moment c.in-Ok.rows.items c.in-Ok.ensures.ok in
+    subst (AreDue (rows_of old.now.trees) c.args.moment) (sym (c.in-Ok-whole_entries.ensures.listed ∙ ap (λ (rs : List Row). map whole_entry rs) c.deref.ensures.value)) (it.rows clean)
+
+pub returns-in-Ok-whole_entries-clause-same : goal.returns-in-Ok-whole_entries-clause-same
+returns-in-Ok-whole_entries-clause-same g c =
+    let old = state g.S.Store c.args.self.now.conn in
+    let new = state g.S.Store c.due_until.new.conn in
+    (due_reads old new _ c.due_until.ensures.survives c.args.self.now.sound (c.args.self.now.active c.if-not-self.false) c.args.moment c.in-Ok.rows.items c.in-Ok.ensures.ok).same
+
+pub returns-in-Ok-whole_entries-clause-stays : goal.returns-in-Ok-whole_entries-clause-stays
+returns-in-Ok-whole_entries-clause-stays g c =
+    let old = state g.S.Store c.args.self.now.conn in
+    let new = state g.S.Store c.due_until.new.conn in
+    (due_reads old new _ c.due_until.ensures.survives c.args.self.now.sound (c.args.self.now.active c.if-not-self.false) c.args.moment c.in-Ok.rows.items c.in-Ok.ensures.ok).stays
+
+pub invariant_of-self-in-Err-Memory : goal.invariant_of-self-in-Err-Memory
+invariant_of-self-in-Err-Memory g c =
+    let old = state g.S.Store c.args.self.now.conn in
+    let new = state g.S.Store c.due_until.new.conn in
+    let it = due_reads old new _ c.due_until.ensures.survives c.args.self.now.sound (c.args.self.now.active c.if-not-self.false) c.args.moment c.in-Ok.rows.items c.in-Ok.ensures.ok in
+    record { sound = it.stays.sound c.args.self.now.sound; active = λ _. it.active }
+
+pub returns-in-Err-Memory-clause-stays : goal.returns-in-Err-Memory-clause-stays
+returns-in-Err-Memory-clause-stays g c =
+    let old = state g.S.Store c.args.self.now.conn in
+    let new = state g.S.Store c.due_until.new.conn in
+    (due_reads old new _ c.due_until.ensures.survives c.args.self.now.sound (c.args.self.now.active c.if-not-self.false) c.args.moment c.in-Ok.rows.items c.in-Ok.ensures.ok).stays
+
+pub invariant_of-self-in-Err : goal.invariant_of-self-in-Err
+invariant_of-self-in-Err g c =
+    let old = state g.S.Store c.args.self.now.conn in
+    let new = state g.S.Store c.due_until.new.conn in
+    let it = due_reads old new _ c.due_until.ensures.survives c.args.self.now.sound (c.args.self.now.active c.if-not-self.false) c.args.moment c.in-Ok.rows.items c.in-Ok.ensures.ok in
+    record { sound = it.stays.sound c.args.self.now.sound; active = λ t. absurd (let e = t in cc) }
+
+pub returns : goal.returns
+returns g c =
+    let old = state g.S.Store c.args.self.now.conn in
+    let new = state g.S.Store c.due_until.new.conn in
+    let it = due_reads old new _ c.due_until.ensures.survives c.args.self.now.sound (c.args.self.now.active c.if-not-self.false) c.args.moment c.in-Ok.rows.items c.in-Ok.ensures.ok in
+    record { listed = λ _. tt; same = λ _. tt; stays = it.stays; failed = or_true c.args.self.now.failed; faults = tt }

@@ -1,0 +1,14 @@
+-- What the states of a connection are made of (this project's): for facts that a struct keeps of its connection.
+use Rattle.std.specs.Coded.{Coded, codes}
+use Rattle.sqlite_schema.specs.contracts.schema.Schema as schema
+use Rattle.sqlite_schema.specs.declared.schema.Schema.{Schema}
+use Rattle.sqlite_value.specs.contracts.value.Value as value
+use Rattle.sqlite_value.specs.declared.value.Value.{Value}
+
+pub schema_coded : Coded Schema
+schema_coded = schema.the_row.coded
+
+pub value_coded : Coded Value
+value_coded = value.the_row.coded
+
+pub ruleset state_props = (codes, schema_coded, value_coded)

@@ -1,0 +1,195 @@
+//! Rows as the statements show them. What could not be read is a failure of the storage, since the table holds only
+//! what this crate writes.
+
+ghost use Rattle.std.specs.Prelude.{◌≡◌, ◌<◌, IfOk, IfErr, slice_get, option_map, filter, map, nat_eq};
+ghost use Rattle.std.specs.List.{starts_with};
+ghost use Rattle.broker_types.specs.Fault.{IsMemoryOrStorage};
+ghost use Rattle.records.specs.KeyLaws.{kind_of};
+ghost use Rattle.sqlite_value.specs.Order.{column, bytes};
+ghost use Rattle.records_sql.specs.Bounds.{IsAbove};
+ghost use Rattle.records_sql.specs.Table.{read_row, row_from, entry_in, whole_entry, due_in, int_in, size_of};
+
+use broker_types::{Bytes, Fault, TextBuf};
+use records::{Due, Entry, Kind, Row};
+use sqlite::Row as SqlRow;
+use std::alloc::{AllocError, Global};
+
+fn text_at(row: &SqlRow, at: usize) -> Result<TextBuf, Fault>
+    ensures value { IfOk result (λ text. text ≡ bytes (column row.now at)) }
+    ensures storage { IfErr result (λ fault. fault ≡ Fault.Storage) }
+{
+    match row.get::<String>(at) {
+        Ok(text) => Ok(TextBuf::new(text)),
+        Err(_) => Err(Fault::Storage),
+    }
+}
+
+fn bytes_at(row: &SqlRow, at: usize) -> Result<Bytes, Fault>
+    ensures value { IfOk result (λ b. b ≡ bytes (column row.now at)) }
+    ensures storage { IfErr result (λ fault. fault ≡ Fault.Storage) }
+{
+    match row.get::<Vec<u8>>(at) {
+        Ok(bytes) => Ok(Bytes::new(bytes)),
+        Err(_) => Err(Fault::Storage),
+    }
+}
+
+fn due_at(row: &SqlRow, at: usize) -> Result<Option<Due>, Fault>
+    ensures value { IfOk result (λ due. due ≡ due_in (column row.now at)) }
+    ensures storage { IfErr result (λ fault. fault ≡ Fault.Storage) }
+{
+    match row.get::<Option<u64>>(at) {
+        Ok(None) => Ok(None),
+        Ok(Some(seconds)) => match Due::new(seconds) {
+            Some(due) => Ok(Some(due)),
+            None => Err(Fault::Storage),
+        },
+        Err(_) => Err(Fault::Storage),
+    }
+}
+
+/// The owner, when it is due and the body, from a column on.
+fn row_at(row: &SqlRow, at: usize) -> Result<Row, Fault>
+    requires { at < 8 }
+    ensures value { IfOk result (λ r. r ≡ row_from row.now at) }
+    ensures storage { IfErr result (λ fault. fault ≡ Fault.Storage) }
+{
+    Ok(Row {
+        owner: text_at(row, at)?,
+        due: due_at(row, at + 1)?,
+        body: bytes_at(row, at + 2)?,
+    })
+}
+
+pub(crate) fn first_row(rows: &[SqlRow]) -> Result<Option<Row>, Fault>
+    ensures found { IfOk result (λ found. found ≡ option_map read_row (slice_get rows.now 0)) }
+    ensures storage { IfErr result (λ fault. fault ≡ Fault.Storage) }
+{
+    match rows.first() {
+        None => Ok(None),
+        Some(row) => Ok(Some(row_at(row, 0)?)),
+    }
+}
+
+fn entry_of(kind: Kind, row: &SqlRow) -> Result<Entry, Fault>
+    ensures value { IfOk result (λ entry. entry ≡ entry_in kind row.now) }
+    ensures storage { IfErr result (λ fault. fault ≡ Fault.Storage) }
+{
+    Ok(Entry {
+        kind,
+        key: text_at(row, 0)?,
+        row: row_at(row, 1)?,
+    })
+}
+
+/// The entries of a kind that rows show.
+pub(crate) fn entries_of(alloc: Global, kind: Kind, rows: &[SqlRow]) -> Result<Vec<Entry>, Fault>
+    ensures listed { IfOk result (λ list. list.items ≡ map (entry_in kind) rows.now) }
+    ensures faults { IfErr result IsMemoryOrStorage }
+{
+    let mut list = Vec::new(alloc);
+    for row in rows {
+        list.push(entry_of(kind, row)?)?;
+    }
+    Ok(list)
+}
+
+/// The entries whose keys begin with the prefix.
+pub(crate) fn entries_under(
+    alloc: Global,
+    kind: Kind,
+    prefix: &str,
+    rows: &[SqlRow],
+) -> Result<Vec<Entry>, Fault>
+    ensures listed { IfOk result (λ list.
+        list.items ≡ filter (λ e. starts_with nat_eq e.0.1 prefix.now) (map (entry_in kind) rows.now)) }
+    ensures faults { IfErr result IsMemoryOrStorage }
+{
+    let mut list = Vec::new(alloc);
+    for row in rows {
+        let entry = entry_of(kind, row)?;
+        if begins_with(entry.key.as_str(), prefix) {
+            list.push(entry)?;
+        }
+    }
+    Ok(list)
+}
+
+fn begins_with(key: &str, prefix: &str) -> bool
+    ensures { result ≡ starts_with nat_eq key.now prefix.now }
+{
+    key.as_bytes().starts_with(prefix.as_bytes())
+}
+
+/// The kind that a number stands for.
+fn kind_at(row: &SqlRow, at: usize) -> Result<Kind, Fault>
+    ensures value { IfOk result (λ kind. kind ≡ kind_of (size_of (int_in (column row.now at)))) }
+    ensures storage { IfErr result (λ fault. fault ≡ Fault.Storage) }
+{
+    match row.get::<u32>(at) {
+        Ok(number) => kind_of(number),
+        Err(_) => Err(Fault::Storage),
+    }
+}
+
+/// The kind with the number.
+fn kind_of(number: u32) -> Result<Kind, Fault>
+    ensures value { IfOk result (λ kind. kind ≡ kind_of number) }
+    ensures storage { IfErr result (λ fault. fault ≡ Fault.Storage) }
+{
+    match number {
+        1 => Ok(Kind::Clock),
+        2 => Ok(Kind::Used),
+        3 => Ok(Kind::Token),
+        4 => Ok(Kind::Accessor),
+        5 => Ok(Kind::Cubby),
+        6 => Ok(Kind::Lease),
+        7 => Ok(Kind::Credential),
+        8 => Ok(Kind::KvKey),
+        9 => Ok(Kind::KvVersion),
+        10 => Ok(Kind::Waiting),
+        11 => Ok(Kind::Mount),
+        12 => Ok(Kind::Policy),
+        13 => Ok(Kind::Role),
+        _ => Err(Fault::Storage),
+    }
+}
+
+fn whole_entry_of(row: &SqlRow) -> Result<Entry, Fault>
+    ensures value { IfOk result (λ entry. entry ≡ whole_entry row.now) }
+    ensures storage { IfErr result (λ fault. fault ≡ Fault.Storage) }
+{
+    Ok(Entry {
+        kind: kind_at(row, 0)?,
+        key: text_at(row, 1)?,
+        row: row_at(row, 2)?,
+    })
+}
+
+/// The entries of all kinds that rows show.
+pub(crate) fn whole_entries(alloc: Global, rows: &[SqlRow]) -> Result<Vec<Entry>, Fault>
+    ensures listed { IfOk result (λ list. list.items ≡ map whole_entry rows.now) }
+    ensures faults { IfErr result IsMemoryOrStorage }
+{
+    let mut list = Vec::new(alloc);
+    for row in rows {
+        list.push(whole_entry_of(row)?)?;
+    }
+    Ok(list)
+}
+
+/// A bound above all keys that begin with a prefix: the prefix with its last byte raised by one. It is compared by
+/// bytes, so it need not be UTF-8. There is none for the empty prefix.
+pub(crate) fn bound_above(alloc: Global, prefix: &str) -> Result<Option<Vec<u8>>, AllocError>
+    ensures { IfOk result (λ bound. IsAbove prefix.now (option_map (λ b. b.items) bound)) }
+{
+    let Some((last, init)) = prefix.as_bytes().split_last() else {
+        return Ok(None);
+    };
+    let Some(raised) = last.checked_add(1) else {
+        return Ok(None);
+    };
+    let mut bound = init.to_vec(alloc)?;
+    bound.push(raised)?;
+    Ok(Some(bound))
+}

@@ -1,0 +1,295 @@
+//! Rows in a table of a database.
+
+ghost use Rattle.std.specs.Prelude.{◌≡◌, ◌≤◌, ◌||◌, IsTrue, OnOk, OnErr, IfOk, IfErr, option_map};
+ghost use Rattle.std.specs.Option.{option_copied};
+ghost use Rattle.std.specs.FinMap as map;
+ghost use Rattle.sqlite.specs.Held.{state};
+ghost use Rattle.sqlite.specs.State.{HasCleanDisk};
+ghost use Rattle.broker_types.specs.Fault.{IsMemoryOrStorage};
+ghost use Rattle.records.specs.DueRows.{AreDue};
+ghost use Rattle.records.specs.Transaction.{is_storage, rows_under, rows_owned};
+ghost use Rattle.records_sql.specs.Props.{state_props};
+ghost use Rattle.records_sql.specs.Table.{IsSoundAt, IsActive, IsUsable, Stays, rows_of, mismatches};
+
+use crate::reading::{bound_above, entries_of, entries_under, first_row, whole_entries};
+use crate::statements;
+use broker_types::{Fault, Moment};
+use records::{Entry, Kind, Row};
+use sqlite::{Alter, Connection};
+use std::alloc::Global;
+
+/// Rows in the table `broker_rows` of a database, which nothing else writes. A transaction goes over this connection;
+/// there is one at a time.
+#[derive(Drop)]
+pub struct SqlRecords<S: Alter> {
+    pub(crate) alloc: Global,
+    pub(crate) conn: Connection<S>,
+    /// Whether a transaction is open in which nothing has failed. After an error SQLite may have rolled it back, and a
+    /// statement would then commit by itself, so none is given to the database any more.
+    pub(crate) is_active: bool,
+    pub(crate) failed: bool,
+    ghost sound: { IsSoundAt (state S.Store conn) } by { Prim.hlevel state_props },
+    ghost active: { IsTrue is_active → IsActive (state S.Store conn) } by { Prim.hlevel state_props },
+}
+
+impl<S: Alter> SqlRecords<S> {
+    /// Whether a begin, a statement or a commit has answered `Storage` since the last begin that was `Ok`.
+    pub fn failed(&self) -> bool
+        ensures { result ≡ self.now.failed }
+    {
+        self.failed
+    }
+
+    pub(crate) fn get(&mut self, kind: Kind, key: &str) -> Result<Option<Row>, Fault>
+        ensures found { HasCleanDisk (state S.Store self.new.conn) → IfOk result (λ row.
+            row ≡ map.get (rows_of (state S.Store self.old.conn).now.trees) (kind, key.now)) }
+        ensures same { HasCleanDisk (state S.Store self.new.conn) → OnOk result
+            (rows_of (state S.Store self.new.conn).now.trees ≡ rows_of (state S.Store self.old.conn).now.trees) }
+        ensures stays { Stays (state S.Store self.old.conn) (state S.Store self.new.conn) }
+        ensures failed { self.new.failed ≡ (self.old.failed || is_storage result) }
+        ensures faults { IfErr result IsMemoryOrStorage }
+    {
+        if !self.is_active {
+            self.failed = true;
+            return Err(Fault::Storage);
+        }
+        let Ok(rows) = statements::get(&mut self.conn, kind, key) else {
+            self.is_active = false;
+            self.failed = true;
+            return Err(Fault::Storage);
+        };
+        let Ok(found) = first_row(&rows) else {
+            self.is_active = false;
+            self.failed = true;
+            return Err(Fault::Storage);
+        };
+        Ok(found)
+    }
+
+    pub(crate) fn put(&mut self, kind: Kind, key: &str, row: &Row) -> Result<(), Fault>
+        ensures rows { HasCleanDisk (state S.Store self.new.conn) → OnOk result
+            (rows_of (state S.Store self.new.conn).now.trees
+            ≡ map.insert (rows_of (state S.Store self.old.conn).now.trees) (kind, key.now) row.now) }
+        ensures stays { Stays (state S.Store self.old.conn) (state S.Store self.new.conn) }
+        ensures failed { self.new.failed ≡ (self.old.failed || is_storage result) }
+        ensures faults { IfErr result IsMemoryOrStorage }
+    {
+        if !self.is_active {
+            self.failed = true;
+            return Err(Fault::Storage);
+        }
+        match statements::put(&mut self.conn, kind, key, row) {
+            Ok(_) => Ok(()),
+            Err(_) => {
+                self.is_active = false;
+                self.failed = true;
+                Err(Fault::Storage)
+            }
+        }
+    }
+
+    pub(crate) fn remove(&mut self, kind: Kind, key: &str) -> Result<(), Fault>
+        ensures rows { HasCleanDisk (state S.Store self.new.conn) → OnOk result
+            (rows_of (state S.Store self.new.conn).now.trees
+            ≡ map.remove (rows_of (state S.Store self.old.conn).now.trees) (kind, key.now)) }
+        ensures stays { Stays (state S.Store self.old.conn) (state S.Store self.new.conn) }
+        ensures failed { self.new.failed ≡ (self.old.failed || is_storage result) }
+        ensures faults { IfErr result IsMemoryOrStorage }
+    {
+        if !self.is_active {
+            self.failed = true;
+            return Err(Fault::Storage);
+        }
+        match statements::remove(&mut self.conn, kind, key) {
+            Ok(_) => Ok(()),
+            Err(_) => {
+                self.is_active = false;
+                self.failed = true;
+                Err(Fault::Storage)
+            }
+        }
+    }
+}
+
+/// The bytes of a bound.
+fn lent(bound: &Option<Vec<u8>>) -> Option<&[u8]>
+    ensures { option_copied result ≡ option_map (λ b. b.items) bound.now }
+{
+    match bound {
+        None => None,
+        Some(bytes) => Some(bytes.as_slice()),
+    }
+}
+
+impl<S: Alter> SqlRecords<S> {
+    pub(crate) fn under(&mut self, kind: Kind, prefix: &str) -> Result<Vec<Entry>, Fault>
+        ensures listed { HasCleanDisk (state S.Store self.new.conn) → IfOk result (λ list.
+            list.items ≡ rows_under (rows_of (state S.Store self.old.conn).now.trees) kind prefix.now) }
+        ensures same { HasCleanDisk (state S.Store self.new.conn) → OnOk result
+            (rows_of (state S.Store self.new.conn).now.trees ≡ rows_of (state S.Store self.old.conn).now.trees) }
+        ensures stays { Stays (state S.Store self.old.conn) (state S.Store self.new.conn) }
+        ensures failed { self.new.failed ≡ (self.old.failed || is_storage result) }
+        ensures faults { IfErr result IsMemoryOrStorage }
+    {
+        if !self.is_active {
+            self.failed = true;
+            return Err(Fault::Storage);
+        }
+        let bound = bound_above(self.alloc, prefix)?;
+        let Ok(rows) = statements::under(&mut self.conn, kind, prefix, lent(&bound)) else {
+            self.is_active = false;
+            self.failed = true;
+            return Err(Fault::Storage);
+        };
+        match entries_under(self.alloc, kind, prefix, &rows) {
+            Ok(list) => Ok(list),
+            Err(Fault::Memory) => Err(Fault::Memory),
+            Err(_) => {
+                self.is_active = false;
+                self.failed = true;
+                Err(Fault::Storage)
+            }
+        }
+    }
+
+    pub(crate) fn by_owner(&mut self, kind: Kind, owner: &str) -> Result<Vec<Entry>, Fault>
+        ensures listed { HasCleanDisk (state S.Store self.new.conn) → IfOk result (λ list.
+            list.items ≡ rows_owned (rows_of (state S.Store self.old.conn).now.trees) kind owner.now) }
+        ensures same { HasCleanDisk (state S.Store self.new.conn) → OnOk result
+            (rows_of (state S.Store self.new.conn).now.trees ≡ rows_of (state S.Store self.old.conn).now.trees) }
+        ensures stays { Stays (state S.Store self.old.conn) (state S.Store self.new.conn) }
+        ensures failed { self.new.failed ≡ (self.old.failed || is_storage result) }
+        ensures faults { IfErr result IsMemoryOrStorage }
+    {
+        if !self.is_active {
+            self.failed = true;
+            return Err(Fault::Storage);
+        }
+        let Ok(rows) = statements::by_owner(&mut self.conn, kind, owner) else {
+            self.is_active = false;
+            self.failed = true;
+            return Err(Fault::Storage);
+        };
+        match entries_of(self.alloc, kind, &rows) {
+            Ok(list) => Ok(list),
+            Err(Fault::Memory) => Err(Fault::Memory),
+            Err(_) => {
+                self.is_active = false;
+                self.failed = true;
+                Err(Fault::Storage)
+            }
+        }
+    }
+
+    pub(crate) fn due_until(&mut self, moment: Moment) -> Result<Vec<Entry>, Fault>
+        ensures listed { HasCleanDisk (state S.Store self.new.conn) → IfOk result (λ list.
+            AreDue (rows_of (state S.Store self.old.conn).now.trees) moment list.items) }
+        ensures same { HasCleanDisk (state S.Store self.new.conn) → OnOk result
+            (rows_of (state S.Store self.new.conn).now.trees ≡ rows_of (state S.Store self.old.conn).now.trees) }
+        ensures stays { Stays (state S.Store self.old.conn) (state S.Store self.new.conn) }
+        ensures failed { self.new.failed ≡ (self.old.failed || is_storage result) }
+        ensures faults { IfErr result IsMemoryOrStorage }
+    {
+        if !self.is_active {
+            self.failed = true;
+            return Err(Fault::Storage);
+        }
+        let Ok(rows) = statements::due_until(&mut self.conn, moment) else {
+            self.is_active = false;
+            self.failed = true;
+            return Err(Fault::Storage);
+        };
+        match whole_entries(self.alloc, &rows) {
+            Ok(list) => Ok(list),
+            Err(Fault::Memory) => Err(Fault::Memory),
+            Err(_) => {
+                self.is_active = false;
+                self.failed = true;
+                Err(Fault::Storage)
+            }
+        }
+    }
+}
+
+impl<S: Alter> SqlRecords<S> {
+    /// Asks the database for a row, between transactions, so that it is known whether it can still be asked. The only
+    /// error is `Storage`, if it cannot.
+    pub fn ask(&mut self) -> Result<(), Fault>
+        ensures usable { HasCleanDisk (state S.Store self.new.conn)
+            → OnOk result (IsUsable (state S.Store self.new.conn)) }
+        ensures stays { Stays (state S.Store self.old.conn) (state S.Store self.new.conn) }
+        ensures failed { self.new.failed ≡ (self.old.failed || is_storage result) }
+        ensures storage { IfErr result (λ fault. fault ≡ Fault.Storage) }
+    {
+        self.is_active = false;
+        let Ok(_) = statements::get(&mut self.conn, Kind::Clock, "") else {
+            self.failed = true;
+            return Err(Fault::Storage);
+        };
+        Ok(())
+    }
+
+    /// Opens a transaction. It asks again whether one is open, since `BEGIN` alone does not tell that the connection
+    /// was open.
+    pub(crate) fn start(&mut self) -> Result<(), Fault>
+        ensures begun { HasCleanDisk (state S.Store self.new.conn) → OnOk result
+            (rows_of (state S.Store self.new.conn).now.trees ≡ rows_of (state S.Store self.old.conn).committed.trees) }
+        ensures stays { Stays (state S.Store self.old.conn) (state S.Store self.new.conn) }
+        ensures failed { self.new.failed ≡ is_storage result }
+        ensures storage { IfErr result (λ fault. fault ≡ Fault.Storage) }
+    {
+        if !self.conn.is_autocommit() {
+            self.failed = true;
+            return Err(Fault::Storage);
+        }
+        self.is_active = false;
+        let Ok(_) = statements::begin(&mut self.conn) else {
+            self.failed = true;
+            return Err(Fault::Storage);
+        };
+        if self.conn.is_autocommit() {
+            self.failed = true;
+            return Err(Fault::Storage);
+        }
+        self.is_active = true;
+        self.failed = false;
+        Ok(())
+    }
+
+    /// Gives up what the transaction wrote. If that fails, the database rolls back by itself when it is opened again;
+    /// what was committed stands either way.
+    pub(crate) fn roll_back(&mut self)
+        ensures stays { Stays (state S.Store self.old.conn) (state S.Store self.new.conn) }
+        ensures failed { self.new.failed ≡ self.old.failed }
+    {
+        self.is_active = false;
+        if !self.conn.is_autocommit() {
+            let _ = statements::roll_back(&mut self.conn);
+        }
+    }
+
+    /// Makes what the transaction wrote the rows, unless something in it has failed.
+    pub(crate) fn finish(&mut self) -> Result<(), Fault>
+        ensures committed { HasCleanDisk (state S.Store self.new.conn) → OnOk result
+            (rows_of (state S.Store self.new.conn).committed.trees ≡ rows_of (state S.Store self.old.conn).now.trees) }
+        ensures stands { HasCleanDisk (state S.Store self.new.conn)
+            → OnOk result (IsUsable (state S.Store self.new.conn)) }
+        ensures kept { OnErr result (Stays (state S.Store self.old.conn) (state S.Store self.new.conn)) }
+        ensures mismatches { mismatches (state S.Store self.old.conn) ≤ mismatches (state S.Store self.new.conn) }
+        ensures closes { IsUsable (state S.Store self.new.conn) → IsUsable (state S.Store self.old.conn) }
+        ensures failed { self.new.failed ≡ (self.old.failed || is_storage result) }
+        ensures storage { IfErr result (λ fault. fault ≡ Fault.Storage) }
+    {
+        if !self.is_active {
+            self.roll_back();
+            self.failed = true;
+            return Err(Fault::Storage);
+        }
+        self.is_active = false;
+        let Ok(_) = statements::commit(&mut self.conn) else {
+            self.failed = true;
+            return Err(Fault::Storage);
+        };
+        Ok(())
+    }
+}

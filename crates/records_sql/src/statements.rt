@@ -1,0 +1,232 @@
+//! One function for each statement: what the database does is said of the text and the parameters, and not yet of
+//! rows.
+
+ghost use Rattle.std.specs.Prelude.{◌≡◌, IfOk, IfErr, []};
+ghost use Rattle.std.specs.Option.{option_copied};
+ghost use Rattle.sqlite_value.specs.Value.{owned};
+ghost use Rattle.records_sql.specs.Bounds.{bound_value};
+ghost use Rattle.sqlite.specs.State.{HasCleanDisk, Executes, Survives, CommitsBy, CommitsShowing, Shown, FailsToQuery};
+ghost use Rattle.sqlite.specs.Held.{state};
+ghost use Rattle.records.specs.Kind.{kind_number};
+ghost use Rattle.records_sql.specs.Texts.{get_text, put_text, remove_text, under_text, owner_text, due_text};
+ghost use Rattle.records_sql.specs.Texts.{begin_text, commit_text, rollback_text};
+ghost use Rattle.records_sql.specs.Texts.{create_text, create_owner_text, create_due_text};
+ghost use Rattle.records_sql.specs.Texts.{key_params, put_params, under_params, due_params};
+
+use broker_types::Moment;
+use records::{Kind, Row};
+use sqlite::types::{ToSql, ValueRef};
+use sqlite::{Alter, Connection, Error, Row as SqlRow, params};
+
+fn number(kind: Kind) -> u32
+    ensures { result ≡ kind_number kind }
+{
+    u32::from(kind.number())
+}
+
+pub(crate) fn get<S: Alter>(
+    conn: &mut Connection<S>,
+    kind: Kind,
+    key: &str,
+) -> Result<Vec<SqlRow>, Error>
+    ensures ok { HasCleanDisk (state S.Store conn.new)
+        → IfOk result (λ rows. Shown get_text (key_params (kind, key.now)) (state S.Store conn.old)
+        (state S.Store conn.new) rows.items) }
+    ensures err { HasCleanDisk (state S.Store conn.new)
+        → IfErr result (FailsToQuery get_text (key_params (kind, key.now)) (state S.Store conn.old)
+        (state S.Store conn.new)) }
+    ensures survives { Survives (state S.Store conn.old) (state S.Store conn.new) (CommitsShowing get_text
+        (key_params (kind, key.now)) (state S.Store conn.old)) }
+{
+    conn.query_all(
+        "SELECT owner, due, body FROM broker_rows WHERE kind = ?1 AND key = ?2",
+        params![number(kind), key],
+    )
+}
+
+/// Puts a row by an upsert (SQLite's "UPSERT"), which touches the row at this kind and key alone. `INSERT OR REPLACE`
+/// removes every row that stands in its way by a unique index or by its number, whosever it is.
+pub(crate) fn put<S: Alter>(
+    conn: &mut Connection<S>,
+    kind: Kind,
+    key: &str,
+    row: &Row,
+) -> Result<usize, Error>
+    ensures runs { HasCleanDisk (state S.Store conn.new)
+        → Executes put_text (put_params (kind, key.now) row.now) (state S.Store conn.old)
+        (state S.Store conn.new) result }
+    ensures survives { Survives (state S.Store conn.old) (state S.Store conn.new) (CommitsBy put_text (put_params
+        (kind, key.now) row.now) (state S.Store conn.old)) }
+{
+    let due: Option<i64> = match row.due {
+        None => None,
+        Some(due) => Some(due.seconds() as i64),
+    };
+    conn.execute(
+        "INSERT INTO broker_rows (kind, key, owner, due, body) VALUES (?1, ?2, ?3, ?4, ?5) ON CONFLICT (kind, key) DO UPDATE SET owner = excluded.owner, due = excluded.due, body = excluded.body",
+        params![
+            number(kind),
+            key,
+            row.owner.as_str(),
+            due,
+            row.body.as_slice()
+        ],
+    )
+}
+
+pub(crate) fn remove<S: Alter>(
+    conn: &mut Connection<S>,
+    kind: Kind,
+    key: &str,
+) -> Result<usize, Error>
+    ensures runs { HasCleanDisk (state S.Store conn.new)
+        → Executes remove_text (key_params (kind, key.now)) (state S.Store conn.old) (state S.Store conn.new) result }
+    ensures survives { Survives (state S.Store conn.old) (state S.Store conn.new) (CommitsBy remove_text (key_params
+        (kind, key.now)) (state S.Store conn.old)) }
+{
+    conn.execute(
+        "DELETE FROM broker_rows WHERE kind = ?1 AND key = ?2",
+        params![number(kind), key],
+    )
+}
+
+pub(crate) fn by_owner<S: Alter>(
+    conn: &mut Connection<S>,
+    kind: Kind,
+    owner: &str,
+) -> Result<Vec<SqlRow>, Error>
+    ensures ok { HasCleanDisk (state S.Store conn.new)
+        → IfOk result (λ rows. Shown owner_text (key_params (kind, owner.now)) (state S.Store conn.old)
+        (state S.Store conn.new) rows.items) }
+    ensures err { HasCleanDisk (state S.Store conn.new)
+        → IfErr result (FailsToQuery owner_text (key_params (kind, owner.now)) (state S.Store conn.old)
+        (state S.Store conn.new)) }
+    ensures survives { Survives (state S.Store conn.old) (state S.Store conn.new) (CommitsShowing owner_text
+        (key_params (kind, owner.now)) (state S.Store conn.old)) }
+{
+    conn.query_all(
+        "SELECT key, owner, due, body FROM broker_rows WHERE kind = ?1 AND owner = ?2 ORDER BY key",
+        params![number(kind), owner],
+    )
+}
+
+/// Rows that are due. The lower bound, which each due row meets, gives the index its first row; else a search begins
+/// with all rows that are never due, since NULL comes before all numbers in an index.
+pub(crate) fn due_until<S: Alter>(
+    conn: &mut Connection<S>,
+    moment: Moment,
+) -> Result<Vec<SqlRow>, Error>
+    ensures ok { HasCleanDisk (state S.Store conn.new)
+        → IfOk result (λ rows. Shown due_text (due_params moment) (state S.Store conn.old)
+        (state S.Store conn.new) rows.items) }
+    ensures err { HasCleanDisk (state S.Store conn.new)
+        → IfErr result (FailsToQuery due_text (due_params moment) (state S.Store conn.old) (state S.Store conn.new)) }
+    ensures survives { Survives (state S.Store conn.old) (state S.Store conn.new) (CommitsShowing due_text
+        (due_params moment) (state S.Store conn.old)) }
+{
+    let seconds = moment.seconds() as i64;
+    conn.query_all(
+        "SELECT kind, key, owner, due, body FROM broker_rows WHERE due >= 0 AND due <= ?1 ORDER BY due, kind, key",
+        params![seconds],
+    )
+}
+
+/// The bound as a value of SQL; without one the empty blob, since each text is below every blob (SQLite's "Datatypes In
+/// SQLite", "Sort Order").
+fn bound_value<'b>(bound: Option<&'b [u8]>) -> ValueRef<'b>
+    ensures { owned result ≡ bound_value (option_copied bound.entry) }
+{
+    match bound {
+        None => ValueRef::Blob(b""),
+        Some(bytes) => ValueRef::Text(bytes),
+    }
+}
+
+/// Rows of a kind with keys from the prefix up to the bound. Not all of them begin with the prefix.
+pub(crate) fn under<S: Alter>(
+    conn: &mut Connection<S>,
+    kind: Kind,
+    prefix: &str,
+    bound: Option<&[u8]>,
+) -> Result<Vec<SqlRow>, Error>
+    ensures ok { HasCleanDisk (state S.Store conn.new)
+        → IfOk result (λ rows. Shown under_text (under_params (kind, prefix.now) (option_copied bound.entry))
+        (state S.Store conn.old) (state S.Store conn.new) rows.items) }
+    ensures err { HasCleanDisk (state S.Store conn.new)
+        → IfErr result (FailsToQuery under_text (under_params (kind, prefix.now) (option_copied bound.entry))
+        (state S.Store conn.old) (state S.Store conn.new)) }
+    ensures survives { Survives (state S.Store conn.old) (state S.Store conn.new) (CommitsShowing under_text
+        (under_params (kind, prefix.now) (option_copied bound.entry)) (state S.Store conn.old)) }
+{
+    conn.query_all(
+        "SELECT key, owner, due, body FROM broker_rows WHERE kind = ?1 AND key >= ?2 AND key < ?3 ORDER BY key",
+        &[
+            ToSql::to_sql(number(kind)),
+            ToSql::to_sql(prefix),
+            bound_value(bound),
+        ],
+    )
+}
+
+pub(crate) fn begin<S: Alter>(conn: &mut Connection<S>) -> Result<usize, Error>
+    ensures runs { HasCleanDisk (state S.Store conn.new)
+        → Executes begin_text [] (state S.Store conn.old) (state S.Store conn.new) result }
+    ensures survives { Survives (state S.Store conn.old) (state S.Store conn.new) (CommitsBy begin_text []
+        (state S.Store conn.old)) }
+{
+    conn.execute("BEGIN", &[])
+}
+
+pub(crate) fn commit<S: Alter>(conn: &mut Connection<S>) -> Result<usize, Error>
+    ensures runs { HasCleanDisk (state S.Store conn.new)
+        → Executes commit_text [] (state S.Store conn.old) (state S.Store conn.new) result }
+    ensures survives { Survives (state S.Store conn.old) (state S.Store conn.new) (CommitsBy commit_text []
+        (state S.Store conn.old)) }
+{
+    conn.execute("COMMIT", &[])
+}
+
+pub(crate) fn roll_back<S: Alter>(conn: &mut Connection<S>) -> Result<usize, Error>
+    ensures runs { HasCleanDisk (state S.Store conn.new)
+        → Executes rollback_text [] (state S.Store conn.old) (state S.Store conn.new) result }
+    ensures survives { Survives (state S.Store conn.old) (state S.Store conn.new) (CommitsBy rollback_text []
+        (state S.Store conn.old)) }
+{
+    conn.execute("ROLLBACK", &[])
+}
+
+pub(crate) fn create<S: Alter>(conn: &mut Connection<S>) -> Result<usize, Error>
+    ensures runs { HasCleanDisk (state S.Store conn.new)
+        → Executes create_text [] (state S.Store conn.old) (state S.Store conn.new) result }
+    ensures survives { Survives (state S.Store conn.old) (state S.Store conn.new) (CommitsBy create_text []
+        (state S.Store conn.old)) }
+{
+    conn.execute(
+        "CREATE TABLE broker_rows (kind INTEGER NOT NULL, key TEXT NOT NULL, owner TEXT NOT NULL, due INTEGER, body BLOB NOT NULL, PRIMARY KEY (kind, key)) STRICT",
+        &[],
+    )
+}
+
+pub(crate) fn create_owner<S: Alter>(conn: &mut Connection<S>) -> Result<usize, Error>
+    ensures runs { HasCleanDisk (state S.Store conn.new)
+        → Executes create_owner_text [] (state S.Store conn.old) (state S.Store conn.new) result }
+    ensures survives { Survives (state S.Store conn.old) (state S.Store conn.new) (CommitsBy create_owner_text []
+        (state S.Store conn.old)) }
+{
+    conn.execute(
+        "CREATE INDEX broker_owner ON broker_rows (kind, owner, key)",
+        &[],
+    )
+}
+
+pub(crate) fn create_due<S: Alter>(conn: &mut Connection<S>) -> Result<usize, Error>
+    ensures runs { HasCleanDisk (state S.Store conn.new)
+        → Executes create_due_text [] (state S.Store conn.old) (state S.Store conn.new) result }
+    ensures survives { Survives (state S.Store conn.old) (state S.Store conn.new) (CommitsBy create_due_text []
+        (state S.Store conn.old)) }
+{
+    conn.execute(
+        "CREATE INDEX broker_due ON broker_rows (due, kind, key)",
+        &[],
+    )
+}

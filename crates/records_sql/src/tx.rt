@@ -1,0 +1,107 @@
+//! Transactions over rows in SQL.
+
+ghost use Rattle.std.specs.Prelude.{◌≡◌, ◌≤◌, ◌||◌, false, OnOk, OnErr, IfOk, IfErr};
+ghost use Rattle.std.specs.Borrow.{sem, RestsIfErr};
+ghost use Rattle.sqlite.specs.Held.{state};
+ghost use Rattle.sqlite.specs.State.{HasCleanDisk};
+ghost use Rattle.records.specs.Transaction.{is_storage};
+ghost use Rattle.records_sql.specs.Refused.{IsRefused};
+ghost use Rattle.records_sql.specs.Table.{IsUsable, Stays, rows_of, mismatches};
+ghost use Rattle.records_sql.specs.contracts.sql_records.SqlRecords.{the_row};
+
+use crate::sql_records::SqlRecords;
+use broker_types::{Fault, Moment};
+use records::{Entry, Kind, RecordsTx, Row};
+use sqlite::Alter;
+
+/// A transaction of `SqlRecords`. Dropping it rolls back what it wrote.
+pub struct SqlTx<'c, S: Alter> {
+    pub(crate) records: &'c mut SqlRecords<S>,
+}
+
+impl<S: Alter> SqlRecords<S> {
+    /// Begins a transaction, which shows the rows that were committed. The only error is `Storage`: the rows are as
+    /// before, and `failed` says so.
+    pub fn begin(&mut self) -> Result<SqlTx<'_, S>, Fault>
+        ensures* refused { sem 𝓛 (RestsIfErr (the_row S.row S.Store) self.entry (λ tx. tx.records.ghost_name) result
+            (IsRefused S.Store self.old)) }
+        ensures same_reference { IfOk result (λ tx. tx.records.ghost_name ≡ self.entry.ghost_name) }
+        ensures begun { IfOk result (λ tx. HasCleanDisk (state S.Store tx.records.now.conn)
+            → rows_of (state S.Store tx.records.now.conn).now.trees
+            ≡ rows_of (state S.Store self.old.conn).committed.trees) }
+        ensures stays { IfOk result (λ tx. Stays (state S.Store self.old.conn) (state S.Store tx.records.now.conn)) }
+        ensures failed { IfOk result (λ tx. tx.records.now.failed ≡ false) }
+        ensures storage { IfErr result (λ fault. fault ≡ Fault.Storage) }
+    {
+        self.start()?;
+        Ok(SqlTx { records: self })
+    }
+}
+
+impl<S: Alter> SqlTx<'_, S> {
+    /// Makes what the transaction wrote the rows. The only error is `Storage`, also if a call in the transaction has
+    /// answered it; the rows are then as before.
+    pub fn commit(self) -> Result<(), Fault>
+        ensures committed { HasCleanDisk (state S.Store self.exit.0.now.conn) → OnOk result
+            (rows_of (state S.Store self.exit.0.now.conn).committed.trees
+            ≡ rows_of (state S.Store self.entry.records.now.conn).now.trees) }
+        ensures stands { HasCleanDisk (state S.Store self.exit.0.now.conn)
+            → OnOk result (IsUsable (state S.Store self.exit.0.now.conn)) }
+        ensures kept { OnErr result
+            (Stays (state S.Store self.entry.records.now.conn) (state S.Store self.exit.0.now.conn)) }
+        ensures mismatches { mismatches (state S.Store self.entry.records.now.conn)
+            ≤ mismatches (state S.Store self.exit.0.now.conn) }
+        ensures closes { IsUsable (state S.Store self.exit.0.now.conn)
+            → IsUsable (state S.Store self.entry.records.now.conn) }
+        ensures failed { self.exit.0.now.failed ≡ (self.entry.records.now.failed || is_storage result) }
+        ensures storage { IfErr result (λ fault. fault ≡ Fault.Storage) }
+    {
+        let SqlTx { records } = self;
+        records.finish()
+    }
+}
+
+impl<S: Alter> Drop for SqlTx<'_, S> {
+    fn drop(self)
+        ensures stays { Stays (state S.Store self.entry.records.now.conn) (state S.Store self.exit.0.now.conn) }
+        ensures failed { self.exit.0.now.failed ≡ self.entry.records.now.failed }
+    {
+        let SqlTx { records } = self;
+        records.roll_back();
+    }
+}
+
+impl<'c, S: Alter> RecordsTx for SqlTx<'c, S> {
+    ghost use Rattle.sqlite.specs.Held.{state};
+    ghost use Rattle.records_sql.specs.Table.{seen_of};
+
+    ghost seen = { λ t. seen_of (state S.Store t.records.now.conn) t.records.ghost_name t.records.now.failed };
+
+    fn get(&mut self, kind: Kind, key: &str) -> Result<Option<Row>, Fault> {
+        self.records.get(kind, key)
+    }
+
+    fn put(&mut self, kind: Kind, key: &str, row: Row) -> Result<(), Fault> {
+        self.records.put(kind, key, &row)
+    }
+
+    fn remove(&mut self, kind: Kind, key: &str) -> Result<(), Fault> {
+        self.records.remove(kind, key)
+    }
+
+    fn under(&mut self, kind: Kind, prefix: &str) -> Result<Vec<Entry>, Fault> {
+        self.records.under(kind, prefix)
+    }
+
+    fn by_owner(&mut self, kind: Kind, owner: &str) -> Result<Vec<Entry>, Fault> {
+        self.records.by_owner(kind, owner)
+    }
+
+    fn due_until(&mut self, moment: Moment) -> Result<Vec<Entry>, Fault> {
+        self.records.due_until(moment)
+    }
+
+    fn failed(&self) -> bool {
+        self.records.failed
+    }
+}
