@@ -1,16 +1,15 @@
 -- What the statement by due shows.
-use Rattle.std.proofs.Common.{◌≡◌, ℕ, zero, suc, ◌+◌, ◌<◌, ◌≤◌, pos, Bool, true, false, cond, ◌&&◌, ◌==◌, nat_le, nat_lt, List, [], ◌∷◌, map, length, get_or, Option, Some, None, refl, sym, ap, subst, ◌∙◌, arith}
+use Rattle.std.proofs.Common.{◌≡◌, ℕ, zero, suc, ◌+◌, ◌<◌, pos, Bool, true, false, cond, ◌&&◌, nat_le, List, [], ◌∷◌, map, length, get_or, Option, Some, None, refl, sym, ap, subst, ◌∙◌, arith}
 use Rattle.std.specs.Prelude.{filter, IsPermutation, IsSorted, unwrap_or}
 use Rattle.std.specs.List.{list_all, AllByRecursion}
 use Rattle.std.specs.declared.cmp.Ordering.{Ordering}
-use Rattle.std.specs.declared.cmp.Ordering.TheVariants.{Less, Equal, Greater}
+use Rattle.std.specs.declared.cmp.Ordering.TheVariants.{Equal}
 use Rattle.std.specs.Ordering.{is_lt, is_le, is_ge, nat_cmp, int_cmp, ordering_then}
-use Rattle.std.specs.FinMap.{entries, from_entries}
+use Rattle.std.specs.FinMap.{entries}
 use Rattle.std.proofs.lemmas.List.Sorted.{IsPermutation-map, IsPermutation-trans, IsPermutation-sym, All-permutation}
 use Rattle.std.proofs.lemmas.List.Elements.{All-from_recursion, recursion_from_All}
 use Rattle.std.proofs.lemmas.Bool.Decides.{nat_tests}
-use Rattle.sqlite.specs.declared.types.Value.{Value}
-use Rattle.sqlite.specs.declared.types.Value.TheVariants.{Null, Int, Text as Words}
+use Rattle.sqlite.specs.declared.types.Value.TheVariants.{Int, Text as Words}
 use Rattle.sqlite.specs.Order.{Row}
 use Rattle.sqlite.specs.Term.{holds}
 use Rattle.sqlite.specs.Ops.{binary, is_true, from_truth}
@@ -20,14 +19,14 @@ use Rattle.sqlite_value.proofs.OrderLemmas.{value_cmp-Int, value_cmp-Text, then-
 use Rattle.sqlite_trees.proofs.ListLemmas.{IsPermutation-filter}
 use Rattle.broker_types.specs.Text.{text_cmp}
 use Rattle.records.specs.declared.row.Row.{Row as Fields}
-use Rattle.records.specs.Kind.{RowKey as Key, key_cmp, kind_number}
-use Rattle.records.specs.KeyLaws.{kind_of, kind_of-number}
-use Rattle.records.specs.DueRows.{is_due, rows_due, due_cmp, AreDue}
+use Rattle.records.specs.Kind.{RowKey as Key, kind_number}
+use Rattle.records.specs.KeyLaws.{kind_of-number}
+use Rattle.records.specs.DueRows.{is_due, due_cmp, AreDue}
 use Rattle.records_sql.specs.Table.{Kept, stored, entries_of, are_apart, due_value, due_in, whole_entry}
 use Rattle.records_sql.specs.Texts.{due_params}
 use Rattle.records_sql.proofs.Texts.{due_tests, whole_project, by_due}
 use Rattle.records_sql.proofs.QueryLemmas.{passes, query, IsFound, shown_of, map_map}
-use Rattle.records_sql.proofs.KeptLemmas.{and_left, and_right, and_both, map_of}
+use Rattle.records_sql.proofs.KeptLemmas.{map_of}
 use Rattle.records_sql.proofs.ListLemmas.{entries_permute}
 use Rattle.records_sql.proofs.ReadLemmas.{is_true_is}
 use Rattle.records_sql.proofs.ShownLemmas.{fields_back, among, among_entries, rows_pass, once}

@@ -1,13 +1,12 @@
 -- What a query in a transaction shows of the rows.
-use Rattle.std.proofs.Common.{◌≡◌, ◌⊎◌, inl, inr, ℕ, ◌≤◌, Bool, true, false, IsTrue, List, [], ◌∷◌, map, slice_get, Option, Some, None, option_map, refl, sym, ap, subst, ◌∙◌, arith}
-use Rattle.std.specs.Prelude.{filter, codes, nat_eq}
+use Rattle.std.proofs.Common.{◌≡◌, inl, inr, ℕ, true, IsTrue, List, [], ◌∷◌, map, slice_get, Option, Some, None, option_map, refl, sym, ap, subst, ◌∙◌, arith}
+use Rattle.std.specs.Prelude.{filter, nat_eq}
 use Rattle.std.specs.List.{starts_with}
 use Rattle.std.specs.FinMap.{get, find, get-from_entries}
 use Rattle.sqlite.specs.Order.{Row}
 use Rattle.sqlite.specs.Term.{Term, col}
 use Rattle.sqlite.specs.Tree.{Trees}
 use Rattle.sqlite.specs.Effect.{Database}
-use Rattle.sqlite_resolve.specs.declared.compiled.Compiled.{Compiled}
 use Rattle.sqlite_schema.specs.declared.command.Returning.{Returning}
 use Rattle.sqlite.specs.Listing.{understood}
 use Rattle.sqlite.specs.Clock.{timed}
@@ -26,7 +25,7 @@ use Rattle.records_sql.proofs.DueLemmas.{due_found}
 use Rattle.records_sql.proofs.Texts.{at_key, get_is, get_plain, get_unlisted, under_is, under_plain, under_unlisted, owner_is, owner_plain, owner_unlisted, due_is, due_plain, due_unlisted, under_tests, owner_tests, due_tests, entry_project, whole_project, by_key, by_due}
 use Rattle.records_sql.proofs.QueryLemmas.{is_found, IsFound}
 use Rattle.records_sql.proofs.StateLemmas.{usable_clean, clean_usable}
-use Rattle.records_sql.proofs.KeptLemmas.{due_back, at_most_one, find_first, has_key, first_of}
+use Rattle.records_sql.proofs.KeptLemmas.{due_back, at_most_one, find_first}
 use Rattle.records_sql.proofs.ReadLemmas.{none_answered, one_answered}
 
 shown_same : (sql : List ℕ) (params : Row) (old new : State) (rows : List Row) → IsPlain (understood old.now.schema sql) → Shown sql params old new rows → IsUnchanged old new

@@ -3,7 +3,7 @@ use Rattle.std.proofs.Common.{◌≡◌, ℕ, pos, Bool, true, false, cond, ◌&
 use Rattle.std.specs.Prelude.{filter}
 use Rattle.std.specs.List.{list_all, starts_with}
 use Rattle.std.specs.declared.cmp.Ordering.TheVariants.{Equal}
-use Rattle.std.specs.Ordering.{is_eq, is_lt, is_ge, nat_cmp, int_cmp, ordering_then}
+use Rattle.std.specs.Ordering.{is_eq, is_lt, is_ge, nat_cmp, ordering_then}
 use Rattle.std.specs.Cmp.{tied_itself, nat_cmp_total}
 use Rattle.std.specs.Cmp.Lexicographic.{slice_cmp}
 use Rattle.std.specs.FinMap.{entries, nat_cmp-IsAntisymmetric}
@@ -21,7 +21,7 @@ use Rattle.broker_types.specs.Text.{Text, text_cmp, same}
 use Rattle.broker_types.specs.TextLaws.{same-text_cmp}
 use Rattle.records.specs.declared.kind.Kind.{Kind}
 use Rattle.records.specs.declared.row.Row.{Row as Fields}
-use Rattle.records.specs.Kind.{RowKey as Key, key_cmp, kind_number, is_of_kind}
+use Rattle.records.specs.Kind.{RowKey as Key, kind_number, is_of_kind}
 use Rattle.records.specs.KeyLaws.{same_kind}
 use Rattle.records.specs.Transaction.{rows_under, rows_owned}
 use Rattle.records_sql.specs.Bounds.{IsAbove}
