@@ -1,21 +1,33 @@
 -- Which faults a replay ends with.
-use Rattle.std.proofs.Common.{◌≡◌, ◌∙◌, ◌⊎◌, inl, inr, ℕ, Bool, IsTrue, refl, sym, subst}
+use Rattle.std.proofs.Common.{◌≡◌, ◌⊎◌, inl, inr, Bool, IsTrue, refl, sym, subst}
 use Rattle.broker_types.specs.Fault.{IsMemoryOrStorage, fault_number}
 use Rattle.broker_types.specs.declared.fault.Fault.{Fault}
 use Rattle.broker_types.specs.declared.fault.Fault.TheVariants.{Memory, Storage, Damaged, BadStart}
 use Rattle.replay.specs.Exits.{EndsBy}
 use Rattle.replay.specs.declared.replaying.Exit.{Exit}
-use Rattle.replay.specs.declared.replaying.Exit.TheVariants.{Faulted}
+use Rattle.replay.specs.declared.replaying.Exit.TheVariants.{Done, Faulted, BadLine}
 
--- a fault of memory or storage that is none of storage is one of memory
-pub want_number : (fault : Fault) → IsMemoryOrStorage fault → ¬ (fault ≡ Storage) → fault_number fault ≡ 1
-want_number Memory want other = refl
-want_number Storage want other = absurd (other refl)
-want_number Damaged want other = absurd want
-want_number BadStart want other = absurd want
+-- a fault of memory or storage, where the storage failed if it is of storage
+pub ends_by_fault : (fault : Fault) (StorageFailed : Type 0) (failed : Bool) → IsMemoryOrStorage fault → (fault ≡ Storage → StorageFailed)
+    → EndsBy ⊥ StorageFailed failed (Faulted (fault_number fault))
+ends_by_fault Memory StorageFailed failed want storage = inl refl
+ends_by_fault Storage StorageFailed failed want storage = inr (inl (refl, storage refl))
+ends_by_fault Damaged StorageFailed failed want storage = absurd want
+ends_by_fault BadStart StorageFailed failed want storage = absurd want
 
--- the replies were written after memory ran out, or a write failed
-pub ends_of : (Equal : Type 0) (failed : Bool) (result exit : Exit) (n : ℕ) (A : Type 0) → ((result ≡ exit) × A) ⊎ ((result ≡ Faulted 6) × IsTrue failed)
-    → exit ≡ Faulted n → n ≡ 1 → EndsBy Equal failed result
-ends_of Equal failed result exit n A (inl p) is one = subst (EndsBy Equal failed) (sym (p.0 ∙ is)) (inl one)
-ends_of Equal failed result exit n A (inr p) is one = subst (EndsBy Equal failed) (sym p.0) (inr (inr (refl, p.1)))
+-- the replies were written before such an end, or a write failed
+pub ends_of : (EqualWords StorageFailed : Type 0) (failed : Bool) (result exit : Exit) (A : Type 0)
+    → ((result ≡ exit) × A) ⊎ ((result ≡ Faulted 6) × IsTrue failed)
+    → EndsBy EqualWords StorageFailed failed exit → EndsBy EqualWords StorageFailed failed result
+ends_of EqualWords StorageFailed failed result exit A (inl p) ends = subst (EndsBy EqualWords StorageFailed failed) (sym p.0) ends
+ends_of EqualWords StorageFailed failed result exit A (inr p) ends =
+    subst (EndsBy EqualWords StorageFailed failed) (sym p.0) (inr (inr (inr (refl, p.1))))
+
+-- what follows from it
+pub ends_weaker : (E F S T : Type 0) (failed : Bool) (exit : Exit) → (E → F) → (S → T) → EndsBy E S failed exit → EndsBy F T failed exit
+ends_weaker E F S T failed Done e s h = tt
+ends_weaker E F S T failed (BadLine line) e s h = tt
+ends_weaker E F S T failed (Faulted number) e s (inl h) = inl h
+ends_weaker E F S T failed (Faulted number) e s (inr (inl h)) = inr (inl (h.0, s h.1))
+ends_weaker E F S T failed (Faulted number) e s (inr (inr (inl h))) = inr (inr (inl (h.0, e h.1)))
+ends_weaker E F S T failed (Faulted number) e s (inr (inr (inr h))) = inr (inr (inr h))

@@ -9,16 +9,18 @@ abbrev pub HasEqualWords : Option Told → Type 0
 HasEqualWords None = ⊥
 HasEqualWords (Some t) = slice_index t.start.words.0 1 ≡ slice_index t.start.words.0 2
 
--- its fault, if it has one: memory ran out, the words of the start are equal, or a write failed
-abbrev pub EndsBy : Type 0 → Bool → Exit → Type 0
-EndsBy EqualWords write_failed Done = ⊤
-EndsBy EqualWords write_failed (BadLine line) = ⊤
-EndsBy EqualWords write_failed (Faulted number) =
-    (number ≡ 1) ⊎ ((number ≡ 4) × EqualWords) ⊎ ((number ≡ 6) × IsTrue write_failed)
+-- its fault, if it has one: memory ran out, the storage failed, the words of the start are equal, or a write failed
+abbrev pub EndsBy : Type 0 → Type 0 → Bool → Exit → Type 0
+EndsBy EqualWords StorageFailed write_failed Done = ⊤
+EndsBy EqualWords StorageFailed write_failed (BadLine line) = ⊤
+EndsBy EqualWords StorageFailed write_failed (Faulted number) =
+    (number ≡ 1) ⊎ ((number ≡ 2) × StorageFailed) ⊎ ((number ≡ 4) × EqualWords)
+    ⊎ ((number ≡ 6) × IsTrue write_failed)
 
--- the same, or a read failed
+-- the same of a storage in memory, of which no contract tells whether it failed, or a read failed
 abbrev pub EndsByRead : Type 0 → Type 0 → Bool → Exit → Type 0
 EndsByRead EqualWords ReadFailed write_failed Done = ⊤
 EndsByRead EqualWords ReadFailed write_failed (BadLine line) = ⊤
 EndsByRead EqualWords ReadFailed write_failed (Faulted number) =
-    (number ≡ 1) ⊎ ((number ≡ 4) × EqualWords) ⊎ ((number ≡ 5) × ReadFailed) ⊎ ((number ≡ 6) × IsTrue write_failed)
+    (number ≡ 1) ⊎ (number ≡ 2) ⊎ ((number ≡ 4) × EqualWords) ⊎ ((number ≡ 5) × ReadFailed)
+    ⊎ ((number ≡ 6) × IsTrue write_failed)

@@ -26,26 +26,36 @@ told script = record { start = script.start; events = script.events.items; is_cu
 abbrev pub exit_of : Told → Exit
 exit_of t = if t.is_cut then BadLine (length t.events + 2) else Done
 
--- the events were answered from the first broker of the start, with no connection seen, and the replies were written
-pub record Replayed (start : Start) (events : List Event) (old new : Option (List ℕ)) : Type 0 where
+-- the events were answered from the world, and the replies were written
+pub record Ran (before : World) (events : List Event) (old new : Option (List ℕ)) : Type 0 where
   pub replies : List (List ℕ)
   pub after : World
-  pub run : Run (new_world (first_broker start.moment (slice_index start.words.0 1) (slice_index start.words.0 2)))
-      events replies after
+  pub run : Run before events replies after
   pub written : Appends old new (concat replies)
+
+-- the world of the first broker of a start, with no connection seen
+abbrev pub started : Start → World
+started start =
+    new_world (first_broker start.moment (slice_index start.words.0 1) (slice_index start.words.0 2))
+
+-- the events were answered from the first broker of the start, with no connection seen, and the replies were written
+abbrev pub Replayed : Start → List Event → Option (List ℕ) → Option (List ℕ) → Type 0
+Replayed start = Ran (started start)
 
 -- what the lines say was replayed; nothing was written if the first is bad
 abbrev pub Replays : Option Told → Option (List ℕ) → Option (List ℕ) → Exit → Type 0
 Replays None old new exit = (exit ≡ BadLine 1) × Appends old new []
 Replays (Some t) old new exit = (exit ≡ exit_of t) × Replayed t.start t.events old new
 
--- the replies to some number of the first events were written whole, and nothing else; none, if the start is bad
-abbrev pub WroteFirst : Option Told → Option (List ℕ) → Option (List ℕ) → Type 0
-WroteFirst None old new = Appends old new []
-WroteFirst (Some t) old new = (count : ℕ) × Replayed t.start (take count t.events) old new
+-- If it ended by a fault other than one of writing, the replies to some number of the first events were written whole,
+-- and nothing else. How many there were before the fault is left open.
+abbrev pub StoppedFrom : World → List Event → Option (List ℕ) → Option (List ℕ) → Exit → Type 0
+StoppedFrom before events old new (Faulted number) =
+    number ≢ 6 → (count : ℕ) × Ran before (take count events) old new
+StoppedFrom before events old new _ = ⊤
 
--- If it ended by a fault other than one of writing, nothing but replies of the run was written. How many
--- there were before the fault is left open.
+-- the same of the lines of an input; nothing was written if the start is bad
 abbrev pub Stopped : Option Told → Option (List ℕ) → Option (List ℕ) → Exit → Type 0
-Stopped t old new (Faulted number) = number ≢ 6 → WroteFirst t old new
-Stopped t old new _ = ⊤
+Stopped None old new (Faulted number) = number ≢ 6 → Appends old new []
+Stopped None old new _ = ⊤
+Stopped (Some t) old new exit = StoppedFrom (started t.start) t.events old new exit

@@ -6,7 +6,7 @@ use std::alloc::{AllocError, Global};
 
 /// Why the input was not read to its end.
 #[derive(Clone, Copy, Debug, PartialEq, Eq)]
-pub(crate) enum Unread {
+pub enum Unread {
     /// Memory ran out.
     Memory,
     /// A pull failed, or there were 4,294,967,296 of them.
@@ -24,8 +24,8 @@ impl From<AllocError> for Unread {
     }
 }
 
-/// All bytes that the source has left.
-pub(crate) fn read_to_end<R: Source>(alloc: Global, reader: &mut R) -> Result<Vec<u8>, Unread>
+/// All bytes that the source has left. It fails if memory runs out, if a pull failed, or after 4,294,967,296 pulls.
+pub fn read_to_end<R: Source>(alloc: Global, reader: &mut R) -> Result<Vec<u8>, Unread>
     ensures ok { IfOk result (λ bytes. Consumes (R.left reader.old) (R.left reader.new) bytes.items
         × IsAtEnd (R.left reader.new)) }
     ensures failed { IfErr result (λ unread. unread ≡ Unread.Failed

@@ -1,15 +1,20 @@
-ghost use Rattle.std.specs.Prelude.{◌≡◌, ◌⊎◌, ◌+◌, ◌≤◌, ℕ, List, Some, IsTrue};
+ghost use Rattle.std.specs.Prelude.{◌≡◌, ◌⊎◌, ◌+◌, ◌≤◌, ℕ, List, Some, IsTrue, ⊤};
 ghost use Rattle.std.specs.Io.KnownBytes.{Appends};
 ghost use Rattle.std.specs.List.{concat};
+ghost use Rattle.broker.specs.Kept.{IsHonestStore};
+ghost use Rattle.hub.specs.Representing.{HubRepresents, hub_store};
 ghost use Rattle.hub.specs.Runs.{bytes_of};
+ghost use Rattle.hub.specs.World.{World};
 ghost use Rattle.replay.specs.Exits.{EndsBy, EndsByRead, HasEqualWords};
 ghost use Rattle.replay.specs.Lines.{lines_of, told_in};
-ghost use Rattle.replay.specs.Replays.{IsUnfaulted, Replayed, Replays, Stopped, exit_of, told};
+ghost use Rattle.replay.specs.Replays.{IsUnfaulted, Ran, Replayed, Replays, Stopped, StoppedFrom};
+ghost use Rattle.replay.specs.Replays.{exit_of, told};
 ghost use Rattle.replay.specs.declared.replaying.Exit.TheVariants.{Faulted};
 
 use crate::input::{Unread, read_to_end};
 use crate::script::{Script, read_script};
-use broker::ListStore;
+use broker::Store;
+use broker_sql::SqlStore;
 use broker_types::Fault;
 use endpoints::{Failed, Sink, Source};
 use hub::{Hub, run};
@@ -39,7 +44,7 @@ impl From<Fault> for Exit {
     }
 }
 
-/// Runs the lines of the source over a broker in memory, up to the first that is bad, and writes the
+/// Runs the lines of the source over a broker in a database in memory, up to the first that is bad, and writes the
 /// bytes of their replies. A fault goes before a bad line; unless a write failed, the whole replies to
 /// some number of the first events are written then, and nothing else.
 pub fn replay<R: Source, W: Sink>(alloc: Global, reader: &mut R, writer: &mut W) -> Exit
@@ -51,8 +56,9 @@ pub fn replay<R: Source, W: Sink>(alloc: Global, reader: &mut R, writer: &mut W)
     ensures stopped { (input : List ℕ) → R.left reader.old ≡ Some input
         → Stopped (told_in (lines_of input)) (W.written writer.old) (W.written writer.new) result }
 
-    // Fault 4 comes only if the start's words 1 and 2 are equal, a fault of reading only if the source failed, or after
-    // 4,294,967,296 pulls, and one of writing only if the sink failed.
+    // Memory ran out, or the database in memory failed. Fault 4 comes only if the start's words 1 and 2 are equal, a
+    // fault of reading only if the source failed, or after 4,294,967,296 pulls, and one of writing only if the sink
+    // failed.
     ensures ends { EndsByRead
         ((input : List ℕ) → R.left reader.old ≡ Some input → HasEqualWords (told_in (lines_of input)))
         (IsTrue (R.has_failed reader.new) ⊎ (R.pulls reader.old + 4294967296 ≤ R.pulls reader.new))
@@ -67,7 +73,7 @@ pub fn replay<R: Source, W: Sink>(alloc: Global, reader: &mut R, writer: &mut W)
 
 /// Runs the lines of the input, and writes the replies.
 fn replay_input<W: Sink>(alloc: Global, input: &[u8], writer: &mut W) -> Exit
-    ensures ends { EndsBy (HasEqualWords (told_in (lines_of input.now))) (W.has_failed writer.new) result }
+    ensures ends { EndsBy (HasEqualWords (told_in (lines_of input.now))) ⊤ (W.has_failed writer.new) result }
     ensures replays { IsUnfaulted result
         → Replays (told_in (lines_of input.now)) (W.written writer.old)
         (W.written writer.new) result }
@@ -75,15 +81,15 @@ fn replay_input<W: Sink>(alloc: Global, input: &[u8], writer: &mut W) -> Exit
         (W.written writer.new) result }
 {
     match read_script(alloc, input) {
-        Ok(Some(script)) => run_script(alloc, &script, writer),
+        Ok(Some(script)) => run_in_memory(alloc, &script, writer),
         Ok(None) => Exit::BadLine(1),
         Err(_) => Exit::Faulted(1),
     }
 }
 
-/// Starts a broker in memory, feeds it the events, and writes the replies.
-fn run_script<W: Sink>(alloc: Global, script: &Script, writer: &mut W) -> Exit
-    ensures ends { EndsBy (HasEqualWords (Some (told script.now))) (W.has_failed writer.new) result }
+/// Starts a broker in a database in memory, and runs the script over it.
+fn run_in_memory<W: Sink>(alloc: Global, script: &Script, writer: &mut W) -> Exit
+    ensures ends { EndsBy (HasEqualWords (Some (told script.now))) ⊤ (W.has_failed writer.new) result }
     ensures exit { IsUnfaulted result → result ≡ exit_of (told script.now) }
     ensures ran { IsUnfaulted result
         → Replayed script.now.start script.now.events.items (W.written writer.old)
@@ -91,12 +97,36 @@ fn run_script<W: Sink>(alloc: Global, script: &Script, writer: &mut W) -> Exit
     ensures stopped { Stopped (Some (told script.now)) (W.written writer.old)
         (W.written writer.new) result }
 {
-    let mut store = ListStore::new(alloc);
+    let mut store = match SqlStore::in_memory(alloc) {
+        Ok(store) => store,
+        Err(fault) => return Exit::from(fault),
+    };
     if let Err(fault) = store.start(script.start.moment, &script.start.words) {
         return Exit::from(fault);
     }
-    let mut hub = Hub::new(alloc, store);
-    match run(alloc, &mut hub, script.events.as_slice()) {
+    run_script(alloc, &mut Hub::new(alloc, store), script, writer)
+}
+
+/// Feeds the events of a script to a broker, and writes the bytes of their replies. A fault goes before a bad line;
+/// unless a write failed, the whole replies to some number of the first events are written then, and nothing else. What
+/// the script says of a start is not looked at.
+pub fn run_script<S: Store, W: Sink>(
+    alloc: Global,
+    hub: &mut Hub<S>,
+    script: &Script,
+    writer: &mut W,
+) -> Exit
+    // On a broker's rows memory ran out, the storage failed and the store says so, or a write failed.
+    ensures ends { IsHonestStore (hub_store S.seen hub.new) → (w : World) → HubRepresents S.seen hub.old w
+        → EndsBy ⊥ (IsTrue (hub_store S.seen hub.new).has_failed) (W.has_failed writer.new) result }
+    ensures exit { IsUnfaulted result → result ≡ exit_of (told script.now) }
+    ensures ran { IsHonestStore (hub_store S.seen hub.new) → (w : World) → HubRepresents S.seen hub.old w
+        → IsUnfaulted result
+        → Ran w script.now.events.items (W.written writer.old) (W.written writer.new) }
+    ensures stopped { IsHonestStore (hub_store S.seen hub.new) → (w : World) → HubRepresents S.seen hub.old w
+        → StoppedFrom w script.now.events.items (W.written writer.old) (W.written writer.new) result }
+{
+    match run(alloc, hub, script.events.as_slice()) {
         Ok(replies) => finish(writer, replies.as_slice(), script.exit()),
         Err((_, replies, fault)) => finish(writer, replies.as_slice(), Exit::from(fault)),
     }

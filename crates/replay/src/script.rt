@@ -10,11 +10,13 @@ use std::alloc::{AllocError, Global};
 
 /// What the lines of a replay say, up to the first that is bad.
 #[derive(Drop)]
-pub(crate) struct Script {
-    pub(crate) start: Start,
-    pub(crate) events: Vec<Event>,
+pub struct Script {
+    /// With what the broker is started.
+    pub start: Start,
+    /// The events, in their order.
+    pub events: Vec<Event>,
     /// Whether a bad line follows those of the events.
-    pub(crate) is_cut: bool,
+    pub is_cut: bool,
 }
 
 impl Script {
@@ -35,7 +37,7 @@ impl Script {
 
 /// Reads the lines of a replay, each ended by LF, which the last may lack. None if the first line is
 /// bad. The only error is running out of memory.
-pub(crate) fn read_script(alloc: Global, input: &[u8]) -> Result<Option<Script>, AllocError>
+pub fn read_script(alloc: Global, input: &[u8]) -> Result<Option<Script>, AllocError>
     ensures { IfOk result (λ script. option_map told script ≡ told_in (lines_of input.now)) }
 {
     let (first, mut rest) = split_line(without_end(input));

@@ -1,9 +1,9 @@
 use Rattle.replay.specs.Lines.{lines_of, told_in}
-use Rattle.replay.proofs.StoppedLemmas.{wrote_none}
+use Rattle.replay.proofs.StoppedLemmas.{stopped_none}
 use Rattle.replay.proofs.replaying.replay.Goals as goal
 
 pub returns-in-Err-Memory-clause-stopped : goal.returns-in-Err-Memory-clause-stopped
-returns-in-Err-Memory-clause-stopped g c = λ input left other. wrote_none (told_in (lines_of input)) (g.W.Sink.written c.args.writer.now)
+returns-in-Err-Memory-clause-stopped g c = λ input left. stopped_none (told_in (lines_of input)) (g.W.Sink.written c.args.writer.now) _
 
 pub returns-in-Err-Failed-clause-stopped : goal.returns-in-Err-Failed-clause-stopped
-returns-in-Err-Failed-clause-stopped g c = λ input left other. wrote_none (told_in (lines_of input)) (g.W.Sink.written c.args.writer.now)
+returns-in-Err-Failed-clause-stopped g c = λ input left. stopped_none (told_in (lines_of input)) (g.W.Sink.written c.args.writer.now) _

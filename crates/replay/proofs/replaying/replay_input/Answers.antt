@@ -1,6 +1,6 @@
 use Rattle.replay.specs.Lines.{lines_of, told_in}
-use Rattle.replay.proofs.StoppedLemmas.{wrote_none}
+use Rattle.replay.proofs.StoppedLemmas.{stopped_none}
 use Rattle.replay.proofs.replaying.replay_input.Goals as goal
 
 pub returns-in-Err-clause-stopped : goal.returns-in-Err-clause-stopped
-returns-in-Err-clause-stopped g c = λ other. wrote_none (told_in (lines_of c.args.input.now)) (g.W.Sink.written c.args.writer.now)
+returns-in-Err-clause-stopped g c = stopped_none (told_in (lines_of c.args.input.now)) (g.W.Sink.written c.args.writer.now) _

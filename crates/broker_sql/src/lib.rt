@@ -1,0 +1,9 @@
+//! A store of the broker's rows in a database.
+#![tactic(auto)]
+
+mod emptiness;
+mod laws;
+mod sql_store;
+
+pub use laws::memory_returns_what_was_written;
+pub use sql_store::SqlStore;

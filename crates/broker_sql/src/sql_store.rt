@@ -1,0 +1,167 @@
+//! A store in a database.
+
+ghost use Rattle.std.specs.Prelude.{◌≡◌, ◌≢◌, ◌⊎◌, ◌≤◌, IsTrue, IfOk, IfErr, OnOk, OnErr, Err, None, Some, false};
+ghost use Rattle.std.specs.Prelude.{slice_index};
+ghost use Rattle.std.specs.FinMap as map;
+ghost use Rattle.sqlite.specs.Steps.{over_memory};
+ghost use Rattle.broker_types.specs.Answer.{HasRoom, response_of};
+ghost use Rattle.broker_types.specs.Broker.{Broker};
+ghost use Rattle.broker_types.specs.Fault.{IsMemoryOrStorage};
+ghost use Rattle.broker_types.specs.First.{first_broker};
+ghost use Rattle.broker_types.specs.Identifier.{id};
+ghost use Rattle.broker_types.specs.Text.{Text};
+ghost use Rattle.broker_types.specs.TokenText.{token_text};
+ghost use Rattle.records.specs.Transaction.{is_storage};
+ghost use Rattle.broker_model.specs.Listed.{IsListed};
+ghost use Rattle.broker_model.specs.Step.{step};
+ghost use Rattle.broker_rows.specs.ClockRow.{NeedsClock};
+ghost use Rattle.broker_rows.specs.ReadableRow.{IsDeniedToNobody};
+ghost use Rattle.broker_rows.specs.Representing.{Represents, Gives};
+ghost use Rattle.broker.specs.Answering.{IsAnsweredBy};
+ghost use Rattle.broker.specs.Kept.{IsHonestStore, IsReady};
+ghost use Rattle.broker_sql.specs.Atomic.{IsAtomic};
+ghost use Rattle.broker_sql.specs.SqlKept.{sql_kept};
+
+use crate::emptiness::is_empty;
+use broker::{Store, handle};
+use broker_rows::write_first_rows;
+use broker_types::{Answer, Ask, Fault, Moment, TokenText, Words};
+use records_sql::SqlRecords;
+use sqlite::{Alter, MemStore};
+use std::alloc::Global;
+
+/// A store in a database, generic in the storage of the library `sqlite`.
+#[derive(Drop)]
+pub struct SqlStore<S: Alter> {
+    alloc: Global,
+    records: SqlRecords<S>,
+}
+
+impl SqlStore<MemStore> {
+    /// A store in memory without rows, which `start` fills. The only error is `Storage`, if the database cannot be
+    /// made.
+    pub fn in_memory(alloc: Global) -> Result<SqlStore<MemStore>, Fault>
+        ensures rows { IfOk result (λ store. (sql_kept over_memory store).rows ≡ map.empty) }
+        ensures ready { IfOk result (λ store. IsReady (sql_kept over_memory store)) }
+        ensures storage { IfErr result (λ fault. fault ≡ Fault.Storage) }
+    {
+        let records = SqlRecords::in_memory(alloc)?;
+        Ok(SqlStore { alloc, records })
+    }
+}
+
+impl<S: Alter> SqlStore<S> {
+    /// Makes the first broker at a moment, with the root token (Vault's documentation, "Tokens") of word
+    /// 1 and the accessor of word 2, and answers the root token. It fails with `BadStart` if the two words are equal or
+    /// the store has rows, with `Memory` if memory runs out, and with `Storage` if the storage failed. After a fault the
+    /// rows are as before, as long as the storage returned what was written and can still be asked; it can, unless the
+    /// fault is `Storage`.
+    pub fn start(&mut self, moment: Moment, words: &Words) -> Result<TokenText, Fault>
+        ensures told { IsHonestStore (sql_kept S.Store self.new)
+            → OnOk result (Represents None (sql_kept S.Store self.new).rows
+            (first_broker moment (slice_index words.now.0 1) (slice_index words.now.0 2))) }
+        ensures token { IfOk result (λ t. t ≡ token_text (id (slice_index words.now.0 1))) }
+        ensures empty { IsHonestStore (sql_kept S.Store self.new)
+            → OnOk result ((sql_kept S.Store self.old).rows ≡ map.empty) }
+        ensures differ { OnOk result (slice_index words.now.0 1 ≢ slice_index words.now.0 2) }
+        ensures bad_start { IsHonestStore (sql_kept S.Store self.new) → result ≡ Err Fault.BadStart
+            → ((sql_kept S.Store self.old).rows ≢ map.empty)
+            ⊎ (slice_index words.now.0 1 ≡ slice_index words.now.0 2) }
+
+        // Equal words are refused whatever the storage does; rows, once it has shown them (`empty`).
+        ensures refused { slice_index words.now.0 1 ≡ slice_index words.now.0 2 → result ≡ Err Fault.BadStart }
+        ensures faults { IfErr result (λ fault. IsMemoryOrStorage fault ⊎ (fault ≡ Fault.BadStart)) }
+        ensures kept { IsHonestStore (sql_kept S.Store self.new) → IsTrue (sql_kept S.Store self.new).is_open
+            → OnErr result ((sql_kept S.Store self.new).rows ≡ (sql_kept S.Store self.old).rows) }
+        ensures mismatches { (sql_kept S.Store self.old).mismatches ≤ (sql_kept S.Store self.new).mismatches }
+        ensures closes { IsTrue (sql_kept S.Store self.new).is_open → IsTrue (sql_kept S.Store self.old).is_open }
+        ensures stays_open { IsHonestStore (sql_kept S.Store self.new) → is_storage result ≡ false
+            → (sql_kept S.Store self.new).is_open ≡ (sql_kept S.Store self.old).is_open }
+        ensures failed { result ≡ Err Fault.Storage → IsTrue (sql_kept S.Store self.new).has_failed }
+    {
+        if words.0[1] == words.0[2] {
+            return Err(Fault::BadStart);
+        }
+        match self.write_start(moment, words.0[1], words.0[2]) {
+            Ok(token) => Ok(token),
+            Err(Fault::Storage) => Err(Fault::Storage),
+            Err(fault) => {
+                self.records.ask()?;
+                Err(fault)
+            }
+        }
+    }
+
+    /// Writes the rows of the first broker in a transaction of their own, unless there are rows.
+    fn write_start(
+        &mut self,
+        moment: Moment,
+        token_word: u128,
+        accessor_word: u128,
+    ) -> Result<TokenText, Fault>
+        ensures told { IsHonestStore (sql_kept S.Store self.new) → token_word ≢ accessor_word
+            → OnOk result (Represents None (sql_kept S.Store self.new).rows
+            (first_broker moment token_word accessor_word)) }
+        ensures token { IfOk result (λ t. t ≡ token_text (id token_word)) }
+        ensures empty { IsHonestStore (sql_kept S.Store self.new)
+            → OnOk result ((sql_kept S.Store self.old).rows ≡ map.empty) }
+        ensures bad_start { IsHonestStore (sql_kept S.Store self.new) → result ≡ Err Fault.BadStart
+            → (sql_kept S.Store self.old).rows ≢ map.empty }
+        ensures faults { IfErr result (λ fault. IsMemoryOrStorage fault ⊎ (fault ≡ Fault.BadStart)) }
+        ensures atomic { IsAtomic (sql_kept S.Store self.old) (sql_kept S.Store self.new) result }
+    {
+        let mut tx = self.records.begin()?;
+        if !is_empty(&mut tx)? {
+            return Err(Fault::BadStart);
+        }
+        let token = write_first_rows(self.alloc, &mut tx, moment, token_word, accessor_word)?;
+        tx.commit()?;
+        Ok(token)
+    }
+
+    /// Answers one request in a transaction of its own.
+    fn answer(&mut self, moment: Moment, words: &Words, ask: &Ask<'_>) -> Result<Answer, Fault>
+        ensures told { IsHonestStore (sql_kept S.Store self.new) → (b : Broker)
+            → Represents None (sql_kept S.Store self.old).rows b
+            → IfOk result (λ a. Gives a (sql_kept S.Store self.new).rows (step b moment words.now ask.now)) }
+        ensures room { IfOk result HasRoom }
+        ensures clock { IsHonestStore (sql_kept S.Store self.new)
+            → NeedsClock (sql_kept S.Store self.old).rows result }
+        ensures answers { IsHonestStore (sql_kept S.Store self.new) → (t : Text) → ask.now.token ≡ Some t
+            → IfOk result (λ a. IsAnsweredBy moment t (sql_kept S.Store self.old).rows
+            (sql_kept S.Store self.new).rows ask.now (response_of a)) }
+        ensures nobody { IsHonestStore (sql_kept S.Store self.new) → ask.now.token ≡ None
+            → IfOk result (λ a. IsDeniedToNobody moment (response_of a) (sql_kept S.Store self.old).rows
+            (sql_kept S.Store self.new).rows) }
+        ensures listed { IfOk result (λ a. IsListed (response_of a)) }
+        ensures wants { IsHonestStore (sql_kept S.Store self.new) → (b : Broker)
+            → Represents None (sql_kept S.Store self.old).rows b → IfErr result IsMemoryOrStorage }
+        ensures atomic { IsAtomic (sql_kept S.Store self.old) (sql_kept S.Store self.new) result }
+    {
+        let mut tx = self.records.begin()?;
+        let answer = handle(self.alloc, &mut tx, moment, words, ask)?;
+        tx.commit()?;
+        Ok(answer)
+    }
+}
+
+impl<S: Alter> Store for SqlStore<S> {
+    ghost use Rattle.broker_sql.specs.SqlKept.{sql_kept};
+
+    ghost seen = { sql_kept S.Store };
+
+    fn one(&mut self, moment: Moment, words: &Words, ask: &Ask<'_>) -> Result<Answer, Fault> {
+        match self.answer(moment, words, ask) {
+            Ok(answer) => Ok(answer),
+            Err(Fault::Storage) => Err(Fault::Storage),
+            Err(fault) => {
+                self.records.ask()?;
+                Err(fault)
+            }
+        }
+    }
+
+    fn failed(&self) -> bool {
+        self.records.failed()
+    }
+}
