@@ -1,9 +1,11 @@
 #!/bin/bash
-# Runs `brokerd replay` on every row of tests/rows, and compares what it writes byte for byte, its exit
-# status and its standard error. The last line is 'N passed, M failed'; the status is 0 if nothing
-# failed.
+# Runs a command on every row of tests/rows, and compares what it writes byte for byte, its exit status and its
+# standard error: tests/rows.sh [COMMAND..], which is `bin/brokerd replay` if none is given. The last line is
+# 'N passed, M failed'; the status is 0 if nothing failed.
 set -u
 cd "$(dirname "$0")/.."
+[ $# -gt 0 ] || set -- bin/brokerd replay
+command=("$@")
 
 rows=tests/rows
 passed=0
@@ -19,7 +21,7 @@ fail() {
 # Says what differs from the row: nothing if all is as it should be.
 difference() {
     local name=$1 status=$2 word=$3 exit
-    bin/brokerd replay < "$rows/$name.replay" > "$found/out" 2> "$found/err"
+    "${command[@]}" < "$rows/$name.replay" > "$found/out" 2> "$found/err"
     exit=$?
     if [ -n "$word" ]; then echo "$word"; fi > "$found/word"
     if ! cmp -s "$found/out" "$rows/$name.out"; then
@@ -32,8 +34,8 @@ difference() {
 }
 
 # The first use builds the program, and says so on standard error.
-if ! bin/brokerd --help > /dev/null; then
-    fail "brokerd" "it cannot be built"
+if ! "${command[@]}" < "$rows/first_run.replay" > /dev/null; then
+    fail "first_run" "${command[*]} cannot be built, or fails"
     echo "$passed passed, $failed failed"
     exit 1
 fi

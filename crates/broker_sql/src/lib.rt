@@ -7,3 +7,6 @@ mod sql_store;
 
 pub use laws::memory_returns_what_was_written;
 pub use sql_store::SqlStore;
+
+#[cfg(test)]
+mod tests;

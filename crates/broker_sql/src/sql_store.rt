@@ -152,7 +152,7 @@ impl<S: Alter> Store for SqlStore<S> {
 
     fn one(&mut self, moment: Moment, words: &Words, ask: &Ask<'_>) -> Result<Answer, Fault> {
         match self.answer(moment, words, ask) {
-            Ok(answer) => Ok(answer),
+            Ok(answered) => Ok(answered),
             Err(Fault::Storage) => Err(Fault::Storage),
             Err(fault) => {
                 self.records.ask()?;

@@ -1,0 +1,57 @@
+use crate::sql_store::SqlStore;
+use broker::Store;
+use broker_types::{
+    Ask, BodyBytes, CowBytes, CowText, Fault, Moment, Path, Seconds, Status, Verb, Words, WrapTtl,
+};
+use sqlite::MemStore;
+use std::alloc::Global;
+use std::borrow::{CowSlice, CowStr};
+use std::test::Fail;
+
+const ROOT: &str = "hvs.00000000-0000-0000-0000-000000000001";
+
+fn moment() -> Result<Moment, Fault> {
+    Moment::new(1_000).ok_or(Fault::Damaged)
+}
+
+/// Whether a store without rows can be started once, with two words that differ.
+fn starts_once(store: &mut SqlStore<MemStore>) -> Result<bool, Fault> {
+    let words = Words([0, 1, 2, 3, 4, 5, 6, 7]);
+    Ok(
+        matches!(store.start(moment()?, &Words([7; 8])), Err(Fault::BadStart))
+            && store.start(moment()?, &words)?.as_str() == ROOT
+            && matches!(store.start(moment()?, &words), Err(Fault::BadStart))
+            && !store.failed(),
+    )
+}
+
+/// What the root token asks of itself.
+fn lookup() -> Result<Ask<'static>, Fault> {
+    let Ok(path) = Path::read(CowStr::Borrowed("auth/token/lookup-self")) else {
+        return Err(Fault::Damaged);
+    };
+    Ok(Ask {
+        verb: Verb::Get,
+        path,
+        version: CowBytes::new(CowSlice::Borrowed(b"".as_slice())),
+        token: Some(CowText::new(CowStr::Borrowed(ROOT))),
+        wrap_ttl: WrapTtl::cut(Seconds::new(0)),
+        body: BodyBytes::new(CowSlice::Borrowed(b"".as_slice())).ok_or(Fault::Damaged)?,
+    })
+}
+
+/// Whether a store in memory is started once, and then answers.
+fn answers_once_started(alloc: Global) -> Result<bool, Fault> {
+    let mut store = SqlStore::in_memory(alloc)?;
+    if !starts_once(&mut store)? {
+        return Ok(false);
+    }
+    let words = Words([16, 17, 18, 19, 20, 21, 22, 23]);
+    Ok(store.one(moment()?, &words, &lookup()?)?.status == Status::Success)
+}
+
+#[test]
+fn a_store_is_started_once(rt: HostRuntime) -> Result<(), Fail> {
+    assert!(rt; answers_once_started(rt.alloc())?);
+    Ok(())
+}

@@ -1,0 +1,53 @@
+#!/bin/bash
+# Compares the two stores: every row of tests/rows over each, and the 5,000 requests that `stores draw` draws, which
+# have to be answered the same byte for byte. The last line is 'N passed, M failed'; the status is 0 if nothing failed.
+set -u
+cd "$(dirname "$0")/.."
+
+passed=0
+failed=0
+found=$(mktemp -d)
+trap 'rm -rf "$found"' EXIT
+
+pass() { passed=$((passed + 1)); }
+fail() { echo "stores, $1: $2"; failed=$((failed + 1)); }
+
+# Runs the rows over a store, and adds their counts.
+run_rows() {
+    tests/rows.sh bin/stores "$1" > "$found/rows"
+    if [[ $(tail -n 1 "$found/rows") =~ ^([0-9]+)\ passed,\ ([0-9]+)\ failed$ ]]; then
+        passed=$((passed + BASH_REMATCH[1]))
+        failed=$((failed + BASH_REMATCH[2]))
+        sed '$d; s/^/stores '"$1"', /' "$found/rows"
+    else
+        fail "$1" "the rows did not end"
+    fi
+}
+
+# Runs a task, which has to end with status 0 and nothing on standard error: run TASK INPUT OUTPUT
+run() {
+    bin/stores "$1" < "$2" > "$3" 2> "$found/err"
+    local status=$?
+    if [ "$status" -eq 0 ] && [ ! -s "$found/err" ]; then
+        pass
+    else
+        fail "$1" "status $status: $(head -c 200 "$found/err")"
+    fi
+}
+
+# Passes if the command succeeds: expect NAME COMMAND..
+expect() {
+    if "${@:2}"; then pass; else fail "$1" "${*:2}"; fi
+}
+
+run_rows list
+run_rows sql
+run draw /dev/null "$found/drawn"
+expect "lines that are drawn" [ "$(wc -l < "$found/drawn")" -eq 5001 ]
+run list "$found/drawn" "$found/list"
+run sql "$found/drawn" "$found/sql"
+expect "replies that are drawn" [ "$(grep -ac '^HTTP/1.1 ' "$found/list")" -eq 5000 ]
+expect "both stores" cmp "$found/list" "$found/sql"
+
+echo "$passed passed, $failed failed"
+[ "$failed" -eq 0 ]
