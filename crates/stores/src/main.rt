@@ -29,7 +29,10 @@ const USAGE: &str = "usage: stores list | sql | retry | draw";
 
 fn main(rt: HostRuntime) -> anyhow::Result<ExitCode> {
     let alloc = rt.alloc();
-    let words = env::args(&rt)?.collect::<Vec<String>>(alloc)?;
+    let words = match env::args(&rt).and_then(|words| Ok(words.collect::<Vec<String>>(alloc)?)) {
+        Ok(words) => words,
+        Err(_) => return tell(&rt, Exit::Faulted(1)),
+    };
     let Some(task) = task_of(words.as_slice()) else {
         eprintln!(rt; "{USAGE}")?;
         return Ok(ExitCode::from(2));
