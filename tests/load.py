@@ -1,15 +1,15 @@
 #!/usr/bin/env python3
-"""Measures `brokerd replay` under many secrets or tokens, and prints the replays for it.
+"""Measures replays under many secrets or tokens, and prints the replays for it.
 
     python3 load.py lines KIND MANY REQUESTS            # writes a replay to standard output
-    python3 load.py measure PROGRAM KIND MANY REQUESTS [RUNS]
+    python3 load.py measure PROGRAM WORD KIND MANY REQUESTS [RUNS]
 
 KIND is `read`, `write` (of secrets), `create` or `look_up` (of tokens). A replay makes MANY secrets or tokens by as
 many requests of the root token, and then asks REQUESTS times, each time on a new connection: `read` and `look_up` for
 one of them, spread over all; `write` writes one more version of one; `create` makes one more. Nothing ends meanwhile.
 
-`measure` calls PROGRAM, the built program itself, as `PROGRAM replay` without the requests and with them, RUNS times
-each by turns (3 if not given). It prints the medians of the user time, and what their difference is for one request;
+`measure` calls PROGRAM, a built program itself, as `PROGRAM WORD` without the requests and with them, RUNS times each by
+turns (3 if not given): `brokerd replay`, or `stores list` or `stores sql`, over one store or the other. It prints the medians of the user time, and what their difference is for one request;
 in brackets the least and the greatest difference of one turn.
 """
 
@@ -80,12 +80,12 @@ def replay(kind, many, requests):
     return "".join(json.dumps(line, separators=(",", ":")) + "\n" for line in lines(kind, many, requests)).encode()
 
 
-def used(program, data):
+def used(command, data):
     """The user seconds of a run, in which each request has to be answered 200."""
     with tempfile.TemporaryFile() as stdin, tempfile.TemporaryFile() as stdout:
         stdin.write(data)
         stdin.seek(0)
-        child = subprocess.Popen([program, "replay"], stdin=stdin, stdout=stdout)
+        child = subprocess.Popen(command, stdin=stdin, stdout=stdout)
         _, status, usage = os.wait4(child.pid, 0)
         stdout.seek(0)
         replies = stdout.read().count(b"HTTP/1.1 200 OK\r\n")
@@ -94,10 +94,10 @@ def used(program, data):
     return usage.ru_utime
 
 
-def measure(program, kind, many, requests, runs):
+def measure(command, kind, many, requests, runs):
     """Prints what the requests took."""
     both = [replay(kind, many, 0), replay(kind, many, requests)]
-    found = [[used(program, data) for data in both] for _ in range(runs)]
+    found = [[used(command, data) for data in both] for _ in range(runs)]
     before, after = (statistics.median(times) for times in zip(*found))
     differences = [run[1] - run[0] for run in found]
     each, least, greatest = (seconds / requests * 1000
@@ -107,11 +107,12 @@ def measure(program, kind, many, requests, runs):
 
 
 def main():
-    parser = argparse.ArgumentParser(description="measures brokerd replay under many secrets or tokens")
+    parser = argparse.ArgumentParser(description="measures replays under many secrets or tokens")
     commands = parser.add_subparsers(dest="command", required=True)
     printing = commands.add_parser("lines")
     measuring = commands.add_parser("measure")
     measuring.add_argument("program")
+    measuring.add_argument("word", choices=["replay", "list", "sql"])
     for command in (printing, measuring):
         command.add_argument("kind", choices=KINDS)
         command.add_argument("many", type=int)
@@ -121,7 +122,8 @@ def main():
     if arguments.command == "lines":
         sys.stdout.buffer.write(replay(arguments.kind, arguments.many, arguments.requests))
     else:
-        measure(os.path.abspath(arguments.program), arguments.kind, arguments.many, arguments.requests, arguments.runs)
+        command = [os.path.abspath(arguments.program), arguments.word]
+        measure(command, arguments.kind, arguments.many, arguments.requests, arguments.runs)
 
 
 if __name__ == "__main__":
