@@ -28,7 +28,7 @@ use Rattle.records_sql.proofs.StateLemmas.{usable_clean, clean_usable}
 use Rattle.records_sql.proofs.KeptLemmas.{due_back, at_most_one, find_first}
 use Rattle.records_sql.proofs.ReadLemmas.{none_answered, one_answered}
 
-shown_same : (sql : List ℕ) (params : Row) (old new : State) (rows : List Row) → IsPlain (understood old.now.schema sql) → Shown sql params old new rows → IsUnchanged old new
+pub shown_same : (sql : List ℕ) (params : Row) (old new : State) (rows : List Row) → IsPlain (understood old.now.schema sql) → Shown sql params old new rows → IsUnchanged old new
 unfolding Shown
 shown_same sql params old new rows plain h =
     let none = (subst IsPlain h.1.is plain).0 in

@@ -1,5 +1,7 @@
+pub mod Adopted
 pub mod Bounds
 pub mod Made
+pub mod Numbered
 pub mod Props
 pub mod Refused
 pub mod Table

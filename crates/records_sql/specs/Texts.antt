@@ -31,7 +31,12 @@ abbrev pub due_text : List ℕ
 due_text =
     codes "SELECT kind, key, owner, due, body FROM broker_rows WHERE due >= 0 AND due <= ?1 ORDER BY due, kind, key"
 
--- ---- their parameters
+-- ---- what a table that was there before is asked
+
+abbrev pub numbers_text : List ℕ
+numbers_text = codes "SELECT rowid, kind, due FROM broker_rows ORDER BY rowid"
+
+-- ---- the parameters of the six
 
 abbrev pub key_params : Key → Row
 key_params q = Int (pos (kind_number q.0)) ∷ Text q.1 ∷ []

@@ -3,6 +3,7 @@
 
 mod opening;
 mod reading;
+mod schema;
 mod sql_records;
 mod statements;
 mod tx;

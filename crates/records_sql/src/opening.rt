@@ -1,25 +1,35 @@
-//! Rows in a new database.
+//! Rows in a database that was there before, or in a new one.
 
-ghost use Rattle.std.specs.Prelude.{◌≡◌, false, IfOk, IfErr, OnOk};
+ghost use Rattle.std.specs.Prelude.{◌≡◌, ◌≤◌, codes, false, IsTrue, IfOk, IfErr, OnOk, Err};
 ghost use Rattle.std.specs.FinMap as map;
+ghost use Rattle.sqlite.specs.WalFiles.{image_at};
+ghost use Rattle.sqlite.specs.Files.{file_state};
 ghost use Rattle.sqlite.specs.Held.{state};
-ghost use Rattle.sqlite.specs.State.{HasCleanDisk, Opens};
-ghost use Rattle.records_sql.specs.Made.{IsNewTable};
-ghost use Rattle.records_sql.specs.Table.{IsUsable, rows_of, no_schema};
+ghost use Rattle.sqlite.specs.State.{HasCleanDisk, IsLive, IsUnchanged};
 ghost use Rattle.sqlite.specs.Steps.{over_memory};
+ghost use Rattle.records_sql.specs.Adopted.{HasRows, IsAdopted, IsKeptIn, IsSettled};
+ghost use Rattle.records_sql.specs.Made.{IsNewTable};
+ghost use Rattle.records_sql.specs.Table.{IsStore, IsUsable, broker_schema, mismatches, no_schema, rows_of};
 
+use crate::reading::check_numbers;
+use crate::schema::{is_blank, is_ours};
 use crate::sql_records::SqlRecords;
 use crate::statements;
 use broker_types::Fault;
-use sqlite::{Alter, Connection, MemStore};
+use sqlite::{Alter, Connection, FileFrom, FileStore, MemStore, Start};
 use std::alloc::Global;
+use std::rt::HostRuntime;
 
-/// Makes the table and its indexes, each in a transaction of its own: a database that was made in part is let go.
+/// Makes the table and its indexes in one transaction, so that a database never has a part of them.
 fn make_table<S: Alter>(conn: &mut Connection<S>) -> Result<(), Fault>
     ensures made { HasCleanDisk (state S.Store conn.new) → (state S.Store conn.old).now.schema ≡ no_schema
-        → (state S.Store conn.old).in_transaction ≡ false → OnOk result (IsNewTable (state S.Store conn.new)) }
+        → OnOk result (IsTrue (state S.Store conn.old).is_open × IsNewTable (state S.Store conn.new)) }
+    ensures mismatches { mismatches (state S.Store conn.old) ≤ mismatches (state S.Store conn.new) }
     ensures storage { IfErr result (λ fault. fault ≡ Fault.Storage) }
 {
+    let Ok(_) = statements::begin(conn) else {
+        return Err(Fault::Storage);
+    };
     let Ok(_) = statements::create(conn) else {
         return Err(Fault::Storage);
     };
@@ -29,7 +39,86 @@ fn make_table<S: Alter>(conn: &mut Connection<S>) -> Result<(), Fault>
     let Ok(_) = statements::create_due(conn) else {
         return Err(Fault::Storage);
     };
+    let Ok(_) = statements::commit(conn) else {
+        return Err(Fault::Storage);
+    };
     Ok(())
+}
+
+/// Asks the table for its rows, and whether each is one that this crate writes. SQLite has tested what the schema says
+/// of them: the kinds of their values, and that no two have one key.
+fn check_rows<S: Alter>(conn: &mut Connection<S>) -> Result<(), Fault>
+    ensures sound { HasCleanDisk (state S.Store conn.new) → (state S.Store conn.old).now.schema ≡ broker_schema
+        → IsLive (state S.Store conn.old) → OnOk result (IsStore (state S.Store conn.old).now) }
+    ensures same { HasCleanDisk (state S.Store conn.new) → (state S.Store conn.old).now.schema ≡ broker_schema
+        → OnOk result (IsUnchanged (state S.Store conn.old) (state S.Store conn.new)) }
+    ensures mismatches { mismatches (state S.Store conn.old) ≤ mismatches (state S.Store conn.new) }
+    ensures storage { IfErr result (λ fault. fault ≡ Fault.Storage) }
+{
+    let Ok(rows) = statements::numbers(conn) else {
+        return Err(Fault::Storage);
+    };
+    check_numbers(&rows)
+}
+
+/// Makes the table if the database has none, and else asks whether it is one that this crate made.
+fn find_table<S: Alter>(conn: &mut Connection<S>) -> Result<(), Fault>
+    ensures found { HasCleanDisk (state S.Store conn.new) → IsSettled (state S.Store conn.old)
+        → OnOk result (IsAdopted (state S.Store conn.old) (state S.Store conn.new)) }
+    ensures mismatches { mismatches (state S.Store conn.old) ≤ mismatches (state S.Store conn.new) }
+    ensures storage { IfErr result (λ fault. fault ≡ Fault.Storage) }
+{
+    if is_blank(conn.schema()) {
+        return make_table(conn);
+    }
+    if !is_ours(conn.schema()) {
+        return Err(Fault::Storage);
+    }
+    check_rows(conn)
+}
+
+impl<S: Alter + Drop> SqlRecords<S> {
+    /// The rows of a database that was there before; one without a table is given the table, without a row. The only
+    /// error is `Storage`: a transaction is open, the database has another table, index or view than this crate makes,
+    /// a row is none that this crate writes, or the storage failed. The connection is gone then, and the rows are as
+    /// before.
+    pub fn adopt(alloc: Global, mut conn: Connection<S>) -> Result<SqlRecords<S>, Fault>
+        ensures found { IfOk result (λ records. HasCleanDisk (state S.Store records.conn)
+            → HasRows (state S.Store conn).committed (rows_of (state S.Store records.conn).committed.trees)) }
+        ensures usable { IfOk result (λ records. HasCleanDisk (state S.Store records.conn)
+            → IsUsable (state S.Store records.conn)) }
+        ensures autocommit { OnOk result ((state S.Store conn).in_transaction ≡ false) }
+        ensures mismatches { IfOk result (λ records.
+            mismatches (state S.Store conn) ≤ mismatches (state S.Store records.conn)) }
+        ensures failed { IfOk result (λ records. records.failed ≡ false) }
+        ensures storage { IfErr result (λ fault. fault ≡ Fault.Storage) }
+    {
+        if !conn.is_autocommit() {
+            return Err(Fault::Storage);
+        }
+        find_table(&mut conn)?;
+        Ok(SqlRecords {
+            alloc,
+            conn,
+            is_active: false,
+            failed: false,
+        })
+    }
+}
+
+impl<S: Alter> SqlRecords<S> {
+    /// Gives the connection back.
+    pub fn into_connection(self) -> Connection<S>
+        ensures { result ≡ self.conn }
+    {
+        let SqlRecords {
+            alloc: _,
+            conn,
+            is_active: _,
+            failed: _,
+        } = self;
+        conn
+    }
 }
 
 impl SqlRecords<MemStore> {
@@ -40,15 +129,33 @@ impl SqlRecords<MemStore> {
         ensures failed { IfOk result (λ records. records.failed ≡ false) }
         ensures storage { IfErr result (λ fault. fault ≡ Fault.Storage) }
     {
-        let Ok(mut conn) = Connection::open_in_memory(alloc) else {
+        let Ok(conn) = Connection::open_in_memory(alloc) else {
             return Err(Fault::Storage);
         };
-        make_table(&mut conn)?;
-        Ok(SqlRecords {
-            alloc,
-            conn,
-            is_active: false,
-            failed: false,
-        })
+        SqlRecords::adopt(alloc, conn)
+    }
+}
+
+impl<S: Start> SqlRecords<FileStore<FileFrom<S>>> {
+    /// The rows of a file and its log, which is beside it (SQLite's "Write-Ahead Logging"); a file that is not there is
+    /// made. `S` stands for what they hold. The only error is `Storage`: the file cannot be opened, or what `adopt`
+    /// refuses.
+    pub fn open_from(
+        rt: &HostRuntime,
+        path: &str,
+        start: S,
+    ) -> Result<SqlRecords<FileStore<FileFrom<S>>>, Fault>
+        ensures found { IfOk result (λ records. HasCleanDisk (file_state records.conn)
+            → IsKeptIn (image_at S.Start) (rows_of (file_state records.conn).committed.trees)) }
+        ensures usable { IfOk result (λ records. HasCleanDisk (file_state records.conn)
+            → IsUsable (file_state records.conn)) }
+        ensures failed { IfOk result (λ records. records.failed ≡ false) }
+        ensures memory { path.now ≡ codes ":memory:" → result ≡ Err Fault.Storage }
+        ensures storage { IfErr result (λ fault. fault ≡ Fault.Storage) }
+    {
+        match Connection::open_from(rt, path, false, start) {
+            Ok(conn) => SqlRecords::adopt(rt.alloc(), conn),
+            Err(_) => Err(Fault::Storage),
+        }
     }
 }

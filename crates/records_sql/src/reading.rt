@@ -1,13 +1,16 @@
 //! Rows as the statements show them. What could not be read is a failure of the storage, since the table holds only
 //! what this crate writes.
 
-ghost use Rattle.std.specs.Prelude.{◌≡◌, ◌<◌, IfOk, IfErr, slice_get, option_map, filter, map, nat_eq};
+ghost use Rattle.std.specs.Prelude.{◌≡◌, ◌<◌, pos, None, IsTrue, IfOk, IfErr, OnOk, slice_get, option_map, filter, map, nat_eq};
+ghost use Rattle.sqlite.specs.declared.types.Value.TheVariants.{Int};
+ghost use Rattle.records.specs.Kind.{kind_number};
 ghost use Rattle.std.specs.List.{starts_with};
 ghost use Rattle.broker_types.specs.Fault.{IsMemoryOrStorage};
 ghost use Rattle.records.specs.KeyLaws.{kind_of};
 ghost use Rattle.sqlite_value.specs.Order.{column, bytes};
 ghost use Rattle.records_sql.specs.Bounds.{IsAbove};
-ghost use Rattle.records_sql.specs.Table.{read_row, row_from, entry_in, whole_entry, due_in, int_in, size_of};
+ghost use Rattle.records_sql.specs.Numbered.{AreNumbered, IsOver};
+ghost use Rattle.records_sql.specs.Table.{read_row, row_from, entry_in, whole_entry, due_in, due_value, int_in, size_of};
 
 use broker_types::{Bytes, Fault, TextBuf};
 use records::{Due, Entry, Kind, Row};
@@ -36,6 +39,7 @@ fn bytes_at(row: &SqlRow, at: usize) -> Result<Bytes, Fault>
 
 fn due_at(row: &SqlRow, at: usize) -> Result<Option<Due>, Fault>
     ensures value { IfOk result (λ due. due ≡ due_in (column row.now at)) }
+    ensures exact { OnOk result (column row.now at ≡ due_value (due_in (column row.now at))) }
     ensures storage { IfErr result (λ fault. fault ≡ Fault.Storage) }
 {
     match row.get::<Option<u64>>(at) {
@@ -124,6 +128,7 @@ fn begins_with(key: &str, prefix: &str) -> bool
 /// The kind that a number stands for.
 fn kind_at(row: &SqlRow, at: usize) -> Result<Kind, Fault>
     ensures value { IfOk result (λ kind. kind ≡ kind_of (size_of (int_in (column row.now at)))) }
+    ensures exact { IfOk result (λ kind. column row.now at ≡ Int (pos (kind_number kind))) }
     ensures storage { IfErr result (λ fault. fault ≡ Fault.Storage) }
 {
     match row.get::<u32>(at) {
@@ -135,6 +140,7 @@ fn kind_at(row: &SqlRow, at: usize) -> Result<Kind, Fault>
 /// The kind with the number.
 fn kind_of(number: u32) -> Result<Kind, Fault>
     ensures value { IfOk result (λ kind. kind ≡ kind_of number) }
+    ensures number { IfOk result (λ kind. kind_number kind ≡ number) }
     ensures storage { IfErr result (λ fault. fault ≡ Fault.Storage) }
 {
     match number {
@@ -176,6 +182,45 @@ pub(crate) fn whole_entries(alloc: Global, rows: &[SqlRow]) -> Result<Vec<Entry>
         list.push(whole_entry_of(row)?)?;
     }
     Ok(list)
+}
+
+/// The number of a row. SQLite gives none below 1 to a row that is put without one.
+fn number_at(row: &SqlRow, at: usize) -> Result<u64, Fault>
+    ensures value { IfOk result (λ number. column row.now at ≡ Int (pos number)) }
+    ensures storage { IfErr result (λ fault. fault ≡ Fault.Storage) }
+{
+    match row.get::<u64>(at) {
+        Ok(number) => Ok(number),
+        Err(_) => Err(Fault::Storage),
+    }
+}
+
+fn is_over(last: Option<u64>, number: u64) -> bool
+    ensures { IsTrue result → IsOver last number }
+{
+    match last {
+        None => true,
+        Some(last) => last < number,
+    }
+}
+
+/// Whether rows that are shown by number, kind and when they are due could be rows of this crate: each has a kind that
+/// there is, is due at a moment or never, and has a number above that of the row before.
+pub(crate) fn check_numbers(rows: &[SqlRow]) -> Result<(), Fault>
+    ensures numbered { OnOk result (AreNumbered None rows.now) }
+    ensures storage { IfErr result (λ fault. fault ≡ Fault.Storage) }
+{
+    let mut last = None;
+    for row in rows {
+        let number = number_at(row, 0)?;
+        kind_at(row, 1)?;
+        due_at(row, 2)?;
+        if !is_over(last, number) {
+            return Err(Fault::Storage);
+        }
+        last = Some(number);
+    }
+    Ok(())
 }
 
 /// A bound above all keys that begin with a prefix: the prefix with its last byte raised by one. It is compared by

@@ -8,7 +8,7 @@ ghost use Rattle.records_sql.specs.Bounds.{bound_value};
 ghost use Rattle.sqlite.specs.State.{HasCleanDisk, Executes, Survives, CommitsBy, CommitsShowing, Shown, FailsToQuery};
 ghost use Rattle.sqlite.specs.Held.{state};
 ghost use Rattle.records.specs.Kind.{kind_number};
-ghost use Rattle.records_sql.specs.Texts.{get_text, put_text, remove_text, under_text, owner_text, due_text};
+ghost use Rattle.records_sql.specs.Texts.{get_text, put_text, remove_text, under_text, owner_text, due_text, numbers_text};
 ghost use Rattle.records_sql.specs.Texts.{begin_text, commit_text, rollback_text};
 ghost use Rattle.records_sql.specs.Texts.{create_text, create_owner_text, create_due_text};
 ghost use Rattle.records_sql.specs.Texts.{key_params, put_params, under_params, due_params};
@@ -128,6 +128,21 @@ pub(crate) fn due_until<S: Alter>(
     conn.query_all(
         "SELECT kind, key, owner, due, body FROM broker_rows WHERE due >= 0 AND due <= ?1 ORDER BY due, kind, key",
         params![seconds],
+    )
+}
+
+/// Each row by its number, its kind and when it is due, in the order of the numbers.
+pub(crate) fn numbers<S: Alter>(conn: &mut Connection<S>) -> Result<Vec<SqlRow>, Error>
+    ensures ok { HasCleanDisk (state S.Store conn.new)
+        → IfOk result (λ rows. Shown numbers_text [] (state S.Store conn.old) (state S.Store conn.new) rows.items) }
+    ensures err { HasCleanDisk (state S.Store conn.new)
+        → IfErr result (FailsToQuery numbers_text [] (state S.Store conn.old) (state S.Store conn.new)) }
+    ensures survives { Survives (state S.Store conn.old) (state S.Store conn.new) (CommitsShowing numbers_text []
+        (state S.Store conn.old)) }
+{
+    conn.query_all(
+        "SELECT rowid, kind, due FROM broker_rows ORDER BY rowid",
+        &[],
     )
 }
 
