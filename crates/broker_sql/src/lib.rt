@@ -1,6 +1,7 @@
 //! A store of the broker's rows in a database.
 #![tactic(auto)]
 
+mod adopting;
 mod emptiness;
 mod laws;
 mod sql_store;

@@ -33,8 +33,8 @@ use std::alloc::Global;
 /// A store in a database, generic in the storage of the library `sqlite`.
 #[derive(Drop)]
 pub struct SqlStore<S: Alter> {
-    alloc: Global,
-    records: SqlRecords<S>,
+    pub(crate) alloc: Global,
+    pub(crate) records: SqlRecords<S>,
 }
 
 impl SqlStore<MemStore> {
@@ -51,6 +51,14 @@ impl SqlStore<MemStore> {
 }
 
 impl<S: Alter> SqlStore<S> {
+    /// Gives the records back.
+    pub fn into_records(self) -> SqlRecords<S>
+        ensures { result ≡ self.records }
+    {
+        let SqlStore { alloc: _, records } = self;
+        records
+    }
+
     /// Makes the first broker at a moment, with the root token (Vault's documentation, "Tokens") of word
     /// 1 and the accessor of word 2, and answers the root token. It fails with `BadStart` if the two words are equal or
     /// the store has rows, with `Memory` if memory runs out, and with `Storage` if the storage failed. After a fault the

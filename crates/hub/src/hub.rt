@@ -42,6 +42,18 @@ impl<S: Store> Hub<S> {
         }
     }
 
+    /// Gives the store back, and drops the bytes that wait on connections. It takes no memory.
+    pub fn into_store(self) -> S
+        ensures { S.seen result ≡ hub_store S.seen self }
+    {
+        let Hub {
+            alloc: _,
+            store,
+            connections: _,
+        } = self;
+        store
+    }
+
     /// The number of a connection that was not seen: 0 if none was, else one above the greatest number that
     /// was; none if 18,446,744,073,709,551,615 was seen. It opens nothing and takes no memory.
     pub fn open_conn(&self) -> Option<u64>

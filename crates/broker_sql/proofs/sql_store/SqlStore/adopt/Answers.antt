@@ -1,0 +1,19 @@
+use Rattle.std.proofs.Common.{◌≡◌, Ok, Err, Result, sym, ap, ◌∙◌}
+use Rattle.std.proofs.lemmas.Result.{err_from_is_err_and}
+use Rattle.broker_types.specs.declared.fault.Fault.{Fault}
+use Rattle.broker_types.specs.declared.fault.Fault.TheVariants.{BadStart}
+use Rattle.broker_sql.proofs.sql_store.SqlStore.adopt.Goals as goal
+
+abbrev fault_of : {A : Type 0} → Fault → Result A Fault → Fault
+fault_of fault (Ok x) = fault
+fault_of fault (Err e) = e
+
+pub returns-in_err-is_started-clause-bad_start : goal.returns-in_err-is_started-clause-bad_start
+returns-in_err-is_started-clause-bad_start g c is =
+    let left = err_from_is_err_and c.from_residual.result c.from_residual.ensures.1 in
+    let same : c.in_err-is_started.field-0.0 ≡ BadStart = sym left.2 ∙ ap (fault_of BadStart) (sym left.1 ∙ is) in
+    record {
+      last = c.is_started.new.self.records;
+      mismatches = c.in_err-is_started.ensures.mismatches;
+      told = λ honest. (c.in_err-is_started.ensures.told honest).bad_start (ap Err same);
+    }

@@ -1,0 +1,26 @@
+-- Whether a store was started, by its rows (this project's definition).
+use Rattle.std.specs.Prelude.{◌≡◌, ◌≢◌, ◌≤◌, Bool, false, Result, Err, IsTrue, IfOk}
+use Rattle.std.specs.FinMap as map
+use Rattle.sqlite_trees.specs.declared.store.Store as store
+use Rattle.broker_types.specs.declared.fault.Fault.{Fault}
+use Rattle.broker_types.specs.declared.fault.Fault.TheVariants.{BadStart}
+use Rattle.records.specs.Transaction.{Rows}
+use Rattle.records_sql.specs.declared.sql_records.SqlRecords.{SqlRecords}
+use Rattle.broker_rows.specs.ClockRow.{HasNoClock}
+use Rattle.broker.specs.Kept.{IsHonestStore}
+use Rattle.broker_sql.specs.SqlKept.{kept_records}
+
+-- What is told of the rows: it was started, if there is the row of the clock, which each broker keeps, and not if there is
+-- no row at all.
+pub record TellsStart (rows : Rows) (result : Result Bool Fault) : Type 0 where
+  pub started : IfOk result (λ started. IsTrue started → ¬ HasNoClock rows)
+  pub empty : IfOk result (λ started. started ≡ false → rows ≡ map.empty)
+  pub bad_start : result ≡ Err BadStart → HasNoClock rows × (rows ≢ map.empty)
+
+-- There are rows, and none of the clock. The records have shown it before they were let go: it holds, if the storage has
+-- returned what was written as they were then.
+pub record LacksClock {S : Type 0} (g : store.Ghosts S) (records : SqlRecords S g) : Type 0 where
+  pub last : SqlRecords S g
+  pub mismatches : (kept_records g records).mismatches ≤ (kept_records g last).mismatches
+  pub told : IsHonestStore (kept_records g last)
+      → HasNoClock (kept_records g records).rows × ((kept_records g records).rows ≢ map.empty)
