@@ -31,6 +31,8 @@ impl<S: Alter> SqlStore<S> {
             → TellsStart (sql_kept S.Store self.old).rows result }
         ensures same { IsHonestStore (sql_kept S.Store self.new) → IsTrue (sql_kept S.Store self.new).is_open
             → (sql_kept S.Store self.new).rows ≡ (sql_kept S.Store self.old).rows }
+        ensures stands { IsHonestStore (sql_kept S.Store self.new)
+            → OnOk result (IsTrue (sql_kept S.Store self.new).is_open) }
         ensures faults { IfErr result (λ fault. IsMemoryOrStorage fault ⊎ (fault ≡ Fault.BadStart)) }
         ensures mismatches { (sql_kept S.Store self.old).mismatches ≤ (sql_kept S.Store self.new).mismatches }
         ensures closes { IsTrue (sql_kept S.Store self.new).is_open → IsTrue (sql_kept S.Store self.old).is_open }
@@ -73,12 +75,11 @@ impl<S: Alter + Drop> SqlStore<S> {
     /// `Memory` if memory runs out, and with `Storage` if the storage failed. The records are gone then.
     pub fn adopt(alloc: Global, records: SqlRecords<S>) -> Result<SqlStore<S>, Fault>
         ensures rows { IfOk result (λ store. IsHonestStore (sql_kept S.Store store)
-            → IsTrue (sql_kept S.Store store).is_open
             → (sql_kept S.Store store).rows ≡ (kept_records S.Store records).rows) }
         ensures started { IfOk result (λ store. IsHonestStore (sql_kept S.Store store)
             → HasNoClock (kept_records S.Store records).rows → (kept_records S.Store records).rows ≡ map.empty) }
-        ensures stays_open { IfOk result (λ store. IsHonestStore (sql_kept S.Store store)
-            → (sql_kept S.Store store).is_open ≡ (kept_records S.Store records).is_open) }
+        ensures stands { IfOk result (λ store. IsHonestStore (sql_kept S.Store store)
+            → IsTrue (sql_kept S.Store store).is_open) }
         ensures mismatches { IfOk result (λ store.
             (kept_records S.Store records).mismatches ≤ (sql_kept S.Store store).mismatches) }
         ensures bad_start { result ≡ Err Fault.BadStart → LacksClock S.Store records }

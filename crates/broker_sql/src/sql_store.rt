@@ -20,7 +20,7 @@ ghost use Rattle.broker_rows.specs.Representing.{Represents, Gives};
 ghost use Rattle.broker.specs.Answering.{IsAnsweredBy};
 ghost use Rattle.broker.specs.Kept.{IsHonestStore, IsReady};
 ghost use Rattle.broker_sql.specs.Atomic.{IsAtomic};
-ghost use Rattle.broker_sql.specs.SqlKept.{sql_kept};
+ghost use Rattle.broker_sql.specs.SqlKept.{kept_records, sql_kept};
 
 use crate::emptiness::is_empty;
 use broker::{Store, handle};
@@ -51,9 +51,16 @@ impl SqlStore<MemStore> {
 }
 
 impl<S: Alter> SqlStore<S> {
+    /// A store over records, whatever rows they have; `adopt` asks whether they are those of a broker.
+    pub fn new(alloc: Global, records: SqlRecords<S>) -> SqlStore<S>
+        ensures { sql_kept S.Store result ≡ kept_records S.Store records }
+    {
+        SqlStore { alloc, records }
+    }
+
     /// Gives the records back.
     pub fn into_records(self) -> SqlRecords<S>
-        ensures { result ≡ self.records }
+        ensures { kept_records S.Store result ≡ sql_kept S.Store self }
     {
         let SqlStore { alloc: _, records } = self;
         records

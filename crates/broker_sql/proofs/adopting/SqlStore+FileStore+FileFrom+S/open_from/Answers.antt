@@ -1,18 +1,15 @@
 use Rattle.sqlite.specs.Files.{over_files}
 use Rattle.broker_sql.specs.SqlKept.{kept_records, sql_kept}
-use Rattle.broker_sql.proofs.AdoptLemmas.{if_three, if_four, found_open, empty_open}
+use Rattle.broker_sql.proofs.AdoptLemmas.{if_two, if_three, found_open, still_empty}
 use Rattle.broker_sql.proofs.adopting.SqlStore+FileStore+FileFrom+S.open_from.Goals as goal
 
 pub returns-clause-found : goal.returns-clause-found
 returns-clause-found g c =
     let records = kept_records over_files c.in_ok-records.records in
-    if_three c.adopt.result (λ store same stays less.
-        found_open _ records (sql_kept over_files store) c.in_ok-records.ensures.found c.in_ok-records.ensures.usable same stays less)
-    c.adopt.ensures.rows c.adopt.ensures.stays_open c.adopt.ensures.mismatches
+    if_three c.adopt.result (λ store same stands less. found_open _ records (sql_kept over_files store) c.in_ok-records.ensures.found same stands less)
+    c.adopt.ensures.rows c.adopt.ensures.stands c.adopt.ensures.mismatches
 
 pub returns-clause-started : goal.returns-clause-started
 returns-clause-started g c =
     let records = kept_records over_files c.in_ok-records.records in
-    if_four c.adopt.result (λ store same stays less started.
-        empty_open records (sql_kept over_files store) c.in_ok-records.ensures.usable same stays less started)
-    c.adopt.ensures.rows c.adopt.ensures.stays_open c.adopt.ensures.mismatches c.adopt.ensures.started
+    if_two c.adopt.result (λ store same started. still_empty records (sql_kept over_files store) same started) c.adopt.ensures.rows c.adopt.ensures.started
