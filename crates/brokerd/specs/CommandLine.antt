@@ -1,5 +1,5 @@
 -- The command line of the program, as `clap` sees it (this project's).
-use Rattle.std.specs.Prelude.{◌≡◌, ◌≢◌, ◌⊎◌, ◌<◌, ◌^◌, codes, true, Option, Some, None, List, ℕ, ⊤, pos}
+use Rattle.std.specs.Prelude.{◌≡◌, ◌≢◌, ◌⊎◌, ◌<◌, ◌^◌, codes, true, option_map, Option, Some, None, List, ℕ, ⊤, pos}
 use Rattle.std.specs.Str.Parse.{IsNumeral, digits_value, without_leading_plus}
 use Rattle.clap.specs.Words.{App, Row, Rule, Text, first_of, new_app, new_rule, one_of, with_rule, with_subcommand}
 use Rattle.clap.specs.declared.builder.value_parser.ValueParser.TheVariants.{Signed}
@@ -10,6 +10,10 @@ use Rattle.brokerd.specs.declared.command.Command.TheVariants.{Replay, Serve}
 abbrev pub listen_rule : Rule
 listen_rule =
     record (new_rule (codes "listen")) { long = Some (codes "listen"); value_names = 1; required = true }
+
+-- `--db FILE`
+abbrev pub db_rule : Rule
+db_rule = record (new_rule (codes "db")) { long = Some (codes "db"); value_names = 1 }
 
 -- `--connections N`, from 1 to 4,294,967,295
 abbrev pub connections_rule : Rule
@@ -24,9 +28,9 @@ connections_rule =
 abbrev pub replay_app : App
 replay_app = new_app (codes "replay")
 
--- `brokerd serve --listen ADDR [--connections N]`
+-- `brokerd serve --listen ADDR [--db FILE] [--connections N]`
 abbrev pub serve_app : App
-serve_app = with_rule (with_rule (new_app (codes "serve")) listen_rule) connections_rule
+serve_app = with_rule (with_rule (with_rule (new_app (codes "serve")) listen_rule) db_rule) connections_rule
 
 -- `brokerd`, which requires a subcommand
 abbrev pub top_app : App
@@ -57,9 +61,10 @@ LacksValues rows =
 abbrev pub IsMeant : Text → List Row → Option Command → Type 0
 IsMeant name rows None = (name ≢ codes "replay") × (name ≡ codes "serve" → LacksValues rows)
 IsMeant name rows (Some Replay) = name ≡ codes "replay"
-IsMeant name rows (Some (Serve listen connections)) =
+IsMeant name rows (Some (Serve listen db connections)) =
     (name ≡ codes "serve")
     × (first_of (codes "listen") rows ≡ Some listen.now)
+    × (option_map (λ path. path.now) db ≡ first_of (codes "db") rows)
     × IsCount (one_of (codes "connections") rows) connections
 
 -- the command that the words of a line name, by the subcommand that they enter

@@ -1,6 +1,7 @@
 ghost use Rattle.std.specs.Prelude.{◌≡◌, IfOk, IfErr, codes, false, map, string_bytes, true};
 ghost use Rattle.clap.specs.Words.{app_of, found_of, kind_of, rows_of, rule_of, subcommand_of, takes};
-ghost use Rattle.brokerd.specs.CommandLine.{program_app, replay_app, serve_app, listen_rule, connections_rule};
+ghost use Rattle.brokerd.specs.CommandLine.{program_app, replay_app, serve_app, listen_rule};
+ghost use Rattle.brokerd.specs.CommandLine.{connections_rule, db_rule};
 ghost use Rattle.brokerd.specs.CommandLine.{IsMeant, IsCommandOf};
 
 use clap::error::{Error, ErrorKind};
@@ -15,8 +16,12 @@ const CONNECTIONS: u32 = 1_000;
 pub(crate) enum Command<'a> {
     /// Run the lines of standard input, and write the replies to standard output.
     Replay,
-    /// Serve so many connections to an address.
-    Serve { listen: &'a str, connections: u32 },
+    /// Serve so many connections to an address, from the broker of a file, or from one in memory.
+    Serve {
+        listen: &'a str,
+        db: Option<&'a str>,
+        connections: u32,
+    },
 }
 
 /// The command that the words name. The first is the name of the program. None if they name another
@@ -56,6 +61,7 @@ fn meant<'a>(name: &str, found: &ArgMatches<'a>) -> Option<Command<'a>>
     };
     Some(Command::Serve {
         listen,
+        db: found.get_str("db"),
         connections: given.unwrap_or(CONNECTIONS),
     })
 }
@@ -83,8 +89,9 @@ fn serve<'a>(alloc: Global) -> Result<clap::Command<'a>, AllocError>
     ensures { IfOk result (λ c. app_of c ≡ serve_app) }
 {
     clap::Command::new(alloc, "serve")
-        .about("Starts a broker in memory, prints its root token, and serves connections")
+        .about("Serves connections from a broker; a new one is started, and its root token printed")
         .arg(listen(alloc))?
+        .arg(db(alloc))?
         .arg(connections(alloc))
 }
 
@@ -97,6 +104,15 @@ fn listen<'a>(alloc: Global) -> Arg<'a>
         .value_name("ADDR")
         .help("The address to listen on, such as 127.0.0.1:8200")
         .required(true)
+}
+
+fn db<'a>(alloc: Global) -> Arg<'a>
+    ensures rule { rule_of result ≡ db_rule }
+    ensures local { result.global ≡ false }
+{
+    Arg::new(alloc, "db").long("db").value_name("FILE").help(
+        "The database that keeps the broker, made if it is not there; without it the broker is in memory",
+    )
 }
 
 fn connections<'a>(alloc: Global) -> Arg<'a>

@@ -14,7 +14,7 @@ use clap::error::{Error, ErrorKind};
 use command::{Command, command_of};
 use endpoints::{Reading, Writing};
 use replay::{Exit, replay};
-use server::serve_in_memory;
+use server::{serve_file, serve_in_memory};
 use std::io::{Eprint, Print};
 use std::process::ExitCode;
 use std::{env, io};
@@ -36,18 +36,28 @@ fn main(rt: HostRuntime) -> anyhow::Result<ExitCode> {
             Some(
                 Command::Serve {
                     listen,
+                    db,
                     connections,
                 },
             ),
         ) => {
-            let exit = match serve_in_memory(&rt, listen, connections) {
-                Ok(()) => Exit::Done,
-                Err(fault) => Exit::Faulted(fault.number()),
-            };
+            let exit = serve(&rt, listen, db, connections);
             tell(&rt, exit)
         }
         Ok(None) => Ok(ExitCode::from(2)),
         Err(error) => refuse(&rt, &error),
+    }
+}
+
+/// Serves connections from the broker of a file, or else from one in memory.
+fn serve(rt: &HostRuntime, listen: &str, db: Option<&str>, connections: u32) -> Exit {
+    let served = match db {
+        Some(path) => serve_file(rt, path, listen, connections),
+        None => serve_in_memory(rt, listen, connections),
+    };
+    match served {
+        Ok(()) => Exit::Done,
+        Err(fault) => Exit::Faulted(fault.number()),
     }
 }
 

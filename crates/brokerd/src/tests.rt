@@ -21,16 +21,18 @@ fn command_lines(rt: HostRuntime) -> Result<(), Fail> {
     let line = words(alloc, "brokerd replay")?;
     assert_eq!(rt; command_of(alloc, line.as_slice())?, Some(Command::Replay));
     let listen = "a:1";
-    for (line, connections) in [
-        ("brokerd serve --listen a:1", 1_000),
+    for (line, db, connections) in [
+        ("brokerd serve --listen a:1", None, 1_000),
         (
-            "brokerd serve --connections 4294967295 --listen a:1",
+            "brokerd serve --connections 4294967295 --listen a:1 --db b",
+            Some("b"),
             4_294_967_295,
         ),
     ] {
         let line = words(alloc, line)?;
         let meant = Command::Serve {
             listen,
+            db,
             connections,
         };
         assert_eq!(rt; command_of(alloc, line.as_slice())?, Some(meant));

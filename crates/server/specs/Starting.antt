@@ -1,15 +1,23 @@
--- Which faults serving a broker in memory ends with (this project's definition).
+-- Which faults serving a new broker ends with (this project's definition).
 use Rattle.std.specs.Prelude.{⊤}
+use Rattle.sqlite_trees.specs.declared.store.Store as store
 use Rattle.broker_types.specs.declared.fault.Fault.TheVariants.{Memory, Storage, Damaged, BadStart}
+use Rattle.broker.specs.Kept.{IsHonestStore}
+use Rattle.broker_sql.specs.SqlKept.{sql_kept}
+use Rattle.broker_sql.specs.declared.sql_store.SqlStore.{SqlStore}
 use Rattle.hub.specs.declared.serve.ConnectionFault.{ConnectionFault}
 use Rattle.hub.specs.declared.serve.ConnectionFault.TheVariants.{Broker, Read, Write}
 
--- A fault of the start: memory ran out, two words are equal, or something could not be read or written (1, 4, 5, 6).
--- Memory neither fails as a storage nor has damaged rows (2, 3).
-abbrev pub IsFaultOfStart : ConnectionFault → Type 0
-IsFaultOfStart (Broker Memory) = ⊤
-IsFaultOfStart (Broker Storage) = ⊥
-IsFaultOfStart (Broker Damaged) = ⊥
-IsFaultOfStart (Broker BadStart) = ⊤
-IsFaultOfStart Read = ⊤
-IsFaultOfStart Write = ⊤
+-- Memory ran out, the storage failed, two words are equal, or something could not be read or written (1, 2, 4, 5, 6). A
+-- new broker has no damaged row (3).
+abbrev pub IsFaultOfNew : ConnectionFault → Type 0
+IsFaultOfNew (Broker Memory) = ⊤
+IsFaultOfNew (Broker Storage) = ⊤
+IsFaultOfNew (Broker Damaged) = ⊥
+IsFaultOfNew (Broker BadStart) = ⊤
+IsFaultOfNew Read = ⊤
+IsFaultOfNew Write = ⊤
+
+-- a storage that never returns other than what was written, as memory
+abbrev pub ReturnsWhatWasWritten : {S : Type 0} → store.Ghosts S → Type 0
+ReturnsWhatWasWritten {S} g = (s : SqlStore S g) → IsHonestStore (sql_kept g s)

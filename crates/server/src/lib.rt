@@ -4,14 +4,16 @@
 
 mod drawn;
 mod peer;
+mod preparing;
 mod serving;
 mod starting;
 mod system_clock;
 mod waiting;
 
 pub use drawn::{DrawnWords, seeded};
+pub use preparing::prepare;
 pub use serving::serve;
-pub use starting::serve_in_memory;
+pub use starting::{serve_file, serve_in_memory};
 pub use system_clock::SystemClock;
 
 #[cfg(test)]

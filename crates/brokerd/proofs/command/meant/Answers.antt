@@ -48,5 +48,6 @@ returns c =
     let given = counted Reads (one_text f (codes "connections")) c.in-Ok.given (λ t v g. (g.0.0, g.0.1)) c.in-Ok.ensures.none c.in-Ok.ensures.value in (
       search rules,
       sym (c.get_str.ensures ∙ first_value-rows f (codes "listen")) ∙ ap (λ (o : Option (Bor (List ℕ))). option_map (λ s. s.now) o) c.in-Some.is,
+      c.get_str-2.ensures ∙ first_value-rows f (codes "db"),
       rw (c.unwrap_or.ensures, ← one_text-rows f (codes "connections")) given,
     )

@@ -8,4 +8,5 @@ pub returns : goal.returns
 returns c =
     let told : app_of c.about.result ≡ new_app _ = ap app_of_fields c.about.ensures ∙ c.new.ensures.app in
     let one = c.in_ok-arg.ensures.shape c.listen.ensures.local ∙ ap₂ with_rule told c.listen.ensures.rule in
-    IfOk-weaker c.arg-2.result _ _ (λ d h. h.shape c.connections.ensures.local ∙ ap₂ with_rule one c.connections.ensures.rule) c.arg-2.ensures
+    let two = c.in_ok-arg-2.ensures.shape c.db.ensures.local ∙ ap₂ with_rule one c.db.ensures.rule in
+    IfOk-weaker c.arg-3.result _ _ (λ d h. h.shape c.connections.ensures.local ∙ ap₂ with_rule two c.connections.ensures.rule) c.arg-3.ensures

@@ -1,0 +1,28 @@
+-- What a store is made ready as (this project's definition).
+use Rattle.std.specs.Prelude.{◌≡◌, ◌≢◌, ℕ, Option, Some, None, slice_index}
+use Rattle.std.specs.FinMap as map
+use Rattle.broker_types.specs.First.{first_broker}
+use Rattle.broker_types.specs.Identifier.{id}
+use Rattle.broker_types.specs.Text.{Text}
+use Rattle.broker_types.specs.TokenText.{token_text}
+use Rattle.broker_types.specs.declared.words.Words.{Words}
+use Rattle.records.specs.Transaction.{Rows}
+use Rattle.broker_rows.specs.ClockRow.{HasNoClock}
+use Rattle.broker_rows.specs.Representing.{Represents}
+
+-- a broker that was there before, with the row of the clock, as it was
+pub record IsOpened (before after : Rows) : Type 0 where
+  pub started : ¬ HasNoClock before
+  pub same : after ≡ before
+
+-- the first broker, where there was no row, with the root token of word 1
+pub record IsStarted (moment : ℕ) (words : Words) (before after : Rows) (token : Text) : Type 0 where
+  pub empty : before ≡ map.empty
+  pub differ : slice_index words.0 1 ≢ slice_index words.0 2
+  pub broker : Represents None after (first_broker moment (slice_index words.0 1) (slice_index words.0 2))
+  pub root : token ≡ token_text (id (slice_index words.0 1))
+
+-- no token is told of a broker that was there before
+abbrev pub IsPrepared : ℕ → Words → Rows → Rows → Option Text → Type 0
+IsPrepared moment words before after None = IsOpened before after
+IsPrepared moment words before after (Some token) = IsStarted moment words before after token

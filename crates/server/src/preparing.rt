@@ -1,0 +1,42 @@
+//! A broker made ready: the one that a database keeps, or a new one.
+
+ghost use Rattle.std.specs.Prelude.{◌≡◌, ◌⊎◌, ◌≤◌, IsTrue, IfOk, IfErr, Err, slice_index};
+ghost use Rattle.broker_types.specs.Fault.{IsMemoryOrStorage};
+ghost use Rattle.broker.specs.Kept.{IsHonestStore};
+ghost use Rattle.broker_sql.specs.Beginning.{LacksClock};
+ghost use Rattle.broker_sql.specs.SqlKept.{kept_records, sql_kept};
+ghost use Rattle.server.specs.Prepared.{IsPrepared};
+
+use broker_sql::SqlStore;
+use broker_types::{Fault, Moment, TokenText, Words};
+use records_sql::SqlRecords;
+use sqlite::Alter;
+use std::alloc::Global;
+
+/// A store over records: if they have no row it is started at the moment, and its root token is answered with it; if they
+/// have the row of the clock they are those of a broker that was started, and no token is answered. It fails with
+/// `BadStart` if there are rows and none of the clock, or if there is no row and words 1 and 2 are equal; with `Memory` if
+/// memory runs out, and with `Storage` if the storage failed. The records are gone then, and the rows are as before.
+pub fn prepare<S: Alter + Drop>(
+    alloc: Global,
+    records: SqlRecords<S>,
+    moment: Moment,
+    words: &Words,
+) -> Result<(SqlStore<S>, Option<TokenText>), Fault>
+    ensures prepared { IfOk result (λ made. IsHonestStore (sql_kept S.Store made.0)
+        → IsPrepared moment words.now (kept_records S.Store records).rows (sql_kept S.Store made.0).rows made.1) }
+    ensures stands { IfOk result (λ made. IsHonestStore (sql_kept S.Store made.0)
+        → IsTrue (sql_kept S.Store made.0).is_open) }
+    ensures mismatches { IfOk result (λ made.
+        (kept_records S.Store records).mismatches ≤ (sql_kept S.Store made.0).mismatches) }
+    ensures bad_start { result ≡ Err Fault.BadStart
+        → LacksClock S.Store records ⊎ (slice_index words.now.0 1 ≡ slice_index words.now.0 2) }
+    ensures faults { IfErr result (λ fault. IsMemoryOrStorage fault ⊎ (fault ≡ Fault.BadStart)) }
+{
+    let mut store = SqlStore::new(alloc, records);
+    if store.is_started()? {
+        return Ok((store, None));
+    }
+    let root = store.start(moment, words)?;
+    Ok((store, Some(root)))
+}
