@@ -41,8 +41,8 @@ returns-in_err-root-clause-bad_start g c is =
         last = c.start.new.self.records;
         mismatches = omega (arith, first, second);
         told = λ honest. absurd (refused (kept_records g.S.Store c.args.records) mid last _ _ first second
-        (λ h. sym rows ∙ (c.in_ok-is_started.ensures.told h).empty c.if-branch.false)
-        (λ h. c.in_ok-is_started.ensures.same h (c.in_ok-is_started.ensures.stands h) ∙ rows)
-        (λ h. c.in_err-root.ensures.bad_start h (ap Err same)) differ.1 honest);
+            (λ h. sym rows ∙ (c.in_ok-is_started.ensures.told h).empty c.if-branch.false)
+            (λ h. c.in_ok-is_started.ensures.same h (c.in_ok-is_started.ensures.stands h) ∙ rows)
+            (λ h. c.in_err-root.ensures.bad_start h (ap Err same)) differ.1 honest);
       })
     ]
