@@ -10,15 +10,15 @@ use Rattle.broker_rows.specs.ClockRow.{HasNoClock}
 use Rattle.broker.specs.Kept.{IsHonestStore}
 use Rattle.broker_sql.specs.SqlKept.{kept_records}
 
--- What is told of the rows: it was started, if there is the row of the clock, which each broker keeps, and not if there is
--- no row at all.
+-- What is told of the rows: it was started, if there is the row of the clock, which each broker keeps, and not if there
+-- is no row at all.
 pub record TellsStart (rows : Rows) (result : Result Bool Fault) : Type 0 where
   pub started : IfOk result (λ started. IsTrue started → ¬ HasNoClock rows)
   pub empty : IfOk result (λ started. started ≡ false → rows ≡ map.empty)
   pub bad_start : result ≡ Err BadStart → HasNoClock rows × (rows ≢ map.empty)
 
--- There are rows, and none of the clock. The records have shown it before they were let go: it holds, if the storage has
--- returned what was written as they were then.
+-- There are rows, and none of the clock. The records have shown it before they were let go: it holds, if the storage
+-- has returned what was written as they were then.
 pub record LacksClock {S : Type 0} (g : store.Ghosts S) (records : SqlRecords S g) : Type 0 where
   pub last : SqlRecords S g
   pub mismatches : (kept_records g records).mismatches ≤ (kept_records g last).mismatches

@@ -23,8 +23,8 @@ use std::alloc::Global;
 use std::rt::HostRuntime;
 
 impl<S: Alter> SqlStore<S> {
-    /// Whether the store was started: it has the row of the clock, or no row at all. It fails with `BadStart` exactly if
-    /// there are rows and no row of the clock, with `Memory` if memory runs out, and with `Storage` if the storage
+    /// Whether the store was started: it has the row of the clock, or no row at all. It fails with `BadStart` exactly
+    /// if there are rows and no row of the clock, with `Memory` if memory runs out, and with `Storage` if the storage
     /// failed. The rows are as before.
     pub fn is_started(&mut self) -> Result<bool, Fault>
         ensures told { IsHonestStore (sql_kept S.Store self.new)
@@ -71,8 +71,8 @@ impl<S: Alter> SqlStore<S> {
 
 impl<S: Alter + Drop> SqlStore<S> {
     /// The store of rows that were there before. If there are none, `start` makes the first broker; else the rows are
-    /// that of a broker that was started. It fails with `BadStart` exactly if there are rows and no row of the clock, with
-    /// `Memory` if memory runs out, and with `Storage` if the storage failed. The records are gone then.
+    /// that of a broker that was started. It fails with `BadStart` exactly if there are rows and no row of the clock,
+    /// with `Memory` if memory runs out, and with `Storage` if the storage failed. The records are gone then.
     pub fn adopt(alloc: Global, records: SqlRecords<S>) -> Result<SqlStore<S>, Fault>
         ensures rows { IfOk result (λ store. IsHonestStore (sql_kept S.Store store)
             → (sql_kept S.Store store).rows ≡ (kept_records S.Store records).rows) }

@@ -11,8 +11,8 @@ use crate::sql_store::SqlStore;
 use broker::Store;
 use sqlite::MemStore;
 
-/// A law: whatever was asked of a store in a database in memory, it shows the rows that were committed, and has returned
-/// what was written.
+/// A law: whatever was asked of a store in a database in memory, it shows the rows that were committed, and has
+/// returned what was written.
 pub fn memory_returns_what_was_written()
     ensures shows { (s : Kept Memory over_memory) → ⟦<SqlStore<MemStore> as Store>⟧.seen s ≡ sql_kept over_memory s }
     ensures honest { (s : Kept Memory over_memory) → IsHonestStore (⟦<SqlStore<MemStore> as Store>⟧.seen s) }

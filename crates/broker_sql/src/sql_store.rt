@@ -66,11 +66,11 @@ impl<S: Alter> SqlStore<S> {
         records
     }
 
-    /// Makes the first broker at a moment, with the root token (Vault's documentation, "Tokens") of word
-    /// 1 and the accessor of word 2, and answers the root token. It fails with `BadStart` if the two words are equal or
-    /// the store has rows, with `Memory` if memory runs out, and with `Storage` if the storage failed. After a fault the
-    /// rows are as before, as long as the storage returned what was written and can still be asked; it can, unless the
-    /// fault is `Storage`.
+    /// Makes the first broker at a moment, with the root token (Vault's documentation, "Tokens") of word 1 and the
+    /// accessor of word 2, and answers the root token. It fails with `BadStart` if the two words are equal or the store
+    /// has rows, with `Memory` if memory runs out, and with `Storage` if the storage failed. After a fault the rows are
+    /// as before, as long as the storage returned what was written and can still be asked; it can, unless the fault is
+    /// `Storage`.
     pub fn start(&mut self, moment: Moment, words: &Words) -> Result<TokenText, Fault>
         ensures told { IsHonestStore (sql_kept S.Store self.new)
             → OnOk result (Represents None (sql_kept S.Store self.new).rows

@@ -1,7 +1,8 @@
 //! Rows as the statements show them. What could not be read is a failure of the storage, since the table holds only
 //! what this crate writes.
 
-ghost use Rattle.std.specs.Prelude.{◌≡◌, ◌<◌, pos, None, IsTrue, IfOk, IfErr, OnOk, slice_get, option_map, filter, map, nat_eq};
+ghost use Rattle.std.specs.Prelude.{◌≡◌, ◌<◌, pos, None, IsTrue, IfOk, IfErr, OnOk};
+ghost use Rattle.std.specs.Prelude.{slice_get, option_map, filter, map, nat_eq};
 ghost use Rattle.sqlite.specs.declared.types.Value.TheVariants.{Int};
 ghost use Rattle.records.specs.Kind.{kind_number};
 ghost use Rattle.std.specs.List.{starts_with};
@@ -10,7 +11,8 @@ ghost use Rattle.records.specs.KeyLaws.{kind_of};
 ghost use Rattle.sqlite_value.specs.Order.{column, bytes};
 ghost use Rattle.records_sql.specs.Bounds.{IsAbove};
 ghost use Rattle.records_sql.specs.Numbered.{AreNumbered, IsOver};
-ghost use Rattle.records_sql.specs.Table.{read_row, row_from, entry_in, whole_entry, due_in, due_value, int_in, size_of};
+ghost use Rattle.records_sql.specs.Table.{read_row, row_from, entry_in, whole_entry};
+ghost use Rattle.records_sql.specs.Table.{due_in, due_value, int_in, size_of};
 
 use broker_types::{Bytes, Fault, TextBuf};
 use records::{Due, Entry, Kind, Row};

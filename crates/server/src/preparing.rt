@@ -13,10 +13,10 @@ use records_sql::SqlRecords;
 use sqlite::Alter;
 use std::alloc::Global;
 
-/// A store over records: if they have no row it is started at the moment, and its root token is answered with it; if they
-/// have the row of the clock they are those of a broker that was started, and no token is answered. It fails with
-/// `BadStart` if there are rows and none of the clock, or if there is no row and words 1 and 2 are equal; with `Memory` if
-/// memory runs out, and with `Storage` if the storage failed. The records are gone then, and the rows are as before.
+/// A store over records: if they have no row it is started at the moment, and its root token is answered with it; if
+/// they have the row of the clock they are those of a broker that was started, and no token is answered. It fails with
+/// `BadStart` if there are rows and none of the clock, or if there is no row and words 1 and 2 are equal; with `Memory`
+/// if memory runs out, and with `Storage` if the storage failed. The records are gone then, and the rows are as before.
 pub fn prepare<S: Alter + Drop>(
     alloc: Global,
     records: SqlRecords<S>,

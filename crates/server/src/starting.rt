@@ -40,11 +40,11 @@ where
     serve_records(rt, records, address, connections)
 }
 
-/// Serves the broker that a file keeps, with its log beside it, or starts one in a file that is new, and prints its root
-/// token on standard output: so many connections to the address, one after another. A file that is not there is made,
-/// for its owner alone. It fails as `serve_in_memory` does; and with `Storage` if the file cannot be opened, or has
-/// another table than that of a broker, with `BadStart` if it has rows and none of the clock, and with `Damaged` if a row
-/// cannot be read.
+/// Serves the broker that a file keeps, with its log beside it, or starts one in a file that is new, and prints its
+/// root token on standard output: so many connections to the address, one after another. A file that is not there is
+/// made, for its owner alone. It fails as `serve_in_memory` does; and with `Storage` if the file cannot be opened, or
+/// has another table than that of a broker, with `BadStart` if it has rows and none of the clock, and with `Damaged` if
+/// a row cannot be read.
 pub fn serve_file(
     rt: &HostRuntime,
     path: &str,
