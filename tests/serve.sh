@@ -1,7 +1,7 @@
 #!/bin/bash
 # Starts `brokerd serve` and asks it as its users do: by curl, by `client` if it is there, by Python's hvac if that is
-# installed, and on one connection 10,000 times; then by peers that are idle or slow, and by wrong command lines. It
-# takes some 30 seconds. The last line is 'N passed, M failed'; the status is 0 if nothing failed.
+# installed, and on one connection 10,000 times; then by peers that are idle or slow, by wrong command lines, and over a
+# file that is opened again. It takes some 30 seconds. The last line is 'N passed, M failed'; the status is 0 if nothing failed.
 set -u
 cd "$(dirname "$0")/.."
 
@@ -31,12 +31,13 @@ free_port() { python3 -c 'import sys; sys.path.insert(0, "tests/clients"); impor
 
 is_listened_on() { (exec 3<> "/dev/tcp/127.0.0.1/$port") 2> /dev/null; }
 
-# Starts the program on a free port, for so many connections beside the one that finds out whether it listens.
+# Starts the program on a free port, for so many connections beside the one that finds out whether it listens, and with
+# more arguments: start CONNECTIONS [ARGUMENT..]
 start() {
     local attempt turn
     for attempt in 1 2 3 4 5; do
         port=$(free_port)
-        "$program" serve --listen "127.0.0.1:$port" --connections "$1" > "$found/served" 2> "$found/served.err" &
+        "$program" serve --listen "127.0.0.1:$port" --connections "$@" > "$found/served" 2> "$found/served.err" &
         pid=$!
         for turn in $(seq 100); do
             is_listened_on && return
@@ -135,6 +136,29 @@ ask_by_client() {
     if [ $? -eq 1 ] && grep -qF '"errors"' "$found/body"; then pass; else fail "client" "read of an absent secret"; fi
 }
 
+# A broker in a file: stopped by SIGKILL and started again it is the one that it was, and prints no token.
+keep_in_a_file() {
+    local file=$found/broker.db
+    start 4294967295 --db "$file"
+    token=$(sed -n 's/^root token: //p' "$found/served")
+    ask "write to a file" 200 '"version":1' -d '{"data":{"user":"app"}}' "http://127.0.0.1:$port/v1/secret/data/app"
+    run "a file that is open" 1 'fault 2' serve --listen 127.0.0.1:0 --db "$file"
+    if [ "$(stat -c %a "$file" "$file-wal" | sort -u)" = 600 ]; then pass; else fail "a file" "others may read it"; fi
+    kill -9 "$pid"
+    stop
+    start 4294967295 --db "$file"
+    if [ ! -s "$found/served" ]; then pass; else fail "a restart" "it prints $(head -c 200 "$found/served")"; fi
+    ask "read after a restart" 200 '"data":{"user":"app"}' "http://127.0.0.1:$port/v1/secret/data/app"
+    stop
+    python3 -c "
+import sqlite3
+with sqlite3.connect('$file') as database:
+    database.execute('DELETE FROM broker_rows WHERE kind = 1')"
+    run "a file without the clock" 1 'fault 4' serve --listen 127.0.0.1:0 --db "$file"
+    run "a file that is no database" 1 'fault 2' serve --listen 127.0.0.1:0 --db "$found/long"
+    run "a folder that is not there" 1 'fault 2' serve --listen 127.0.0.1:0 --db "$found/none/broker.db"
+}
+
 # The first use builds the program.
 if ! bin/brokerd --help > /dev/null; then
     fail "brokerd" "it cannot be built"
@@ -172,5 +196,6 @@ status=$?
 pid=
 if [ "$status" -eq 0 ] && [ ! -s "$found/served.err" ]; then pass; else fail "after three connections" "status $status"; fi
 
+keep_in_a_file
 count python3 tests/clients/slow_peers.py "$program"
 finish
