@@ -1,17 +1,18 @@
 #!/usr/bin/env python3
 """Measures requests a second to a running `brokerd serve` on one connection over the loopback.
 
-    python3 tests/load_serve.py PROGRAM KIND MANY REQUESTS [RUNS]
+    python3 tests/load_serve.py PROGRAM KIND MANY REQUESTS [RUNS] [--db]
 
 KIND is `read`, `write` (of secrets) or `look_up` (of the root token). The broker has MANY secrets of one version. Then
 REQUESTS requests are sent on one connection, each when the reply to the one before is there; `read` and `write` spread
-over all secrets, and each reply has to be 200. It is done RUNS times (3 if not given), each with a broker of its own.
+over all secrets, and each reply has to be 200. With --db the broker is in a file, in a folder of its own. It is done RUNS times (3 if not given), each with a broker of its own.
 It prints the median of the requests a second, and in brackets the least and the greatest.
 """
 
 import argparse
 import statistics
 import sys
+import tempfile
 import time
 from pathlib import Path
 
@@ -47,9 +48,10 @@ def ask_all(connection, texts):
     return time.monotonic() - begin
 
 
-def measured(program, kind, many, requests):
-    """The requests a second of one run."""
-    with Broker(program) as broker, connect(broker.port) as connection:
+def measured(program, kind, many, requests, folder):
+    """The requests a second of one run, in memory or in a file of the folder."""
+    arguments = ["--db", f"{folder}/broker.db"] if folder else []
+    with Broker(program, *arguments) as broker, connect(broker.port) as connection:
         ask_all(connection, [write(broker.token, number) for number in range(many)])
         texts = [KINDS[kind](broker.token, number * 7919 % many) for number in range(requests)]
         return requests / ask_all(connection, texts)
@@ -62,9 +64,13 @@ def main():
     parser.add_argument("many", type=int)
     parser.add_argument("requests", type=int)
     parser.add_argument("runs", type=int, nargs="?", default=3)
+    parser.add_argument("--db", action="store_true")
     arguments = parser.parse_args()
-    found = [measured(arguments.program, arguments.kind, arguments.many, arguments.requests)
-             for _ in range(arguments.runs)]
+    found = []
+    for _ in range(arguments.runs):
+        with tempfile.TemporaryDirectory() as folder:
+            found.append(measured(arguments.program, arguments.kind, arguments.many, arguments.requests,
+                                  folder if arguments.db else None))
     print(f"{arguments.kind} with {arguments.many} secrets, {arguments.runs} runs of {arguments.requests} requests: "
           f"{statistics.median(found):.0f} requests a second ({min(found):.0f} to {max(found):.0f})")
 

@@ -54,14 +54,16 @@ def reply(connection, rest=b""):
 class Broker:
     """A program that serves on a free port until the block ends."""
 
-    def __init__(self, program):
+    def __init__(self, program, *arguments):
         self.program = program
+        self.arguments = arguments
 
     def __enter__(self):
         for _ in range(5):
             self.port = free_port()
             self.process = subprocess.Popen(
-                [self.program, "serve", "--listen", f"127.0.0.1:{self.port}", "--connections", "4294967295"],
+                [self.program, "serve", "--listen", f"127.0.0.1:{self.port}", "--connections", "4294967295",
+                 *self.arguments],
                 stdout=subprocess.PIPE, stderr=subprocess.PIPE)
             words = self.process.stdout.readline().decode().split()
             if words[:2] != ["root", "token:"]:
