@@ -14,12 +14,15 @@ use replay::{Exit, Script};
 use std::alloc::Global;
 
 /// Stops a run of the lines of the source at each call on the log in turn, and then at each on the database file, and
-/// answers how many stops there were of each.
+/// answers how many stops there were of each. It fails with `Storage` if a run stops though each call is answered.
 pub(crate) fn run_stopped<R: Source>(alloc: Global, reader: &mut R) -> Result<(u64, u64), End> {
     let script = script_of(alloc, reader)?;
     if script.is_cut {
         let line = (script.events.len() as u64).saturating_add(2);
         return Err(End::Replayed(Exit::BadLine(line)));
+    }
+    if Run::until_stop(alloc, &script, Part::Log, u64::MAX)?.is_stopped {
+        return Err(End::from(Fault::Storage));
     }
     let states = all_states(alloc, &script)?;
     let log = stop_at_each(alloc, &script, states.as_slice(), Part::Log)?;
