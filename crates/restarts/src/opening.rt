@@ -7,8 +7,13 @@ use sqlite::{Connection, FileStore, Files, Options};
 use sqlite_disk::Disk;
 use std::alloc::Global;
 
-/// The random number that the log's salts begin with.
-const SEED: u64 = 1;
+/// Little memory, so that an open takes little time, and a short log, so that it is copied in the midst of a run.
+const OPTIONS: Options = Options {
+    cache_pages: 16,
+    spill_pages: 16,
+    checkpoint_frames: 16,
+    seed: 1,
+};
 
 /// The store of two files; files that are empty are given a table without rows. It fails with `Storage` if a file fails
 /// or has no such rows, with `BadStart` if the rows have no clock, and with `Memory` if memory runs out.
@@ -19,7 +24,7 @@ pub(crate) fn open<D: Disk + Drop>(
     if !files.may_be_used() {
         return Err(Fault::Storage);
     }
-    match Connection::open_files(alloc, files, Options::new(SEED)) {
+    match Connection::open_files(alloc, files, OPTIONS) {
         Ok(conn) => SqlStore::adopt(alloc, SqlRecords::adopt(alloc, conn)?),
         Err(_) => Err(Fault::Storage),
     }
