@@ -1,0 +1,126 @@
+//! The lines of a replay over files that are opened for each request, and closed after it.
+
+ghost use Rattle.std.specs.Prelude.{IfOk};
+ghost use Rattle.broker_types.specs.Answer.{HasRoom, response_of};
+ghost use Rattle.broker_model.specs.Listed.{IsListed};
+
+use crate::lent::Lent;
+use crate::opening::{close, open};
+use crate::reading::script_of;
+use broker::Store;
+use broker_types::{Answer, Ask, Fault, Moment, Words};
+use endpoints::{Sink, Source};
+use hub::Hub;
+use replay::{Exit, Script, run_script};
+use sqlite::Files;
+use sqlite_disk::{Disk, Memory};
+use std::alloc::Global;
+
+/// A store in two files in memory, which are open while a request is answered. Nothing is said of its rows: what it
+/// answers is for tests to compare.
+#[derive(Drop)]
+struct Reopened {
+    alloc: Global,
+    log: Memory,
+    database: Memory,
+    has_failed: bool,
+}
+
+impl Reopened {
+    /// A store in files that are empty.
+    fn new(alloc: Global) -> Reopened {
+        Reopened {
+            alloc,
+            log: Memory::new(alloc),
+            database: Memory::new(alloc),
+            has_failed: false,
+        }
+    }
+
+    /// Makes the first broker, as `SqlStore::start` does.
+    fn start(&mut self, moment: Moment, words: &Words) -> Result<(), Fault> {
+        start(
+            self.alloc,
+            lent(&mut self.log, &mut self.database),
+            moment,
+            words,
+        )
+    }
+}
+
+impl Store for Reopened {
+    ghost use Rattle.std.specs.FinMap as map;
+    ghost use Rattle.std.specs.Prelude.{false};
+
+    ghost seen = { λ r. record { rows = map.empty; mismatches = 1; has_failed = r.has_failed; is_open = false } };
+
+    fn one(&mut self, moment: Moment, words: &Words, ask: &Ask<'_>) -> Result<Answer, Fault> {
+        let files = lent(&mut self.log, &mut self.database);
+        let answered = answer(self.alloc, files, moment, words, ask);
+        self.has_failed = matches!(answered, Err(Fault::Storage));
+        answered
+    }
+
+    fn failed(&self) -> bool {
+        self.has_failed
+    }
+}
+
+/// The two files, which outlive what is done with them.
+fn lent<'m>(log: &'m mut Memory, database: &'m mut Memory) -> Files<Lent<'m, Memory>> {
+    Files {
+        log: Lent::new(log),
+        db: Lent::new(database),
+    }
+}
+
+/// Makes the first broker in files.
+fn start<D: Disk + Drop>(
+    alloc: Global,
+    files: Files<D>,
+    moment: Moment,
+    words: &Words,
+) -> Result<(), Fault> {
+    let mut store = open(alloc, files)?;
+    store.start(moment, words)?;
+    close(store)
+}
+
+/// Answers one request over files.
+fn answer<D: Disk + Drop>(
+    alloc: Global,
+    files: Files<D>,
+    moment: Moment,
+    words: &Words,
+    ask: &Ask<'_>,
+) -> Result<Answer, Fault>
+    ensures room { IfOk result HasRoom }
+    ensures listed { IfOk result (λ a. IsListed (response_of a)) }
+{
+    let mut store = open(alloc, files)?;
+    let answered = store.one(moment, words, ask)?;
+    close(store)?;
+    Ok(answered)
+}
+
+/// Runs the lines of the source over a broker in files, which are opened for each request and closed after it, and
+/// writes the bytes of their replies.
+pub(crate) fn replay_reopened<R: Source, W: Sink>(
+    alloc: Global,
+    reader: &mut R,
+    writer: &mut W,
+) -> Exit {
+    match script_of(alloc, reader) {
+        Ok(script) => run_reopened(alloc, &script, writer),
+        Err(exit) => exit,
+    }
+}
+
+/// Starts a broker in new files, and runs the script over it.
+fn run_reopened<W: Sink>(alloc: Global, script: &Script, writer: &mut W) -> Exit {
+    let mut store = Reopened::new(alloc);
+    if let Err(fault) = store.start(script.start.moment, &script.start.words) {
+        return Exit::from(fault);
+    }
+    run_script(alloc, &mut Hub::new(alloc, store), script, writer)
+}
