@@ -1,0 +1,33 @@
+use Rattle.std.proofs.Common.{rules, Err, is_some, ap, sym, ◌∙◌}
+use Rattle.std.proofs.lemmas.Result.{err_from_is_err_and}
+use Rattle.records.specs.ValueLaws.{none_of}
+use Rattle.records.specs.Table.{table}
+use Rattle.leases.proofs.LeaseFound.{verify_told, credential_readable}
+use Rattle.leases.proofs.looking.verify.Goals as goal
+
+pub returns-in_default-clause-told : goal.returns-in_default-clause-told
+returns-in_default-clause-told g c honest forms b represents =
+    sym (ap is_some (sym (c.in_ok-kept.ensures.found honest) ∙ none_of _ c.in_default.not-Some))
+    ∙ verify_told (table (g.T.RecordsTx.seen c.args.tx.now)) b represents c.args.credential.now
+
+pub returns-in_err-read_credential-clause-call : goal.returns-in_err-read_credential-clause-call
+returns-in_err-read_credential-clause-call g c =
+    let p = err_from_is_err_and c.from_residual-in_err-read_credential.result c.from_residual-in_err-read_credential.ensures.1 in
+    record {
+      same = search rules;
+      faults = rw (p.1 ∙ ap Err (p.2 ∙ c.in_err-read_credential.ensures.damaged)) (λ honest readable.
+          absurd (let e = c.in_err-read_credential.ensures.again (tt {0}) (tt {0})
+          (readable c.in-Some.kept (sym (c.in_ok-kept.ensures.found honest) ∙ c.in-Some.is)) in cc));
+      goes_on = search rules;
+    }
+
+pub returns-in_err-read_credential-clause-wants : goal.returns-in_err-read_credential-clause-wants
+returns-in_err-read_credential-clause-wants g c honest forms b represents =
+    absurd (let e = c.in_err-read_credential.ensures.again (tt {0}) (tt {0})
+    (credential_readable (table (g.T.RecordsTx.seen c.args.tx.now)) b represents c.args.credential.now
+    c.in-Some.kept (sym (c.in_ok-kept.ensures.found honest) ∙ c.in-Some.is)) in cc)
+
+pub returns-clause-told : goal.returns-clause-told
+returns-clause-told g c honest forms b represents =
+    sym (ap is_some (sym (c.in_ok-kept.ensures.found honest) ∙ c.in-Some.is))
+    ∙ verify_told (table (g.T.RecordsTx.seen c.args.tx.now)) b represents c.args.credential.now

@@ -1,0 +1,67 @@
+use Rattle.std.proofs.Common.{rules, Err, Some, ap, sym, ◌∙◌}
+use Rattle.std.proofs.lemmas.Result.{err_from_is_err_and}
+use Rattle.broker_types.specs.Map.{get}
+use Rattle.broker_types.specs.OptionLaws.{mapped, mapped_none}
+use Rattle.records.specs.declared.kind.Kind.TheVariants as kind
+use Rattle.records.specs.RangeLaws.{role_in_range}
+use Rattle.records.specs.RowForms.{role_row}
+use Rattle.records.specs.Table.{table}
+use Rattle.records.specs.ValueLaws.{none_of, ok_inj}
+use Rattle.leases.specs.Roles.{role_name}
+use Rattle.leases.proofs.RoleEdits.{role_told}
+use Rattle.leases.proofs.roles.role.Goals as goal
+
+pub returns-in_default-clause-told : goal.returns-in_default-clause-told
+returns-in_default-clause-told g c honest b sound told =
+    let t = table (g.T.RecordsTx.seen c.args.tx.now) in
+    let key = role_name c.args.mount.now c.args.name.now in
+    sym (mapped_none role_row (get b.roles key)
+    (sym (role_told t b told key) ∙ ap (t kind.Role) (sym (c.as_str.ensures.value ∙ c.in_ok-key.ensures))
+    ∙ sym (c.in_ok-kept.ensures.found honest) ∙ none_of _ c.in_default.not-Some))
+
+pub returns-in_err-read_role-clause-wants : goal.returns-in_err-read_role-clause-wants
+returns-in_err-read_role-clause-wants g c honest b sound told =
+    let t = table (g.T.RecordsTx.seen c.args.tx.now) in
+    let key = role_name c.args.mount.now c.args.name.now in
+    let r = mapped role_row (get b.roles key) c.in-Some.kept
+    (sym (role_told t b told key) ∙ ap (t kind.Role) (sym (c.as_str.ensures.value ∙ c.in_ok-key.ensures))
+    ∙ sym (c.in_ok-kept.ensures.found honest) ∙ c.in-Some.is) in
+    absurd (let e = c.in_err-read_role.ensures.again r.0 (role_in_range key r.0 (sound key r.0 r.1)) r.2 in cc)
+
+pub returns-in_err-read_role-clause-call : goal.returns-in_err-read_role-clause-call
+returns-in_err-read_role-clause-call g c =
+    let t = table (g.T.RecordsTx.seen c.args.tx.now) in
+    let p = err_from_is_err_and c.from_residual-in_err-read_role.result c.from_residual-in_err-read_role.ensures.1 in
+    record {
+      same = search rules;
+      faults = rw (p.1 ∙ ap Err (p.2 ∙ c.in_err-read_role.ensures.damaged)) (λ honest readable.
+          let r = mapped role_row readable.0 c.in-Some.kept
+          (sym readable.1.row ∙ ap (t kind.Role) (sym (c.as_str.ensures.value ∙ c.in_ok-key.ensures))
+          ∙ sym (c.in_ok-kept.ensures.found honest) ∙ c.in-Some.is) in
+          absurd (let e = c.in_err-read_role.ensures.again r.0 (readable.1.in_range r.0 r.1) r.2 in cc));
+      goes_on = search rules;
+    }
+
+pub returns-clause-told : goal.returns-clause-told
+returns-clause-told g c honest b sound told =
+    let t = table (g.T.RecordsTx.seen c.args.tx.now) in
+    let key = role_name c.args.mount.now c.args.name.now in
+    let r = mapped role_row (get b.roles key) c.in-Some.kept
+    (sym (role_told t b told key) ∙ ap (t kind.Role) (sym (c.as_str.ensures.value ∙ c.in_ok-key.ensures))
+    ∙ sym (c.in_ok-kept.ensures.found honest) ∙ c.in-Some.is) in
+    ap Some (ok_inj (c.in_ok-read_role.ensures.again r.0 (role_in_range key r.0 (sound key r.0 r.1)) r.2)) ∙ sym r.1
+
+pub returns-in_default-clause-found : goal.returns-in_default-clause-found
+returns-in_default-clause-found g c honest o at =
+    let t = table (g.T.RecordsTx.seen c.args.tx.now) in
+    sym (mapped_none role_row o
+    (sym at.row ∙ ap (t kind.Role) (sym (c.as_str.ensures.value ∙ c.in_ok-key.ensures))
+    ∙ sym (c.in_ok-kept.ensures.found honest) ∙ none_of _ c.in_default.not-Some))
+
+pub returns-clause-found : goal.returns-clause-found
+returns-clause-found g c honest o at =
+    let t = table (g.T.RecordsTx.seen c.args.tx.now) in
+    let r = mapped role_row o c.in-Some.kept
+    (sym at.row ∙ ap (t kind.Role) (sym (c.as_str.ensures.value ∙ c.in_ok-key.ensures))
+    ∙ sym (c.in_ok-kept.ensures.found honest) ∙ c.in-Some.is) in
+    ap Some (ok_inj (c.in_ok-read_role.ensures.again r.0 (at.in_range r.0 r.1) r.2)) ∙ sym r.1

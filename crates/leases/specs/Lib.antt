@@ -1,0 +1,10 @@
+pub mod Endings
+pub mod IssuedLaws
+pub mod KeptLaws
+pub mod Laws
+pub mod LeaseRows
+pub mod Leases
+pub mod Removed
+pub mod RoleRows
+pub mod Roles
+pub mod SoundLaws

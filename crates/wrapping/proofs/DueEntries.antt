@@ -1,0 +1,212 @@
+-- Of the rows that are due, those of wrapping tokens: what a sweep takes out, whatever the rows are.
+use Rattle.std.specs.Prelude.{◌≡◌, ◌<◌, ◌^◌, ◌++◌, ◌&&◌, ◌||◌, ℕ, List, [], ◌∷◌, Bool, true, false, cond, if◌then◌else◌}
+use Rattle.std.specs.Prelude.{Option, Some, None, length, take, map, filter, All, Contains}
+use Rattle.std.specs.FinMap as fin
+use Rattle.std.specs.Int.{w32, to_be_bytes, from_be_bytes}
+use Rattle.std.specs.List.{AllByRecursion, list_any}
+use Rattle.std.specs.Option.{option_map_or}
+use Rattle.std.proofs.Common.{refl, sym, ◌∙◌, ap, inl, inr, append_assoc}
+use Rattle.std.proofs.Math.Bool.{or-false}
+use Rattle.std.proofs.Math.Seq.{take-append_seam}
+use Rattle.std.proofs.lemmas.Bool.{false≢true}
+use Rattle.std.proofs.lemmas.List.Elements.{All-contains, All-filter, All-from_recursion}
+use Rattle.std.proofs.lemmas.List.Elements.{All-weaker, recursion_from_All}
+use Rattle.std.proofs.lemmas.Nat.{from_be_bytes-to_be_bytes_4}
+use Rattle.broker_types.specs.Text.{Text, same}
+use Rattle.broker_types.specs.Broker.{Waiting}
+use Rattle.broker_types.specs.OptionLaws.{found_or_not}
+use Rattle.broker_types.specs.TextLaws.{same_self, same_true}
+use Rattle.records.specs.declared.kind.Kind.{Kind}
+use Rattle.records.specs.declared.kind.Kind.TheVariants as kind
+use Rattle.records.specs.declared.row.Row.{Row}
+use Rattle.records.specs.Children.{has}
+use Rattle.records.specs.DueLaws.{due_each, due_whole}
+use Rattle.records.specs.DueRows.{is_due}
+use Rattle.records.specs.Kind.{RowKey}
+use Rattle.records.specs.Parts.{of_waiting, KeepsOthers}
+use Rattle.records.specs.Ranges.{IsWaitingInRange}
+use Rattle.records.specs.RowForms.{waiting_row}
+use Rattle.records.specs.Spelling.{number, count, text, long_text}
+use Rattle.records.specs.Table.{Table}
+use Rattle.wrapping.specs.DueResponses.{is_due_at, AreStillDue, IsWaitingRow, AreReadableDue, accessor_in, is_told}
+use Rattle.wrapping.specs.DueResponses.{without_responses, Sweeps, is_waiting, AreReadable, without_told, without_each}
+use Rattle.wrapping.proofs.Responses.{by_kind, dropped_keeps}
+use Rattle.wrapping.proofs.Tests.{both_ways, any_at, some_at, any_mapped}
+
+-- ---- the accessor that a row tells
+
+text_first : (a c t p o r : List ℕ) → length a < 2 ^ 32
+    → take (from_be_bytes w32 (to_be_bytes w32 (length a))) (a ++ c ++ t ++ p ++ o ++ r) ≡ a
+text_first a c t p o r short =
+    let one : a ++ c ++ t ++ p ++ o ++ r ≡ a ++ (c ++ t ++ p ++ o ++ r) =
+    ap (λ l. l ++ p ++ o ++ r) (append_assoc a c t) ∙ ap (λ l. l ++ o ++ r) (append_assoc a (c ++ t) p)
+    ∙ ap (λ l. l ++ r) (append_assoc a (c ++ t ++ p) o) ∙ append_assoc a (c ++ t ++ p ++ o) r in
+    ap (λ n. take n (a ++ c ++ t ++ p ++ o ++ r)) (from_be_bytes-to_be_bytes_4 (length a) short)
+    ∙ ap (take (length a)) one ∙ take-append_seam a (c ++ t ++ p ++ o ++ r)
+
+pub accessor_is_told : (w : Waiting) → IsWaitingInRange w → accessor_in (waiting_row w) ≡ w.accessor
+unfolding count
+accessor_is_told w h =
+    text_first w.accessor (number w.created) (number w.ttl) (text w.path) (text w.origin) (long_text w.reply)
+    h.accessor.short
+
+-- ---- one entry after another
+
+turned : {X : Type 0} (a b : Bool) (o : Option X)
+    → (if a then None else (if b then None else o)) ≡ (if (b || a) then None else o)
+turned true true o = refl
+turned true false o = refl
+turned false b o = ap (λ v. if v then None else o) (sym (or-false b))
+
+-- whether the entry is that of the wrapping token, or tells the accessor
+abbrev is_keyed : Text → RowKey × Row → Bool
+is_keyed q e = is_waiting e && same q e.0.1
+
+abbrev tells_it : Text → RowKey × Row → Bool
+tells_it q e = is_waiting e && same q (accessor_in e.1)
+
+waiting_each : (es : List (RowKey × Row)) (rows : Table) (q : Text)
+    → without_each es rows kind.Waiting q ≡ (if list_any (is_keyed q) es then None else rows kind.Waiting q)
+waiting_each [] rows q = refl
+waiting_each (e ∷ es) rows q =
+    waiting_each es (if is_waiting e then without_told rows e else rows) q
+    ∙ elim (is_waiting e) as (λ v.
+    (if list_any (is_keyed q) es then None else (if v then without_told rows e else rows) kind.Waiting q)
+    ≡ (if (v && same q e.0.1 || list_any (is_keyed q) es) then None else rows kind.Waiting q)) [
+      | true ↦ turned (list_any (is_keyed q) es) (same q e.0.1) (rows kind.Waiting q)
+      | false ↦ refl
+    ]
+
+accessor_each : (es : List (RowKey × Row)) (rows : Table) (q : Text)
+    → without_each es rows kind.Accessor q ≡ (if list_any (tells_it q) es then None else rows kind.Accessor q)
+accessor_each [] rows q = refl
+accessor_each (e ∷ es) rows q =
+    accessor_each es (if is_waiting e then without_told rows e else rows) q
+    ∙ elim (is_waiting e) as (λ v.
+    (if list_any (tells_it q) es then None else (if v then without_told rows e else rows) kind.Accessor q)
+    ≡ (if (v && same q (accessor_in e.1) || list_any (tells_it q) es) then None else rows kind.Accessor q)) [
+      | true ↦ turned (list_any (tells_it q) es) (same q (accessor_in e.1)) (rows kind.Accessor q)
+      | false ↦ refl
+    ]
+
+-- rows of other kinds stay
+pub each_keeps : (es : List (RowKey × Row)) (rows : Table) → KeepsOthers of_waiting rows (without_each es rows)
+each_keeps [] rows k q h = refl
+each_keeps (e ∷ es) rows k q h =
+    each_keeps es (if is_waiting e then without_told rows e else rows) k q h
+    ∙ elim (is_waiting e) as (λ v. (if v then without_told rows e else rows) k q ≡ rows k q) [
+      | true ↦ dropped_keeps rows e.0.1 (accessor_in e.1) k q h
+      | false ↦ refl
+    ]
+
+responses_keep : (tokens : List Text) (rows : Table) → KeepsOthers of_waiting rows (without_responses tokens rows)
+responses_keep tokens rows kind.Waiting q h = absurd (false≢true (sym h))
+responses_keep tokens rows kind.Accessor q h = absurd (false≢true (sym h))
+responses_keep tokens rows _ q h = refl
+
+-- ---- all that are due
+
+module _ (now : ℕ) (es : List (RowKey × Row)) (old : Table) (still : AreStillDue now es old) where
+  abbrev entries : List (RowKey × Row)
+  entries = filter is_waiting es
+
+  abbrev ended : List Text
+  ended = map (λ e. e.0.1) entries
+
+  abbrev IsDueRow : RowKey × Row → Type 0
+  IsDueRow e = (old kind.Waiting e.0.1 ≡ Some e.1) × (is_due now e.1.due ≡ true)
+
+  row_due : (e : RowKey × Row)
+      → (e.0.0 ≡ kind.Waiting) × (fin.get still.asked e.0 ≡ Some e.1) × (is_due now e.1.due ≡ true) → IsDueRow e
+  row_due e is = (still.same e.0.1 ∙ (λ i. fin.get still.asked (sym is.0 i, e.0.1)) ∙ is.1, is.2)
+
+  each_due : All IsDueRow entries
+  each_due = All-weaker _ IsDueRow row_due entries (due_each still.asked now es still.due kind.Waiting)
+
+  whole : (t : Text) (row : Row) → old kind.Waiting t ≡ Some row → is_due now row.due ≡ true
+      → Contains entries ((kind.Waiting, t), row)
+  whole t row is come = due_whole still.asked now es still.due kind.Waiting t row (sym (still.same t) ∙ is) come
+
+  abbrev is_come : Option Row → Bool
+  is_come o = option_map_or (λ (row : Row). is_due now row.due) o false
+
+  -- the wrapping tokens that they are of are those that have a row which is due
+  exactly : (t : Text) → has ended t ≡ is_due_at now old t
+  exactly t = both_ways (has ended t) (is_due_at now old t) onto from
+    where
+      onto : has ended t ≡ true → is_due_at now old t ≡ true
+      onto h =
+          let e = some_at (λ (e : RowKey × Row). same t e.0.1) entries
+          (sym (any_mapped (same t) (λ e. e.0.1) entries) ∙ h) in
+          let is = All-contains IsDueRow entries e.0 each_due e.1 in
+          ap is_come (ap (old kind.Waiting) (same_true t e.0.0.1 e.2) ∙ is.0) ∙ is.1
+
+      from : is_due_at now old t ≡ true → has ended t ≡ true
+      from h = elim (found_or_not (old kind.Waiting t)) [
+        | inl none ↦ absurd (false≢true (sym (ap is_come none) ∙ h))
+        | inr row ↦ any_mapped (same t) (λ e. e.0.1) entries
+            ∙ any_at (λ (e : RowKey × Row). same t e.0.1) entries ((kind.Waiting, t), row.0)
+            (whole t row.0 row.1 (sym (ap is_come row.1) ∙ h)) (same_self t)
+      ]
+
+  keyed : (q : Text) (fs : List (RowKey × Row)) → list_any (is_keyed q) fs
+      ≡ has (map (λ e. e.0.1) (filter is_waiting fs)) q
+  keyed q [] = refl
+  keyed q (e ∷ fs) =
+      elim (is_waiting e) as (λ v. (v && same q e.0.1 || list_any (is_keyed q) fs)
+      ≡ has (map (λ e. e.0.1) (cond v (e ∷ filter is_waiting fs) (filter is_waiting fs))) q) [
+        | true ↦ ap (λ v. same q e.0.1 || v) (keyed q fs)
+        | false ↦ keyed q fs
+      ]
+
+  abbrev tells : Text → Option Row → Bool
+  tells q o = option_map_or (λ row. same q (accessor_in row)) o false
+
+  told : (q : Text) (fs : List (RowKey × Row)) → AllByRecursion IsDueRow (filter is_waiting fs)
+      → list_any (tells_it q) fs ≡ is_told (map (λ e. e.0.1) (filter is_waiting fs)) old q
+  told q [] a = refl
+  told q (e ∷ fs) a =
+      elim (is_waiting e) as (λ v. AllByRecursion IsDueRow (cond v (e ∷ filter is_waiting fs) (filter is_waiting fs))
+      → (v && same q (accessor_in e.1) || list_any (tells_it q) fs)
+      ≡ is_told (map (λ e. e.0.1) (cond v (e ∷ filter is_waiting fs) (filter is_waiting fs))) old q) [
+        | true ↦ λ b. λ i. sym (ap (tells q) b.0.0) i || told q fs b.1 i
+        | false ↦ λ b. told q fs b
+      ] a
+
+  -- to take out one entry after another is to take out all that are due
+  all_left : without_each es old ≡ without_responses ended old
+  all_left = λ i k q. at k q i
+    where
+      at : (k : Kind) (q : Text) → without_each es old k q ≡ without_responses ended old k q
+      at k q =
+          elim (of_waiting k) as (λ v. of_waiting k ≡ v → without_each es old k q ≡ without_responses ended old k q) [
+            | true ↦ λ inside. by_kind (λ k. without_each es old k q ≡ without_responses ended old k q)
+                (waiting_each es old q ∙ ap (λ v. if v then None else old kind.Waiting q) (keyed q es))
+                (accessor_each es old q ∙ ap (λ v. if v then None else old kind.Accessor q)
+                (told q es (recursion_from_All IsDueRow entries each_due))) k inside
+            | false ↦ λ outside. each_keeps es old k q outside ∙ sym (responses_keep ended old k q outside)
+          ] refl
+
+  read : AreReadable es → AreReadableDue now old
+  read all t row is come =
+      All-contains (λ e. is_waiting e ≡ true → IsWaitingRow e.1) entries ((kind.Waiting, t), row)
+      (All-filter is_waiting (λ e. is_waiting e ≡ true → IsWaitingRow e.1) es
+      (All-from_recursion (λ e. is_waiting e ≡ true → IsWaitingRow e.1) es all)) (whole t row is come) refl
+
+  -- if each row that is due can be read, so can the entries
+  pub due_read : AreReadableDue now old → AreReadable es
+  due_read all = walk es (recursion_from_All IsDueRow entries each_due)
+    where
+      walk : (fs : List (RowKey × Row)) → AllByRecursion IsDueRow (filter is_waiting fs) → AreReadable fs
+      walk [] a = tt
+      walk (e ∷ fs) a =
+          elim (is_waiting e) as (λ v.
+          AllByRecursion IsDueRow (cond v (e ∷ filter is_waiting fs) (filter is_waiting fs))
+          → (v ≡ true → IsWaitingRow e.1) × AreReadable fs) [
+            | true ↦ λ b. ((λ _. all e.0.1 e.1 b.0.0 b.0.1), walk fs b.1)
+            | false ↦ λ b. ((λ h. absurd (false≢true h)), walk fs b)
+          ] a
+
+  -- what is left is what a sweep leaves
+  pub swept : (new : Table) → AreReadable es → new ≡ without_each es old → Sweeps now old new
+  swept new all is = record { ended = ended; each = exactly; readable = read all; rows = is ∙ all_left }

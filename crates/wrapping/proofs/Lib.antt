@@ -1,0 +1,6 @@
+pub mod DueEntries
+pub mod Ended
+pub mod Names
+pub mod Responses
+pub mod Searches
+pub mod Tests

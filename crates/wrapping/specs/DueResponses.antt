@@ -1,0 +1,92 @@
+-- What expiry makes of the rows of responses, whatever these are (this project's definition).
+use Rattle.std.specs.Prelude.{◌≡◌, ℕ, List, [], ◌∷◌, Bool, true, false, if◌then◌else◌, take, Some, None}
+use Rattle.std.specs.Int.{w32, from_be_bytes}
+use Rattle.std.specs.List.{AllByRecursion, list_any}
+use Rattle.std.specs.Option.{option_map_or}
+use Rattle.broker_types.specs.Text.{Text, same}
+use Rattle.broker_types.specs.Broker.{Waiting}
+use Rattle.records.specs.declared.kind.Kind.TheVariants as kind
+use Rattle.records.specs.declared.row.Row.{Row}
+use Rattle.records.specs.Children.{has}
+use Rattle.records.specs.DueRows.{is_due, AreDue}
+use Rattle.records.specs.Kind.{RowKey, is_of_kind}
+use Rattle.records.specs.Ranges.{IsWaitingInRange}
+use Rattle.records.specs.RowForms.{waiting_row}
+use Rattle.records.specs.Table.{Table, table_of}
+use Rattle.records.specs.Transaction.{Rows}
+use Rattle.wrapping.specs.WaitingRows.{without_response}
+
+-- ---- which are due
+
+-- whether t has a row that is due
+abbrev pub is_due_at : ℕ → Table → Text → Bool
+is_due_at now rows t = option_map_or (λ (row : Row). is_due now row.due) (rows kind.Waiting t) false
+
+-- The list is that of all rows that were due by now when it was asked for, and since then no row of a wrapping token
+-- has changed.
+pub record AreStillDue (now : ℕ) (list : List (RowKey × Row)) (rows : Table) : Type 0 where
+  pub asked : Rows
+  pub due : AreDue asked now list
+  pub same : (t : Text) → rows kind.Waiting t ≡ table_of asked kind.Waiting t
+
+-- the row of a response, which can be read
+abbrev pub IsWaitingRow : Row → Type 0
+IsWaitingRow row = (w : Waiting) × IsWaitingInRange w × (row ≡ waiting_row w)
+
+-- the rows of wrapping tokens that are due can be read
+abbrev pub AreReadableDue : ℕ → Table → Type 0
+AreReadableDue now rows =
+    (t : Text) (row : Row) → rows kind.Waiting t ≡ Some row → is_due now row.due ≡ true → IsWaitingRow row
+
+-- one of them cannot be read
+abbrev pub IsDamagedDue : ℕ → Table → Type 0
+IsDamagedDue now rows = AreReadableDue now rows → ⊥
+
+-- ---- what is left
+
+-- the text that a body begins with, after its format
+abbrev pub first_text : List ℕ → Text
+first_text (f ∷ a ∷ b ∷ c ∷ d ∷ rest) = take (from_be_bytes w32 (a ∷ b ∷ c ∷ d ∷ [])) rest
+first_text _ = []
+
+-- the accessor that the row of a response tells
+abbrev pub accessor_in : Row → Text
+accessor_in row = first_text row.body
+
+-- whether the row of one of the wrapping tokens tells the accessor
+abbrev pub is_told : List Text → Table → Text → Bool
+is_told tokens rows accessor =
+    list_any (λ t. option_map_or (λ row. same accessor (accessor_in row)) (rows kind.Waiting t) false) tokens
+
+-- the table without the rows of the wrapping tokens, and of the accessors that these tell
+abbrev pub without_responses : List Text → Table → Table
+without_responses tokens rows kind.Waiting q = if has tokens q then None else rows kind.Waiting q
+without_responses tokens rows kind.Accessor q = if is_told tokens rows q then None else rows kind.Accessor q
+without_responses tokens rows k q = rows k q
+
+-- The rows of wrapping tokens that are due were read, and are gone with those of the accessors that they tell. No other
+-- row has changed.
+pub record Sweeps (now : ℕ) (old new : Table) : Type 0 where
+  pub ended : List Text
+  pub each : (t : Text) → has ended t ≡ is_due_at now old t
+  pub readable : AreReadableDue now old
+  pub rows : new ≡ without_responses ended old
+
+-- ---- one entry after the other
+
+-- the row of a wrapping token
+abbrev pub is_waiting : RowKey × Row → Bool
+is_waiting e = is_of_kind kind.Waiting e.0
+
+-- the rows of wrapping tokens among the entries can be read
+abbrev pub AreReadable : List (RowKey × Row) → Type 0
+AreReadable es = AllByRecursion (λ e. is_waiting e ≡ true → IsWaitingRow e.1) es
+
+-- the table without the row of the entry, and without that of the accessor that it tells
+abbrev pub without_told : Table → RowKey × Row → Table
+without_told rows e = without_response rows e.0.1 (accessor_in e.1)
+
+-- the same of each row of a wrapping token among the entries
+abbrev pub without_each : List (RowKey × Row) → Table → Table
+without_each [] rows = rows
+without_each (e ∷ es) rows = without_each es (if is_waiting e then without_told rows e else rows)
