@@ -1,3 +1,4 @@
 pub mod Atomic
 pub mod Beginning
+pub mod HonestLaws
 pub mod SqlKept

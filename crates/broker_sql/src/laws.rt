@@ -1,19 +1,24 @@
 //! A law of stores in memory, the contract of a function that does nothing.
 
 ghost use Rattle.std.specs.Prelude.{◌≡◌};
-ghost use Rattle.sqlite.specs.Steps.{over_memory};
-ghost use Rattle.sqlite_trees.specs.declared.memory.MemStore.{MemStore as Memory};
+ghost use Rattle.sqlite.specs.Files.{over_files};
+ghost use Rattle.sqlite_store.specs.declared.store.FileStore.{FileStore as Stored};
+ghost use Rattle.ram_disk.specs.declared.file.RamFile.{RamFile as Memory};
 ghost use Rattle.broker.specs.Kept.{IsHonestStore};
 ghost use Rattle.broker_sql.specs.SqlKept.{sql_kept};
 ghost use Rattle.broker_sql.specs.declared.sql_store.SqlStore.{SqlStore as Kept};
 
 use crate::sql_store::SqlStore;
 use broker::Store;
-use sqlite::MemStore;
+use ram_disk::RamFile;
+use sqlite::FileStore;
+use sqlite_disk::Disk;
 
 /// A law: whatever was asked of a store in a database in memory, it shows the rows that were committed, and has
 /// returned what was written.
 pub fn memory_returns_what_was_written()
-    ensures shows { (s : Kept Memory over_memory) → ⟦<SqlStore<MemStore> as Store>⟧.seen s ≡ sql_kept over_memory s }
-    ensures honest { (s : Kept Memory over_memory) → IsHonestStore (⟦<SqlStore<MemStore> as Store>⟧.seen s) }
+    ensures shows { (s : Kept (Stored Memory ⟦<RamFile as Disk>⟧) over_files)
+        → ⟦<SqlStore<FileStore<RamFile>> as Store>⟧.seen s ≡ sql_kept over_files s }
+    ensures honest { (s : Kept (Stored Memory ⟦<RamFile as Disk>⟧) over_files)
+        → IsHonestStore (⟦<SqlStore<FileStore<RamFile>> as Store>⟧.seen s) }
 {}

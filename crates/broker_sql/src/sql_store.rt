@@ -1,21 +1,19 @@
 //! A store in a database.
 
-ghost use Rattle.std.specs.Prelude.{◌≡◌, ◌≢◌, ◌⊎◌, ◌≤◌, IsTrue, IfOk, IfErr, OnOk, OnErr, Err, None, Some, false};
+ghost use Rattle.std.specs.Prelude.{◌≡◌, ◌≢◌, ◌⊎◌, ◌≤◌, IsTrue, IfOk, IfErr, OnOk, OnErr, Err, None, false};
 ghost use Rattle.std.specs.Prelude.{slice_index};
 ghost use Rattle.std.specs.FinMap as map;
-ghost use Rattle.sqlite.specs.Steps.{over_memory};
+ghost use Rattle.sqlite.specs.Files.{over_files};
 ghost use Rattle.broker_types.specs.Answer.{HasRoom, response_of};
 ghost use Rattle.broker_types.specs.Broker.{Broker};
 ghost use Rattle.broker_types.specs.Fault.{IsMemoryOrStorage};
 ghost use Rattle.broker_types.specs.First.{first_broker};
 ghost use Rattle.broker_types.specs.Identifier.{id};
-ghost use Rattle.broker_types.specs.Text.{Text};
 ghost use Rattle.broker_types.specs.TokenText.{token_text};
 ghost use Rattle.records.specs.Transaction.{is_storage};
 ghost use Rattle.broker_model.specs.Listed.{IsListed};
 ghost use Rattle.broker_model.specs.Step.{step};
 ghost use Rattle.broker_rows.specs.ClockRow.{NeedsClock};
-ghost use Rattle.broker_rows.specs.ReadableRow.{IsDeniedToNobody};
 ghost use Rattle.broker_rows.specs.Representing.{Represents, Gives};
 ghost use Rattle.broker.specs.Answering.{IsAnsweredBy};
 ghost use Rattle.broker.specs.Kept.{IsHonestStore, IsReady};
@@ -26,8 +24,9 @@ use crate::emptiness::is_empty;
 use broker::{Store, handle};
 use broker_rows::write_first_rows;
 use broker_types::{Answer, Ask, Fault, Moment, TokenText, Words};
+use ram_disk::RamFile;
 use records_sql::SqlRecords;
-use sqlite::{Alter, MemStore};
+use sqlite::{Alter, FileStore};
 use std::alloc::Global;
 
 /// A store in a database, generic in the storage of the library `sqlite`.
@@ -37,12 +36,12 @@ pub struct SqlStore<S: Alter> {
     pub(crate) records: SqlRecords<S>,
 }
 
-impl SqlStore<MemStore> {
+impl SqlStore<FileStore<RamFile>> {
     /// A store in memory without rows, which `start` fills. The only error is `Storage`, if the database cannot be
     /// made.
-    pub fn in_memory(alloc: Global) -> Result<SqlStore<MemStore>, Fault>
-        ensures rows { IfOk result (λ store. (sql_kept over_memory store).rows ≡ map.empty) }
-        ensures ready { IfOk result (λ store. IsReady (sql_kept over_memory store)) }
+    pub fn in_memory(alloc: Global) -> Result<SqlStore<FileStore<RamFile>>, Fault>
+        ensures rows { IfOk result (λ store. (sql_kept over_files store).rows ≡ map.empty) }
+        ensures ready { IfOk result (λ store. IsReady (sql_kept over_files store)) }
         ensures storage { IfErr result (λ fault. fault ≡ Fault.Storage) }
     {
         let records = SqlRecords::in_memory(alloc)?;
@@ -142,12 +141,9 @@ impl<S: Alter> SqlStore<S> {
         ensures room { IfOk result HasRoom }
         ensures clock { IsHonestStore (sql_kept S.Store self.new)
             → NeedsClock (sql_kept S.Store self.old).rows result }
-        ensures answers { IsHonestStore (sql_kept S.Store self.new) → (t : Text) → ask.now.token ≡ Some t
-            → IfOk result (λ a. IsAnsweredBy moment t (sql_kept S.Store self.old).rows
-            (sql_kept S.Store self.new).rows ask.now (response_of a)) }
-        ensures nobody { IsHonestStore (sql_kept S.Store self.new) → ask.now.token ≡ None
-            → IfOk result (λ a. IsDeniedToNobody moment (response_of a) (sql_kept S.Store self.old).rows
-            (sql_kept S.Store self.new).rows) }
+        ensures answers { IsHonestStore (sql_kept S.Store self.new) → IfOk result
+            (λ a. IsAnsweredBy moment (sql_kept S.Store self.old).rows (sql_kept S.Store self.new).rows ask.now
+            (response_of a)) }
         ensures listed { IfOk result (λ a. IsListed (response_of a)) }
         ensures wants { IsHonestStore (sql_kept S.Store self.new) → (b : Broker)
             → Represents None (sql_kept S.Store self.old).rows b → IfErr result IsMemoryOrStorage }

@@ -3,8 +3,9 @@ use broker::Store;
 use broker_types::{
     Ask, BodyBytes, CowBytes, CowText, Fault, Moment, Path, Seconds, Status, Verb, Words, WrapTtl,
 };
+use ram_disk::RamFile;
 use records_sql::SqlRecords;
-use sqlite::MemStore;
+use sqlite::FileStore;
 use std::alloc::Global;
 use std::borrow::{CowSlice, CowStr};
 use std::test::Fail;
@@ -16,7 +17,7 @@ fn moment() -> Result<Moment, Fault> {
 }
 
 /// Whether a store without rows can be started once, with two words that differ.
-fn starts_once(store: &mut SqlStore<MemStore>) -> Result<bool, Fault> {
+fn starts_once(store: &mut SqlStore<FileStore<RamFile>>) -> Result<bool, Fault> {
     let words = Words([0, 1, 2, 3, 4, 5, 6, 7]);
     Ok(
         matches!(store.start(moment()?, &Words([7; 8])), Err(Fault::BadStart))
@@ -58,7 +59,7 @@ fn a_store_is_started_once(rt: HostRuntime) -> Result<(), Fail> {
 }
 
 /// A store in memory that was started, and then asked these statements.
-fn started_with(alloc: Global, sql: &str) -> Result<SqlStore<MemStore>, Fault> {
+fn started_with(alloc: Global, sql: &str) -> Result<SqlStore<FileStore<RamFile>>, Fault> {
     let mut store = SqlStore::in_memory(alloc)?;
     store.start(moment()?, &Words([0, 1, 2, 3, 4, 5, 6, 7]))?;
     let mut conn = store.into_records().into_connection();

@@ -12,12 +12,13 @@ use Rattle.records.specs.KeyEntry.{KeyEntry, key_entry}
 use Rattle.records.specs.Parts.{of_secrets, Tells}
 use Rattle.records.specs.Table.{Table}
 use Rattle.kv2.specs.SecretRows.{HasKey, HasVersion}
+use Rattle.kv2.specs.declared.secret_version.FoundVersion.{FoundVersion}
 use Rattle.kv2.specs.Secrets.{secret_name, read}
 use Rattle.kv2.specs.Versions.{version_of, asked_number, numbered}
 use Rattle.kv2.proofs.Digits.{KeyLaws}
 use Rattle.kv2.proofs.SecretsTold.{has_key, has_version}
 
-abbrev reading : ℕ → Key → Option (ℕ × Version)
+abbrev reading : ℕ → Key → Option FoundVersion
 reading n k = option_map (numbered (asked_number k.current n)) (fin.get k.versions (asked_number k.current n))
 
 module _ (forms : Forms) (b : Broker) (sound : SoundSecrets forms b.secrets) (t : Table) (told : Tells of_secrets t b) (mount path name : Text)

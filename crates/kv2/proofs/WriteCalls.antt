@@ -20,22 +20,27 @@ use Rattle.kv2.specs.SecretRows as rows
 use Rattle.kv2.specs.SecretRows.{WrittenRows, new_entry, with_version}
 use Rattle.kv2.specs.Secrets.{Written, secret_name, write, write_over, written}
 use Rattle.kv2.specs.SoundLaws.{room, is_secret_name}
+use Rattle.kv2.specs.declared.secret_version.WrittenVersion.{WrittenVersion}
 use Rattle.kv2.specs.Versions.{version_of, key_or_new, checked, or_if_zero, versions_kept}
 use Rattle.kv2.proofs.Digits.{KeyLaws, name_lacks}
 use Rattle.kv2.proofs.Writes.{written_told}
 
 -- ---- the rows, from the calls
 
+-- the version after the current one of a key
+abbrev pub next_version : KeyEntry → WrittenVersion
+next_version e = record { number = e.current + 1 }
+
 -- the answer of a write, and its rows
-abbrev pub IsWritten : Table → ℕ → WrittenRows → Type 0
-IsWritten new v w = (v ≡ w.number) × (new ≡ w.rows)
+abbrev pub IsWritten : Table → WrittenVersion → WrittenRows → Type 0
+IsWritten new v w = (v.number ≡ w.number) × (new ≡ w.rows)
 
 pub rows_written : (old new : Table) (m : Mount) (k : Option KeyEntry) (name object : Text) (now limit : ℕ) (cas : Option ℕ) (e : KeyEntry)
     → e ≡ unwrap_or k (new_entry now) → Ok tt ≡ checked m.cas_required e.current cas → limit ≡ or_if_zero m.max_versions 10
     → new ≡ with_version old name e limit now object
-    → EndsOk (IsWritten new) (e.current + 1) (rows.write old (Some m) k name now cas object)
+    → EndsOk (IsWritten new) (next_version e) (rows.write old (Some m) k name now cas object)
 rows_written old new m k name object now limit cas e is passed kept left =
-    subst (λ r. EndsOk (IsWritten new) (e.current + 1) (r >>= (λ _. Ok (rows.written old m name now object (unwrap_or k (new_entry now))))))
+    subst (λ r. EndsOk (IsWritten new) (next_version e) (r >>= (λ _. Ok (rows.written old m name now object (unwrap_or k (new_entry now))))))
     (passed ∙ ap (λ (z : KeyEntry). checked m.cas_required z.current cas) is)
     (ap (λ (z : KeyEntry). z.current + 1) is, left ∙ (λ i. with_version old name (is i) (kept i) now object))
 
@@ -103,9 +108,9 @@ module _ (forms : Forms) (b : Broker) (sound : SoundSecrets forms b.secrets) (mo
     same_limit : or_if_zero m.max_versions 10 ≡ versions_kept m over
     same_limit = sym (ap (λ n. or_if_zero n (or_if_zero m.max_versions 10)) no_limit)
 
-    after_write : checked (over.cas_required || m.cas_required) over.current cas ≡ Ok tt → (v : ℕ)
+    after_write : checked (over.cas_required || m.cas_required) over.current cas ≡ Ok tt → (v : WrittenVersion)
         → IsWritten new v (rows.written t m name b.clock object entry)
-        → (v ≡ (written b m name object over).number) × Tells of_secrets new (written b m name object over).next
+        → (v.number ≡ (written b m name object over).number) × Tells of_secrets new (written b m name object over).next
     after_write passed v h =
         let is_name : IsSecretName name = is_secret_name mount path (mounts mount m some).mount_name is_path in
         let left = h.1 ∙ (λ i. with_version t name (entry_is i) (same_limit i) b.clock object) in (
@@ -115,17 +120,17 @@ module _ (forms : Forms) (b : Broker) (sound : SoundSecrets forms b.secrets) (mo
         )
 
   -- the write ends as its definition does on the broker
-  pub write_told : (result : Result ℕ RequestError)
+  pub write_told : (result : Result WrittenVersion RequestError)
       → Ends (IsWritten new) ⊤ result (rows.write t (get b.mounts mount) (option_map key_entry (get b.secrets name)) name b.clock cas object)
-      → Ends (λ v (w : Written). (v ≡ w.number) × Tells of_secrets new w.next) ⊤ result (write b mount path cas object)
+      → Ends (λ (v : WrittenVersion) (w : Written). (v.number ≡ w.number) × Tells of_secrets new w.next) ⊤ result (write b mount path cas object)
   write_told result h =
       elim (get b.mounts mount) as (λ o. get b.mounts mount ≡ o
       → Ends (IsWritten new) ⊤ result (rows.write t o (option_map key_entry (get b.secrets name)) name b.clock cas object)
-      → Ends (λ v (w : Written). (v ≡ w.number) × Tells of_secrets new w.next) ⊤ result (some_or refusal.NotFound o >>=
+      → Ends (λ (v : WrittenVersion) (w : Written). (v.number ≡ w.number) × Tells of_secrets new w.next) ⊤ result (some_or refusal.NotFound o >>=
       (λ m. write_over b m name cas object over))) [
-        | None ↦ λ _ z. ends_refused (IsWritten new) (λ v (w : Written). (v ≡ w.number) × Tells of_secrets new w.next) refusal.NotFound result z
+        | None ↦ λ _ z. ends_refused (IsWritten new) (λ (v : WrittenVersion) (w : Written). (v.number ≡ w.number) × Tells of_secrets new w.next) refusal.NotFound result z
         | Some m ↦ λ some z.
-            ends_tested (IsWritten new) (λ v (w : Written). (v ≡ w.number) × Tells of_secrets new w.next)
+            ends_tested (IsWritten new) (λ (v : WrittenVersion) (w : Written). (v.number ≡ w.number) × Tells of_secrets new w.next)
             (checked (over.cas_required || m.cas_required) over.current cas) (rows.written t m name b.clock object entry) (written b m name object over)
             result (λ passed v k. after_write m some passed v k)
             (subst (λ c. Ends (IsWritten new) ⊤ result (c >>= (λ _. Ok (rows.written t m name b.clock object entry)))) (same_test m some) z)

@@ -27,6 +27,7 @@ use Rattle.records.specs.Splits.{line_feed}
 use Rattle.records.specs.Transaction.{Rows, rows_under}
 use Rattle.records.specs.Table.{Table, table_of, with_row, without_row, without_under, has_prefix, is_at}
 use Rattle.kv2.specs.Metadata.{Metadata, metadata_with}
+use Rattle.kv2.specs.declared.secret_version.FoundVersion.{FoundVersion}
 use Rattle.kv2.specs.Versions.{asked_number, numbered, or_if_zero, checked, new_version, is_among}
 
 -- ---- what is at a key
@@ -90,14 +91,14 @@ KeepsOtherMounts name old new = (k : Kind) (q : Text) → is_at kind.Mount name 
 -- ---- reading
 
 -- what is read of a key that is there or not
-abbrev pub IsReadOf : Table → Text → ℕ → Option KeyEntry → Option (ℕ × Version) → Type 0
+abbrev pub IsReadOf : Table → Text → ℕ → Option KeyEntry → Option FoundVersion → Type 0
 IsReadOf rows name n None o = o ≡ None
 IsReadOf rows name n (Some k) o =
     let asked = asked_number k.current n in
     (v : Option Version) × HasVersion rows name asked v × (o ≡ option_map (numbered asked) v)
 
 -- what is read at a name: the version that is asked for with its number, if its rows are there
-abbrev pub IsRead : Table → Text → ℕ → Option (ℕ × Version) → Type 0
+abbrev pub IsRead : Table → Text → ℕ → Option FoundVersion → Type 0
 IsRead rows name n o = (k : Option KeyEntry) × HasKey rows name k × IsReadOf rows name n k o
 
 -- ---- versions listed

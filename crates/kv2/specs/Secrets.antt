@@ -14,6 +14,7 @@ use Rattle.broker_types.specs.declared.refusal.Refusal.TheVariants as refusal
 use Rattle.records.specs.Children.{folder, children}
 use Rattle.records.specs.Splits.{slash}
 use Rattle.kv2.specs.Metadata.{Metadata, metadata_of}
+use Rattle.kv2.specs.declared.secret_version.FoundVersion.{FoundVersion}
 use Rattle.kv2.specs.Versions.{asked_number, numbered, versions_kept, checked, key_or_new, with_version, with_changed}
 use Rattle.kv2.specs.Versions.{soft_deleted, restored, destroyed}
 
@@ -46,7 +47,7 @@ set_config b mount cas_required max_versions =
 -- ---- reading
 
 -- a version that is kept, with its number, also if it is deleted or destroyed; 0 asks for the current one
-abbrev pub read : Broker → Text → Text → ℕ → Option (ℕ × Version)
+abbrev pub read : Broker → Text → Text → ℕ → Option FoundVersion
 read b mount path n =
     option_and_then (λ (k : Key). option_map (numbered (asked_number k.current n))
     (fin.get k.versions (asked_number k.current n))) (key_at b mount path)

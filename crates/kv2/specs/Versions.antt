@@ -15,6 +15,7 @@ use Rattle.broker_types.specs.declared.refusal.Refusal.{Refusal}
 use Rattle.broker_types.specs.declared.refusal.Refusal.TheVariants as refusal
 use Rattle.broker_types.specs.declared.refusal.Reason.TheVariants as reason
 use Rattle.broker_types.specs.declared.refusal.Field.TheVariants as field
+use Rattle.kv2.specs.declared.secret_version.FoundVersion.{FoundVersion}
 
 -- versions by number
 abbrev pub Versions : Type 0
@@ -31,8 +32,8 @@ abbrev pub asked_number : ℕ → ℕ → ℕ
 asked_number current n = if n == 0 then current else n
 
 -- a version with its number
-abbrev pub numbered : ℕ → Version → ℕ × Version
-numbered n v = (n, v)
+abbrev pub numbered : ℕ → Version → FoundVersion
+numbered n v = record { number = n; version = v }
 
 -- ---- writing
 

@@ -27,6 +27,6 @@ pub use listing::list;
 pub use reading::{is_there, read};
 pub use removing::{drop_mount, remove_key};
 pub use secret_metadata::{SecretMetadata, VersionMetadata};
-pub use secret_version::SecretVersion;
+pub use secret_version::{FoundVersion, SecretVersion, WrittenVersion};
 pub use settings::{config, set_config};
 pub use writing::write;

@@ -1,6 +1,6 @@
 //! Versions of secrets, read.
 
-ghost use Rattle.std.specs.Prelude.{◌≡◌, ℕ, Option, option_map, is_some, IfOk, IfErr};
+ghost use Rattle.std.specs.Prelude.{◌≡◌, Option, option_map, is_some, IfOk, IfErr};
 ghost use Rattle.broker_types.specs.Broker.{Broker};
 ghost use Rattle.broker_types.specs.Fault.{IsMemoryOrStorage, IsNotBadStart};
 ghost use Rattle.broker_types.specs.Secret.{Version};
@@ -13,12 +13,13 @@ ghost use Rattle.records.specs.Reading.{IsSomeIn};
 ghost use Rattle.records.specs.Table.{table};
 ghost use Rattle.records.specs.Transaction.{IsHonest};
 ghost use Rattle.kv2.specs.SecretRows.{HasVersion, IsRead};
+ghost use Rattle.kv2.specs.declared.secret_version.FoundVersion.{FoundVersion};
 ghost use Rattle.kv2.specs.Secrets as secrets;
 ghost use Rattle.kv2.specs.Versions as versions;
 
 use crate::finding::find_key;
 use crate::keys::{secret_name, version_key};
-use crate::secret_version::SecretVersion;
+use crate::secret_version::{FoundVersion, SecretVersion};
 use broker_types::Fault;
 use records::{Kind, RecordsTx, read_version, versions_have_keys};
 use std::alloc::Global;
@@ -30,14 +31,14 @@ fn find_version<T: RecordsTx>(
     tx: &mut T,
     name: &str,
     number: u64,
-) -> Result<Option<SecretVersion>, Fault>
+) -> Result<Option<FoundVersion>, Fault>
     ensures found { IsHonest (T.seen tx.new) → (v : Option Version)
         → HasVersion (table (T.seen tx.old)) name.now number v
         → IfOk result (λ o. o ≡ option_map (versions.numbered number) v) }
     ensures exact { IsHonest (T.seen tx.new) → IfOk result (λ o. (v : Option Version)
         × HasVersion (table (T.seen tx.old)) name.now number v
         × (o ≡ option_map (versions.numbered number) v)) }
-    ensures in_range { IfOk result (IsSomeIn (λ v. IsVersionInRange v.1)) }
+    ensures in_range { IfOk result (IsSomeIn (λ v. IsVersionInRange v.version)) }
     ensures faults { IsHonest (T.seen tx.new) → (v : Option Version)
         → HasVersion (table (T.seen tx.old)) name.now number v → IfErr result IsMemoryOrStorage }
     ensures call { IsReading (T.seen tx.old) (T.seen tx.new) result IsNotBadStart }
@@ -46,8 +47,9 @@ fn find_version<T: RecordsTx>(
     let Some(kept) = tx.get(Kind::KvVersion, key.as_str())? else {
         return Ok(None);
     };
-    let version = read_version(&kept)?;
-    Ok(Some(SecretVersion::copied(alloc, number, &version)?))
+    let found = read_version(&kept)?;
+    let version = SecretVersion::copied(alloc, &found)?;
+    Ok(Some(FoundVersion { number, version }))
 }
 
 /// The number that is asked for; 0 is the current one.
@@ -67,14 +69,14 @@ pub fn read<T: RecordsTx>(
     mount: &str,
     path: &str,
     number: u64,
-) -> Result<Option<SecretVersion>, Fault>
+) -> Result<Option<FoundVersion>, Fault>
     ensures found { IsHonest (T.seen tx.new) → IfOk result
         (IsRead (table (T.seen tx.old)) (secrets.secret_name mount.now path.now) number) }
     ensures told { IsHonest (T.seen tx.new) → (forms : Forms) (b : Broker) → SoundSecrets forms b.secrets
         → Tells of_secrets (table (T.seen tx.old)) b
         → IfOk result (λ o. o ≡ secrets.read b mount.now path.now number) }
-    ensures in_range { IfOk result (IsSomeIn (λ v. IsVersionInRange v.1)) }
-    ensures faults { IsHonest (T.seen tx.new) → (o : Option (ℕ × Version))
+    ensures in_range { IfOk result (IsSomeIn (λ v. IsVersionInRange v.version)) }
+    ensures faults { IsHonest (T.seen tx.new) → (o : Option FoundVersion)
         → IsRead (table (T.seen tx.old)) (secrets.secret_name mount.now path.now) number o
         → IfErr result IsMemoryOrStorage }
     ensures wants { IsHonest (T.seen tx.new) → (forms : Forms) (b : Broker) → SoundSecrets forms b.secrets

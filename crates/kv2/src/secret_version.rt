@@ -5,12 +5,10 @@ use records::VersionRecord;
 use std::alloc::{AllocError, Global};
 use std::marker::Model;
 
-/// A version of a secret with its number (Vault's documentation, "KV secrets engine - version 2"). Moments are
-/// seconds since 1970-01-01T00:00:00Z.
+/// A version of a secret (Vault's documentation, "KV secrets engine - version 2"). Moments are seconds since
+/// 1970-01-01T00:00:00Z.
 #[derive(Drop)]
 pub struct SecretVersion {
-    /// Its number, from 1 on.
-    pub number: u64,
     /// When it was written.
     pub created: u64,
     /// When it was deleted; none if it is not.
@@ -20,32 +18,45 @@ pub struct SecretVersion {
 }
 
 impl Model for SecretVersion {
-    ghost use Rattle.std.specs.Prelude.{ℕ};
     ghost use Rattle.broker_types.specs.Secret.{Version};
 
-    ghost Value = { ℕ × Version };
+    ghost Value = { Version };
 
-    ghost view = { λ v. (v.number, record { created = v.created; deleted = v.deleted; secret = v.secret }) };
+    ghost view = { λ v. record { created = v.created; deleted = v.deleted; secret = v.secret } };
 }
 
 impl SecretVersion {
-    /// A copy of a version with its number. The only error is running out of memory.
+    /// A copy of a version. The only error is running out of memory.
     pub(crate) fn copied(
         alloc: Global,
-        number: u64,
         version: &VersionRecord<'_>,
     ) -> Result<SecretVersion, AllocError>
-        ensures { IfOk result (λ v. v ≡ (number, version.now)) }
+        ensures { IfOk result (λ v. v ≡ version.now) }
     {
         let secret = match version.secret {
             None => None,
             Some(text) => Some(TextBuf::copied(alloc, text)?),
         };
         Ok(SecretVersion {
-            number,
             created: version.created,
             deleted: version.deleted,
             secret,
         })
     }
+}
+
+/// A version of a secret that was read.
+#[derive(Drop)]
+pub struct FoundVersion {
+    /// Its number, from 1 on.
+    pub number: u64,
+    /// What is kept of it.
+    pub version: SecretVersion,
+}
+
+/// A version of a secret that was written.
+#[derive(Clone, Copy, Debug, PartialEq, Eq)]
+pub struct WrittenVersion {
+    /// Its number, from 1 on.
+    pub number: u64,
 }

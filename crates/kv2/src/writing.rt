@@ -20,6 +20,7 @@ use crate::finding::{find_key, find_mount};
 use crate::keys::{secret_name, version_key};
 use crate::limits::GREATEST_VERSION;
 use crate::pruning::prune;
+use crate::secret_version::WrittenVersion;
 use broker_types::{Fault, Field, Moment, Reason, Refusal, RequestError};
 use records::{
     KeyRecord, Kind, MountRecord, RecordsTx, VersionRecord, versions_have_keys, write_key,
@@ -124,12 +125,12 @@ fn write_named<T: RecordsTx>(
     name: &str,
     cas: Option<u64>,
     object: &str,
-) -> Result<u64, RequestError>
+) -> Result<WrittenVersion, RequestError>
     requires { length object.now < 2 ^ 32 }
     ensures rows { IsHonest (T.seen tx.new) → (m : Option Mount) (k : Option KeyEntry)
         → HasMount (table (T.seen tx.old)) mount.now m
         → (m ≢ None → HasKey (table (T.seen tx.old)) name.now k)
-        → Ends (λ v w. (v ≡ w.number) × (table (T.seen tx.new) ≡ w.rows)) ⊤ result
+        → Ends (λ v w. (v.number ≡ w.number) × (table (T.seen tx.new) ≡ w.rows)) ⊤ result
         (rows.write (table (T.seen tx.old)) m k name.now now cas object.now) }
     ensures refused { IsHonest (T.seen tx.new) → OnRefused result ((T.seen tx.new).rows ≡ (T.seen tx.old).rows) }
     ensures readable { IsHonest (T.seen tx.new)
@@ -144,11 +145,13 @@ fn write_named<T: RecordsTx>(
     check(settings.cas_required, key.current, cas)?;
     let limit = versions_kept(&settings);
     put_version(alloc, tx, name, &key, limit, now, object)?;
-    Ok(key.current + 1)
+    Ok(WrittenVersion {
+        number: key.current + 1,
+    })
 }
 
-/// Writes the compact text of an object as the next version of the secret at a path of a mount, and answers the
-/// version's number. `cas` is the version that the write follows, 0 for a secret without versions. It is
+/// Writes the compact text of an object as the next version of the secret at a path of a mount, and answers that
+/// version. `cas` is the version that the write follows, 0 for a secret without versions. It is
 /// refused, in this order, if the mount is not there, if `cas` is missing though the mount requires it, if it is
 /// not the current version, and if there is no number for one more version. It fails as `Damaged` if a row
 /// that it reads is not one of a mount or of a key, and also if memory runs out or the storage fails (Vault's
@@ -161,17 +164,17 @@ pub fn write<T: RecordsTx>(
     path: &str,
     cas: Option<u64>,
     object: &str,
-) -> Result<u64, RequestError>
+) -> Result<WrittenVersion, RequestError>
     requires { length object.now < 2 ^ 32 }
     ensures rows { IsHonest (T.seen tx.new) → (m : Option Mount) (k : Option KeyEntry)
         → HasMount (table (T.seen tx.old)) mount.now m
         → (m ≢ None → HasKey (table (T.seen tx.old)) (secrets.secret_name mount.now path.now) k)
-        → Ends (λ v w. (v ≡ w.number) × (table (T.seen tx.new) ≡ w.rows)) ⊤ result
+        → Ends (λ v w. (v.number ≡ w.number) × (table (T.seen tx.new) ≡ w.rows)) ⊤ result
         (rows.write (table (T.seen tx.old)) m k (secrets.secret_name mount.now path.now) now cas object.now) }
     ensures told { IsHonest (T.seen tx.new) → (forms : Forms) (b : Broker) → SoundSecrets forms b.secrets
         → SoundMounts b.mounts → Tells of_secrets (table (T.seen tx.old)) b
         → Tells of_mounts (table (T.seen tx.old)) b → now ≡ b.clock → IsPathText path.now
-        → Ends (λ v w. (v ≡ w.number) × Tells of_secrets (table (T.seen tx.new)) w.next) ⊤ result
+        → Ends (λ v w. (v.number ≡ w.number) × Tells of_secrets (table (T.seen tx.new)) w.next) ⊤ result
         (secrets.write b mount.now path.now cas object.now) }
     ensures refused { IsHonest (T.seen tx.new) → OnRefused result ((T.seen tx.new).rows ≡ (T.seen tx.old).rows) }
     // Whatever the rows are: with a damaged row there is no answer, and no refusal.

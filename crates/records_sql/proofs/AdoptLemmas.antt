@@ -1,6 +1,6 @@
 -- What a database that was there before has.
 use Rattle.std.proofs.Common.{◌≡◌, inl, inr, None, IsTrue, Ok, Err, Result, List, [], map, length, refl, sym, ap, subst, ◌∙◌, arith}
-use Rattle.std.specs.FinMap.{empty}
+use Rattle.std.specs.FinMap.{empty, from_entries}
 use Rattle.std.specs.Prelude.{IfOk}
 use Rattle.sqlite.specs.Order.{Row}
 use Rattle.sqlite.specs.Effect.{Database}
@@ -12,7 +12,7 @@ use Rattle.sqlite.specs.State.{State, IsLive, IsUnchanged, Opens, Shown}
 use Rattle.sqlite.proofs.Callers.{IsPlain, reads_as}
 use Rattle.sqlite_schema.specs.Rules.{Obeys}
 use Rattle.records.specs.Transaction.{Rows}
-use Rattle.records_sql.specs.Table.{IsStore, broker_schema, no_schema, kept, rows_of}
+use Rattle.records_sql.specs.Table.{IsStore, broker_schema, no_schema, entries_of, kept, rows_of}
 use Rattle.records_sql.specs.Texts.{numbers_text}
 use Rattle.records_sql.specs.Numbered.{AreNumbered}
 use Rattle.records_sql.specs.Adopted.{HasRows, IsSettled, IsAdopted, IsKeptIn}
@@ -62,9 +62,9 @@ made_new old new settled has was_open made =
     }
 
 -- a database that has no table keeps no row
-pub none_kept : (db : Database) (rows : Rows) → db.schema ≡ no_schema → HasRows db rows → rows ≡ empty
-none_kept db rows has (inl none) = none.1
-none_kept db rows has (inr store) = absurd (omega (arith, ap (λ (s : Schema). length s.tables) (sym has ∙ store.0.schema)))
+pub none_found : (db : Database) (rows : Rows) → db.trees 0 ≡ [] → HasRows db rows → rows ≡ empty
+none_found db rows none (inl blank) = blank.1
+none_found db rows none (inr store) = store.1 ∙ ap (λ (list : List Row). from_entries (entries_of (map kept list))) none
 
 -- ---- files that were there before
 

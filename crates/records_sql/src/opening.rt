@@ -6,7 +6,6 @@ ghost use Rattle.sqlite.specs.WalFiles.{image_at};
 ghost use Rattle.sqlite.specs.Files.{file_state};
 ghost use Rattle.sqlite.specs.Held.{state};
 ghost use Rattle.sqlite.specs.State.{HasCleanDisk, IsLive, IsUnchanged};
-ghost use Rattle.sqlite.specs.Steps.{over_memory};
 ghost use Rattle.records_sql.specs.Adopted.{HasRows, IsAdopted, IsKeptIn, IsSettled};
 ghost use Rattle.records_sql.specs.Made.{IsNewTable};
 ghost use Rattle.records_sql.specs.Table.{IsStore, IsUsable, broker_schema, mismatches, no_schema, rows_of};
@@ -16,7 +15,8 @@ use crate::schema::{is_blank, is_ours};
 use crate::sql_records::SqlRecords;
 use crate::statements;
 use broker_types::Fault;
-use sqlite::{Alter, Connection, FileFrom, FileStore, MemStore, Start};
+use ram_disk::RamFile;
+use sqlite::{Alter, Connection, FileFrom, FileStore, Start};
 use std::alloc::Global;
 use std::rt::HostRuntime;
 
@@ -121,15 +121,15 @@ impl<S: Alter> SqlRecords<S> {
     }
 }
 
-impl SqlRecords<MemStore> {
+impl SqlRecords<FileStore<RamFile>> {
     /// Records in memory, without a row. The only error is `Storage`, if the database cannot be made.
-    pub fn in_memory(alloc: Global) -> Result<SqlRecords<MemStore>, Fault>
-        ensures empty { IfOk result (λ records. rows_of (state over_memory records.conn).committed.trees ≡ map.empty) }
-        ensures ready { IfOk result (λ records. IsUsable (state over_memory records.conn)) }
+    pub fn in_memory(alloc: Global) -> Result<SqlRecords<FileStore<RamFile>>, Fault>
+        ensures empty { IfOk result (λ records. rows_of (file_state records.conn).committed.trees ≡ map.empty) }
+        ensures ready { IfOk result (λ records. IsUsable (file_state records.conn)) }
         ensures failed { IfOk result (λ records. records.failed ≡ false) }
         ensures storage { IfErr result (λ fault. fault ≡ Fault.Storage) }
     {
-        let Ok(conn) = Connection::open_in_memory(alloc) else {
+        let Ok(conn) = ram_disk::open(alloc) else {
             return Err(Fault::Storage);
         };
         SqlRecords::adopt(alloc, conn)

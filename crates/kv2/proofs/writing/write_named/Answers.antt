@@ -1,4 +1,4 @@
-use Rattle.std.proofs.Common.{◌≢◌, ◌+◌, None, ap, sym, subst, ◌∙◌, unwrap_or, rules}
+use Rattle.std.proofs.Common.{◌≢◌, None, ap, sym, subst, ◌∙◌, unwrap_or, rules}
 use Rattle.std.proofs.lemmas.Option.{none-some}
 use Rattle.broker_types.specs.RequestError.{EndsOk}
 use Rattle.records.specs.CallLaws.{honest_before}
@@ -9,7 +9,7 @@ use Rattle.kv2.specs.SecretRows.{HasKey, KeepsOtherNames, new_entry, with_versio
 use Rattle.kv2.specs.SecretRows as rows
 use Rattle.kv2.specs.Versions.{checked}
 use Rattle.kv2.proofs.Others.{written_keeps}
-use Rattle.kv2.proofs.WriteCalls.{IsWritten, rows_written}
+use Rattle.kv2.proofs.WriteCalls.{IsWritten, next_version, rows_written}
 use Rattle.kv2.proofs.writing.write_named.Goals as goal
 
 pub returns-clause-rows : goal.returns-clause-rows
@@ -29,8 +29,8 @@ returns-clause-rows g c honest m k has_mount has_key =
     let some = sym c.in-Some.is ∙ c.in_ok-settings.ensures.found first m has_mount in
     let there : m ≢ None = λ none. none-some _ (sym (some ∙ none)) in
     let found = c.in_ok-found.ensures.found second k (subst (λ (r : Rows). HasKey (table_of r) name k) (sym same) (has_key there)) in
-    subst (λ (e : KeyEntry). EndsOk (IsWritten new) (e.current + 1) (rows.write old m k name now cas object)) (sym c.key.view_is)
-    (subst (λ o. EndsOk (IsWritten new) (e.current + 1) (rows.write old o k name now cas object)) some
+    subst (λ (e : KeyEntry). EndsOk (IsWritten new) (next_version e) (rows.write old m k name now cas object)) (sym c.key.view_is)
+    (subst (λ o. EndsOk (IsWritten new) (next_version e) (rows.write old o k name now cas object)) some
     (rows_written old new c.in-Some.settings k name object now limit cas e
     (c.key_or_new-key.ensures ∙ ap (λ o. unwrap_or o (new_entry now)) found)
     (c.in_ok-check.ensures.checked ∙ (λ i. checked (c.settings.view_is i).cas_required (c.key.view_is i).current cas))
