@@ -24,6 +24,7 @@ use Rattle.records.specs.Kind.{RowKey}
 use Rattle.records.specs.ListedLaws.{named, find-listed}
 use Rattle.records.specs.Parts.{KeepsOthers, of_tokens}
 use Rattle.records.specs.RowForms.{entry_row}
+use Rattle.api_json.specs.Reads.{IsReadErr}
 use Rattle.records.specs.Table.{Table, table_of}
 use Rattle.records.specs.TableLaws.{with_row_keeps}
 use Rattle.records.specs.TokenEntry.{TokenEntry}
@@ -33,31 +34,17 @@ use Rattle.token_tree.specs.Ended.{AllStay, is_named, of_owner}
 use Rattle.records.specs.Calls.{OnAnswer}
 use Rattle.mounts.specs.MountRows.{IsKnownAt, IsReadableAt}
 use Rattle.mounts.specs.Route.{Route, cut, route_at}
-use Rattle.mounts.specs.declared.operation.CubbyholeOperation.{CubbyholeOperation}
-use Rattle.mounts.specs.declared.operation.Operation.TheVariants.{Cubbyholes, Tokens, Secrets, Policies}
-use Rattle.mounts.specs.declared.operation.PolicyOperation.{PolicyOperation}
-use Rattle.mounts.specs.declared.operation.SecretOperation.{SecretOperation}
-use Rattle.mounts.specs.declared.operation.TokenOperation.{TokenOperation}
-use Rattle.broker_model.specs.Command.{Command, on_cubbyhole, on_token, on_secret, on_policy, command_for, place_of}
+use Rattle.broker_model.specs.Command.{Command, command_for}
 use Rattle.broker_model.specs.Order.{permission_denied}
-use Rattle.broker_model.specs.parts.Cubbyholes.{CubbyholeCommand, cubbyhole_command}
-use Rattle.broker_model.specs.parts.AclPolicyCommands.{PolicyCommand, policy_command}
-use Rattle.broker_model.specs.parts.SecretCommands.{Place, SecretCommand, secret_command}
-use Rattle.broker_model.specs.parts.TokenCommands.{TokenCommand, token_command}
-use Rattle.std.specs.FinMap as map
-use Rattle.broker_types.specs.RefuseLaws.{ok_step}
 use Rattle.cubbyhole.specs.Objects.{object_key}
-use Rattle.token_tree.specs.Endings.{without_tokens}
 use Rattle.token_tree.specs.TokenRows.{ChangesToken, spent_entry, with_entry}
-use Rattle.broker_rows.specs.EndingLaws.{others_kept}
+use Rattle.broker_rows.specs.EndingLaws.{leaves_others}
 use Rattle.broker_rows.specs.Ending.{EndsCaller, Expires, EndsBelow, IsSpentAt}
-use Rattle.broker_rows.specs.ReadableRow.{IsReadableObject, IsDenied}
-use Rattle.broker_rows.specs.Reads.{AreReadableObjects, AreReadablePolicies, AreReadableTokens, AreReadableSecrets}
+use Rattle.broker_rows.specs.ReadableRow.{IsReadableObject}
 use Rattle.broker_rows.specs.ReadableLaws.{unspent_gone}
-use Rattle.broker.proofs.Routes.{meant_there, known_still, meant_on_tokens, meant_on_policies}
-use Rattle.broker.proofs.SecretRoutes.{meant_on_secrets}
+use Rattle.broker.proofs.Routes.{known_still}
 use Rattle.broker.specs.PermittedRows.{IsPermittedAt}
-use Rattle.broker.specs.Answering.{AreAtCommand, IsReadableCommand, Asks, IsForbidden, IsCarriedOutOrForbidden}
+use Rattle.broker.specs.Answering.{AreAtCommand, Asks, IsForbidden, IsCarriedOutOrForbidden}
 use Rattle.broker.specs.Answering.{MayBeDone}
 
 -- ---- what an ask means
@@ -90,38 +77,6 @@ pub known_by : (rows : Rows) (a : Ask) (c : Command) (path : Text) → path ≡ 
     → IsKnownAt (table_of rows) (cut path).0 asks.mount
 known_by rows a c path at asks = subst (λ q. IsKnownAt (table_of rows) (cut q).0 asks.mount) (sym at) asks.known
 
-module _ {A : Type 0} (rows : Rows) (caller : Text) (a : Ask) (r : Route) (result : Result A RequestError) where
-  -- what an operation promises of each command that it can be, it promises of the one that is meant
-  pub cubbyholes_read : (op : CubbyholeOperation) (path : Text) (body : List ℕ) → r.operation ≡ Cubbyholes op → r.parameter ≡ path → body ≡ a.body
-      → ((c : CubbyholeCommand) → cubbyhole_command op path body ≡ Ok c → OnAnswer result (AreReadableObjects rows caller c))
-      → (c : Command) → command_for r a ≡ Ok c → OnAnswer result (IsReadableCommand rows caller c)
-  cubbyholes_read op path body is there given promised c meant =
-      let s = ok_step (cubbyhole_command op path body) (λ x. Ok (on_cubbyhole x)) c (sym (meant_there r a op path body is there given) ∙ meant) in
-      subst (λ x. OnAnswer result (IsReadableCommand rows caller x)) (ok_inj s.2) (promised s.0 s.1)
-
-  pub tokens_read : (op : TokenOperation) (body : List ℕ) → r.operation ≡ Tokens op → body ≡ a.body
-      → ((c : TokenCommand) → token_command op body ≡ Ok c → OnAnswer result (AreReadableTokens rows caller c))
-      → (c : Command) → command_for r a ≡ Ok c → OnAnswer result (IsReadableCommand rows caller c)
-  tokens_read op body is given promised c meant =
-      let s = ok_step (token_command op body) (λ x. Ok (on_token x)) c (sym (meant_on_tokens r a op body is given) ∙ meant) in
-      subst (λ x. OnAnswer result (IsReadableCommand rows caller x)) (ok_inj s.2) (promised s.0 s.1)
-
-  pub secrets_read : (op : SecretOperation) (place : Place) (version body : List ℕ) → r.operation ≡ Secrets op → place_of r ≡ place
-      → version ≡ a.version → body ≡ a.body
-      → ((c : SecretCommand) → secret_command op version body ≡ Ok c → OnAnswer result (AreReadableSecrets rows place c))
-      → (c : Command) → command_for r a ≡ Ok c → OnAnswer result (IsReadableCommand rows caller c)
-  secrets_read op place version body is there asked given promised c meant =
-      let s = ok_step (secret_command op version body) (λ x. Ok (on_secret place x)) c
-      (sym (meant_on_secrets r a op place version body is there asked given) ∙ meant) in
-      subst (λ x. OnAnswer result (IsReadableCommand rows caller x)) (ok_inj s.2) (promised s.0 s.1)
-
-  pub policies_read : (op : PolicyOperation) (name : Text) (body : List ℕ) → r.operation ≡ Policies op → r.parameter ≡ name → body ≡ a.body
-      → ((c : PolicyCommand) → policy_command op name body ≡ Ok c → OnAnswer result (AreReadablePolicies rows c))
-      → (c : Command) → command_for r a ≡ Ok c → OnAnswer result (IsReadableCommand rows caller c)
-  policies_read op name body is there given promised c meant =
-      let s = ok_step (policy_command op name body) (λ x. Ok (on_policy x)) c (sym (meant_on_policies r a op name body is there given) ∙ meant) in
-      subst (λ x. OnAnswer result (IsReadableCommand rows caller x)) (ok_inj s.2) (promised s.0 s.1)
-
 -- ---- tokens
 
 -- a row that stays though it ends by itself is among the ended
@@ -148,18 +103,18 @@ ended_or_unspent t old new e =
       | true ↦ λ spent. gone (e.ends spent) (table_of old kind.Token t) refl
     ] refl
   where
-    left : (h : EndsBelow t old new) → table_of new kind.Token t ≡ (if has h.0 t then None else table_of old kind.Token t)
-    left h = ap (λ (z : Table). z kind.Token t) h.3 ∙ others_kept h.0 (without_tokens h.0 (table_of old)) kind.Token t refl
+    at : (h : EndsBelow t old new) → table_of new kind.Token t ≡ (if has h.ended t then None else table_of old kind.Token t)
+    at h = leaves_others h.ended h.left new h.leaves kind.Token t refl ∙ ap (λ (z : Table). z kind.Token t) h.ends.rows
 
     none_either : (v : Bool) (o : Option Row) → o ≡ None → (if v then None else o) ≡ None
     none_either true o is = refl
     none_either false o is = is
 
     gone : (h : EndsBelow t old new) → (o : Option Row) → table_of old kind.Token t ≡ o → IsSpentAt new t false
-    gone h None none = unspent_gone new t (left h ∙ none_either (has h.0 t) (table_of old kind.Token t) none)
+    gone h None none = unspent_gone new t (at h ∙ none_either (has h.ended t) (table_of old kind.Token t) none)
     gone h (Some row) some =
-        let among = stays_named t h.0 (rows_under old kind.Token []) h.1.stay row (find-listed kind.Token [] old t ∙ some) in
-        unspent_gone new t (left h ∙ ap (λ v. if v then None else table_of old kind.Token t) among)
+        let among = stays_named t h.ended (rows_under old kind.Token []) h.ends.descent.stay row (find-listed kind.Token [] old t ∙ some) in
+        unspent_gone new t (at h ∙ ap (λ v. if v then None else table_of old kind.Token t) among)
 
 -- ---- when it is read
 
@@ -180,35 +135,23 @@ pub objects_unspent : (old new : Rows) (t path : Text) → ChangesToken t spent_
 objects_unspent old new t path spent r =
     (r.0, r.1, sym (others_unspent old new t spent kind.Cubby (object_key t path) refl) ∙ r.2)
 
-module _ (moment now : ℕ) (t u : Text) (old expired new : Rows) (caller : t ≡ u) (same_rows : new ≡ expired) (expires : Expires moment now old expired) where
-  -- tokens have expired, and the caller has spent a use
-  pub at_command : (rows : Rows) → ChangesToken u spent_entry (table_of new) (table_of rows) → AreAtCommand moment t old rows
-  at_command rows spends = record {
-    now = now;
-    expired = new;
-    expires = subst (Expires moment now old) (sym same_rows) expires;
-    spends = subst (λ v. ChangesToken v spent_entry (table_of new) (table_of rows)) (sym caller) spends;
-  }
-
-  -- or there is no caller, and nothing else was done
-  pub denied_there : (a : Answer) → response_of a ≡ refused permission_denied → map.get new (kind.Token, t) ≡ None
-      → IsDenied moment (response_of a) old new t
-  denied_there a response none = (response, none, now, subst (Expires moment now old) (sym same_rows) expires)
+-- tokens have expired, and the caller has spent a use
+pub at_command : (moment now : ℕ) (t : Text) (old expired new : Rows) → new ≡ expired → Expires moment now old expired → (rows : Rows)
+    → ChangesToken t spent_entry (table_of new) (table_of rows) → AreAtCommand moment t old rows
+at_command moment now t old expired new same_rows expires rows spends = record {
+  now = now;
+  expired = new;
+  expires = subst (Expires moment now old) (sym same_rows) expires;
+  spends = spends;
+}
 
 -- ---- whether it may be asked
 
--- what holds of each x if the call answered or was refused, holds of all
-pub on_answer_all : {A X : Type 0} (P : X → Type 0) (result : Result A RequestError) → ((x : X) → OnAnswer result (P x))
-    → OnAnswer result ((x : X) → P x)
-on_answer_all P (Ok x) all = all
-on_answer_all P (Err (Refused r)) all = all
-on_answer_all P (Err (Given f)) all = tt
-
--- what follows from a fact, if the call answered or was refused
-pub on_answer_if : {A Q : Type 0} (P : Type 0) (result : Result A RequestError) → (Q → OnAnswer result P) → OnAnswer result (Q → P)
-on_answer_if P (Ok x) f = f
-on_answer_if P (Err (Refused r)) f = f
-on_answer_if P (Err (Given e)) f = tt
+-- what is refused for its body means no command
+pub on_no_command : (A : Type 0) {P : Type 0} (meant : Result Command Refusal) (e : RequestError) → IsReadErr meant e
+    → (((command : Command) → meant ≡ Ok command → ⊥) → P) → OnAnswer {A = A} (Err e) P
+on_no_command A meant (Refused r) is holds = holds (λ command found. absurd (subst (EndsRefused ⊤ r) (sym is ∙ found) (refl, tt)))
+on_no_command A meant (Given f) is holds = tt
 
 module _ (old new : Rows) (t : Text) (ask : Ask) where
   -- who is answered was not forbidden to ask

@@ -1,5 +1,5 @@
 -- The routes to operations on secrets lead to mounts that are there.
-use Rattle.std.specs.Prelude.{◌≡◌, ℕ, List, if◌then◌else◌, Bool, true, false, Option, Some, None, Ok, codes}
+use Rattle.std.specs.Prelude.{◌≡◌, if◌then◌else◌, Bool, true, false, Option, Some, None, Ok, codes}
 use Rattle.std.specs.List.{list_all}
 use Rattle.std.proofs.Common.{refl, sym, ◌∙◌, ap}
 use Rattle.std.proofs.lemmas.Bool.{false≢true}
@@ -9,7 +9,6 @@ use Rattle.broker_types.specs.Map.{get}
 use Rattle.broker_types.specs.Name.{is_mount_name}
 use Rattle.broker_types.specs.Sound.{SoundMounts}
 use Rattle.broker_types.specs.Text.{Text, same}
-use Rattle.broker_types.specs.declared.ask.Ask.{Ask}
 use Rattle.broker_types.specs.declared.ask.Verb.{Verb}
 use Rattle.records.specs.Rows.{or_else}
 use Rattle.mounts.specs.Route.{Route, cut, route_of}
@@ -21,8 +20,6 @@ use Rattle.mounts.specs.declared.mount_type.MountType.TheVariants as mount
 use Rattle.mounts.specs.declared.operation.Operation.{Operation}
 use Rattle.mounts.specs.declared.operation.Operation.TheVariants.{Cubbyholes, Tokens, Secrets, Policies}
 use Rattle.mounts.specs.declared.operation.SecretOperation.{SecretOperation}
-use Rattle.broker_model.specs.Command.{command_by, command_for, on_secrets, place_of}
-use Rattle.broker_model.specs.parts.SecretCommands.{Place}
 use Rattle.broker.proofs.RoutedBy.{routed_by}
 
 -- whether the operation is on no secrets
@@ -72,18 +69,3 @@ mount_named b v path r op sound h is =
     let kv = elsewhere by.type r op is by.passes in
     let m = mount_there (get b.mounts (cut path).0) (cut path).0 (by.there ∙ ap Some kv) in
     ap is_mount_name by.mount ∙ (sound (cut path).0 m.0 m.1).mount_name
-
--- the operation on secrets; another where it is on none
-operation_or : SecretOperation → Operation → SecretOperation
-operation_or other (Secrets op) = op
-operation_or other _ = other
-
-pub secrets_inj : (x y : SecretOperation) → Secrets x ≡ Secrets y → x ≡ y
-unfolding operation_or
-secrets_inj x y e = ap (operation_or x) e
-
--- what a route to an operation on secrets means
-pub meant_on_secrets : (r : Route) (a : Ask) (op : SecretOperation) (place : Place) (version body : List ℕ) → r.operation ≡ Secrets op
-    → place_of r ≡ place → version ≡ a.version → body ≡ a.body → command_for r a ≡ on_secrets op place version body
-meant_on_secrets r a op place version body is there asked given =
-    ap (λ o. command_by o r a) is ∙ (λ i. on_secrets op (there i) (sym asked i) (sym given i))

@@ -1,11 +1,13 @@
--- When a request of a client token is answered, whatever the rows are (this project's definition).
-use Rattle.std.specs.Prelude.{◌≡◌, ◌⊎◌, ℕ, true, false, Option, Result, Ok, Err}
-use Rattle.broker_types.specs.Answer.{Response}
+-- When a request is answered, whatever the rows are (this project's definition).
+use Rattle.std.specs.Prelude.{◌≡◌, ◌⊎◌, ℕ, true, false, Option, Some, None, Result, Ok, Err}
+use Rattle.std.specs.FinMap as map
+use Rattle.broker_types.specs.Answer.{Response, refused}
 use Rattle.broker_types.specs.Broker.{Mount}
 use Rattle.broker_types.specs.Text.{Text}
 use Rattle.broker_types.specs.declared.ask.Ask.{Ask}
 use Rattle.broker_types.specs.declared.request_error.RequestError.{RequestError}
 use Rattle.broker_types.specs.declared.request_error.RequestError.TheVariants.{Refused}
+use Rattle.records.specs.declared.kind.Kind.TheVariants as kind
 use Rattle.records.specs.Table.{table_of}
 use Rattle.records.specs.Transaction.{Rows}
 use Rattle.token_tree.specs.TokenRows.{ChangesToken, spent_entry}
@@ -14,7 +16,6 @@ use Rattle.mounts.specs.Route.{Route, cut, route_at}
 use Rattle.broker_model.specs.Command.{Command, on_cubbyhole, on_token, on_secret, on_policy, command_for}
 use Rattle.broker_model.specs.Order.{permission_denied}
 use Rattle.broker_rows.specs.Ending.{EndsCaller, Expires}
-use Rattle.broker_rows.specs.ReadableRow.{IsDenied}
 use Rattle.broker_rows.specs.Reads.{AreReadableObjects, AreReadableTokens, AreReadableSecrets, AreReadablePolicies}
 use Rattle.broker.specs.PermittedRows.{IsPermittedAt, IsToldForbidden}
 
@@ -22,10 +23,10 @@ use Rattle.broker.specs.PermittedRows.{IsPermittedAt, IsToldForbidden}
 
 -- none of the rows that a command of the caller reads is damaged
 abbrev pub IsReadableCommand : Rows → Text → Command → Type 0
-IsReadableCommand rows caller (on_cubbyhole command) = AreReadableObjects rows caller command
+IsReadableCommand rows caller (on_cubbyhole path command) = AreReadableObjects rows caller path command
 IsReadableCommand rows caller (on_token command) = AreReadableTokens rows caller command
 IsReadableCommand rows caller (on_secret place command) = AreReadableSecrets rows place command
-IsReadableCommand rows caller (on_policy command) = AreReadablePolicies rows command
+IsReadableCommand rows caller (on_policy name command) = AreReadablePolicies rows name command
 
 -- The ask means this command: what is at the first segment of its path is known, and by that the route and the command
 -- are found.
@@ -76,10 +77,24 @@ IsForbiddenThen moment t old new ask r =
 
 -- ---- what is answered, whatever the rows are
 
--- The rows decide whether the token t may ask. If it may, its command is not answered if a row that it reads is
--- damaged; else it is told that it may not, and nothing is done. Either way t has ended then, if it has no uses left.
--- Or it is denied since it is not there any more.
-abbrev pub IsAnsweredBy : ℕ → Text → Rows → Rows → Ask → Response → Type 0
-IsAnsweredBy moment t old new ask r =
-    ((rows : Rows) × AreAtCommand moment t old rows × IsCarriedOutOrForbidden rows new t ask r)
-    ⊎ IsDenied moment r old new t
+-- The client token is t, and the rows decide whether it may ask. If it may, its command is not answered if a row that it
+-- reads is damaged; else it is told that it may not, and nothing is done. Either way t has ended then, if it has no uses
+-- left.
+pub record IsAskedBy (moment : ℕ) (t : Text) (old new : Rows) (ask : Ask) (r : Response) : Type 0 where
+  pub token : ask.token ≡ Some t
+  pub rows : Rows
+  pub at : AreAtCommand moment t old rows
+  pub done : IsCarriedOutOrForbidden rows new t ask r
+
+-- The response is 403 `permission denied`: once tokens have expired, there is no token that the client token names, if
+-- there is a client token at all. Nothing else was done.
+pub record IsDenied (moment : ℕ) (token : Option Text) (r : Response) (old new : Rows) : Type 0 where
+  pub response : r ≡ refused permission_denied
+  pub nobody : (t : Text) → token ≡ Some t → map.get new (kind.Token, t) ≡ None
+  pub now : ℕ
+  pub expires : Expires moment now old new
+
+-- the client token is that of a token, which may ask or not; or the ask is denied, since there is no such token
+abbrev pub IsAnsweredBy : ℕ → Rows → Rows → Ask → Response → Type 0
+IsAnsweredBy moment old new ask r =
+    ((t : Text) × IsAskedBy moment t old new ask r) ⊎ IsDenied moment ask.token r old new

@@ -1,6 +1,7 @@
 pub mod Answering
 pub mod Kept
 pub mod Laws
+pub mod Meant
 pub mod PermittedRows
 pub mod Safely
 pub mod Stages

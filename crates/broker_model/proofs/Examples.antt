@@ -35,16 +35,16 @@ told = refl
 
 -- a request with a wrap TTL of 5 seconds is wrapped, and one without is not
 wraps_with_ttl : (a : Ask) (command : Command) → wraps permits traits act (record (request_of a) { wrap_ttl = 5 }) command ≡ true
-wraps_with_ttl a (on_cubbyhole command) = refl
+wraps_with_ttl a (on_cubbyhole path command) = refl
 wraps_with_ttl a (on_token command) = refl
 wraps_with_ttl a (on_secret place command) = refl
-wraps_with_ttl a (on_policy command) = refl
+wraps_with_ttl a (on_policy name command) = refl
 
 not_without : (a : Ask) (command : Command) → wraps permits traits act (request_of a) command ≡ false
-not_without a (on_cubbyhole command) = refl
+not_without a (on_cubbyhole path command) = refl
 not_without a (on_token command) = refl
 not_without a (on_secret place command) = refl
-not_without a (on_policy command) = refl
+not_without a (on_policy name command) = refl
 
 -- the reply r to a request for the path `p`, wrapped under `w` with the accessor `x`
 wrapped_in : Names → Reply → Wrapped

@@ -1,38 +1,49 @@
 -- What an operation that gives out no identifier keeps.
-use Rattle.std.specs.Prelude.{◌≡◌, [], None}
-use Rattle.std.proofs.Common.{refl, inl}
+use Rattle.std.specs.Prelude.{◌≡◌, [], Some, None}
+use Rattle.std.proofs.Common.{refl, sym, ◌∙◌, ap, inl}
 use Rattle.broker_types.specs.Text.{Text}
-use Rattle.broker_types.specs.Broker.{Broker}
-use Rattle.broker_types.specs.Evolves.{Evolves}
+use Rattle.broker_types.specs.Broker.{Broker, Waiting}
+use Rattle.broker_types.specs.Evolves.{Evolves, WaitedBefore}
+use Rattle.broker_types.specs.Map.{Map, get}
 use Rattle.broker_types.specs.SpendingLaws.{evolves_self}
 use Rattle.broker_types.specs.Operation.{Answered, kept_text, missing, reply, nothing, plainly}
 use Rattle.broker_types.specs.declared.reply.Reply.{Reply}
 use Rattle.broker_model.specs.Order.{IsProper}
 
+-- what waits as it did, waited before
+pub waits_still : (b next : Broker) → next.waiting ≡ b.waiting → (t : Text) (w : Waiting) → get next.waiting t ≡ Some w → WaitedBefore b w
+waits_still b next same t w e = (t, w, ap (λ (m : Map Waiting). get m t) (sym same) ∙ e, refl, refl)
+
 -- an operation that gives out no identifier, answers no 404 with a reply and no kept text
-pub plainly_proper : (b next : Broker) (answered : Answered) → next.used ≡ b.used → ((r : Reply) → answered ≡ missing r → ⊥)
-    → ((t : Text) → answered ≡ kept_text t → ⊥) → Evolves b next → IsProper b [] (plainly answered next)
-plainly_proper b next answered used found own evolves = record {
+pub plainly_proper : (b next : Broker) (answered : Answered) → next.used ≡ b.used → next.waiting ≡ b.waiting
+    → ((r : Reply) → answered ≡ missing r → ⊥) → ((t : Text) → answered ≡ kept_text t → ⊥) → Evolves b next
+    → IsProper b [] (plainly answered next)
+plainly_proper b next answered used waiting found own evolves = record {
   used = used;
   gives_own = inl refl;
   none_at_204 = λ _. refl;
   none_at_404 = λ r e. absurd (found r e);
   hands_out = λ o e. absurd (cc);
   keeps_text = λ t e. absurd (own t e);
+  none_born = waits_still b next waiting;
   evolves = evolves;
 }
 
+-- one that replies, and changes the broker
+pub changed_proper : (b next : Broker) (r : Reply) → next.used ≡ b.used → next.waiting ≡ b.waiting → Evolves b next
+    → IsProper b [] (plainly (reply r None) next)
+changed_proper b next r used waiting evolves =
+    plainly_proper b next (reply r None) used waiting (λ r n. absurd (cc)) (λ t n. absurd (cc)) evolves
+
 -- one that replies, and leaves the broker as it is
 pub shown_proper : (b : Broker) (r : Reply) → IsProper b [] (plainly (reply r None) b)
-shown_proper b r = plainly_proper b b (reply r None) refl (λ r n. absurd (cc)) (λ t n. absurd (cc)) (evolves_self b)
-
--- one that replies, and changes the broker
-pub changed_proper : (b next : Broker) (r : Reply) → next.used ≡ b.used → Evolves b next → IsProper b [] (plainly (reply r None) next)
-changed_proper b next r used evolves = plainly_proper b next (reply r None) used (λ r n. absurd (cc)) (λ t n. absurd (cc)) evolves
+shown_proper b r = changed_proper b b r refl refl (evolves_self b)
 
 -- one that answers nothing
-pub silent_proper : (b next : Broker) → next.used ≡ b.used → Evolves b next → IsProper b [] (plainly nothing next)
-silent_proper b next used evolves = plainly_proper b next nothing used (λ r n. absurd (cc)) (λ t n. absurd (cc)) evolves
+pub silent_proper : (b next : Broker) → next.used ≡ b.used → next.waiting ≡ b.waiting → Evolves b next
+    → IsProper b [] (plainly nothing next)
+silent_proper b next used waiting evolves =
+    plainly_proper b next nothing used waiting (λ r n. absurd (cc)) (λ t n. absurd (cc)) evolves
 
 -- a 404 with a reply changes nothing
 pub missing_proper : (b : Broker) (r : Reply) → IsProper b [] (plainly (missing r) b)
@@ -43,5 +54,6 @@ missing_proper b r = record {
   none_at_404 = λ r e. (refl, refl);
   hands_out = λ o e. absurd (cc);
   keeps_text = λ t e. absurd (cc);
+  none_born = waits_still b b refl;
   evolves = evolves_self b;
 }

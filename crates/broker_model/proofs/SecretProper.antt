@@ -6,26 +6,26 @@ use Rattle.broker_types.specs.Names.{Names}
 use Rattle.broker_types.specs.Operation.{reply, missing, Done, plainly}
 use Rattle.broker_types.specs.Refuse.{some_or, unless}
 use Rattle.broker_types.specs.RefuseLaws.{ok_step}
-use Rattle.broker_types.specs.Secret.{Version}
 use Rattle.broker_types.specs.Text.{Text}
 use Rattle.broker_types.specs.declared.refusal.Refusal.TheVariants as refusal
 use Rattle.api_json.specs.declared.secret_bodies.SecretWrite.{SecretWrite}
 use Rattle.records.specs.ValueLaws.{ok_inj}
 use Rattle.kv2.specs.Secrets as secrets
 use Rattle.kv2.specs.Secrets.{Written}
+use Rattle.kv2.specs.declared.secret_version.FoundVersion.{FoundVersion}
 use Rattle.kv2.specs.SoundLaws.{write_is, write_evolves, secrets_evolve, settings_evolve}
 use Rattle.broker_model.specs.Order.{IsProper}
-use Rattle.broker_model.specs.parts.SecretCommands.{Place, SecretCommand, show_settings, set_settings, read_version}
-use Rattle.broker_model.specs.parts.SecretCommands.{write_version, delete_current, delete_versions, undelete_versions}
-use Rattle.broker_model.specs.parts.SecretCommands.{destroy_versions, show_metadata, remove_secret, list_secrets}
+use Rattle.broker_model.specs.declared.commands.SecretCommand.{SecretCommand}
+use Rattle.broker_model.specs.declared.commands.SecretCommand.TheVariants as command
+use Rattle.broker_model.specs.parts.SecretCommands.{Place}
 use Rattle.broker_model.specs.parts.SecretReplies.{object_left, version_reply, version_answered, written_reply}
 use Rattle.broker_model.specs.parts.Secrets.{act_on_secrets, settings, read, write, metadata, list, are_none}
 use Rattle.broker_model.proofs.Operations.{shown_proper, silent_proper, missing_proper, changed_proper}
 
 module _ (b : Broker) where
-  version_proper : (request : Text) (v : ℕ × Version) → IsProper b [] (plainly (version_answered request v) b)
+  version_proper : (request : Text) (v : FoundVersion) → IsProper b [] (plainly (version_answered request v) b)
   version_proper request v =
-      elim (is_some (object_left v.1))
+      elim (is_some (object_left v.version))
       as (λ x. IsProper b [] (plainly (if x then reply (version_reply request v) None else missing (version_reply request v)) b)) [
         | true ↦ shown_proper b (version_reply request v)
         | false ↦ missing_proper b (version_reply request v)
@@ -45,9 +45,10 @@ module _ (b : Broker) (names : Names) (p : Place) where
   write_proper : (asked : SecretWrite) (d : Done) → write b names p asked ≡ Ok d → IsProper b [] d
   write_proper asked d e =
       let w = ok_step (secrets.write b p.mount p.path asked.cas asked.object) _ d e in
+      let is = (write_is b p.mount p.path asked.cas asked.object w.0 w.1).3 in
       subst (IsProper b []) (ok_inj w.2)
       (changed_proper b w.0.next (written_reply names.request b.clock w.0.number)
-      (ap (λ (z : Written). z.next.used) (write_is b p.mount p.path asked.cas asked.object w.0 w.1).3)
+      (ap (λ (z : Written). z.next.used) is) (ap (λ (z : Written). z.next.waiting) is)
       (write_evolves b p.mount p.path asked.cas asked.object w.0 w.1))
 
   metadata_proper : (d : Done) → metadata b names p ≡ Ok d → IsProper b [] d
@@ -62,15 +63,15 @@ module _ (b : Broker) (names : Names) (p : Place) where
 
   -- a command that is not refused gives out no identifiers, and lets the broker evolve
   pub acts : (command : SecretCommand) (d : Done) → act_on_secrets b names p command ≡ Ok d → IsProper b [] d
-  acts show_settings d e = settings_proper d e
-  acts (set_settings asked) d e =
-      subst (IsProper b []) (ok_inj e) (silent_proper b _ refl (settings_evolve b _))
-  acts (read_version n) d e = read_proper n d e
-  acts (write_version asked) d e = write_proper asked d e
-  acts delete_current d e = subst (IsProper b []) (ok_inj e) (silent_proper b _ refl (secrets_evolve b _))
-  acts (delete_versions ns) d e = subst (IsProper b []) (ok_inj e) (silent_proper b _ refl (secrets_evolve b _))
-  acts (undelete_versions ns) d e = subst (IsProper b []) (ok_inj e) (silent_proper b _ refl (secrets_evolve b _))
-  acts (destroy_versions ns) d e = subst (IsProper b []) (ok_inj e) (silent_proper b _ refl (secrets_evolve b _))
-  acts show_metadata d e = metadata_proper d e
-  acts remove_secret d e = subst (IsProper b []) (ok_inj e) (silent_proper b _ refl (secrets_evolve b _))
-  acts list_secrets d e = list_proper d e
+  acts command.ShowSettings d e = settings_proper d e
+  acts (command.SetSettings asked) d e =
+      subst (IsProper b []) (ok_inj e) (silent_proper b _ refl refl (settings_evolve b _))
+  acts (command.Read n) d e = read_proper n d e
+  acts (command.Write asked) d e = write_proper asked d e
+  acts command.DeleteCurrent d e = subst (IsProper b []) (ok_inj e) (silent_proper b _ refl refl (secrets_evolve b _))
+  acts (command.Delete ns) d e = subst (IsProper b []) (ok_inj e) (silent_proper b _ refl refl (secrets_evolve b _))
+  acts (command.Undelete ns) d e = subst (IsProper b []) (ok_inj e) (silent_proper b _ refl refl (secrets_evolve b _))
+  acts (command.Destroy ns) d e = subst (IsProper b []) (ok_inj e) (silent_proper b _ refl refl (secrets_evolve b _))
+  acts command.ShowMetadata d e = metadata_proper d e
+  acts command.Remove d e = subst (IsProper b []) (ok_inj e) (silent_proper b _ refl refl (secrets_evolve b _))
+  acts command.List d e = list_proper d e

@@ -40,8 +40,9 @@ use Rattle.broker_model.specs.declared.making.Making.{Making}
 use Rattle.broker_model.specs.declared.making.Making.TheVariants.{OfCaller, WithoutParent}
 use Rattle.broker_model.specs.parts.TokenCreation.{new_token, new_policies, may_make}
 use Rattle.broker_model.specs.parts.TokenReplies.{seconds_left, looked_up, auth_reply}
-use Rattle.broker_model.specs.parts.TokenCommands.{create_token, renew_self, revoke_self, create_meant, revoke_meant}
-use Rattle.broker_model.specs.parts.TokenCommands.{revoke_self_meant}
+use Rattle.mounts.specs.declared.operation.TokenOperation.TheVariants as operation
+use Rattle.broker_model.specs.declared.commands.TokenCommand.TheVariants as command
+use Rattle.broker_model.specs.parts.TokenCommands.{token_command}
 use Rattle.broker_model.specs.parts.Tokens.{act_on_tokens, made, look_up, new_end, revoke, revoke_alone}
 
 -- ---- times
@@ -211,14 +212,14 @@ token_text_at_1040 = rw entries-empty refl
 
 -- ---- bodies
 
-no_body : revoke_self_meant [] ≡ Ok revoke_self
+no_body : token_command operation.RevokeSelf [] ≡ Ok command.RevokeSelf
 no_body = refl
 
-no_token : revoke_meant [] ≡ Err (refusal.BadRequest (reason.MissingField field.Token))
+no_token : token_command operation.Revoke [] ≡ Err (refusal.BadRequest (reason.MissingField field.Token))
 unfolding reader.token optional
 no_token = refl
 
-nothing_asked : create_meant [] ≡ Ok (create_token (asked [] 0 0 false false))
+nothing_asked : token_command operation.Create [] ≡ Ok (command.Create OfCaller (asked [] 0 0 false false))
 unfolding reader.token_creation optional asked
 nothing_asked = refl
 
@@ -231,11 +232,11 @@ abbrev root_text : Text
 root_text = token_text (id 1)
 
 -- it has no end
-not_renewable : (names : Names) → act_on_tokens first root_text names (renew_self 0) ≡ Err (refusal.BadRequest reason.TokenNotRenewable)
+not_renewable : (names : Names) → act_on_tokens first root_text names (command.RenewSelf 0) ≡ Err (refusal.BadRequest reason.TokenNotRenewable)
 not_renewable names = rw (get-put_self empty root_text (root_token 1000 (id 2))) refl
 
 -- it makes a token without policies of its own
-makes : (names : Names) → act_on_tokens first root_text names (create_token (asked [] 100 150 false false))
+makes : (names : Names) → act_on_tokens first root_text names (command.Create OfCaller (asked [] 100 150 false false))
     ≡ Ok (made first names (new_token 1000 (Some root_text) names.accessor (codes "root" ∷ []) (asked [] 100 150 false false)))
 unfolding asked same allows rules_of
 makes names = rw (get-put_self empty root_text (root_token 1000 (id 2))) refl

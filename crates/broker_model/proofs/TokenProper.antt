@@ -23,18 +23,16 @@ use Rattle.token_tree.specs.SoundLaws.{create_evolves, renew_evolves}
 use Rattle.token_tree.specs.Tokens.{with_token, with_end}
 use Rattle.token_tree.specs.Tokens as tree
 use Rattle.broker_model.specs.Order.{IsProper}
-use Rattle.broker_model.specs.parts.TokenCommands.{TokenCommand, create_token, create_orphan, lookup_token}
-use Rattle.broker_model.specs.parts.TokenCommands.{lookup_accessor, lookup_self, renew_token, renew_self, revoke_token}
-use Rattle.broker_model.specs.parts.TokenCommands.{revoke_orphan, revoke_accessor, revoke_self, list_accessors}
-use Rattle.broker_model.specs.parts.TokenCommands.{token_names, token_traits}
+use Rattle.broker_model.specs.declared.commands.TokenCommand.{TokenCommand}
+use Rattle.broker_model.specs.declared.commands.TokenCommand.TheVariants as command
 use Rattle.broker_model.specs.declared.making.Making.{Making}
-use Rattle.broker_model.specs.declared.making.Making.TheVariants.{OfCaller, WithoutParent}
+use Rattle.broker_model.specs.parts.TokenCommands.{token_names, token_traits}
 use Rattle.broker_model.specs.parts.TokenCreation.{making_path, is_privileged, may_make, new_policies, new_token}
 use Rattle.broker_model.specs.parts.TokenCreation.{new_parent}
 use Rattle.broker_model.specs.parts.TokenReplies.{auth_reply}
 use Rattle.broker_model.specs.parts.Tokens.{act_on_tokens, known, named, made, create, look_up, renew, new_end, revoke}
 use Rattle.broker_model.specs.parts.Tokens.{revoke_alone}
-use Rattle.broker_model.proofs.Operations.{shown_proper, changed_proper, silent_proper}
+use Rattle.broker_model.proofs.Operations.{shown_proper, changed_proper, silent_proper, waits_still}
 
 -- ---- creation
 
@@ -52,6 +50,7 @@ module _ (b : Broker) (names : Names) (x : Token) (none : x.leases ≡ empty) wh
     none_at_404 = λ r e. absurd (cc);
     hands_out = λ o e. absurd (cc);
     keeps_text = λ t e. absurd (cc);
+    none_born = waits_still b (with_token b (token_text names.token) x) refl;
     evolves = made_evolves (first_new b.used names.token names.accessor new);
   }
 
@@ -79,33 +78,32 @@ renew_proper b names t increment d e =
     let ending = ok_step (unless (is_some x.0.ends) (refusal.BadRequest reason.TokenNotRenewable)) _ d x.2 in
     let next = new_end b.clock (token_entry x.0) increment in
     subst (IsProper b []) (ok_inj ending.2)
-    (changed_proper b (tree.renew b t next) (auth_reply names.request b.clock t (token_entry (with_end next x.0))) refl
+    (changed_proper b (tree.renew b t next) (auth_reply names.request b.clock t (token_entry (with_end next x.0))) refl refl
     (renew_evolves b t next))
 
 revoke_proper : (b : Broker) (t : Text) → IsProper b [] (revoke b t)
-revoke_proper b t = silent_proper b _ refl (revoke_evolves b t)
+revoke_proper b t = silent_proper b _ refl refl (revoke_evolves b t)
 
 revoke_alone_proper : (b : Broker) (t : Text) → IsProper b [] (revoke_alone b t)
-revoke_alone_proper b t = silent_proper b _ refl (revoke_orphan_evolves b t)
+revoke_alone_proper b t = silent_proper b _ refl refl (revoke_orphan_evolves b t)
 
 -- ---- the part
 
 -- a command that is not refused gives out its own identifiers or none, and lets the broker evolve
 pub acts : (b : Broker) (c : Text) (names : Names) (command : TokenCommand) (d : Done) → are_new b.used ((token_traits command).own names) ≡ true
     → act_on_tokens b c names command ≡ Ok d → IsProper b ((token_traits command).own names) d
-acts b c names (create_token asked) d new e = create_proper b c names OfCaller asked d new e
-acts b c names (create_orphan asked) d new e = create_proper b c names WithoutParent asked d new e
-acts b c names (lookup_token t) d new e = look_up_proper b names t t d e
-acts b c names (lookup_accessor accessor) d new e =
+acts b c names (command.Create making asked) d new e = create_proper b c names making asked d new e
+acts b c names (command.LookUp t) d new e = look_up_proper b names t t d e
+acts b c names (command.LookUpAccessor accessor) d new e =
     let t = ok_step (named b accessor) _ d e in
     look_up_proper b names t.0 [] d t.2
-acts b c names lookup_self d new e = look_up_proper b names c c d e
-acts b c names (renew_token asked) d new e = renew_proper b names asked.token asked.increment d e
-acts b c names (renew_self increment) d new e = renew_proper b names c increment d e
-acts b c names (revoke_token t) d new e = subst (IsProper b []) (ok_inj e) (revoke_proper b t)
-acts b c names (revoke_orphan t) d new e = subst (IsProper b []) (ok_inj e) (revoke_alone_proper b t)
-acts b c names (revoke_accessor accessor) d new e =
+acts b c names command.LookUpSelf d new e = look_up_proper b names c c d e
+acts b c names (command.Renew asked) d new e = renew_proper b names asked.token asked.increment d e
+acts b c names (command.RenewSelf increment) d new e = renew_proper b names c increment d e
+acts b c names (command.Revoke t) d new e = subst (IsProper b []) (ok_inj e) (revoke_proper b t)
+acts b c names (command.RevokeOrphan t) d new e = subst (IsProper b []) (ok_inj e) (revoke_alone_proper b t)
+acts b c names (command.RevokeAccessor accessor) d new e =
     let t = ok_step (named b accessor) _ d e in
     subst (IsProper b []) (ok_inj t.2) (revoke_proper b t.0)
-acts b c names revoke_self d new e = subst (IsProper b []) (ok_inj e) (revoke_proper b c)
-acts b c names list_accessors d new e = subst (IsProper b []) (ok_inj e) (shown_proper b _)
+acts b c names command.RevokeSelf d new e = subst (IsProper b []) (ok_inj e) (revoke_proper b c)
+acts b c names command.ListAccessors d new e = subst (IsProper b []) (ok_inj e) (shown_proper b _)

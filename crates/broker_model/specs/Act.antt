@@ -14,10 +14,10 @@ use Rattle.broker_model.specs.Order.{permission_denied}
 
 -- by a caller
 abbrev pub act_for : Broker → Text → Names → Command → Result Done Refusal
-act_for b c names (on_cubbyhole command) = act_on_cubbyhole b c names command
+act_for b c names (on_cubbyhole path command) = act_on_cubbyhole b c names path command
 act_for b c names (on_token command) = act_on_tokens b c names command
 act_for b c names (on_secret place command) = act_on_secrets b names place command
-act_for b c names (on_policy command) = act_on_policies b names command
+act_for b c names (on_policy name command) = act_on_policies b names name command
 
 -- without a caller nothing of this is done
 abbrev pub act : Broker → Option Text → Names → Command → Result Done Refusal

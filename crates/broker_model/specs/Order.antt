@@ -16,12 +16,12 @@
 use Rattle.std.specs.Prelude.{◌≡◌, ◌≢◌, ◌⊎◌, ℕ, List, [], ◌∷◌, Bool, false, not, ◌&&◌, ◌||◌, nat_lt, if◌then◌else◌}
 use Rattle.std.specs.Prelude.{Option, Some, None, Result, Ok, Err, is_some, codes, decimal}
 use Rattle.broker_types.specs.Text.{Text}
-use Rattle.broker_types.specs.Map.{get, put}
+use Rattle.broker_types.specs.Map.{get, put, without}
 use Rattle.broker_types.specs.TokenText.{token_text}
 use Rattle.broker_types.specs.Time.{time_text}
 use Rattle.broker_types.specs.Broker.{Broker, Waiting, at_moment}
 use Rattle.broker_types.specs.Answer.{Response, refused}
-use Rattle.broker_types.specs.Evolves.{Evolves}
+use Rattle.broker_types.specs.Evolves.{Evolves, WaitedBefore}
 use Rattle.broker_types.specs.Names.{Names}
 use Rattle.broker_types.specs.Operation.{Answered, nothing, reply, kept_text, missing, Done}
 use Rattle.broker_types.specs.Refuse.{◌>>=◌, unless}
@@ -188,15 +188,20 @@ module _ {Command : Type 0} (permits : Broker → Option Text → Verb → Text 
   wrapped b q names command d =
       if wraps q command then wrap_200 b q.path q.wrap_ttl names d d.answered else unwrapped d
 
-  -- policies, route and body, identifiers, operation, wrapping
-  abbrev pub serve : Broker → Option Text → Request Command → Names → Result Wrapped Refusal
-  serve b c q names = do
-    allowed ← unless (q.is_open || permits b c q.verb q.path) permission_denied
-    command ← q.command b
+  -- identifiers, operation, wrapping: what a command leads to
+  abbrev pub carried_out : Broker → Option Text → Request Command → Names → Command → Result Wrapped Refusal
+  carried_out b c q names command = do
     fresh ← unless (are_new b.used (needed q names command)) refusal.IdentifierUsed
     asked ← unless (not (traits command).must_wrap || nat_lt 0 q.wrap_ttl) (refusal.BadRequest reason.WrappingRequired)
     done ← act b c names command
     Ok (wrapped b q names command done)
+
+  -- policies, route and body, and what the command leads to
+  abbrev pub serve : Broker → Option Text → Request Command → Names → Result Wrapped Refusal
+  serve b c q names = do
+    allowed ← unless (q.is_open || permits b c q.verb q.path) permission_denied
+    command ← q.command b
+    carried_out b c q names command
 
   -- the order of one request, for any policies, commands and operations
   abbrev pub ordered : Broker → ℕ → Request Command → Names → Outcome
@@ -207,19 +212,20 @@ module _ {Command : Type 0} (permits : Broker → Option Text → Verb → Text 
 
 -- ---- operations
 
--- The response of the origin o is handed out: it waited, its text is the answer, and it is gone (Vault's documentation,
--- "Response wrapping", single use).
+-- The response of the origin o is handed out: it waited, its text is the answer, and it is gone; all others wait as they
+-- did (Vault's documentation, "Response wrapping", single use). So it is not moved to another wrapping token either.
 pub record HandsOut (b : Broker) (d : Done) (o : Text) : Type 0 where
   pub token : Text
   pub entry : Waiting
   pub waited : get b.waiting token ≡ Some entry
   pub origin : entry.origin ≡ o
   pub text : d.answered ≡ kept_text entry.reply
-  pub gone : get d.next.waiting token ≡ None
+  pub waits : d.next.waiting ≡ without b.waiting token
 
 -- What each operation keeps, by its own identifiers. It gives them out or none: none with a 204 or a 404. It marks none
 -- as used, which the order does; a 404 changes nothing; what it hands out waited until then, and a kept text is
--- answered only so; and the broker evolves.
+-- answered only so; no response begins to wait, which only the wrapping of the order makes it do; and the broker
+-- evolves.
 pub record IsProper (b : Broker) (own : List Text) (d : Done) : Type 0 where
   pub used : d.next.used ≡ b.used
   pub gives_own : (d.taken ≡ []) ⊎ (d.taken ≡ own)
@@ -227,4 +233,5 @@ pub record IsProper (b : Broker) (own : List Text) (d : Done) : Type 0 where
   pub none_at_404 : (r : Reply) → d.answered ≡ missing r → (d.next ≡ b) × (d.taken ≡ [])
   pub hands_out : (o : Text) → d.handed ≡ Some o → HandsOut b d o
   pub keeps_text : (t : Text) → d.answered ≡ kept_text t → d.handed ≢ None
+  pub none_born : (t : Text) (w : Waiting) → get d.next.waiting t ≡ Some w → WaitedBefore b w
   pub evolves : Evolves b d.next

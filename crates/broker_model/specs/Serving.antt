@@ -1,27 +1,20 @@
 -- What serving a caller leaves (this project's definition).
-use Rattle.std.specs.Prelude.{Some, Result}
+use Rattle.std.specs.Prelude.{Option, Some, Result}
 use Rattle.broker_types.specs.Text.{Text}
 use Rattle.broker_types.specs.Broker.{Broker}
 use Rattle.broker_types.specs.Names.{Names}
-use Rattle.broker_types.specs.Operation.{Done}
-use Rattle.broker_types.specs.Refuse.{◌>>=◌, unless}
 use Rattle.broker_types.specs.Spending.{spend}
-use Rattle.broker_types.specs.Used.{are_new}
 use Rattle.broker_types.specs.declared.ask.Ask.{Ask}
 use Rattle.broker_types.specs.declared.refusal.Refusal.{Refusal}
-use Rattle.broker_types.specs.declared.refusal.Refusal.TheVariants as refusal
 use Rattle.broker_model.specs.Act.{act}
 use Rattle.broker_model.specs.Command.{Command}
-use Rattle.broker_model.specs.Order.{Outcome, Wrapped, finish, serve}
+use Rattle.broker_model.specs.Order.{Outcome, Wrapped, carried_out, finish, serve}
 use Rattle.broker_model.specs.Permission.{permits}
 use Rattle.broker_model.specs.Step.{traits, request_of}
 
--- What a command of the caller c does, or why there is none: its own identifiers have to be new.
-abbrev pub acted : Broker → Text → Names → Result Command Refusal → Result Done Refusal
-acted b c names meant = do
-  command ← meant
-  fresh ← unless (are_new b.used ((traits command).own names)) refusal.IdentifierUsed
-  act b (Some c) names command
+-- what a command of an ask by who leads to, or why it is refused: its identifiers have to be new
+abbrev pub operated : Broker → Option Text → Names → Ask → Command → Result Wrapped Refusal
+operated b who names a command = carried_out permits traits act b who (request_of a) names command
 
 -- what an ask of the caller c leads to, or why it is refused
 abbrev pub served : Broker → Text → Names → Ask → Result Wrapped Refusal

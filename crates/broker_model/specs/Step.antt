@@ -16,10 +16,10 @@ use Rattle.broker_model.specs.Permission.{permits}
 
 -- what each command is, part by part
 abbrev pub traits : Command → Traits
-traits (on_cubbyhole command) = cubbyhole_traits command
+traits (on_cubbyhole path command) = cubbyhole_traits command
 traits (on_token command) = token_traits command
 traits (on_secret place command) = secret_traits command
-traits (on_policy command) = policy_traits command
+traits (on_policy name command) = policy_traits command
 
 -- so far no wrap TTL is read, and no request is open
 abbrev pub request_of : Ask → Request Command

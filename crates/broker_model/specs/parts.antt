@@ -1,5 +1,6 @@
 pub mod AclPolicies
 pub mod AclPolicyCommands
+pub mod Bodies
 pub mod Cubbyholes
 pub mod SecretCommands
 pub mod SecretReplies

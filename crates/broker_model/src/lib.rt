@@ -1,9 +1,11 @@
 //! What a request does to a broker: the definition of one step, and laws of its operations. There are no rows here, and
-//! no code but a name for the two routes that make tokens.
+//! no code but the commands of which both the definition and the operations speak.
 #![tactic(auto)]
 
+mod commands;
 mod laws;
 mod making;
 
+pub use commands::{CubbyholeCommand, PolicyCommand, SecretCommand, TokenCommand};
 pub use laws::{cubbyholes_are_routed, operations_are_proper};
 pub use making::Making;

@@ -1,5 +1,5 @@
 -- The use that a caller spends, and its end: from the rows to the broker.
-use Rattle.std.specs.Prelude.{◌≡◌, ◌==◌, Bool, true, false, not, take, drop, ◌+◌, if◌then◌else◌, List}
+use Rattle.std.specs.Prelude.{◌≡◌, ◌==◌, Bool, true, false, take, drop, ◌+◌, if◌then◌else◌}
 use Rattle.std.specs.Prelude.{Option, Some, None, option_map, option_and_then}
 use Rattle.std.specs.Option.{option_map_or}
 use Rattle.std.proofs.Common.{refl, sym, ◌∙◌, ap, subst}
@@ -9,10 +9,8 @@ use Rattle.broker_types.specs.Text.{Text, same}
 use Rattle.broker_types.specs.Map.{get}
 use Rattle.broker_types.specs.Token.{Token}
 use Rattle.broker_types.specs.Broker.{Broker, revoke}
-use Rattle.broker_types.specs.Lineage.{is_under, without_descendants}
 use Rattle.broker_types.specs.MapLaws.{get-change}
 use Rattle.broker_types.specs.OptionLaws.{mapped}
-use Rattle.broker_types.specs.SearchLaws.{kept_get}
 use Rattle.broker_types.specs.Spending.{spend, one_less, is_spent, end_spent}
 use Rattle.broker_types.specs.SpendingLaws.{spend_sound, end_spent_sound}
 use Rattle.records.specs.declared.kind.Kind.{Kind}
@@ -23,14 +21,10 @@ use Rattle.records.specs.Rows.{rows_of, token_len, has_slash, object_row}
 use Rattle.records.specs.Table.{Table, table_of}
 use Rattle.records.specs.TokenEntry.{TokenEntry, token_entry}
 use Rattle.records.specs.Transaction.{Rows}
-use Rattle.token_tree.specs.Tokens.{AreEnded}
-use Rattle.cubbyhole.specs.Laws.{without_cubbyholes}
 use Rattle.broker_model.specs.Forms.{forms}
-use Rattle.broker_rows.specs.Ending.{AreTokenLong, LosesObjects, HaveNoLeases}
+use Rattle.broker_rows.specs.Ending.{HaveNoLeases}
 use Rattle.broker_rows.specs.Representing.{AsServed, Represents}
-use Rattle.broker_rows.specs.EndingLaws.{neither, others_kept, KeepCubbyholes, other_tokens, ended_long, objects_lost}
-use Rattle.broker_rows.specs.EndingLaws.{rows_left, no_token}
-use Rattle.broker_rows.specs.RepresentingLaws.{tells_part, tokens_long}
+use Rattle.broker_rows.specs.EndingLaws.{neither, no_token, other_tokens}
 
 -- ---- a use is spent
 
@@ -85,47 +79,12 @@ module _ (b : Broker) (c : Text) where
 -- ---- a caller that has spent its last use ends
 
 module _ (b : Broker) (c : Text) (old : Rows) (st : Represents (Some c) old b) where
-  left_no_leases : HaveNoLeases (without_descendants b.tokens c)
-  left_no_leases t y is = st.served.no_leases t y (kept_get (λ q. not (is_under b.tokens q c)) b.tokens t y is).0
-
-  left_keep : KeepCubbyholes b.tokens (without_descendants b.tokens c)
-  left_keep t y is = (y, (kept_get (λ q. not (is_under b.tokens q c)) b.tokens t y is).0, refl)
-
-  served-revoke : AsServed (revoke b c)
-  served-revoke = record {
-    no_leases = left_no_leases;
-    none_waits = st.served.none_waits;
-    no_roles = st.served.no_roles;
-  }
-
   abbrev IsSpent : Bool → Type 0
   IsSpent v = v ≡ option_map_or is_spent (get b.tokens c) false
 
-  -- what a call that drops the cubbyholes asks
-  pub revoked_long : (ended : List Text) → AreEnded b (revoke b c) ended → AreTokenLong ended
-  revoked_long ended are = ended_long b (without_descendants b.tokens c) ended are (tokens_long b old st)
-
-  pub revoked_lost : (ended : List Text) → AreEnded b (revoke b c) ended → LosesObjects ended b (revoke b c)
-  revoked_lost ended are = objects_lost b (without_descendants b.tokens c) ended are left_keep
-
-  pub revoked_left : (mid : Rows) → KeepsOthers of_tokens (table_of old) (table_of mid) → Tells of_cubbyholes (table_of mid) b
-  revoked_left mid others k q h = others k q (no_token k h) ∙ tells_part of_cubbyholes b old st k q h
-
-  -- it is revoked, and the cubbyholes are dropped
-  pub represents-revoked : (mid new : Rows) (ended : List Text) (v : Bool) → IsSpent v → v ≡ true → AreEnded b (revoke b c) ended
-      → Tells of_tokens (table_of mid) (revoke b c) → KeepsOthers of_tokens (table_of old) (table_of mid)
-      → table_of new ≡ without_cubbyholes (table_of mid) ended → Tells of_cubbyholes (table_of new) (revoke b c)
-      → Represents None new (end_spent b (Some c))
-  represents-revoked mid new ended v told is are tells others dropped objects =
-      let us = without_descendants b.tokens c in
-      let ends : end_spent b (Some c) ≡ revoke b c = ap (λ v. if v then revoke b c else b) (sym told ∙ is) in
-      let kept = subst (KeepsOthers of_cubbyholes (table_of mid)) (sym dropped) (others_kept ended (table_of mid)) in
-      record {
-        rows = rows_left b us ended are (table_of old) (table_of mid) (table_of new) st.rows tells others objects kept st.served.no_leases left_no_leases
-            ∙ ap rows_of (sym ends);
-        sound = end_spent_sound forms (Some c) b st.sound;
-        served = subst AsServed (sym ends) served-revoke;
-      }
+  -- it has no uses left, and is revoked
+  pub spent_revoked : (v : Bool) → IsSpent v → v ≡ true → end_spent b (Some c) ≡ revoke b c
+  spent_revoked v told spent = ap (λ v. if v then revoke b c else b) (sym told ∙ spent)
 
   -- it has uses left, and nothing changes
   pub represents-unspent : (new : Rows) (v : Bool) → IsSpent v → v ≡ false → new ≡ old → Represents None new (end_spent b (Some c))

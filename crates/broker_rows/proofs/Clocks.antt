@@ -66,11 +66,3 @@ expired_is b m s = λ i.
       tokens = alive_at (max b.clock m) b.tokens;
       waiting = sym (kept_empty (λ t. option_map_or (λ w. nat_lt (max b.clock m) (waiting_ends w)) (get b.waiting t) false) b.waiting s.none_waits) i;
     }
-
--- what is served is so at a later moment
-pub served-at_moment : (b : Broker) (m : ℕ) → AsServed b → AsServed (at_moment b m)
-served-at_moment b m s = record {
-  no_leases = alive_no_leases (max b.clock m) b.tokens s.no_leases;
-  none_waits = kept_empty _ b.waiting s.none_waits ∙ s.none_waits;
-  no_roles = s.no_roles;
-}

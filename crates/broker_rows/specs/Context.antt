@@ -1,10 +1,8 @@
--- What an operation knows of its request beside what is asked (this project's definition).
+-- What an operation knows of its request beside what is asked and who asks (this project's definition).
 use Rattle.std.specs.Prelude.{ℕ}
-use Rattle.broker_types.specs.Text.{Text}
 use Rattle.broker_types.specs.declared.words.Words.{Words}
 
--- who asks, the broker's clock, and the words from which identifiers are made
+-- the broker's clock, and the words from which identifiers are made
 pub record Context : Type 0 where
-  pub caller : Text
   pub clock : ℕ
   pub words : Words

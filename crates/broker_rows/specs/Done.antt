@@ -1,5 +1,5 @@
 -- What an operation leaves (this project's definition).
-use Rattle.std.specs.Prelude.{◌≡◌, Some, None}
+use Rattle.std.specs.Prelude.{◌≡◌, Option, Some, None}
 use Rattle.broker_types.specs.Text.{Text}
 use Rattle.broker_types.specs.Broker.{Broker}
 use Rattle.broker_types.specs.Operation as operation
@@ -21,6 +21,6 @@ answered_of (Missing r) = operation.missing r
 abbrev pub counted : Done → Broker
 counted d = record d.next { used = use_up d.next.used d.taken }
 
--- an operation of the caller c answered as its definition, and the rows represent what it left
-abbrev pub IsDone : Text → Rows → Answered → Done → Type 0
-IsDone c rows x d = (answered_of x ≡ d.answered) × Represents (Some c) rows (counted d)
+-- an operation answered as its definition, and the rows represent what it left
+abbrev pub IsDone : Option Text → Rows → Answered → Done → Type 0
+IsDone who rows x d = (answered_of x ≡ d.answered) × Represents who rows (counted d)

@@ -17,9 +17,9 @@ use Rattle.records.specs.Rows.{token_len}
 use Rattle.records.specs.RowForms.{clock_row}
 use Rattle.records.specs.Table.{table_of, with_row}
 use Rattle.records.specs.TokenEntry.{TokenEntry}
-use Rattle.records.specs.Transaction.{Rows, rows_under}
-use Rattle.token_tree.specs.Ended.{IsDescent, has_come, is_named}
-use Rattle.token_tree.specs.Endings.{AreTokenRows, EndsAlone, EndsDescent, without_tokens}
+use Rattle.records.specs.Transaction.{Rows}
+use Rattle.token_tree.specs.Ended.{has_come, is_named}
+use Rattle.token_tree.specs.Endings.{EndsAlone, EndsDescent}
 use Rattle.token_tree.specs.TokenRows.{IsTokenAt}
 use Rattle.cubbyhole.specs.Cubbyhole.{object_at}
 use Rattle.cubbyhole.specs.Laws.{without_cubbyholes}
@@ -56,6 +56,28 @@ KeepsCubbyholes old new =
 abbrev pub HaveNoLeases : Tokens → Type 0
 HaveNoLeases ts = (t : Text) (x : Token) → get ts t ≡ Some x → x.leases ≡ empty
 
+-- ---- what belonged to tokens that ended, whatever the rows are
+
+-- What belonged to tokens that ended is gone: their cubbyholes. No other row has changed.
+pub record LeavesNothing (ended : List Text) (old new : Rows) : Type 0 where
+  pub rows : table_of new ≡ without_cubbyholes (table_of old) ended
+
+-- The rows of t and of all below it were read. They are gone, with those of their accessors and what belonged to them.
+-- No other row has changed.
+pub record EndsBelow (t : Text) (old new : Rows) : Type 0 where
+  pub ended : List Text
+  pub left : Rows
+  pub ends : EndsDescent (is_named t) old ended left
+  pub leaves : LeavesNothing ended left new
+
+-- The token t has ended alone, and what belonged to it has gone with it. No other row has changed but those of its
+-- children.
+pub record EndsOne (t : Text) (old new : Rows) : Type 0 where
+  pub ended : List Text
+  pub left : Rows
+  pub ends : EndsAlone t old ended left
+  pub leaves : LeavesNothing ended left new
+
 -- ---- the clock and what ends by it, whatever the rows are
 
 -- the clock's row was that of some moment, and now it is that of the later of this moment and the given one
@@ -67,14 +89,14 @@ pub record Advances (moment now : ℕ) (old new : Rows) : Type 0 where
   pub is : table_of new ≡ with_row (table_of old) kind.Clock [] (clock_row now)
 
 -- The clock has moved on, and what has come to its end by then has ended with all below it: the rows of these tokens
--- were read, and are gone with those of their accessors and their cubbyholes. No other row has changed.
+-- were read, and are gone with those of their accessors and what belonged to them. No other row has changed.
 pub record Expires (moment now : ℕ) (old new : Rows) : Type 0 where
   pub timed : Rows
   pub swept : Rows
   pub ended : List Text
   pub advances : Advances moment now old timed
   pub ends : EndsDescent (has_come now) timed ended swept
-  pub rows : table_of new ≡ without_cubbyholes (table_of swept) ended
+  pub leaves : LeavesNothing ended swept new
 
 -- ---- a caller that has spent its last use, whatever the rows are
 
@@ -87,20 +109,6 @@ abbrev pub IsSpentAt : Rows → Text → Bool → Type 0
 IsSpentAt rows t spent =
     (entry : Option TokenEntry) × IsSomeIn IsTokenInRange entry × IsTokenAt (table_of rows) t entry
     × (spent ≡ option_map_or has_no_uses entry false)
-
--- The rows of t and of all below it were read. They are gone, with those of their accessors and their cubbyholes. No
--- other row has changed.
-abbrev pub EndsBelow : Text → Rows → Rows → Type 0
-EndsBelow t old new =
-    (ended : List Text) × IsDescent (is_named t) (rows_under old kind.Token []) ended
-    × AreTokenRows ended (table_of old)
-    × (table_of new ≡ without_cubbyholes (without_tokens ended (table_of old)) ended)
-
--- the token t has ended alone, and its cubbyhole has gone with it; no other row has changed but those of its children
-abbrev pub EndsOne : Text → Rows → Rows → Type 0
-EndsOne t old new =
-    (alone : Rows) × (ended : List Text) × EndsAlone t old ended alone
-    × (table_of new ≡ without_cubbyholes (table_of alone) ended)
 
 -- if the token t has no uses left, then it has ended; else no row has changed
 pub record EndsCaller (t : Text) (old new : Rows) : Type 0 where

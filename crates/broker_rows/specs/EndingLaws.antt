@@ -1,6 +1,6 @@
 -- The rows that are left when tokens have ended and their cubbyholes were dropped.
-use Rattle.std.specs.Prelude.{◌≡◌, ◌||◌, ◌&&◌, List, [], ◌∷◌, ◌++◌, length, take, drop, nat_eq, Bool, true, false, not}
-use Rattle.std.specs.Prelude.{if◌then◌else◌, is_some, is_none, Option, Some, None, option_and_then}
+use Rattle.std.specs.Prelude.{◌≡◌, ◌||◌, List, [], ◌∷◌, ◌++◌, length, take, drop, nat_eq, Bool, true, false, not}
+use Rattle.std.specs.Prelude.{if◌then◌else◌, is_none, None, option_and_then}
 use Rattle.std.specs.List.{starts_with}
 use Rattle.std.specs.FinMap.{get-empty}
 use Rattle.std.proofs.Common.{refl, sym, ◌∙◌, ap, append_assoc, inl, inr}
@@ -22,12 +22,11 @@ use Rattle.records.specs.PartLaws.{joined_rows, rows_of-other_tokens}
 use Rattle.records.specs.Parts.{Tells, KeepsOthers, of_tokens, of_cubbyholes, of_tokens_and_theirs}
 use Rattle.records.specs.Rows.{rows_of, token_len, has_lease, lease_of_credential, credential_is}
 use Rattle.records.specs.Splits.{slash}
-use Rattle.records.specs.Table.{Table, without_under}
-use Rattle.token_tree.specs.Tokens.{AreEnded}
-use Rattle.cubbyhole.specs.Cubbyhole.{object_at}
+use Rattle.records.specs.Table.{Table, table_of, without_under}
+use Rattle.records.specs.Transaction.{Rows}
 use Rattle.cubbyhole.specs.Laws.{without_cubbyholes}
 use Rattle.cubbyhole.specs.Objects.{object_key}
-use Rattle.broker_rows.specs.Ending.{of_ended, AreTokenLong, LosesObjects, HaveNoLeases}
+use Rattle.broker_rows.specs.Ending.{of_ended, AreTokenLong, HaveNoLeases, LeavesNothing}
 
 -- ---- on any rows
 
@@ -39,6 +38,12 @@ others_kept (t ∷ ended) rows k q h = others_kept ended (without_under rows kin
     one : (k : Kind) → of_cubbyholes k ≡ false → without_under rows kind.Cubby (object_key t []) k q ≡ rows k q
     one kind.Cubby h = absurd (true≢false h)
     one _ h = refl
+
+-- no other row goes with tokens that ended
+pub leaves_others : (ended : List Text) (old new : Rows) → LeavesNothing ended old new
+    → KeepsOthers of_cubbyholes (table_of old) (table_of new)
+leaves_others ended old new leaves k q h =
+    ap (λ (z : Table). z k q) leaves.rows ∙ others_kept ended (table_of old) k q h
 
 follows : (t q : Text) → starts_with nat_eq q (object_key t []) ≡ true
     → q ≡ object_key t (drop (length (object_key t [])) q)
@@ -106,11 +111,6 @@ no_credential_row b none q =
 
 -- ---- on the rows of a broker
 
--- each token is one of the others, with the same cubbyhole
-abbrev pub KeepCubbyholes : Tokens → Tokens → Type 0
-KeepCubbyholes ts us =
-    (t : Text) (y : Token) → get us t ≡ Some y → (x : Token) × (get ts t ≡ Some x) × (y.cubbyhole ≡ x.cubbyhole)
-
 -- rows of tokens and cubbyholes that are those of other tokens, where nothing else has changed
 pub other_tokens : (b : Broker) (us : Tokens) (old new : Table) → old ≡ rows_of b
     → Tells of_tokens new (record b { tokens = us }) → Tells of_cubbyholes new (record b { tokens = us })
@@ -142,53 +142,7 @@ other_tokens b us old new was tokens objects others none none_after =
     keeps kind.Credential q h = absurd (true≢false h)
     keeps k q h = others k q refl
 
--- a row of a token or of an accessor is none of a cubbyhole
-pub no_cubbyhole : (k : Kind) → of_tokens k ≡ true → of_cubbyholes k ≡ false
-no_cubbyhole kind.Token h = refl
-no_cubbyhole kind.Accessor h = refl
-no_cubbyhole _ h = absurd (false≢true h)
-
-module _ (b : Broker) (us : Tokens) (ended : List Text) (are : AreEnded b (record b { tokens = us }) ended) where
-  abbrev c : Broker
-  c = record b { tokens = us }
-
-  -- the tokens that ended were tokens
-  pub ended_long : ((t : Text) (x : Token) → get b.tokens t ≡ Some x → length t ≡ token_len) → AreTokenLong ended
-  ended_long long t h = elim (found_or_not (get b.tokens t)) [
-    | inl none ↦ absurd (false≢true (ap (λ o. is_some o && is_none (get us t)) (sym none) ∙ sym (are.exact t) ∙ h))
-    | inr x ↦ long t x.0 x.1
-  ]
-
-  -- their objects are gone, and no others
-  pub objects_lost : KeepCubbyholes b.tokens us → LosesObjects ended b c
-  objects_lost keep t path = elim (found_or_not (get us t)) [
-    | inr y ↦
-        let x = keep t y.0 y.1 in
-        let stays : has ended t ≡ false = are.exact t ∙ (λ i. is_some (x.1 i) && is_none (y.1 i)) in
-        ap (option_and_then (λ (z : Token). get z.cubbyhole path)) y.1 ∙ ap (λ m. get m path) x.2
-        ∙ sym (ap (option_and_then (λ (z : Token). get z.cubbyhole path)) x.1)
-        ∙ sym (ap (λ v. if v then None else object_at b t path) stays)
-    | inl none ↦
-        ap (option_and_then (λ (z : Token). get z.cubbyhole path)) none
-        ∙ sym (ap (λ v. if v then None else object_at b t path)
-        (are.exact t ∙ ap (λ o. is_some (get b.tokens t) && is_none o) none)
-        ∙ gone (get b.tokens t))
-  ]
-    where
-      gone : (o : Option Token)
-          → (if is_some o && true then None else option_and_then (λ (z : Token). get z.cubbyhole path) o) ≡ None
-      gone None = refl
-      gone (Some x) = refl
-
-  -- the rows are those of the broker without them
-  pub rows_left : (old mid new : Table) → old ≡ rows_of b → Tells of_tokens mid c → KeepsOthers of_tokens old mid
-      → Tells of_cubbyholes new c → KeepsOthers of_cubbyholes mid new → HaveNoLeases b.tokens → HaveNoLeases us
-      → new ≡ rows_of c
-  rows_left old mid new was tells others objects kept none none_after =
-      other_tokens b us old new was (λ k q h. kept k q (no_cubbyhole k h) ∙ tells k q h) objects
-      (λ k q h. let parts = neither (of_tokens k) (of_cubbyholes k) h in kept k q parts.1 ∙ others k q parts.0)
-      none none_after
-
+-- a row of a cubbyhole is none of a token
 pub no_token : (k : Kind) → of_cubbyholes k ≡ true → of_tokens k ≡ false
 no_token kind.Cubby h = refl
 no_token _ h = absurd (false≢true h)

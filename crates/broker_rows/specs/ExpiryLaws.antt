@@ -25,11 +25,11 @@ use Rattle.records.specs.TableLaws.{met-is_at, with_row_keeps}
 use Rattle.records.specs.Transaction.{Rows, rows_under}
 use Rattle.token_tree.specs.Ended.{Start, has_key, has_come}
 use Rattle.token_tree.specs.Endings.{EndsDescent}
-use Rattle.cubbyhole.specs.Laws.{without_cubbyholes}
 use Rattle.cubbyhole.specs.Objects.{object_key}
 use Rattle.broker_rows.specs.Ending.{of_ended, of_expired, AreTokenLong, Expires, HasTokenKeys, KeepsCubbyholes}
+use Rattle.broker_rows.specs.Ending.{LeavesNothing}
 use Rattle.broker_rows.specs.ReadableRow.{IsReadableToken, KeepsDamaged}
-use Rattle.broker_rows.specs.EndingLaws.{others_kept, neither, left_alone}
+use Rattle.broker_rows.specs.EndingLaws.{leaves_others, neither, left_alone}
 
 abbrev takes : RowKey × Row → Bool
 takes e = is_of_kind kind.Token e.0 && starts_with nat_eq e.0.1 []
@@ -66,11 +66,10 @@ listed rows u h none = walk u (entries rows) h (sym (get-entries rows (kind.Toke
 -- the cubbyhole of a token that is left is as it was
 pub left_expired : (old mid swept new : Rows) (s : Start) (ended : List Text)
     → KeepsOthers of_clock (table_of old) (table_of mid) → EndsDescent s mid ended swept
-    → table_of new ≡ without_cubbyholes (table_of swept) ended → HasTokenKeys old → KeepsCubbyholes old new
-left_expired old mid swept new s ended clock ends dropped keys t path here =
+    → LeavesNothing ended swept new → HasTokenKeys old → KeepsCubbyholes old new
+left_expired old mid swept new s ended clock ends leaves keys t path here =
     let at_t : table_of new kind.Token t ≡ (if has ended t then None else table_of mid kind.Token t) =
-    ap (λ (z : Table). z kind.Token t) dropped ∙ others_kept ended (table_of swept) kind.Token t refl
-    ∙ ap (λ (z : Table). z kind.Token t) ends.rows in
+    leaves_others ended swept new leaves kind.Token t refl ∙ ap (λ (z : Table). z kind.Token t) ends.rows in
     let apart : has ended t ≡ false =
     false_from_ne_true _ (λ h. here (at_t ∙ ap (λ v. if v then None else table_of mid kind.Token t) h)) in
     let long : length t ≡ token_len =
@@ -79,7 +78,7 @@ left_expired old mid swept new s ended clock ends dropped keys t path here =
     let all : AreTokenLong ended =
     λ u h. keys u (λ none. listed mid u (ends.descent.keys u h) (clock kind.Token u refl ∙ none)) in
     let key = object_key t path in
-    ap (λ (z : Table). z kind.Cubby key) dropped ∙ left_alone ended (table_of swept) t path long all apart
+    ap (λ (z : Table). z kind.Cubby key) leaves.rows ∙ left_alone ended (table_of swept) t path long all apart
     ∙ ap (λ (z : Table). z kind.Cubby key) ends.rows ∙ clock kind.Cubby key refl
 
 -- and so is each row of another kind
@@ -93,8 +92,8 @@ others_expired old mid swept new clock tokens objects k q h =
 -- a row of a token that can be read then could be read before, and so could that of a token that ended
 pub damaged_still : (old mid swept new : Rows) (s : Start) (ended : List Text)
     → KeepsOthers of_clock (table_of old) (table_of mid) → EndsDescent s mid ended swept
-    → table_of new ≡ without_cubbyholes (table_of swept) ended → KeepsDamaged old new
-damaged_still old mid swept new s ended clock ends dropped t readable =
+    → LeavesNothing ended swept new → KeepsDamaged old new
+damaged_still old mid swept new s ended clock ends leaves t readable =
     elim (has ended t) as (λ v. has ended t ≡ v → IsReadableToken old t) [
       | true ↦ λ gone. was gone (table_of mid kind.Token t) refl
       | false ↦ λ left. (
@@ -107,8 +106,7 @@ damaged_still old mid swept new s ended clock ends dropped t readable =
   where
     at_t : table_of new kind.Token t ≡ (if has ended t then None else table_of mid kind.Token t)
     at_t =
-        ap (λ (z : Table). z kind.Token t) dropped ∙ others_kept ended (table_of swept) kind.Token t refl
-        ∙ ap (λ (z : Table). z kind.Token t) ends.rows
+        leaves_others ended swept new leaves kind.Token t refl ∙ ap (λ (z : Table). z kind.Token t) ends.rows
 
     was : has ended t ≡ true → (o : Option Row) → table_of mid kind.Token t ≡ o → IsReadableToken old t
     was gone None none = (None, (λ x e. absurd (none-some _ e)), sym (clock kind.Token t refl) ∙ none)
@@ -129,14 +127,14 @@ module _ (moment now : ℕ) (old expired : Rows) (e : Expires moment now old exp
 
   -- a row of a token that can be read then could be read before
   pub damaged_before : KeepsDamaged old expired
-  damaged_before = damaged_still old e.timed e.swept expired (has_come now) e.ended clock_alone e.ends e.rows
+  damaged_before = damaged_still old e.timed e.swept expired (has_come now) e.ended clock_alone e.ends e.leaves
 
   -- the cubbyhole of a token that is left is as it was
   pub objects_before : HasTokenKeys old → KeepsCubbyholes old expired
-  objects_before = left_expired old e.timed e.swept expired (has_come now) e.ended clock_alone e.ends e.rows
+  objects_before = left_expired old e.timed e.swept expired (has_come now) e.ended clock_alone e.ends e.leaves
 
   -- and so is the row of a mount
   pub mount_before : (name : Text) → table_of expired kind.Mount name ≡ table_of old kind.Mount name
   mount_before name =
-      ap (λ (z : Table). z kind.Mount name) e.rows ∙ others_kept e.ended (table_of e.swept) kind.Mount name refl
+      leaves_others e.ended e.swept expired e.leaves kind.Mount name refl
       ∙ ap (λ (z : Table). z kind.Mount name) e.ends.rows ∙ clock_alone kind.Mount name refl

@@ -5,6 +5,8 @@ pub mod Ending
 pub mod EndingLaws
 pub mod ExpiryLaws
 pub mod Laws
+pub mod Left
+pub mod LeftLaws
 pub mod Marks
 pub mod Operating
 pub mod OperatingLaws

@@ -1,11 +1,8 @@
--- Which rows of cubbyholes, policies, tokens and secrets can be read, and whom a request denies (this project's
--- definition).
-use Rattle.std.specs.Prelude.{◌≡◌, ℕ, List, [], None, Option, All}
+-- Which rows of cubbyholes, policies, tokens and secrets can be read (this project's definition).
+use Rattle.std.specs.Prelude.{ℕ, List, [], Option, All}
 use Rattle.std.specs.Option.{option_map_or}
-use Rattle.std.specs.FinMap as map
 use Rattle.broker_types.specs.Sound.{IsShortText}
 use Rattle.broker_types.specs.Text.{Text}
-use Rattle.broker_types.specs.Answer.{Response, refused}
 use Rattle.records.specs.declared.kind.Kind.TheVariants as kind
 use Rattle.records.specs.Table.{table_of}
 use Rattle.records.specs.Transaction.{Rows, rows_under}
@@ -17,12 +14,10 @@ use Rattle.token_tree.specs.Endings.{AreTokenRows}
 use Rattle.token_tree.specs.TokenRows.{IsTokenAt}
 use Rattle.cubbyhole.specs.Objects.{IsObjectAt}
 use Rattle.policies.specs.PolicyRows as policies
-use Rattle.broker_types.specs.Secret.{Version}
 use Rattle.kv2.specs.SecretRows.{IsRead}
 use Rattle.kv2.specs.Secrets.{secret_name}
+use Rattle.kv2.specs.declared.secret_version.FoundVersion.{FoundVersion}
 use Rattle.broker_model.specs.parts.SecretCommands.{Place}
-use Rattle.broker_model.specs.Order.{permission_denied}
-use Rattle.broker_rows.specs.Ending.{Expires}
 
 -- the row at the path of t's cubbyhole is that of some object, or there is none
 abbrev pub IsReadableObject : Rows → Text → Text → Type 0
@@ -38,7 +33,7 @@ IsReadablePolicy rows name =
 -- none; and if there is one, so it is with that of the version.
 abbrev pub IsReadableSecret : Rows → Place → ℕ → Type 0
 IsReadableSecret rows p n =
-    (o : Option (ℕ × Version)) × IsRead (table_of rows) (secret_name p.mount p.path) n o
+    (o : Option FoundVersion) × IsRead (table_of rows) (secret_name p.mount p.path) n o
 
 -- the row of t is that of some token, or there is none
 abbrev pub IsReadableToken : Rows → Text → Type 0
@@ -60,13 +55,3 @@ IsReadableDescent rows t =
 -- each row of a token that was damaged before is damaged still: none was mended, and none taken out
 abbrev pub KeepsDamaged : Rows → Rows → Type 0
 KeepsDamaged old new = (t : Text) → IsReadableToken new t → IsReadableToken old t
-
--- the response is 403 `permission denied`: once tokens have expired there is no token t, and nothing else was done
-abbrev pub IsDenied : ℕ → Response → Rows → Rows → Text → Type 0
-IsDenied moment r old new t =
-    (r ≡ refused permission_denied) × (map.get new (kind.Token, t) ≡ None)
-    × (now : ℕ) × Expires moment now old new
-
--- the same of an ask without a client token
-abbrev pub IsDeniedToNobody : ℕ → Response → Rows → Rows → Type 0
-IsDeniedToNobody moment r old new = (r ≡ refused permission_denied) × (now : ℕ) × Expires moment now old new

@@ -10,23 +10,23 @@ use Rattle.kv2.specs.Metadata.{Metadata}
 use Rattle.kv2.specs.SecretRows as kv2
 use Rattle.kv2.specs.Secrets.{secret_name}
 use Rattle.token_tree.specs.Accessors.{AreAccessorRows, IsFoundAt}
-use Rattle.broker_model.specs.parts.Cubbyholes.{CubbyholeCommand, read_object, write_object}
-use Rattle.broker_model.specs.parts.AclPolicyCommands.{PolicyCommand, list_policies, show_policy, set_policy}
-use Rattle.broker_model.specs.parts.AclPolicyCommands.{remove_policy}
-use Rattle.broker_model.specs.parts.SecretCommands.{Place, SecretCommand, show_settings, set_settings, read_version}
-use Rattle.broker_model.specs.parts.SecretCommands.{write_version, delete_current, delete_versions, undelete_versions}
-use Rattle.broker_model.specs.parts.SecretCommands.{destroy_versions, show_metadata, remove_secret, list_secrets}
-use Rattle.broker_model.specs.parts.TokenCommands.{TokenCommand, create_token, create_orphan, lookup_token}
-use Rattle.broker_model.specs.parts.TokenCommands.{lookup_accessor, lookup_self, renew_token, renew_self, revoke_token}
-use Rattle.broker_model.specs.parts.TokenCommands.{revoke_orphan, revoke_accessor, revoke_self, list_accessors}
+use Rattle.broker_model.specs.declared.commands.CubbyholeCommand.{CubbyholeCommand}
+use Rattle.broker_model.specs.declared.commands.CubbyholeCommand.TheVariants as cubbyhole
+use Rattle.broker_model.specs.declared.commands.PolicyCommand.{PolicyCommand}
+use Rattle.broker_model.specs.declared.commands.PolicyCommand.TheVariants as policy
+use Rattle.broker_model.specs.declared.commands.SecretCommand.{SecretCommand}
+use Rattle.broker_model.specs.declared.commands.SecretCommand.TheVariants as secret
+use Rattle.broker_model.specs.declared.commands.TokenCommand.{TokenCommand}
+use Rattle.broker_model.specs.declared.commands.TokenCommand.TheVariants as token
+use Rattle.broker_model.specs.parts.SecretCommands.{Place}
 use Rattle.broker_rows.specs.ReadableRow.{IsReadableObject, IsReadablePolicy, IsReadableSecret, IsReadableToken}
 use Rattle.broker_rows.specs.ReadableRow.{IsReadableDescent}
 
 -- ---- cubbyholes
 
-abbrev pub AreReadableObjects : Rows → Text → CubbyholeCommand → Type 0
-AreReadableObjects rows caller (read_object path) = IsReadableObject rows caller path
-AreReadableObjects rows caller (write_object path _) = ⊤
+abbrev pub AreReadableObjects : Rows → Text → Text → CubbyholeCommand → Type 0
+AreReadableObjects rows caller path cubbyhole.Read = IsReadableObject rows caller path
+AreReadableObjects rows caller path (cubbyhole.Write _) = ⊤
 
 -- ---- tokens
 
@@ -41,18 +41,17 @@ IsReadableName rows P accessor = (found : Option Text) × IsFoundAt (table_of ro
 
 -- A creation reads the row of the caller and those of its policies, as the permission to ask for it has done before.
 abbrev pub AreReadableTokens : Rows → Text → TokenCommand → Type 0
-AreReadableTokens rows caller (create_token asked) = ⊤
-AreReadableTokens rows caller (create_orphan asked) = ⊤
-AreReadableTokens rows caller (lookup_token t) = IsReadableToken rows t
-AreReadableTokens rows caller (lookup_accessor a) = IsReadableName rows (IsReadableToken rows) a
-AreReadableTokens rows caller lookup_self = IsReadableToken rows caller
-AreReadableTokens rows caller (renew_token asked) = IsReadableToken rows asked.token
-AreReadableTokens rows caller (renew_self increment) = IsReadableToken rows caller
-AreReadableTokens rows caller (revoke_token t) = IsReadableDescent rows t
-AreReadableTokens rows caller (revoke_orphan t) = IsReadableToken rows t
-AreReadableTokens rows caller (revoke_accessor a) = IsReadableName rows (IsReadableDescent rows) a
-AreReadableTokens rows caller revoke_self = IsReadableDescent rows caller
-AreReadableTokens rows caller list_accessors = AreAccessorRows rows
+AreReadableTokens rows caller (token.Create making asked) = ⊤
+AreReadableTokens rows caller (token.LookUp t) = IsReadableToken rows t
+AreReadableTokens rows caller (token.LookUpAccessor a) = IsReadableName rows (IsReadableToken rows) a
+AreReadableTokens rows caller token.LookUpSelf = IsReadableToken rows caller
+AreReadableTokens rows caller (token.Renew asked) = IsReadableToken rows asked.token
+AreReadableTokens rows caller (token.RenewSelf increment) = IsReadableToken rows caller
+AreReadableTokens rows caller (token.Revoke t) = IsReadableDescent rows t
+AreReadableTokens rows caller (token.RevokeOrphan t) = IsReadableToken rows t
+AreReadableTokens rows caller (token.RevokeAccessor a) = IsReadableName rows (IsReadableDescent rows) a
+AreReadableTokens rows caller token.RevokeSelf = IsReadableDescent rows caller
+AreReadableTokens rows caller token.ListAccessors = AreAccessorRows rows
 
 -- ---- secrets
 
@@ -67,27 +66,27 @@ abbrev pub IsReadableWhole : Rows → Text → Type 0
 IsReadableWhole rows name = (m : Option Metadata) × kv2.IsMetadata rows name m
 
 abbrev pub AreReadableSecrets : Rows → Place → SecretCommand → Type 0
-AreReadableSecrets rows p show_settings = kv2.IsReadableMount (table_of rows) p.mount
-AreReadableSecrets rows p (set_settings asked) = kv2.IsReadableMount (table_of rows) p.mount
-AreReadableSecrets rows p (read_version n) = IsReadableSecret rows p n
-AreReadableSecrets rows p (write_version asked) =
+AreReadableSecrets rows p secret.ShowSettings = kv2.IsReadableMount (table_of rows) p.mount
+AreReadableSecrets rows p (secret.SetSettings asked) = kv2.IsReadableMount (table_of rows) p.mount
+AreReadableSecrets rows p (secret.Read n) = IsReadableSecret rows p n
+AreReadableSecrets rows p (secret.Write asked) =
     kv2.AreReadableToWrite (table_of rows) p.mount (secret_name p.mount p.path)
-AreReadableSecrets rows p delete_current = IsReadableCurrent rows (secret_name p.mount p.path)
-AreReadableSecrets rows p (delete_versions ns) =
+AreReadableSecrets rows p secret.DeleteCurrent = IsReadableCurrent rows (secret_name p.mount p.path)
+AreReadableSecrets rows p (secret.Delete ns) =
     kv2.AreReadableVersions (table_of rows) (secret_name p.mount p.path) ns
-AreReadableSecrets rows p (undelete_versions ns) =
+AreReadableSecrets rows p (secret.Undelete ns) =
     kv2.AreReadableVersions (table_of rows) (secret_name p.mount p.path) ns
-AreReadableSecrets rows p (destroy_versions ns) =
+AreReadableSecrets rows p (secret.Destroy ns) =
     kv2.AreReadableVersions (table_of rows) (secret_name p.mount p.path) ns
-AreReadableSecrets rows p show_metadata = IsReadableWhole rows (secret_name p.mount p.path)
-AreReadableSecrets rows p remove_secret = ⊤
-AreReadableSecrets rows p list_secrets = ⊤
+AreReadableSecrets rows p secret.ShowMetadata = IsReadableWhole rows (secret_name p.mount p.path)
+AreReadableSecrets rows p secret.Remove = ⊤
+AreReadableSecrets rows p secret.List = ⊤
 
 -- ---- policies
 
 -- a list looks at the names of the rows alone, and a change reads none
-abbrev pub AreReadablePolicies : Rows → PolicyCommand → Type 0
-AreReadablePolicies rows list_policies = ⊤
-AreReadablePolicies rows (show_policy name) = IsReadablePolicy rows name
-AreReadablePolicies rows (set_policy name _) = ⊤
-AreReadablePolicies rows (remove_policy name) = ⊤
+abbrev pub AreReadablePolicies : Rows → Text → PolicyCommand → Type 0
+AreReadablePolicies rows name policy.List = ⊤
+AreReadablePolicies rows name policy.Show = IsReadablePolicy rows name
+AreReadablePolicies rows name (policy.Set _) = ⊤
+AreReadablePolicies rows name policy.Remove = ⊤

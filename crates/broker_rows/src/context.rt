@@ -1,11 +1,9 @@
 use broker_types::{Moment, Words};
 use std::marker::Model;
 
-/// What an operation knows of its request beside what is asked.
+/// What an operation knows of its request beside what is asked and who asks.
 #[derive(Drop)]
 pub struct Context<'r> {
-    /// The token of the caller.
-    pub caller: &'r str,
     /// The broker's clock.
     pub clock: Moment,
     /// From which identifiers are made.
@@ -17,5 +15,5 @@ impl<'r> Model for Context<'r> {
 
     ghost Value = { spec.Context };
 
-    ghost view = { λ c. record { caller = c.caller.now; clock = c.clock; words = c.words.now } };
+    ghost view = { λ c. record { clock = c.clock; words = c.words.now } };
 }

@@ -1,17 +1,17 @@
 //! What goes with tokens that ended, and the end of a caller that has spent its last use.
 
-ghost use Rattle.std.specs.Prelude.{◌≡◌, false, None, Some, IfOk, IfErr, OnOk};
+ghost use Rattle.std.specs.Prelude.{◌≡◌, false, Option, None, Some, IfOk, IfErr, OnOk};
 ghost use Rattle.std.specs.Option.{option_map_or};
 ghost use Rattle.broker_types.specs.Broker.{Broker};
 ghost use Rattle.broker_types.specs.Fault.{IsMemoryOrStorage, IsNotBadStart};
 ghost use Rattle.broker_types.specs.Map.{get};
 ghost use Rattle.broker_types.specs.Spending as spending;
+ghost use Rattle.broker_types.specs.Text.{Text};
+ghost use Rattle.broker_types.specs.Token.{Tokens};
 ghost use Rattle.records.specs.Calls.{IsCall, IsReading};
-ghost use Rattle.records.specs.Parts.{Tells, of_cubbyholes};
-ghost use Rattle.records.specs.Table.{table};
 ghost use Rattle.records.specs.Transaction.{IsHonest};
-ghost use Rattle.cubbyhole.specs.Laws.{without_cubbyholes};
-ghost use Rattle.broker_rows.specs.Ending.{AreTokenLong, LosesObjects, IsSpentAt, EndsCaller};
+ghost use Rattle.broker_rows.specs.Ending.{LeavesNothing, IsSpentAt, EndsCaller};
+ghost use Rattle.broker_rows.specs.Left.{HaveEnded};
 ghost use Rattle.broker_rows.specs.Representing.{Represents};
 
 use broker_types::{Fault, TextBuf};
@@ -20,18 +20,20 @@ use records::RecordsTx;
 use std::alloc::Global;
 use token_tree::{find, revoke};
 
-/// Drops the cubbyholes of tokens that ended.
+/// Drops what belonged to tokens that ended: their cubbyholes (Vault's documentation, "Cubbyhole secrets engine").
 /// It fails with `Memory` if memory runs out, and with `Storage` if the transaction's storage failed.
-pub fn drop_cubbyholes<T: RecordsTx>(
+pub fn leave_nothing<T: RecordsTx>(
     alloc: Global,
     tx: &mut T,
     ended: &[TextBuf],
 ) -> Result<(), Fault>
-    ensures rows { IsHonest (T.seen tx.new) → OnOk result (table (T.seen tx.new)
-        ≡ without_cubbyholes (table (T.seen tx.old)) ended.now) }
-    ensures told { IsHonest (T.seen tx.new) → (b c : Broker) → AreTokenLong ended.now → LosesObjects ended.now b c
-        → Tells of_cubbyholes (table (T.seen tx.old)) b
-        → OnOk result (Tells of_cubbyholes (table (T.seen tx.new)) c) }
+    ensures told { IsHonest (T.seen tx.new) → (who after : Option Text) (b : Broker) (us : Tokens)
+        → HaveEnded who after b us ended.now (T.seen tx.old).rows
+        → OnOk result (Represents after (T.seen tx.new).rows (record b { tokens = us })) }
+
+    // Whatever the rows are: no others go.
+    ensures rows { IsHonest (T.seen tx.new)
+        → OnOk result (LeavesNothing ended.now (T.seen tx.old).rows (T.seen tx.new).rows) }
     ensures call { IsCall (T.seen tx.old) (T.seen tx.new) result IsMemoryOrStorage }
 {
     ended_tokens_leave_nothing();
@@ -41,7 +43,7 @@ pub fn drop_cubbyholes<T: RecordsTx>(
     Ok(())
 }
 
-/// Ends a caller that has spent its last use, with all below it, and their cubbyholes with them (Vault's documentation,
+/// Ends a caller that has spent its last use, with all below it and all that belonged to them (Vault's documentation,
 /// "Tokens").
 /// It fails with `Memory` if memory runs out, with `Storage` if the transaction's storage failed, and with `Damaged` if
 /// a row that it asks for cannot be read.
@@ -60,7 +62,7 @@ pub fn end_spent<T: RecordsTx>(alloc: Global, tx: &mut T, caller: &str) -> Resul
         return Ok(());
     }
     let ended = revoke(alloc, tx, caller)?;
-    drop_cubbyholes(alloc, tx, &ended)
+    leave_nothing(alloc, tx, &ended)
 }
 
 /// Whether the caller has spent its last use.

@@ -13,14 +13,14 @@ ghost use Rattle.broker_rows.specs.Ending.{of_expired, Advances, Expires};
 ghost use Rattle.broker_rows.specs.ReadableRow.{KeepsDamaged};
 ghost use Rattle.broker_rows.specs.Representing.{Represents};
 
-use crate::ending::drop_cubbyholes;
+use crate::ending::leave_nothing;
 use broker_types::{Fault, Moment};
 use records::{Kind, RecordsTx, read_clock, write_clock};
 use std::alloc::Global;
 use token_tree::sweep_tokens;
 
 /// Moves the clock on to the moment, unless it is later already, and answers it. Each token that has come to its end by
-/// then ends with all below it, and their cubbyholes go with them (Vault's documentation, "Tokens"). It fails with
+/// then ends with all below it, and what belonged to them goes (Vault's documentation, "Tokens"). It fails with
 /// `BadStart` if the clock has no row, with `Memory` if memory runs out, with `Storage` if the transaction's storage
 /// failed, and with `Damaged` if a row that it asks for cannot be read.
 pub fn expire<T: RecordsTx>(alloc: Global, tx: &mut T, moment: Moment) -> Result<Moment, Fault>
@@ -44,11 +44,12 @@ pub fn expire<T: RecordsTx>(alloc: Global, tx: &mut T, moment: Moment) -> Result
 {
     let now = advance_clock(alloc, tx, moment)?;
     let ended = sweep_tokens(alloc, tx, now)?;
-    drop_cubbyholes(alloc, tx, &ended)?;
+    leave_nothing(alloc, tx, &ended)?;
     Ok(now)
 }
 
-/// Moves the clock on to the moment, unless it is later already, and answers it.
+/// Moves the clock on to the moment, unless it is later already, and answers it. Its row is written only if it moves, so
+/// that a request which changes nothing else writes nothing.
 fn advance_clock<T: RecordsTx>(alloc: Global, tx: &mut T, moment: Moment) -> Result<Moment, Fault>
     ensures told { IsHonest (T.seen tx.new) → (b : Broker) → Represents None (T.seen tx.old).rows b
         → IfOk result (λ now. (now ≡ max b.clock moment) × Represents None (T.seen tx.new).rows (with_clock b now)) }
@@ -56,7 +57,7 @@ fn advance_clock<T: RecordsTx>(alloc: Global, tx: &mut T, moment: Moment) -> Res
         → IfErr result IsMemoryOrStorage }
     ensures clock { IsHonest (T.seen tx.new) → NeedsClock (T.seen tx.old).rows result }
 
-    // Whatever the rows are: the clock's row is read and written.
+    // Whatever the rows are: the clock's row is read, and is that of the later moment.
     ensures rows { IsHonest (T.seen tx.new)
         → IfOk result (λ now. Advances moment now (T.seen tx.old).rows (T.seen tx.new).rows) }
 
@@ -68,6 +69,9 @@ fn advance_clock<T: RecordsTx>(alloc: Global, tx: &mut T, moment: Moment) -> Res
     };
     let clock = read_clock(&kept)?;
     let now = clock.later(moment);
+    if now.seconds() == clock.seconds() {
+        return Ok(now);
+    }
     let row = write_clock(alloc, now)?;
     tx.put(Kind::Clock, "", row)?;
     Ok(now)

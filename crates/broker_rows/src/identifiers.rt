@@ -1,10 +1,11 @@
 //! The identifiers that a request gives out.
 
-ghost use Rattle.std.specs.Prelude.{◌≡◌, [], ◌∷◌, Option, IfOk, OnOk};
+ghost use Rattle.std.specs.Prelude.{◌≡◌, Option, IfOk, OnOk};
+ghost use Rattle.std.specs.List.{list_any};
 ghost use Rattle.broker_types.specs.Broker.{Broker};
 ghost use Rattle.broker_types.specs.Fault.{IsMemoryOrStorage};
 ghost use Rattle.broker_types.specs.Text.{Text, same};
-ghost use Rattle.broker_types.specs.Used.{are_new};
+ghost use Rattle.broker_types.specs.Used as model;
 ghost use Rattle.records.specs.RowForms.{used_row};
 ghost use Rattle.records.specs.Table.{with_row, table};
 ghost use Rattle.records.specs.Transaction.{IsHonest};
@@ -13,28 +14,45 @@ ghost use Rattle.records.specs.Calls.{IsCall, IsReading};
 ghost use Rattle.broker_rows.specs.Marks.{are_unmarked};
 ghost use Rattle.broker_rows.specs.Representing.{Represents};
 
-use broker_types::Fault;
+use broker_types::{Fault, TextBuf};
 use records::{Kind, RecordsTx, write_used};
 use std::alloc::Global;
 
-/// Whether two identifiers are new: they differ, and neither was ever given out.
+/// Whether identifiers are new: no two are equal, and none was ever given out.
 /// It fails with `Memory` if memory runs out, and with `Storage` if the transaction's storage failed.
-pub fn are_both_new<T: RecordsTx>(tx: &mut T, first: &str, second: &str) -> Result<bool, Fault>
+pub fn are_new<T: RecordsTx>(tx: &mut T, identifiers: &[TextBuf]) -> Result<bool, Fault>
     ensures told { IsHonest (T.seen tx.new) → (who : Option Text) (b : Broker) → Represents who (T.seen tx.old).rows b
-        → IfOk result (λ v. v ≡ are_new b.used (first.now ∷ second.now ∷ [])) }
+        → IfOk result (λ v. v ≡ model.are_new b.used identifiers.now) }
 
     // Whatever the rows are: what has a row was given out, whether the row is damaged or not.
     ensures found { IsHonest (T.seen tx.new)
-        → IfOk result (λ v. v ≡ are_unmarked (table (T.seen tx.old)) (first.now ∷ second.now ∷ [])) }
+        → IfOk result (λ v. v ≡ are_unmarked (table (T.seen tx.old)) identifiers.now) }
     ensures call { IsReading (T.seen tx.old) (T.seen tx.new) result IsMemoryOrStorage }
 {
-    if is_same(first, second) {
-        return Ok(false);
+    are_unmarked(tx, identifiers)
+}
+
+/// Whether no row marks one of the identifiers as given out, and no two are equal.
+fn are_unmarked<T: RecordsTx>(tx: &mut T, identifiers: &[TextBuf]) -> Result<bool, Fault>
+    ensures found { IsHonest (T.seen tx.new)
+        → IfOk result (λ v. v ≡ are_unmarked (table (T.seen tx.old)) identifiers.now) }
+    ensures call { IsReading (T.seen tx.old) (T.seen tx.new) result IsMemoryOrStorage }
+{
+    let mut later = identifiers;
+    while let [first, rest @ ..] = later {
+        if is_among(rest, first.as_str()) || tx.get(Kind::Used, first.as_str())?.is_some() {
+            return Ok(false);
+        }
+        later = rest;
     }
-    if tx.get(Kind::Used, first)?.is_some() {
-        return Ok(false);
-    }
-    Ok(tx.get(Kind::Used, second)?.is_none())
+    Ok(true)
+}
+
+/// Whether a text is among others.
+fn is_among(texts: &[TextBuf], text: &str) -> bool
+    ensures { result ≡ list_any (same text.now) texts.now }
+{
+    texts.iter().any(|other| is_same(text, other.as_str()))
 }
 
 /// Whether two texts are one.

@@ -1,4 +1,5 @@
 -- Which faults a replay ends with.
+use Rattle.std.specs.Prelude.{⊤}
 use Rattle.std.proofs.Common.{◌≡◌, ◌⊎◌, inl, inr, Bool, IsTrue, refl, sym, subst}
 use Rattle.broker_types.specs.Fault.{IsMemoryOrStorage, fault_number}
 use Rattle.broker_types.specs.declared.fault.Fault.{Fault}
@@ -14,6 +15,15 @@ ends_by_fault Memory StorageFailed failed want storage = inl refl
 ends_by_fault Storage StorageFailed failed want storage = inr (inl (refl, storage refl))
 ends_by_fault Damaged StorageFailed failed want storage = absurd want
 ends_by_fault BadStart StorageFailed failed want storage = absurd want
+
+-- a fault of a start, where the words were equal if it was refused
+pub ends_by_start : (fault : Fault) (EqualWords : Type 0) (failed : Bool) → IsMemoryOrStorage fault ⊎ (fault ≡ BadStart)
+    → (fault ≡ BadStart → EqualWords) → EndsBy EqualWords ⊤ failed (Faulted (fault_number fault))
+ends_by_start Memory EqualWords failed came equal = inl refl
+ends_by_start Storage EqualWords failed came equal = inr (inl (refl, tt))
+ends_by_start Damaged EqualWords failed (inl came) equal = absurd came
+ends_by_start Damaged EqualWords failed (inr came) equal = absurd (cc)
+ends_by_start BadStart EqualWords failed came equal = inr (inr (inl (refl, equal refl)))
 
 -- the replies were written before such an end, or a write failed
 pub ends_of : (EqualWords StorageFailed : Type 0) (failed : Bool) (result exit : Exit) (A : Type 0)

@@ -1,6 +1,6 @@
 //! Damaged rows: each call that reads one tells it, and as no other fault.
 
-use broker_types::{Bytes, Fault, Moment, RequestError, TextBuf, Verb};
+use broker_types::{Bytes, Fault, Moment, RequestError, Seconds, TextBuf, Verb};
 use records::{Kind, ListRecords, ListTx, RecordsTx, Row};
 use std::alloc::{AllocGlobal, Global};
 use std::process::Abort;
@@ -63,6 +63,37 @@ fn rows_of_accessors(rt: HostRuntime) -> Result<(), Fail> {
     expect_damaged_accessors(&rt, OTHER_FORMAT)
 }
 
+/// Calls that read a row of waiting responses with this body.
+fn expect_damaged_responses(rt: &(impl Abort + AllocGlobal), body: &str) -> Result<(), Fail> {
+    let alloc = rt.alloc();
+    let mut tx = with_row(alloc, Kind::Waiting, "t", body)?;
+    assert!(rt; matches!(wrapping::look(alloc, &mut tx, "t"), Err(Fault::Damaged)));
+    assert!(rt; matches!(wrapping::take(alloc, &mut tx, "t"), Err(Fault::Damaged)));
+    assert!(rt;
+        matches!(
+            wrapping::drop_token(alloc, &mut tx, "t"),
+            Err(Fault::Damaged)
+        )
+    );
+    let clock = Moment::new(1000).ok_or("no moment")?;
+    let moved = wrapping::rewrap(alloc, &mut tx, "t", "u", "a", clock);
+    assert!(rt; matches!(moved, Err(Fault::Damaged)));
+    let mut named = with_row(alloc, Kind::Accessor, "a", body)?;
+    assert!(rt;
+        matches!(
+            wrapping::drop_accessor(alloc, &mut named, "a"),
+            Err(Fault::Damaged)
+        )
+    );
+    Ok(())
+}
+
+#[test]
+fn rows_of_responses(rt: HostRuntime) -> Result<(), Fail> {
+    expect_damaged_responses(&rt, EMPTY)?;
+    expect_damaged_responses(&rt, OTHER_FORMAT)
+}
+
 /// Calls that read a row of mounts with this body.
 fn expect_damaged_mounts(rt: &(impl Abort + AllocGlobal), body: &str) -> Result<(), Fail> {
     let alloc = rt.alloc();
@@ -100,4 +131,45 @@ fn expect_damaged_policies(rt: &(impl Abort + AllocGlobal), body: &str) -> Resul
 fn rows_of_policies(rt: HostRuntime) -> Result<(), Fail> {
     expect_damaged_policies(&rt, EMPTY)?;
     expect_damaged_policies(&rt, OTHER_FORMAT)
+}
+
+/// Calls that read a row of leases with this body.
+fn expect_damaged_leases(rt: &(impl Abort + AllocGlobal), body: &str) -> Result<(), Fail> {
+    let alloc = rt.alloc();
+    let mut tx = with_row(alloc, Kind::Lease, "db/l", body)?;
+    let looked = leases::lookup(&mut tx, "db/l");
+    assert!(rt; matches!(looked, Err(RequestError::Fault(Fault::Damaged))));
+    let now = Moment::new(1000).ok_or("no moment")?;
+    let renewed = leases::renew(alloc, &mut tx, now, "db/l", Seconds::new(0));
+    assert!(rt; matches!(renewed, Err(RequestError::Fault(Fault::Damaged))));
+    assert!(rt; matches!(leases::revoke(&mut tx, "db/l"), Err(Fault::Damaged)));
+    assert!(rt;
+        matches!(
+            leases::revoke_under(alloc, &mut tx, "db"),
+            Err(Fault::Damaged)
+        )
+    );
+    assert!(rt; matches!(leases::drop_owner(&mut tx, ""), Err(Fault::Damaged)));
+    Ok(())
+}
+
+#[test]
+fn rows_of_leases(rt: HostRuntime) -> Result<(), Fail> {
+    expect_damaged_leases(&rt, EMPTY)?;
+    expect_damaged_leases(&rt, OTHER_FORMAT)
+}
+
+#[test]
+fn rows_of_credentials_and_roles(rt: HostRuntime) -> Result<(), Fail> {
+    let alloc = rt.alloc();
+    let mut tx = with_row(alloc, Kind::Credential, "c", OTHER_FORMAT)?;
+    assert!(rt; matches!(leases::verify(&mut tx, "c"), Err(Fault::Damaged)));
+    let mut roles = with_row(alloc, Kind::Role, "db/r", OTHER_FORMAT)?;
+    assert!(rt;
+        matches!(
+            leases::role(alloc, &mut roles, "db", "r"),
+            Err(Fault::Damaged)
+        )
+    );
+    Ok(())
 }

@@ -1,11 +1,13 @@
-//! Tests of the calls on rows of one part each: cubbyholes, tokens, mounts, secrets and policies. They are here because
-//! a crate with tests is proved once more for them.
+//! Tests of the calls on rows of one part each: cubbyholes, tokens, leases, mounts, secrets, policies and responses that
+//! wait. They are here because a crate with tests is proved once more for them.
 #![tactic(auto)]
 
 #[cfg(test)]
 mod cubbyholes;
 #[cfg(test)]
 mod damaged;
+#[cfg(test)]
+mod leases_and_roles;
 #[cfg(test)]
 mod permissions;
 #[cfg(test)]
@@ -15,3 +17,5 @@ mod secrets;
 #[cfg(test)]
 mod tokens;
 mod unlisted;
+#[cfg(test)]
+mod waiting;

@@ -3,7 +3,7 @@
 
 use broker_types::{Bytes, Fault, Moment, TextBuf};
 use kv2::{
-    SecretVersion, config, delete, delete_versions, destroy, drop_mount, is_there, list, metadata,
+    FoundVersion, config, delete, delete_versions, destroy, drop_mount, is_there, list, metadata,
     read, remove_key, set_config, undelete, write,
 };
 use records::{Engine, Kind, ListRecords, ListTx, MountRecord, RecordsTx, Row, write_mount};
@@ -35,29 +35,28 @@ fn moment(seconds: u64) -> Result<Moment, Fail> {
 /// The number that a write at second 1,000 answers.
 fn writes(rt: &HostRuntime, tx: &mut ListTx, path: &str, cas: Option<u64>) -> Result<u64, Fail> {
     match write(rt.alloc(), tx, moment(1000)?, "secret", path, cas, ONE) {
-        Ok(number) => Ok(number),
+        Ok(written) => Ok(written.number),
         Err(_) => Err(Fail::from("no write")),
     }
 }
 
 /// Whether it is this version, deleted at this second, with this object.
 fn is_version(
-    found: &Option<SecretVersion>,
+    found: &Option<FoundVersion>,
     number: u64,
     deleted: Option<u64>,
     object: Option<&str>,
 ) -> bool {
     match found {
         None => false,
-        Some(version) => {
+        Some(read) => {
+            let version = &read.version;
             let same = match (&version.secret, object) {
                 (None, None) => true,
                 (Some(kept), Some(wanted)) => kept.as_str() == wanted,
                 _ => false,
             };
-            same && version.number == number
-                && version.created == 1000
-                && version.deleted == deleted
+            same && read.number == number && version.created == 1000 && version.deleted == deleted
         }
     }
 }

@@ -1,4 +1,4 @@
+pub mod Changes
 pub mod CubbyholeAnswers
 pub mod SecretAnswers
-pub mod SecretReads
 pub mod SecretTables

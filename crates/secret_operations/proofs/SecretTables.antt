@@ -1,7 +1,7 @@
 -- The part of secrets: from rows that a call on secrets left to the broker that they represent.
-use Rattle.std.specs.Prelude.{◌≡◌, ◌==◌, ◌&&◌, ℕ, List, true, false, Option}
+use Rattle.std.specs.Prelude.{◌≡◌, ◌==◌, ◌&&◌, ℕ, List, false, Option}
 use Rattle.std.proofs.Common.{refl}
-use Rattle.std.proofs.lemmas.Bool.{true≢false, false≢true}
+use Rattle.std.proofs.lemmas.Bool.{true≢false}
 use Rattle.broker_types.specs.Broker.{Broker, Mount}
 use Rattle.broker_types.specs.Map.{Map}
 use Rattle.broker_types.specs.Secret.{Key, Version}
@@ -11,12 +11,11 @@ use Rattle.records.specs.declared.kind.Kind.{Kind}
 use Rattle.records.specs.declared.kind.Kind.TheVariants as kind
 use Rattle.records.specs.Kind.{kind_number}
 use Rattle.records.specs.PartLaws.{joined_rows, rows_of-other_secrets, rows_of-other_mounts}
-use Rattle.records.specs.Parts.{Tells, KeepsOthers, of_secrets, of_mounts, of_tokens}
+use Rattle.records.specs.Parts.{Tells, KeepsOthers, of_secrets, of_mounts}
 use Rattle.records.specs.Table.{Table, table_of, is_at, has_prefix}
 use Rattle.records.specs.Transaction.{Rows}
 use Rattle.kv2.specs.SecretRows.{AreChanged, KeepsOtherNames, KeepsOtherMounts, is_key_of, versions_prefix}
 use Rattle.broker_model.specs.Forms.{forms}
-use Rattle.broker_rows.specs.Ending.{of_expired}
 use Rattle.broker_rows.specs.Representing.{AsServed, Represents}
 
 -- ---- rows of other parts
@@ -75,17 +74,3 @@ module _ {who : Option Text} (b : Broker) (old new : Rows) (st : Represents who 
     sound = sound;
     served = served_still b b.secrets mounts st.served;
   }
-
--- ---- reads, whatever the rows are
-
--- rows of secrets are of no token
-pub of_no_token : (k : Kind) → of_secrets k ≡ true → of_tokens k ≡ false
-of_no_token kind.KvKey h = refl
-of_no_token kind.KvVersion h = refl
-of_no_token _ h = absurd (false≢true h)
-
--- nor do they go when tokens expire
-pub of_none_expired : (k : Kind) → of_secrets k ≡ true → of_expired k ≡ false
-of_none_expired kind.KvKey h = refl
-of_none_expired kind.KvVersion h = refl
-of_none_expired _ h = absurd (false≢true h)

@@ -1,1 +1,3 @@
-pub use Rattle.records.specs.Transaction
+pub mod Bodies
+pub mod InRange
+pub mod Paths

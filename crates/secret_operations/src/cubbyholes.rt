@@ -1,51 +1,91 @@
 //! Requests to the caller's cubbyhole (Vault's documentation, "Cubbyhole secrets engine (API)").
 
-ghost use Rattle.std.specs.Prelude.{◌≡◌, ◌≤◌, Ok, true, length};
+ghost use Rattle.std.specs.Prelude.{◌≡◌, ◌≤◌, [], true, Some, Ok, IfOk, length};
 ghost use Rattle.broker_types.specs.Fault.{IsNotBadStart};
 ghost use Rattle.broker_types.specs.Limits.{longest_body};
+ghost use Rattle.broker_types.specs.Names.{names_of};
+ghost use Rattle.broker_types.specs.Operation.{nothing, plainly};
 ghost use Rattle.broker_types.specs.Path.{is_path};
 ghost use Rattle.records.specs.Transaction.{IsHonest};
 ghost use Rattle.records.specs.Calls.{OnAnswer, IsRequestCall};
-ghost use Rattle.mounts.specs.Table.{takes_parameter};
+ghost use Rattle.api_json.specs.Kept.{IsKept};
+ghost use Rattle.api_json.specs.Reads.{IsRead};
+ghost use Rattle.cubbyhole.specs.Cubbyhole as cubbyhole;
 ghost use Rattle.mounts.specs.declared.operation.CubbyholeOperation.TheVariants as operations;
-ghost use Rattle.mounts.specs.declared.operation.Operation.TheVariants.{Cubbyholes};
-ghost use Rattle.broker_model.specs.Command.{on_cubbyhole, on_cubbyholes};
+ghost use Rattle.broker_model.specs.declared.commands.CubbyholeCommand.TheVariants as commands;
 ghost use Rattle.broker_model.specs.parts.Cubbyholes as part;
-ghost use Rattle.broker_rows.specs.Operating.{Operates};
+ghost use Rattle.broker_rows.specs.Context as known;
+ghost use Rattle.broker_rows.specs.Operating.{Performs};
 ghost use Rattle.broker_rows.specs.ReadableRow.{IsReadableObject};
 ghost use Rattle.broker_rows.specs.Reads.{AreReadableObjects};
+ghost use Rattle.secret_operations.specs.InRange.{IsCubbyholeCommandInRange};
 
 use api_json::read_body;
+use broker_model::CubbyholeCommand;
 use broker_rows::{Answered, Context};
 use broker_types::{Reason, Refusal, RequestError};
 use mounts::CubbyholeOperation;
 use records::RecordsTx;
 use std::alloc::Global;
 
-/// Carries out an operation on a path of the caller's cubbyhole. It may be refused. It fails with
-/// `Memory` if memory runs out, with `Storage` if the transaction's storage failed, and with `Damaged` if a row that it
-/// asks for cannot be read.
+/// Reads what an operation on a cubbyhole asks for. It is refused if something is written and the body is no object.
+/// The only fault is running out of memory.
+pub fn read_cubbyhole_command(
+    alloc: Global,
+    operation: CubbyholeOperation,
+    body: &[u8],
+) -> Result<CubbyholeCommand, RequestError>
+    requires { length body.now ≤ longest_body }
+    ensures reads { IsRead (part.cubbyhole_command operation body.now) result }
+    ensures in_range { IfOk result IsCubbyholeCommandInRange }
+{
+    match operation {
+        CubbyholeOperation::Read => Ok(CubbyholeCommand::Read),
+        CubbyholeOperation::Write => read_write(alloc, body),
+    }
+}
+
+/// Reads the object that is written.
+fn read_write(alloc: Global, body: &[u8]) -> Result<CubbyholeCommand, RequestError>
+    requires { length body.now ≤ longest_body }
+    ensures reads { IsRead (part.cubbyhole_command operations.Write body.now) result }
+    ensures in_range { IfOk result IsCubbyholeCommandInRange }
+{
+    let members = read_body(alloc, body)?;
+    if !members.has_members() {
+        return Ok(CubbyholeCommand::Write(None));
+    }
+    let text = members.into_text(alloc)?;
+    Ok(CubbyholeCommand::Write(Some(text)))
+}
+
+/// Carries out a command on a path of the caller's cubbyhole. It may be refused. It fails with `Memory` if memory runs
+/// out, with `Storage` if the transaction's storage failed, and with `Damaged` if a row that it asks for cannot be
+/// read.
 pub fn act_on_cubbyholes<T: RecordsTx>(
     alloc: Global,
     tx: &mut T,
     context: &Context<'_>,
-    operation: CubbyholeOperation,
+    caller: &str,
     path: &str,
-    body: &[u8],
+    command: CubbyholeCommand,
 ) -> Result<Answered, RequestError>
-    requires { length body.now ≤ longest_body }
-    ensures told { (takes_parameter (Cubbyholes operation) ≡ true → is_path path.now ≡ true)
-        → Operates context.now (T.seen tx.old) (T.seen tx.new) (λ b. on_cubbyholes operation path.now body.now) result }
+    requires { IsCubbyholeCommandInRange command }
+    ensures told { is_path path.now ≡ true
+        → Performs (Some caller.now) context.now [] (T.seen tx.old) (T.seen tx.new)
+        (λ b. part.act_on_cubbyhole b caller.now (names_of context.now.words) path.now command) result }
 
     // Whatever the rows are: it is neither answered nor refused if a row that the command reads is damaged.
     ensures readable { IsHonest (T.seen tx.new)
-        → (c : part.CubbyholeCommand) → part.cubbyhole_command operation path.now body.now ≡ Ok c
-        → OnAnswer result (AreReadableObjects (T.seen tx.old).rows context.now.caller c) }
+        → OnAnswer result (AreReadableObjects (T.seen tx.old).rows caller.now path.now command) }
     ensures call { IsRequestCall (T.seen tx.old) (T.seen tx.new) result IsNotBadStart }
 {
-    match operation {
-        CubbyholeOperation::Read => read(alloc, tx, context, path),
-        CubbyholeOperation::Write => write(alloc, tx, context, path, body),
+    match command {
+        CubbyholeCommand::Read => read(alloc, tx, context, caller, path),
+        CubbyholeCommand::Write(None) => {
+            Err(RequestError::Refused(Refusal::BadRequest(Reason::MissingData)))
+        }
+        CubbyholeCommand::Write(Some(text)) => write(alloc, tx, caller, path, text.as_str()),
     }
 }
 
@@ -54,43 +94,37 @@ fn read<T: RecordsTx>(
     alloc: Global,
     tx: &mut T,
     context: &Context<'_>,
+    caller: &str,
     path: &str,
 ) -> Result<Answered, RequestError>
-    ensures told { Operates context.now (T.seen tx.old) (T.seen tx.new)
-        (λ b. Ok (on_cubbyhole (part.read_object path.now))) result }
+    ensures told { Performs (Some caller.now) context.now [] (T.seen tx.old) (T.seen tx.new)
+        (λ b. part.act_on_cubbyhole b caller.now (names_of context.now.words) path.now commands.Read) result }
 
     // Whatever the rows are: a damaged row is answered neither as an object nor as an absent one.
     ensures readable { IsHonest (T.seen tx.new)
-        → OnAnswer result (IsReadableObject (T.seen tx.old).rows context.now.caller path.now) }
+        → OnAnswer result (IsReadableObject (T.seen tx.old).rows caller.now path.now) }
     ensures call { IsRequestCall (T.seen tx.old) (T.seen tx.new) result IsNotBadStart }
 {
-    let caller = context.caller;
     let Some(object) = cubbyhole::read(alloc, tx, caller, path)? else {
         return Err(RequestError::Refused(Refusal::NotFound));
     };
     Ok(Answered::shown(alloc, context, object)?)
 }
 
-/// Writes a body to a path of the caller's cubbyhole.
+/// Writes the text of an object to a path of the caller's cubbyhole.
 fn write<T: RecordsTx>(
     alloc: Global,
     tx: &mut T,
-    context: &Context<'_>,
+    caller: &str,
     path: &str,
-    body: &[u8],
+    text: &str,
 ) -> Result<Answered, RequestError>
-    requires { length body.now ≤ longest_body }
-    ensures told { is_path path.now ≡ true
-        → Operates context.now (T.seen tx.old) (T.seen tx.new)
-        (λ b. on_cubbyholes operations.Write path.now body.now) result }
+    requires { IsKept text.now }
+    ensures told { is_path path.now ≡ true → (x : known.Context)
+        → Performs (Some caller.now) x [] (T.seen tx.old) (T.seen tx.new)
+        (λ b. Ok (plainly nothing (cubbyhole.write b caller.now path.now text.now))) result }
     ensures call { IsRequestCall (T.seen tx.old) (T.seen tx.new) result IsNotBadStart }
 {
-    let caller = context.caller;
-    let members = read_body(alloc, body)?;
-    if !members.has_members() {
-        return Err(RequestError::Refused(Refusal::BadRequest(Reason::MissingData)));
-    }
-    let object = members.into_text(alloc)?;
-    cubbyhole::write(alloc, tx, caller, path, object.as_str())?;
+    cubbyhole::write(alloc, tx, caller, path, text)?;
     Ok(Answered::Nothing)
 }

@@ -2,7 +2,10 @@
 #![tactic(auto)]
 
 mod cubbyholes;
+mod place;
 mod secrets;
 
-pub use cubbyholes::act_on_cubbyholes;
-pub use secrets::{Place, act_on_secrets};
+pub use cubbyholes::{act_on_cubbyholes, read_cubbyhole_command};
+pub use place::Place;
+pub use secrets::act_on_secrets;
+pub use secrets::bodies::read_secret_command;

@@ -1,1 +1,1 @@
-pub use Rattle.records.specs.Transaction
+pub mod InRange

@@ -1,50 +1,85 @@
 //! Requests on policies (Vault's documentation, "/sys/policies").
 
-ghost use Rattle.std.specs.Prelude.{◌≡◌, ◌≤◌, Ok, length};
+ghost use Rattle.std.specs.Prelude.{◌<◌, ◌≤◌, ◌^◌, [], Option, IfOk, length};
 ghost use Rattle.broker_types.specs.Fault.{IsNotBadStart};
 ghost use Rattle.broker_types.specs.Limits.{longest_body};
+ghost use Rattle.broker_types.specs.Names.{names_of};
+ghost use Rattle.broker_types.specs.Text.{Text};
 ghost use Rattle.records.specs.Transaction.{IsHonest};
 ghost use Rattle.records.specs.Calls.{OnAnswer, IsRequestCall};
-ghost use Rattle.mounts.specs.declared.operation.PolicyOperation.TheVariants as operations;
-ghost use Rattle.broker_model.specs.Command.{on_policy, on_policies};
-ghost use Rattle.broker_model.specs.parts.AclPolicyCommands as part;
-ghost use Rattle.broker_rows.specs.Operating.{Operates};
+ghost use Rattle.api_json.specs.Readers as reader;
+ghost use Rattle.api_json.specs.Reads.{IsRead};
+ghost use Rattle.broker_model.specs.declared.commands.PolicyCommand.TheVariants as commands;
+ghost use Rattle.broker_model.specs.parts.AclPolicies as part;
+ghost use Rattle.broker_model.specs.parts.AclPolicyCommands.{policy_command};
+ghost use Rattle.broker_model.specs.parts.Bodies.{read_as};
+ghost use Rattle.broker_rows.specs.Context as known;
+ghost use Rattle.broker_rows.specs.Operating.{Performs};
 ghost use Rattle.broker_rows.specs.ReadableRow.{IsReadablePolicy};
 ghost use Rattle.broker_rows.specs.Reads.{AreReadablePolicies};
+ghost use Rattle.system_operations.specs.InRange.{IsPolicyCommandInRange};
 
 use api_json::{keys_object, policy_object, policy_text, read_body};
+use broker_model::PolicyCommand;
 use broker_rows::{Answered, Context};
 use broker_types::{Refusal, RequestError};
 use mounts::PolicyOperation;
 use records::RecordsTx;
 use std::alloc::Global;
 
-/// Carries out an operation on policies, with the name of a policy and the body. It may be refused. It fails with
-/// `Memory` if memory runs out, with `Storage` if the transaction's storage failed, and with `Damaged` if a row that it
-/// asks for cannot be read.
+/// Reads what an operation on policies asks for. It is refused if a policy is set and the body is no object or has no
+/// text. The only fault is running out of memory.
+pub fn read_policy_command(
+    alloc: Global,
+    operation: PolicyOperation,
+    body: &[u8],
+) -> Result<PolicyCommand, RequestError>
+    requires { length body.now ≤ longest_body }
+    ensures reads { IsRead (policy_command operation body.now) result }
+    ensures in_range { IfOk result IsPolicyCommandInRange }
+{
+    match operation {
+        PolicyOperation::List => Ok(PolicyCommand::List),
+        PolicyOperation::Show => Ok(PolicyCommand::Show),
+        PolicyOperation::Set => read_set(alloc, body),
+        PolicyOperation::Remove => Ok(PolicyCommand::Remove),
+    }
+}
+
+/// Reads the text that a policy is set to.
+fn read_set(alloc: Global, body: &[u8]) -> Result<PolicyCommand, RequestError>
+    requires { length body.now ≤ longest_body }
+    ensures reads { IsRead (read_as reader.policy_text commands.Set body.now) result }
+    ensures in_range { IfOk result IsPolicyCommandInRange }
+{
+    let members = read_body(alloc, body)?;
+    let text = policy_text(alloc, &members)?;
+    Ok(PolicyCommand::Set(text))
+}
+
+/// Carries out a command on policies, at the name of one. It may be refused. It fails with `Memory` if memory runs out,
+/// with `Storage` if the transaction's storage failed, and with `Damaged` if a row that it asks for cannot be read.
 pub fn act_on_policies<T: RecordsTx>(
     alloc: Global,
     tx: &mut T,
     context: &Context<'_>,
-    operation: PolicyOperation,
     name: &str,
-    body: &[u8],
+    command: PolicyCommand,
 ) -> Result<Answered, RequestError>
-    requires { length body.now ≤ longest_body }
-    ensures told { Operates context.now (T.seen tx.old) (T.seen tx.new)
-        (λ b. on_policies operation name.now body.now) result }
+    requires { IsPolicyCommandInRange command }
+    ensures told { (who : Option Text) → Performs who context.now [] (T.seen tx.old) (T.seen tx.new)
+        (λ b. part.act_on_policies b (names_of context.now.words) name.now command) result }
 
     // Whatever the rows are: it is neither answered nor refused if a row that the command reads is damaged.
     ensures readable { IsHonest (T.seen tx.new)
-        → (c : part.PolicyCommand) → part.policy_command operation name.now body.now ≡ Ok c
-        → OnAnswer result (AreReadablePolicies (T.seen tx.old).rows c) }
+        → OnAnswer result (AreReadablePolicies (T.seen tx.old).rows name.now command) }
     ensures call { IsRequestCall (T.seen tx.old) (T.seen tx.new) result IsNotBadStart }
 {
-    match operation {
-        PolicyOperation::List => list(alloc, tx, context),
-        PolicyOperation::Show => show(alloc, tx, context, name),
-        PolicyOperation::Set => set(alloc, tx, context, name, body),
-        PolicyOperation::Remove => remove(tx, context, name),
+    match command {
+        PolicyCommand::List => list(alloc, tx, context),
+        PolicyCommand::Show => show(alloc, tx, context, name),
+        PolicyCommand::Set(text) => set(alloc, tx, name, text.as_str()),
+        PolicyCommand::Remove => remove(tx, name),
     }
 }
 
@@ -54,8 +89,8 @@ fn list<T: RecordsTx>(
     tx: &mut T,
     context: &Context<'_>,
 ) -> Result<Answered, RequestError>
-    ensures told { Operates context.now (T.seen tx.old) (T.seen tx.new)
-        (λ b. Ok (on_policy part.list_policies)) result }
+    ensures told { (who : Option Text) → Performs who context.now [] (T.seen tx.old) (T.seen tx.new)
+        (λ b. part.list b (names_of context.now.words)) result }
     ensures call { IsRequestCall (T.seen tx.old) (T.seen tx.new) result IsNotBadStart }
 {
     let names = policies::list(alloc, tx)?;
@@ -70,8 +105,8 @@ fn show<T: RecordsTx>(
     context: &Context<'_>,
     name: &str,
 ) -> Result<Answered, RequestError>
-    ensures told { Operates context.now (T.seen tx.old) (T.seen tx.new)
-        (λ b. Ok (on_policy (part.show_policy name.now))) result }
+    ensures told { (who : Option Text) → Performs who context.now [] (T.seen tx.old) (T.seen tx.new)
+        (λ b. part.show b (names_of context.now.words) name.now) result }
 
     // Whatever the rows are: a damaged row is answered neither as a policy nor as an absent one.
     ensures readable { IsHonest (T.seen tx.new)
@@ -85,33 +120,26 @@ fn show<T: RecordsTx>(
     Ok(Answered::shown(alloc, context, object)?)
 }
 
-/// Sets a policy to the text that a body brings.
+/// Sets a policy to a text.
 fn set<T: RecordsTx>(
     alloc: Global,
     tx: &mut T,
-    context: &Context<'_>,
     name: &str,
-    body: &[u8],
+    text: &str,
 ) -> Result<Answered, RequestError>
-    requires { length body.now ≤ longest_body }
-    ensures told { Operates context.now (T.seen tx.old) (T.seen tx.new)
-        (λ b. on_policies operations.Set name.now body.now) result }
+    requires { length text.now < 2 ^ 32 }
+    ensures told { (who : Option Text) (x : known.Context) → Performs who x [] (T.seen tx.old) (T.seen tx.new)
+        (λ b. part.set b name.now text.now) result }
     ensures call { IsRequestCall (T.seen tx.old) (T.seen tx.new) result IsNotBadStart }
 {
-    let members = read_body(alloc, body)?;
-    let text = policy_text(alloc, &members)?;
-    policies::set(alloc, tx, name, text.as_str())?;
+    policies::set(alloc, tx, name, text)?;
     Ok(Answered::Nothing)
 }
 
 /// Deletes a policy.
-fn remove<T: RecordsTx>(
-    tx: &mut T,
-    context: &Context<'_>,
-    name: &str,
-) -> Result<Answered, RequestError>
-    ensures told { Operates context.now (T.seen tx.old) (T.seen tx.new)
-        (λ b. Ok (on_policy (part.remove_policy name.now))) result }
+fn remove<T: RecordsTx>(tx: &mut T, name: &str) -> Result<Answered, RequestError>
+    ensures told { (who : Option Text) (x : known.Context) → Performs who x [] (T.seen tx.old) (T.seen tx.new)
+        (λ b. part.remove b name.now) result }
     ensures call { IsRequestCall (T.seen tx.old) (T.seen tx.new) result IsNotBadStart }
 {
     policies::delete(tx, name)?;

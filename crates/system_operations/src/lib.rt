@@ -4,4 +4,4 @@
 
 mod acl_policies;
 
-pub use acl_policies::act_on_policies;
+pub use acl_policies::{act_on_policies, read_policy_command};

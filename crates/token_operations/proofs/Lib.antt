@@ -1,11 +1,10 @@
-pub mod Revocations
+pub mod Named
 pub mod TokenChecks
 pub mod TokenCreations
 pub mod TokenLists
 pub mod TokenLookups
 pub mod TokenMade
 pub mod TokenPolicies
-pub mod TokenReads
 pub mod TokenRecords
 pub mod TokenRenewals
 pub mod TokenRules

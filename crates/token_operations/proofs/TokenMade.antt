@@ -65,11 +65,11 @@ module _ (b : Broker) (t : Text) (x : Token) (mid new : Table)
 
 -- ---- what is left
 
-module _ {c : Text} (b : Broker) (names : Names) (x : Token) (old mid new : Rows) (st : Represents (Some c) old b)
+module _ {who : Option Text} (b : Broker) (names : Names) (x : Token) (old mid new : Rows) (st : Represents who old b)
     (can : MayBeMade forms b (token_text names.token) x) (bare : x.cubbyhole ≡ empty) (named : x.accessor ≡ names.accessor) where
-  left : IsLeft forms (Some c) (created b (token_text names.token) x)
+  left : IsLeft forms who (created b (token_text names.token) x)
   left = record {
-    sound = create_sound b (token_text names.token) x forms (Some c) st.sound can;
+    sound = create_sound b (token_text names.token) x forms who st.sound can;
     served = served_tokens b (put b.tokens (token_text names.token) x) (use_up b.used (names.token ∷ x.accessor ∷ [])) st.served
         (no_leases_put b.tokens (token_text names.token) x st.served.no_leases can.no_lease);
   }
@@ -78,10 +78,10 @@ module _ {c : Text} (b : Broker) (names : Names) (x : Token) (old mid new : Rows
   pub made_done : Tells of_tokens (table_of mid) (with_token b (token_text names.token) x) → KeepsOthers of_tokens (table_of old) (table_of mid)
       → table_of new ≡ with_row (with_row (table_of mid) kind.Used x.accessor used_row) kind.Used names.token used_row
       → (r : Reply) (a : Text) → r ≡ auth_reply names.request b.clock (token_text names.token) (token_entry x) → a ≡ x.accessor
-      → IsDone c new (Made r a) (made b names x)
+      → IsDone who new (Made r a) (made b names x)
   made_done tells others marks r a shown given = (
     λ i. operation.reply (shown i) (Some ((given ∙ named) i)),
-    subst (λ i. Represents (Some c) new (record (with_token b (token_text names.token) x) { used = use_up b.used (names.token ∷ i ∷ []) })) named
+    subst (λ i. Represents who new (record (with_token b (token_text names.token) x) { used = use_up b.used (names.token ∷ i ∷ []) })) named
         (represents-created b (token_text names.token) x old st can mid new bare left tells others
         (marks_told b (token_text names.token) x (table_of mid) (table_of new) marks
         (λ q. others kind.Used q refl ∙ ap (λ (table : Table). table kind.Used q) st.rows))

@@ -1,6 +1,6 @@
 -- What commands on tokens leave: a sound broker, and one that the requests served so far can leave.
-use Rattle.std.specs.Prelude.{◌≡◌, ◌≢◌, ◌≤◌, ◌<◌, ◌^◌, ◌+◌, ◌==◌, ◌||◌, ◌&&◌, ℕ, min, List, [], Bool, All, ⊤, true, false, not, cond, if◌then◌else◌}
-use Rattle.std.specs.Prelude.{Option, Some, None, is_some, is_none, Ok}
+use Rattle.std.specs.Prelude.{◌≡◌, ◌≢◌, ◌≤◌, ◌<◌, ◌^◌, ◌+◌, ◌==◌, ◌||◌, ◌&&◌, ℕ, min, List, Bool, All, ⊤, true, false, not, cond, if◌then◌else◌}
+use Rattle.std.specs.Prelude.{Option, Some, None, is_none, Ok}
 use Rattle.std.proofs.Common.{refl, sym, ◌∙◌, ap, subst, arith, lt_of_le_of_lt}
 use Rattle.std.proofs.Math.Nat.{le_trans, min-le_left, min-le_right}
 use Rattle.std.proofs.lemmas.Bool.{false≢true, and_parts}
@@ -16,42 +16,32 @@ use Rattle.broker_types.specs.OptionLaws.{mapped, is_nothing}
 use Rattle.broker_types.specs.Token.{Token, Tokens}
 use Rattle.broker_types.specs.TokenText.{token_text}
 use Rattle.broker_types.specs.Broker.{Broker}
-use Rattle.broker_types.specs.Operation.{Done}
-use Rattle.broker_types.specs.Refuse.{unless, some_or}
-use Rattle.broker_types.specs.RefuseLaws.{ok_step}
+use Rattle.broker_types.specs.Refuse.{some_or}
 use Rattle.broker_types.specs.RemovalLaws.{revoke_sound, revoke_orphan_sound}
 use Rattle.broker_types.specs.SearchLaws.{kept_get}
 use Rattle.broker_types.specs.Sound.{Forms, Sound, IsSoundToken, IsEnd, IsShortText}
 use Rattle.broker_types.specs.TreeLaws.{orphaned_is}
-use Rattle.broker_types.specs.Used.{are_new, use_up}
+use Rattle.broker_types.specs.Used.{are_new}
 use Rattle.broker_types.specs.TextLaws.{same_self}
 use Rattle.broker_types.specs.UsedLaws.{first_new}
 use Rattle.broker_types.specs.declared.refusal.Denial.TheVariants as denial
 use Rattle.broker_types.specs.declared.refusal.Refusal.TheVariants as refusal
-use Rattle.broker_types.specs.declared.refusal.Reason.TheVariants as reason
 use Rattle.api_json.specs.declared.token_bodies.TokenCreation.{TokenCreation}
-use Rattle.records.specs.TokenEntry.{token_entry}
 use Rattle.records.specs.ValueLaws.{ok_inj}
-use Rattle.token_tree.specs.SoundLaws.{create_sound, renew_sound}
+use Rattle.token_tree.specs.SoundLaws.{renew_sound}
 use Rattle.token_tree.specs.Tokens.{MayBeMade, created, with_end}
 use Rattle.token_tree.specs.Tokens as tree
-use Rattle.broker_model.specs.parts.TokenCommands.{TokenCommand, create_token, create_orphan, lookup_token}
-use Rattle.broker_model.specs.parts.TokenCommands.{lookup_accessor, lookup_self, renew_token, renew_self, revoke_token}
-use Rattle.broker_model.specs.parts.TokenCommands.{revoke_orphan, revoke_accessor, revoke_self, list_accessors}
-use Rattle.broker_model.specs.parts.TokenCommands.{token_names, token_traits}
 use Rattle.broker_model.specs.declared.making.Making.{Making}
-use Rattle.broker_model.specs.declared.making.Making.TheVariants.{OfCaller, WithoutParent}
-use Rattle.broker_model.specs.parts.TokenCreation.{makes_orphans, making_path, is_privileged, may_make, new_policies}
+use Rattle.broker_model.specs.parts.TokenCreation.{makes_orphans}
 use Rattle.broker_model.specs.parts.TokenCreation.{new_token, new_parent, or_longest, asked_ttl, has_no_end, use_limit}
-use Rattle.broker_model.specs.parts.Tokens.{act_on_tokens, known, named, create, look_up, renew, new_end, revoke}
+use Rattle.broker_model.specs.parts.Tokens.{known, revoke}
 use Rattle.broker_model.specs.parts.Tokens.{revoke_alone}
 use Rattle.broker_rows.specs.Ending.{HaveNoLeases}
 use Rattle.broker_rows.specs.Representing.{AsServed}
 use Rattle.broker_rows.specs.Done.{counted}
-use Rattle.token_operations.specs.TokenRanges.{IsInRange, IsCommandInRange, AreTokenNames}
-use Rattle.token_operations.proofs.TokenRules.{allowed}
-use Rattle.token_operations.proofs.TokenPolicies.{ArePolicies, IsPolicyName, each_passes, each_listed, few_listed}
-use Rattle.token_operations.proofs.TokenPolicies.{new_policies_are}
+use Rattle.broker_model.specs.parts.TokenCommands.{token_names}
+use Rattle.token_operations.specs.TokenRanges.{IsInRange, AreTokenNames}
+use Rattle.token_operations.proofs.TokenPolicies.{ArePolicies, IsPolicyName, each_listed, few_listed}
 
 -- ---- the token of a caller
 
@@ -194,26 +184,6 @@ module _ (forms : Forms) (who : Option Text) (b : Broker) (sound : Sound forms w
     unspent = new_unspent asked.num_uses;
   }
 
-  -- and leaves a sound broker
-  pub left_by_creation : (c : Text) (making : Making) (asked : TokenCreation) (d : Done) → AsServed b → IsInRange asked
-      → create b c names making asked ≡ Ok d → IsLeft forms who (counted d)
-  left_by_creation c making asked d served range e =
-      let x = ok_step (known b c) _ d e in
-      let is = known_is b c x.0 x.1 in
-      let privileged = is_privileged b (making_path making) x.0 in
-      let ps = new_policies privileged x.0 asked in
-      let may = ok_step (may_make privileged making x.0 ps asked) _ d x.2 in
-      let are = new_policies_are IsPolicyName refl refl privileged x.0 asked (sound_policies forms c x.0 (sound.tokens.each c x.0 is))
-      (each_passes asked.policies (allowed privileged making x.0 ps asked may.0 may.1).named) range.kept.few_policies in
-      let t = token_text names.token in
-      let y = new_token b.clock (new_parent c making asked) names.accessor ps asked in
-      let can = may_be_made c making ps asked range (λ none. none-some _ (sym none ∙ is)) are in
-      subst (λ d. IsLeft forms who (counted d)) (ok_inj may.2)
-      (record {
-        sound = create_sound b t y forms who sound can;
-        served = served_tokens b (put b.tokens t y) (use_up b.used (token_names names)) served (no_leases_put b.tokens t y served.no_leases refl);
-      })
-
 -- ---- by the other commands
 
 module _ (forms : Forms) (who : Option Text) (b : Broker) (left : IsLeft forms who b) where
@@ -229,48 +199,8 @@ module _ (forms : Forms) (who : Option Text) (b : Broker) (left : IsLeft forms w
     served = served_tokens b (without_parent b.tokens t) b.used left.served (no_leases_orphaned b.tokens t left.served.no_leases);
   }
 
-  -- the new end of a sound token is no further ahead than ends are set
-  pub new_end_near : (t : Text) (x : Token) (increment : ℕ) → get b.tokens t ≡ Some x → IsEnd (new_end b.clock (token_entry x) increment)
-  new_end_near t x increment is =
-      let issued = (left.sound.tokens.each t x is).issued in
-      let longest = min-le_left longest_ttl (or_longest x.explicit_max_ttl) in
-      le_trans (min-le_right (b.clock + (if increment == 0 then x.ttl else increment)) (x.issued + min longest_ttl (or_longest x.explicit_max_ttl)))
-      (end_near x.issued (min longest_ttl (or_longest x.explicit_max_ttl)) issued longest)
-
   pub left_by_renewal : (t : Text) (ends : ℕ) → IsEnd ends → IsLeft forms who (tree.renew b t ends)
   left_by_renewal t ends near = record {
     sound = renew_sound forms who b t ends left.sound near;
     served = served_tokens b (change b.tokens t (with_end ends)) b.used left.served (no_leases_renewed b.tokens t ends left.served.no_leases);
   }
-
-  renewed : (names : Names) (t : Text) (increment : ℕ) (d : Done) → renew b names t increment ≡ Ok d → IsLeft forms who (counted d)
-  renewed names t increment d e =
-      let x = ok_step (known b t) _ d e in
-      let ending = ok_step (unless (is_some x.0.ends) (refusal.BadRequest reason.TokenNotRenewable)) _ d x.2 in
-      subst (λ d. IsLeft forms who (counted d)) (ok_inj ending.2)
-      (left_by_renewal t (new_end b.clock (token_entry x.0) increment) (new_end_near t x.0 increment (known_is b t x.0 x.1)))
-
-  looked_up : (names : Names) (t id : Text) (d : Done) → look_up b names t id ≡ Ok d → IsLeft forms who (counted d)
-  looked_up names t id d e = subst (λ d. IsLeft forms who (counted d)) (ok_inj (ok_step (known b t) _ d e).2) left
-
-  -- ---- the part
-
-  -- what a command of a caller leaves, whoever may have spent its last use
-  pub leave : (c : Text) (names : Names) (command : TokenCommand) (d : Done) → AreTokenNames names → IsCommandInRange command
-      → are_new b.used ((token_traits command).own names) ≡ true → act_on_tokens b c names command ≡ Ok d → IsLeft forms who (counted d)
-  leave c names (create_token asked) d good range new e = left_by_creation forms who b left.sound names good new c OfCaller asked d left.served range e
-  leave c names (create_orphan asked) d good range new e = left_by_creation forms who b left.sound names good new c WithoutParent asked d left.served range e
-  leave c names (lookup_token t) d good range new e = looked_up names t t d e
-  leave c names (lookup_accessor accessor) d good range new e =
-      let t = ok_step (named b accessor) _ d e in
-      looked_up names t.0 [] d t.2
-  leave c names lookup_self d good range new e = looked_up names c c d e
-  leave c names (renew_token asked) d good range new e = renewed names asked.token asked.increment d e
-  leave c names (renew_self increment) d good range new e = renewed names c increment d e
-  leave c names (revoke_token t) d good range new e = subst (λ d. IsLeft forms who (counted d)) (ok_inj e) (left_by_revocation t)
-  leave c names (revoke_orphan t) d good range new e = subst (λ d. IsLeft forms who (counted d)) (ok_inj e) (left_by_one_revocation t)
-  leave c names (revoke_accessor accessor) d good range new e =
-      let t = ok_step (named b accessor) _ d e in
-      subst (λ d. IsLeft forms who (counted d)) (ok_inj t.2) (left_by_revocation t.0)
-  leave c names revoke_self d good range new e = subst (λ d. IsLeft forms who (counted d)) (ok_inj e) (left_by_revocation c)
-  leave c names list_accessors d good range new e = subst (λ d. IsLeft forms who (counted d)) (ok_inj e) left

@@ -1,15 +1,14 @@
 -- The part of tokens: from rows that a call on tokens left to the broker that they represent.
-use Rattle.std.specs.Prelude.{◌≡◌, ◌+◌, ℕ, List, Bool, true, false, cond, if◌then◌else◌, not, Option, Some, None, option_map, option_and_then, take, drop}
+use Rattle.std.specs.Prelude.{◌≡◌, ◌+◌, ℕ, List, Bool, true, false, cond, if◌then◌else◌, Option, Some, None, option_map, option_and_then, take, drop}
 use Rattle.std.specs.FinMap.{get-empty}
-use Rattle.std.proofs.Common.{refl, sym, ◌∙◌, ap, subst}
+use Rattle.std.proofs.Common.{refl, sym, ◌∙◌, ap}
 use Rattle.std.proofs.lemmas.Bool.{false≢true}
 use Rattle.broker_types.specs.Text.{Text, text_cmp, same}
 use Rattle.broker_types.specs.Map.{get, put, empty, change}
 use Rattle.broker_types.specs.MapLaws.{get-put, get-change}
-use Rattle.broker_types.specs.SearchLaws.{kept_get}
 use Rattle.broker_types.specs.TextLaws.{same_true}
 use Rattle.broker_types.specs.TreeLaws.{orphaned_is}
-use Rattle.broker_types.specs.Lineage.{is_under, without_descendants, without_parent}
+use Rattle.broker_types.specs.Lineage.{without_descendants, without_parent}
 use Rattle.broker_types.specs.Places.{token, token_identifier}
 use Rattle.broker_types.specs.Token.{Token, Tokens}
 use Rattle.broker_types.specs.Broker.{Broker, revoke, revoke_orphan}
@@ -23,72 +22,43 @@ use Rattle.records.specs.Rows.{rows_of, token_len, has_slash, object_row}
 use Rattle.records.specs.Table.{Table, table_of}
 use Rattle.records.specs.Transaction.{Rows}
 use Rattle.token_tree.specs.Tokens.{AreEnded, MayBeMade, created, with_token, with_end, renew}
-use Rattle.cubbyhole.specs.Laws.{without_cubbyholes}
 use Rattle.broker_model.specs.Forms.{forms}
-use Rattle.broker_rows.specs.Ending.{AreTokenLong, LosesObjects, HaveNoLeases}
+use Rattle.broker_rows.specs.Ending.{HaveNoLeases}
+use Rattle.broker_rows.specs.Left.{HaveEnded}
+use Rattle.broker_rows.specs.LeftLaws.{revoked_left}
 use Rattle.broker_rows.specs.Representing.{Represents}
-use Rattle.broker_rows.specs.EndingLaws.{neither, others_kept, KeepCubbyholes, other_tokens, ended_long, objects_lost}
-use Rattle.broker_rows.specs.EndingLaws.{rows_left, no_token}
-use Rattle.broker_rows.specs.RepresentingLaws.{tells_part, tokens_long}
+use Rattle.broker_rows.specs.EndingLaws.{neither, no_token, other_tokens}
 use Rattle.token_operations.proofs.TokenSound.{IsLeft, left_by_revocation, left_by_one_revocation, left_by_renewal}
 
 -- rows that represent a broker, which is sound then, and one that the requests served so far can leave
 pub left_before : {who : Option Text} (b : Broker) (rows : Rows) → Represents who rows b → IsLeft forms who b
 left_before b rows st = record { sound = st.sound; served = st.served }
 
--- ---- tokens that end, with their cubbyholes
+-- ---- tokens that end
 
--- those that a revocation leaves have their cubbyholes
-pub revoked_keep : (ts : Tokens) (t : Text) → KeepCubbyholes ts (without_descendants ts t)
-revoked_keep ts t q y is = (y, (kept_get (λ q. not (is_under ts q t)) ts q y is).0, refl)
+module _ {who : Option Text} (b : Broker) (t : Text) (old mid : Rows) (ended : List Text) (st : Represents who old b)
+    (others : KeepsOthers of_tokens (table_of old) (table_of mid)) where
+  -- a token was revoked with all under it
+  pub has_revoked : AreEnded b (revoke b t) ended → Tells of_tokens (table_of mid) (revoke b t)
+      → HaveEnded who who b (without_descendants b.tokens t) ended mid
+  has_revoked are tells =
+      revoked_left b t old mid ended st (left_by_revocation forms who b (left_before b old st) t).sound are tells others
 
--- and so have those that the revocation of one token leaves
-pub orphaned_keep : (ts : Tokens) (t : Text) → KeepCubbyholes ts (without_parent ts t)
-orphaned_keep ts t q y is =
-    let x = orphaned_is ts t q y is in
-    (x.0, x.1, ap (λ (z : Token). z.cubbyhole) x.2)
-
--- what a call that drops the cubbyholes asks, when the tokens us are left
-module _ {who : Option Text} (b : Broker) (us : Tokens) (old : Rows) (st : Represents who old b) where
-  pub gone_long : (ended : List Text) → AreEnded b (record b { tokens = us }) ended → AreTokenLong ended
-  gone_long ended are = ended_long b us ended are (tokens_long b old st)
-
-  pub gone_lost : (ended : List Text) → KeepCubbyholes b.tokens us → AreEnded b (record b { tokens = us }) ended
-      → LosesObjects ended b (record b { tokens = us })
-  gone_lost ended keep are = objects_lost b us ended are keep
-
-  pub gone_left : (mid : Rows) → KeepsOthers of_tokens (table_of old) (table_of mid) → Tells of_cubbyholes (table_of mid) b
-  gone_left mid others k q h = others k q (no_token k h) ∙ tells_part of_cubbyholes b old st k q h
-
-  -- the cubbyholes of the ended were dropped, and the rows represent what is left
-  pub represents-gone : (mid new : Rows) (ended : List Text) → IsLeft forms who (record b { tokens = us })
-      → AreEnded b (record b { tokens = us }) ended → Tells of_tokens (table_of mid) (record b { tokens = us })
-      → KeepsOthers of_tokens (table_of old) (table_of mid) → table_of new ≡ without_cubbyholes (table_of mid) ended
-      → Tells of_cubbyholes (table_of new) (record b { tokens = us }) → Represents who new (record b { tokens = us })
-  represents-gone mid new ended left are tells others dropped objects =
-      let kept = subst (KeepsOthers of_cubbyholes (table_of mid)) (sym dropped) (others_kept ended (table_of mid)) in
+  -- a token was revoked alone: those that are left have their cubbyholes
+  pub has_revoked_alone : AreEnded b (revoke_orphan b t) ended → Tells of_tokens (table_of mid) (revoke_orphan b t)
+      → HaveEnded who who b (without_parent b.tokens t) ended mid
+  has_revoked_alone are tells =
+      let left = left_by_one_revocation forms who b (left_before b old st) t in
       record {
-        rows = rows_left b us ended are (table_of old) (table_of mid) (table_of new) st.rows tells others objects kept
-            st.served.no_leases left.served.no_leases;
+        old = old;
+        represents = st;
+        are = are;
+        keep = λ q y is. let x = orphaned_is b.tokens t q y is in (x.0, x.1, ap (λ (z : Token). z.cubbyhole) x.2);
+        no_leases = left.served.no_leases;
         sound = left.sound;
-        served = left.served;
+        tells = tells;
+        others = others;
       }
-
-module _ {who : Option Text} (b : Broker) (t : Text) (old mid new : Rows) (ended : List Text) (st : Represents who old b)
-    (others : KeepsOthers of_tokens (table_of old) (table_of mid)) (dropped : table_of new ≡ without_cubbyholes (table_of mid) ended) where
-  -- a token was revoked with all under it, and their cubbyholes were dropped
-  pub represents-revoked : AreEnded b (revoke b t) ended → Tells of_tokens (table_of mid) (revoke b t)
-      → Tells of_cubbyholes (table_of new) (revoke b t) → Represents who new (revoke b t)
-  represents-revoked are tells objects =
-      represents-gone b (without_descendants b.tokens t) old st mid new ended (left_by_revocation forms who b (left_before b old st) t)
-      are tells others dropped objects
-
-  -- a token was revoked alone, and its cubbyhole was dropped
-  pub represents-revoked_alone : AreEnded b (revoke_orphan b t) ended → Tells of_tokens (table_of mid) (revoke_orphan b t)
-      → Tells of_cubbyholes (table_of new) (revoke_orphan b t) → Represents who new (revoke_orphan b t)
-  represents-revoked_alone are tells objects =
-      represents-gone b (without_parent b.tokens t) old st mid new ended (left_by_one_revocation forms who b (left_before b old st) t)
-      are tells others dropped objects
 
 -- ---- rows of cubbyholes that stay
 

@@ -6,7 +6,8 @@ use Rattle.broker_types.specs.Sound.{IsIdentifier}
 use Rattle.broker_types.specs.Text.{Text}
 use Rattle.api_json.specs.Kept.{IsKeptCreation}
 use Rattle.api_json.specs.declared.token_bodies.TokenCreation.{TokenCreation}
-use Rattle.broker_model.specs.parts.TokenCommands.{TokenCommand, create_token, create_orphan}
+use Rattle.broker_model.specs.declared.commands.TokenCommand.{TokenCommand}
+use Rattle.broker_model.specs.declared.commands.TokenCommand.TheVariants as command
 
 -- both are texts
 abbrev pub IsTextPair : Text × Text → Type 0
@@ -19,11 +20,10 @@ pub record IsInRange (asked : TokenCreation) : Type 0 where
   pub num_uses : asked.num_uses < 2 ^ 64
   pub texts : All IsTextPair asked.meta
 
--- what the command brings is in range
-abbrev pub IsCommandInRange : TokenCommand → Type 0
-IsCommandInRange (create_token asked) = IsInRange asked
-IsCommandInRange (create_orphan asked) = IsInRange asked
-IsCommandInRange _ = ⊤
+-- what the command brings can be kept
+abbrev pub IsTokenCommandInRange : TokenCommand → Type 0
+IsTokenCommandInRange (command.Create making asked) = IsKeptCreation asked
+IsTokenCommandInRange _ = ⊤
 
 -- the names of a new token and of its accessor are identifiers
 pub record AreTokenNames (names : Names) : Type 0 where

@@ -1,54 +1,60 @@
-//! Requests on tokens (Vault's documentation, "Token auth method (API)").
+//! What is done with tokens (Vault's documentation, "Token auth method (API)").
 
-ghost use Rattle.std.specs.Prelude.{◌≡◌, ◌≤◌, Ok, length};
+ghost use Rattle.std.specs.Prelude.{Some};
 ghost use Rattle.broker_types.specs.Fault.{IsNotBadStart};
-ghost use Rattle.broker_types.specs.Limits.{longest_body};
+ghost use Rattle.broker_types.specs.Names.{names_of};
 ghost use Rattle.records.specs.Transaction.{IsHonest};
 ghost use Rattle.records.specs.Calls.{OnAnswer, IsRequestCall};
-ghost use Rattle.broker_model.specs.Command.{on_tokens};
-ghost use Rattle.broker_model.specs.parts.TokenCommands.{TokenCommand, token_command};
-ghost use Rattle.broker_rows.specs.Operating.{Operates};
+ghost use Rattle.broker_model.specs.parts.TokenCommands.{own_names};
+ghost use Rattle.broker_model.specs.parts.Tokens as part;
+ghost use Rattle.broker_rows.specs.Operating.{Performs};
 ghost use Rattle.broker_rows.specs.Reads.{AreReadableTokens};
+ghost use Rattle.token_operations.specs.TokenRanges.{IsTokenCommandInRange};
 
-use crate::creation::{create, create_orphan};
-use crate::lookup::{list_accessors, look_up, look_up_accessor, look_up_self};
-use crate::renewal::{renew, renew_self};
-use crate::revocation::{revoke, revoke_accessor, revoke_orphan, revoke_self};
+use crate::creation::create;
+use crate::lookup::{list_accessors, look_up, look_up_accessor};
+use crate::renewal::renew;
+use crate::revocation::{revoke, revoke_accessor, revoke_orphan};
+use broker_model::TokenCommand;
 use broker_rows::{Answered, Context};
 use broker_types::RequestError;
-use mounts::TokenOperation;
 use records::RecordsTx;
 use std::alloc::Global;
 
-/// Carries out an operation on tokens. It may be refused. It fails with `Memory` if memory runs out, with `Storage` if
-/// the transaction's storage failed, and with `Damaged` if a row that it asks for cannot be read.
+/// Carries out a command of the caller on tokens. It may be refused. It fails with `Memory` if memory runs out, with
+/// `Storage` if the transaction's storage failed, and with `Damaged` if a row that it asks for cannot be read.
 pub fn act_on_tokens<T: RecordsTx>(
     alloc: Global,
     tx: &mut T,
     context: &Context<'_>,
-    operation: TokenOperation,
-    body: &[u8],
+    caller: &str,
+    command: TokenCommand,
 ) -> Result<Answered, RequestError>
-    requires { length body.now ≤ longest_body }
-    ensures told { Operates context.now (T.seen tx.old) (T.seen tx.new) (λ b. on_tokens operation body.now) result }
+    requires { IsTokenCommandInRange command }
+    ensures told { Performs (Some caller.now) context.now (own_names command (names_of context.now.words))
+        (T.seen tx.old) (T.seen tx.new)
+        (λ b. part.act_on_tokens b caller.now (names_of context.now.words) command) result }
 
     // Whatever the rows are: it is neither answered nor refused if a row that the command reads is damaged.
-    ensures readable { IsHonest (T.seen tx.new) → (c : TokenCommand) → token_command operation body.now ≡ Ok c
-        → OnAnswer result (AreReadableTokens (T.seen tx.old).rows context.now.caller c) }
+    ensures readable { IsHonest (T.seen tx.new)
+        → OnAnswer result (AreReadableTokens (T.seen tx.old).rows caller.now command) }
     ensures call { IsRequestCall (T.seen tx.old) (T.seen tx.new) result IsNotBadStart }
 {
-    match operation {
-        TokenOperation::Create => create(alloc, tx, context, body),
-        TokenOperation::CreateOrphan => create_orphan(alloc, tx, context, body),
-        TokenOperation::LookUp => look_up(alloc, tx, context, body),
-        TokenOperation::LookUpSelf => look_up_self(alloc, tx, context),
-        TokenOperation::LookUpAccessor => look_up_accessor(alloc, tx, context, body),
-        TokenOperation::Renew => renew(alloc, tx, context, body),
-        TokenOperation::RenewSelf => renew_self(alloc, tx, context, body),
-        TokenOperation::Revoke => revoke(alloc, tx, context, body),
-        TokenOperation::RevokeOrphan => revoke_orphan(alloc, tx, context, body),
-        TokenOperation::RevokeSelf => revoke_self(alloc, tx, context, body),
-        TokenOperation::RevokeAccessor => revoke_accessor(alloc, tx, context, body),
-        TokenOperation::ListAccessors => list_accessors(alloc, tx, context),
+    match command {
+        TokenCommand::Create(making, asked) => create(alloc, tx, context, caller, making, asked),
+        TokenCommand::LookUp(token) => look_up(alloc, tx, context, token.as_str(), token.as_str()),
+        TokenCommand::LookUpAccessor(accessor) => {
+            look_up_accessor(alloc, tx, context, accessor.as_str())
+        }
+        TokenCommand::LookUpSelf => look_up(alloc, tx, context, caller, caller),
+        TokenCommand::Renew(asked) => {
+            renew(alloc, tx, context, asked.token.as_str(), asked.increment)
+        }
+        TokenCommand::RenewSelf(increment) => renew(alloc, tx, context, caller, increment),
+        TokenCommand::Revoke(token) => revoke(alloc, tx, token.as_str()),
+        TokenCommand::RevokeOrphan(token) => revoke_orphan(alloc, tx, token.as_str()),
+        TokenCommand::RevokeAccessor(accessor) => revoke_accessor(alloc, tx, accessor.as_str()),
+        TokenCommand::RevokeSelf => revoke(alloc, tx, caller),
+        TokenCommand::ListAccessors => list_accessors(alloc, tx, context),
     }
 }

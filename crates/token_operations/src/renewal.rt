@@ -1,84 +1,34 @@
 //! Renewal of tokens.
 
-ghost use Rattle.std.specs.Prelude.{◌≡◌, ◌≤◌, Ok, length};
+ghost use Rattle.std.specs.Prelude.{◌≡◌, [], Option};
 ghost use Rattle.broker_types.specs.Fault.{IsNotBadStart};
-ghost use Rattle.broker_types.specs.Limits.{longest_body};
 ghost use Rattle.broker_types.specs.Names.{names_of};
+ghost use Rattle.broker_types.specs.Text.{Text};
 ghost use Rattle.records.specs.Ranges.{IsTokenInRange};
 ghost use Rattle.records.specs.Transaction.{IsHonest};
 ghost use Rattle.records.specs.Calls.{OnAnswer, IsRequestCall};
-ghost use Rattle.mounts.specs.declared.operation.TokenOperation.TheVariants as operations;
-ghost use Rattle.broker_model.specs.Command.{on_tokens};
-ghost use Rattle.broker_model.specs.parts.TokenCommands.{TokenCommand, token_command};
 ghost use Rattle.broker_model.specs.parts.Tokens as part;
-ghost use Rattle.broker_rows.specs.Operating.{Operates, Performs};
+ghost use Rattle.broker_rows.specs.Operating.{Performs};
 ghost use Rattle.broker_rows.specs.ReadableRow.{IsReadableToken};
-ghost use Rattle.broker_rows.specs.Reads.{AreReadableTokens};
 
 use crate::LONGEST_TTL;
 use crate::shown::auth_reply;
-use api_json::{increment, read_body, token_renewal};
 use broker_rows::{Answered, Context};
 use broker_types::{Denial, Moment, Reason, Refusal, RequestError, Seconds, id_text};
 use records::{Due, RecordsTx, TokenRecord};
 use std::alloc::Global;
 use token_tree::{find, renew as renew_token};
 
-/// Renews the token that a body names.
-pub(crate) fn renew<T: RecordsTx>(
-    alloc: Global,
-    tx: &mut T,
-    context: &Context<'_>,
-    body: &[u8],
-) -> Result<Answered, RequestError>
-    requires { length body.now ≤ longest_body }
-    ensures told { Operates context.now (T.seen tx.old) (T.seen tx.new)
-        (λ b. on_tokens operations.Renew body.now) result }
-
-    // Whatever the rows are: it is neither answered nor refused if a row that the command reads is damaged.
-    ensures readable { IsHonest (T.seen tx.new)
-        → (c : TokenCommand) → token_command operations.Renew body.now ≡ Ok c
-        → OnAnswer result (AreReadableTokens (T.seen tx.old).rows context.now.caller c) }
-    ensures call { IsRequestCall (T.seen tx.old) (T.seen tx.new) result IsNotBadStart }
-{
-    let members = read_body(alloc, body)?;
-    let asked = token_renewal(alloc, &members)?;
-    renew_to(alloc, tx, context, asked.token.as_str(), asked.increment)
-}
-
-/// Renews the caller.
-pub(crate) fn renew_self<T: RecordsTx>(
-    alloc: Global,
-    tx: &mut T,
-    context: &Context<'_>,
-    body: &[u8],
-) -> Result<Answered, RequestError>
-    requires { length body.now ≤ longest_body }
-    ensures told { Operates context.now (T.seen tx.old) (T.seen tx.new)
-        (λ b. on_tokens operations.RenewSelf body.now) result }
-
-    // Whatever the rows are: it is neither answered nor refused if a row that the command reads is damaged.
-    ensures readable { IsHonest (T.seen tx.new)
-        → (c : TokenCommand) → token_command operations.RenewSelf body.now ≡ Ok c
-        → OnAnswer result (AreReadableTokens (T.seen tx.old).rows context.now.caller c) }
-    ensures call { IsRequestCall (T.seen tx.old) (T.seen tx.new) result IsNotBadStart }
-{
-    let members = read_body(alloc, body)?;
-    let asked = increment(alloc, &members)?;
-    let caller = context.caller;
-    renew_to(alloc, tx, context, caller, asked)
-}
-
 /// Gives a token its new end. One that is not there is 403 `bad token`, and one without an end is 400 `lease is not
 /// renewable`.
-fn renew_to<T: RecordsTx>(
+pub(crate) fn renew<T: RecordsTx>(
     alloc: Global,
     tx: &mut T,
     context: &Context<'_>,
     token: &str,
     increment: Seconds,
 ) -> Result<Answered, RequestError>
-    ensures told { Performs context.now (T.seen tx.old) (T.seen tx.new)
+    ensures told { (who : Option Text) → Performs who context.now [] (T.seen tx.old) (T.seen tx.new)
         (λ b. part.renew b (names_of context.now.words) token.now increment) result }
 
     // Whatever the rows are: a damaged row is answered neither as a token nor as an unknown text.

@@ -29,10 +29,10 @@ pub(crate) fn finish<T: RecordsTx>(
     served: Result<Answered, Refusal>,
 ) -> Result<Answer, Fault>
     ensures told { IsHonest (T.seen tx.new) → (b : Broker) (m : Result order.Wrapped declared.Refusal)
-        → HasServed caller.now (T.seen tx.old).rows b served m
+        → HasServed (Some caller.now) (T.seen tx.old).rows b served m
         → IfOk result (λ a. Gives a (T.seen tx.new).rows (order.finish b (Some caller.now) m)) }
     ensures wants { IsHonest (T.seen tx.new) → (b : Broker) (m : Result order.Wrapped declared.Refusal)
-        → HasServed caller.now (T.seen tx.old).rows b served m → IfErr result IsMemoryOrStorage }
+        → HasServed (Some caller.now) (T.seen tx.old).rows b served m → IfErr result IsMemoryOrStorage }
     ensures room { IfOk result HasRoom }
     ensures listed { IfOk result (λ a. IsListed (response_of a)) }
 

@@ -11,8 +11,8 @@ use Rattle.broker_types.specs.Text.{Text}
 use Rattle.broker_types.specs.declared.refusal.Refusal.{Refusal}
 use Rattle.broker_types.specs.declared.refusal.Refusal.TheVariants as refusal
 use Rattle.policies.specs.Policies as policies
-use Rattle.broker_model.specs.parts.AclPolicyCommands.{PolicyCommand, list_policies, show_policy, set_policy}
-use Rattle.broker_model.specs.parts.AclPolicyCommands.{remove_policy}
+use Rattle.broker_model.specs.declared.commands.PolicyCommand.{PolicyCommand}
+use Rattle.broker_model.specs.declared.commands.PolicyCommand.TheVariants as command
 
 -- the names of all policies
 abbrev pub list : Broker → Names → Result Done Refusal
@@ -36,9 +36,9 @@ remove b name = do
   next ← policies.deleted b.policies name
   Ok (plainly nothing (record b { policies = next }))
 
--- what a command does
-abbrev pub act_on_policies : Broker → Names → PolicyCommand → Result Done Refusal
-act_on_policies b names list_policies = list b names
-act_on_policies b names (show_policy name) = show b names name
-act_on_policies b names (set_policy name text) = set b name text
-act_on_policies b names (remove_policy name) = remove b name
+-- what a command does at the name of a policy
+abbrev pub act_on_policies : Broker → Names → Text → PolicyCommand → Result Done Refusal
+act_on_policies b names name command.List = list b names
+act_on_policies b names name command.Show = show b names name
+act_on_policies b names name (command.Set text) = set b name text
+act_on_policies b names name command.Remove = remove b name

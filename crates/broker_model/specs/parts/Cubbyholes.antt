@@ -1,6 +1,6 @@
 -- The part of cubbyholes: what its operations mean, and what they do to the maps (Vault's documentation, "Cubbyhole
 -- secrets engine (API)").
-use Rattle.std.specs.Prelude.{ℕ, List, [], true, false, None, Result, Ok, Err}
+use Rattle.std.specs.Prelude.{ℕ, List, [], true, false, Option, Some, None, Result, Ok}
 use Rattle.serde_json.specs.Data.{Members, no_members, member, object}
 use Rattle.serde_json.specs.Written.{compact_text}
 use Rattle.broker_types.specs.Text.{Text}
@@ -17,33 +17,30 @@ use Rattle.mounts.specs.declared.operation.CubbyholeOperation.TheVariants as ope
 use Rattle.api_json.specs.Json.{body_members}
 use Rattle.api_json.specs.Reply.{plain_reply}
 use Rattle.broker_model.specs.Order.{Traits}
+use Rattle.broker_model.specs.declared.commands.CubbyholeCommand.{CubbyholeCommand}
+use Rattle.broker_model.specs.declared.commands.CubbyholeCommand.TheVariants as command
 
--- by the path in the caller's cubbyhole, and the members of the body
-pub data CubbyholeCommand : Type 0 where
-  read_object : Text → CubbyholeCommand
-  write_object : Text → Members → CubbyholeCommand
+-- the compact text of an object, if it has members
+abbrev pub full_text : Members → Option Text
+full_text no_members = None
+full_text (member name value rest) = Some (compact_text (object (member name value rest)))
 
--- what an operation means, by the path and the body
-abbrev pub cubbyhole_command : CubbyholeOperation → Text → List ℕ → Result CubbyholeCommand Refusal
-cubbyhole_command operation.Read path body = Ok (read_object path)
-cubbyhole_command operation.Write path body = do
+-- what an operation means, by the body
+abbrev pub cubbyhole_command : CubbyholeOperation → List ℕ → Result CubbyholeCommand Refusal
+cubbyhole_command operation.Read body = Ok command.Read
+cubbyhole_command operation.Write body = do
   members ← body_members body
-  Ok (write_object path members)
+  Ok (command.Write (full_text members))
 
 -- no operation needs identifiers, and none has to do with wrapping
 abbrev pub cubbyhole_traits : CubbyholeCommand → Traits
 cubbyhole_traits command = record { own = λ names. []; may_wrap = true; must_wrap = false }
 
--- an object with members; one without is 400 `missing data fields`
-abbrev pub full : Members → Result Members Refusal
-full no_members = Err (refusal.BadRequest reason.MissingData)
-full (member name value rest) = Ok (member name value rest)
-
--- what a command of the caller c does
-abbrev pub act_on_cubbyhole : Broker → Text → Names → CubbyholeCommand → Result Done Refusal
-act_on_cubbyhole b c names (read_object path) = do
+-- what a command of the caller c does at a path; an object without members is 400 `missing data fields`
+abbrev pub act_on_cubbyhole : Broker → Text → Names → Text → CubbyholeCommand → Result Done Refusal
+act_on_cubbyhole b c names path command.Read = do
   kept ← some_or refusal.NotFound (cubbyhole.object_at b c path)
   Ok (plainly (reply (plain_reply names.request kept) None) b)
-act_on_cubbyhole b c names (write_object path members) = do
-  ms ← full members
-  Ok (plainly nothing (cubbyhole.write b c path (compact_text (object ms))))
+act_on_cubbyhole b c names path (command.Write full) = do
+  text ← some_or (refusal.BadRequest reason.MissingData) full
+  Ok (plainly nothing (cubbyhole.write b c path text))

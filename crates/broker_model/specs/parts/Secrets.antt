@@ -11,9 +11,9 @@ use Rattle.broker_types.specs.declared.refusal.Refusal.TheVariants as refusal
 use Rattle.kv2.specs.Secrets as secrets
 use Rattle.api_json.specs.declared.secret_bodies.SecretWrite.{SecretWrite}
 use Rattle.api_json.specs.declared.secret_bodies.MountSettings.{MountSettings}
-use Rattle.broker_model.specs.parts.SecretCommands.{Place, SecretCommand, show_settings, set_settings, read_version}
-use Rattle.broker_model.specs.parts.SecretCommands.{write_version, delete_current, delete_versions, undelete_versions}
-use Rattle.broker_model.specs.parts.SecretCommands.{destroy_versions, show_metadata, remove_secret, list_secrets}
+use Rattle.broker_model.specs.declared.commands.SecretCommand.{SecretCommand}
+use Rattle.broker_model.specs.declared.commands.SecretCommand.TheVariants as command
+use Rattle.broker_model.specs.parts.SecretCommands.{Place}
 use Rattle.broker_model.specs.parts.SecretReplies.{settings_reply, version_answered, written_reply, metadata_reply}
 use Rattle.broker_model.specs.parts.SecretReplies.{list_reply}
 
@@ -66,14 +66,14 @@ list b names p = do
 
 -- what a command on a place does; changes and removals pass over a version, or a secret, that is not there
 abbrev pub act_on_secrets : Broker → Names → Place → SecretCommand → Result Done Refusal
-act_on_secrets b names p show_settings = settings b names p
-act_on_secrets b names p (set_settings asked) = Ok (set b p asked)
-act_on_secrets b names p (read_version n) = read b names p n
-act_on_secrets b names p (write_version asked) = write b names p asked
-act_on_secrets b names p delete_current = Ok (plainly nothing (secrets.delete b p.mount p.path))
-act_on_secrets b names p (delete_versions ns) = Ok (plainly nothing (secrets.delete_versions b p.mount p.path ns))
-act_on_secrets b names p (undelete_versions ns) = Ok (plainly nothing (secrets.undelete b p.mount p.path ns))
-act_on_secrets b names p (destroy_versions ns) = Ok (plainly nothing (secrets.destroy b p.mount p.path ns))
-act_on_secrets b names p show_metadata = metadata b names p
-act_on_secrets b names p remove_secret = Ok (plainly nothing (secrets.remove_key b p.mount p.path))
-act_on_secrets b names p list_secrets = list b names p
+act_on_secrets b names p command.ShowSettings = settings b names p
+act_on_secrets b names p (command.SetSettings asked) = Ok (set b p asked)
+act_on_secrets b names p (command.Read n) = read b names p n
+act_on_secrets b names p (command.Write asked) = write b names p asked
+act_on_secrets b names p command.DeleteCurrent = Ok (plainly nothing (secrets.delete b p.mount p.path))
+act_on_secrets b names p (command.Delete ns) = Ok (plainly nothing (secrets.delete_versions b p.mount p.path ns))
+act_on_secrets b names p (command.Undelete ns) = Ok (plainly nothing (secrets.undelete b p.mount p.path ns))
+act_on_secrets b names p (command.Destroy ns) = Ok (plainly nothing (secrets.destroy b p.mount p.path ns))
+act_on_secrets b names p command.ShowMetadata = metadata b names p
+act_on_secrets b names p command.Remove = Ok (plainly nothing (secrets.remove_key b p.mount p.path))
+act_on_secrets b names p command.List = list b names p

@@ -11,7 +11,6 @@ use Rattle.broker_types.specs.Broker as broker
 use Rattle.broker_types.specs.Broker.{Broker}
 use Rattle.broker_types.specs.Operation.{nothing, reply, plainly, Done}
 use Rattle.broker_types.specs.Refuse.{◌>>=◌, some_or, unless}
-use Rattle.broker_types.specs.Used.{are_new}
 use Rattle.broker_types.specs.declared.refusal.Refusal.{Refusal}
 use Rattle.broker_types.specs.declared.refusal.Refusal.TheVariants as refusal
 use Rattle.broker_types.specs.declared.refusal.Reason.TheVariants as reason
@@ -21,11 +20,9 @@ use Rattle.token_tree.specs.Tokens as tree
 use Rattle.api_json.specs.Objects.{keys_object}
 use Rattle.api_json.specs.Reply.{plain_reply}
 use Rattle.api_json.specs.declared.token_bodies.TokenCreation.{TokenCreation}
+use Rattle.broker_model.specs.declared.commands.TokenCommand.{TokenCommand}
+use Rattle.broker_model.specs.declared.commands.TokenCommand.TheVariants as command
 use Rattle.broker_model.specs.declared.making.Making.{Making}
-use Rattle.broker_model.specs.declared.making.Making.TheVariants.{OfCaller, WithoutParent}
-use Rattle.broker_model.specs.parts.TokenCommands.{TokenCommand, create_token, create_orphan, lookup_token}
-use Rattle.broker_model.specs.parts.TokenCommands.{lookup_accessor, lookup_self, renew_token, renew_self, revoke_token}
-use Rattle.broker_model.specs.parts.TokenCommands.{revoke_orphan, revoke_accessor, revoke_self, list_accessors}
 use Rattle.broker_model.specs.parts.TokenCommands.{token_names}
 use Rattle.broker_model.specs.parts.TokenCreation.{making_path, is_privileged, new_policies, may_make, new_parent}
 use Rattle.broker_model.specs.parts.TokenCreation.{new_token, or_longest}
@@ -66,12 +63,6 @@ create b c names making asked = do
   x ← known b c
   let privileged = is_privileged b (making_path making) x in
       create_with b c x names making privileged (new_policies privileged x asked) asked
-
--- what is done with the identifiers of a new token, which have to be new
-abbrev pub if_new : Broker → Names → Result Done Refusal → Result Done Refusal
-if_new b names done = do
-  fresh ← unless (are_new b.used (token_names names)) refusal.IdentifierUsed
-  done
 
 -- ---- look-up
 
@@ -130,15 +121,14 @@ revoke_named b accessor = do
 
 -- what a command of the caller c does
 abbrev pub act_on_tokens : Broker → Text → Names → TokenCommand → Result Done Refusal
-act_on_tokens b c names (create_token asked) = create b c names OfCaller asked
-act_on_tokens b c names (create_orphan asked) = create b c names WithoutParent asked
-act_on_tokens b c names (lookup_token t) = look_up b names t t
-act_on_tokens b c names (lookup_accessor accessor) = look_up_accessor b names accessor
-act_on_tokens b c names lookup_self = look_up b names c c
-act_on_tokens b c names (renew_token asked) = renew b names asked.token asked.increment
-act_on_tokens b c names (renew_self increment) = renew b names c increment
-act_on_tokens b c names (revoke_token t) = Ok (revoke b t)
-act_on_tokens b c names (revoke_orphan t) = Ok (revoke_alone b t)
-act_on_tokens b c names (revoke_accessor accessor) = revoke_named b accessor
-act_on_tokens b c names revoke_self = Ok (revoke b c)
-act_on_tokens b c names list_accessors = Ok (all_accessors b names)
+act_on_tokens b c names (command.Create making asked) = create b c names making asked
+act_on_tokens b c names (command.LookUp t) = look_up b names t t
+act_on_tokens b c names (command.LookUpAccessor accessor) = look_up_accessor b names accessor
+act_on_tokens b c names command.LookUpSelf = look_up b names c c
+act_on_tokens b c names (command.Renew asked) = renew b names asked.token asked.increment
+act_on_tokens b c names (command.RenewSelf increment) = renew b names c increment
+act_on_tokens b c names (command.Revoke t) = Ok (revoke b t)
+act_on_tokens b c names (command.RevokeOrphan t) = Ok (revoke_alone b t)
+act_on_tokens b c names (command.RevokeAccessor accessor) = revoke_named b accessor
+act_on_tokens b c names command.RevokeSelf = Ok (revoke b c)
+act_on_tokens b c names command.ListAccessors = Ok (all_accessors b names)

@@ -1,21 +1,21 @@
 //! Secrets and their versions, deleted, restored, destroyed and removed.
 
-ghost use Rattle.std.specs.Prelude.{◌≡◌, ◌≤◌, Ok, [], length, true};
+ghost use Rattle.std.specs.Prelude.{◌≡◌, [], Option, Ok, true};
 ghost use Rattle.broker_types.specs.Fault.{IsNotBadStart};
-ghost use Rattle.broker_types.specs.Limits.{longest_body};
 ghost use Rattle.broker_types.specs.Name.{is_mount_name};
+ghost use Rattle.broker_types.specs.Operation.{nothing, plainly};
 ghost use Rattle.broker_types.specs.Path.{is_path};
+ghost use Rattle.broker_types.specs.Text.{Text};
 ghost use Rattle.records.specs.Transaction.{IsHonest};
-ghost use Rattle.kv2.specs.Secrets.{secret_name};
 ghost use Rattle.records.specs.Calls.{OnAnswer, IsRequestCall};
-ghost use Rattle.mounts.specs.declared.operation.SecretOperation.TheVariants as operations;
-ghost use Rattle.broker_model.specs.Command.{on_secret, on_secrets};
-ghost use Rattle.broker_model.specs.parts.SecretCommands.{SecretCommand, at, secret_command, delete_current};
-ghost use Rattle.broker_model.specs.parts.SecretCommands.{remove_secret};
-ghost use Rattle.broker_rows.specs.Operating.{Operates};
-ghost use Rattle.broker_rows.specs.Reads.{AreReadableSecrets, IsReadableCurrent};
+ghost use Rattle.records.specs.Table.{table};
+ghost use Rattle.kv2.specs.SecretRows.{AreReadableVersions};
+ghost use Rattle.kv2.specs.Secrets as secrets;
+ghost use Rattle.kv2.specs.Secrets.{secret_name};
+ghost use Rattle.broker_rows.specs.Context as known;
+ghost use Rattle.broker_rows.specs.Operating.{Performs};
+ghost use Rattle.broker_rows.specs.Reads.{IsReadableCurrent};
 
-use api_json::{read_body, versions};
 use broker_rows::{Answered, Context};
 use broker_types::RequestError;
 use kv2::{delete_versions, remove_key};
@@ -31,8 +31,8 @@ pub(super) fn delete_current<T: RecordsTx>(
     path: &str,
 ) -> Result<Answered, RequestError>
     ensures told { is_mount_name mount.now ≡ true → is_path path.now ≡ true
-        → Operates context.now (T.seen tx.old) (T.seen tx.new)
-        (λ b. Ok (on_secret (at mount.now path.now) delete_current)) result }
+        → (who : Option Text) → Performs who context.now [] (T.seen tx.old) (T.seen tx.new)
+        (λ b. Ok (plainly nothing (secrets.delete b mount.now path.now))) result }
 
     // Whatever the rows are: a damaged row is told neither as deleted nor as absent.
     ensures readable { IsHonest (T.seen tx.new)
@@ -43,81 +43,67 @@ pub(super) fn delete_current<T: RecordsTx>(
     Ok(Answered::Nothing)
 }
 
-/// Deletes the versions of a secret that a body names.
+/// Deletes versions of a secret.
 pub(super) fn delete<T: RecordsTx>(
     alloc: Global,
     tx: &mut T,
     context: &Context<'_>,
     mount: &str,
     path: &str,
-    body: &[u8],
+    numbers: &[u64],
 ) -> Result<Answered, RequestError>
-    requires { length body.now ≤ longest_body }
     ensures told { is_mount_name mount.now ≡ true → is_path path.now ≡ true
-        → Operates context.now (T.seen tx.old) (T.seen tx.new)
-        (λ b. on_secrets operations.Delete (at mount.now path.now) [] body.now) result }
+        → (who : Option Text) → Performs who context.now [] (T.seen tx.old) (T.seen tx.new)
+        (λ b. Ok (plainly nothing (secrets.delete_versions b mount.now path.now numbers.now))) result }
 
     // Whatever the rows are: a damaged row is told neither as deleted nor as absent.
-    ensures readable { IsHonest (T.seen tx.new) → (c : SecretCommand)
-        → secret_command operations.Delete [] body.now ≡ Ok c
-        → OnAnswer result (AreReadableSecrets (T.seen tx.old).rows (at mount.now path.now) c) }
+    ensures readable { IsHonest (T.seen tx.new) → OnAnswer result
+        (AreReadableVersions (table (T.seen tx.old)) (secret_name mount.now path.now) numbers.now) }
     ensures call { IsRequestCall (T.seen tx.old) (T.seen tx.new) result IsNotBadStart }
 {
-    let members = read_body(alloc, body)?;
-    let numbers = versions(alloc, &members)?;
-    delete_versions(alloc, tx, context.clock, mount, path, numbers.as_slice())?;
+    delete_versions(alloc, tx, context.clock, mount, path, numbers)?;
     Ok(Answered::Nothing)
 }
 
-/// Takes back the deletion of the versions of a secret that a body names.
+/// Takes back the deletion of versions of a secret.
 pub(super) fn undelete<T: RecordsTx>(
     alloc: Global,
     tx: &mut T,
-    context: &Context<'_>,
     mount: &str,
     path: &str,
-    body: &[u8],
+    numbers: &[u64],
 ) -> Result<Answered, RequestError>
-    requires { length body.now ≤ longest_body }
     ensures told { is_mount_name mount.now ≡ true → is_path path.now ≡ true
-        → Operates context.now (T.seen tx.old) (T.seen tx.new)
-        (λ b. on_secrets operations.Undelete (at mount.now path.now) [] body.now) result }
+        → (who : Option Text) (x : known.Context) → Performs who x [] (T.seen tx.old) (T.seen tx.new)
+        (λ b. Ok (plainly nothing (secrets.undelete b mount.now path.now numbers.now))) result }
 
     // Whatever the rows are: a damaged row is told neither as restored nor as absent.
-    ensures readable { IsHonest (T.seen tx.new) → (c : SecretCommand)
-        → secret_command operations.Undelete [] body.now ≡ Ok c
-        → OnAnswer result (AreReadableSecrets (T.seen tx.old).rows (at mount.now path.now) c) }
+    ensures readable { IsHonest (T.seen tx.new) → OnAnswer result
+        (AreReadableVersions (table (T.seen tx.old)) (secret_name mount.now path.now) numbers.now) }
     ensures call { IsRequestCall (T.seen tx.old) (T.seen tx.new) result IsNotBadStart }
 {
-    let members = read_body(alloc, body)?;
-    let numbers = versions(alloc, &members)?;
-    kv2::undelete(alloc, tx, mount, path, numbers.as_slice())?;
+    kv2::undelete(alloc, tx, mount, path, numbers)?;
     Ok(Answered::Nothing)
 }
 
-/// Destroys the versions of a secret that a body names.
+/// Destroys versions of a secret.
 pub(super) fn destroy<T: RecordsTx>(
     alloc: Global,
     tx: &mut T,
-    context: &Context<'_>,
     mount: &str,
     path: &str,
-    body: &[u8],
+    numbers: &[u64],
 ) -> Result<Answered, RequestError>
-    requires { length body.now ≤ longest_body }
     ensures told { is_mount_name mount.now ≡ true → is_path path.now ≡ true
-        → Operates context.now (T.seen tx.old) (T.seen tx.new)
-        (λ b. on_secrets operations.Destroy (at mount.now path.now) [] body.now) result }
+        → (who : Option Text) (x : known.Context) → Performs who x [] (T.seen tx.old) (T.seen tx.new)
+        (λ b. Ok (plainly nothing (secrets.destroy b mount.now path.now numbers.now))) result }
 
     // Whatever the rows are: a damaged row is told neither as destroyed nor as absent.
-    ensures readable { IsHonest (T.seen tx.new) → (c : SecretCommand)
-        → secret_command operations.Destroy [] body.now ≡ Ok c
-        → OnAnswer result (AreReadableSecrets (T.seen tx.old).rows (at mount.now path.now) c) }
+    ensures readable { IsHonest (T.seen tx.new) → OnAnswer result
+        (AreReadableVersions (table (T.seen tx.old)) (secret_name mount.now path.now) numbers.now) }
     ensures call { IsRequestCall (T.seen tx.old) (T.seen tx.new) result IsNotBadStart }
 {
-    let members = read_body(alloc, body)?;
-    let numbers = versions(alloc, &members)?;
-    kv2::destroy(alloc, tx, mount, path, numbers.as_slice())?;
+    kv2::destroy(alloc, tx, mount, path, numbers)?;
     Ok(Answered::Nothing)
 }
 
@@ -125,13 +111,12 @@ pub(super) fn destroy<T: RecordsTx>(
 pub(super) fn remove<T: RecordsTx>(
     alloc: Global,
     tx: &mut T,
-    context: &Context<'_>,
     mount: &str,
     path: &str,
 ) -> Result<Answered, RequestError>
     ensures told { is_mount_name mount.now ≡ true → is_path path.now ≡ true
-        → Operates context.now (T.seen tx.old) (T.seen tx.new)
-        (λ b. Ok (on_secret (at mount.now path.now) remove_secret)) result }
+        → (who : Option Text) (x : known.Context) → Performs who x [] (T.seen tx.old) (T.seen tx.new)
+        (λ b. Ok (plainly nothing (secrets.remove_key b mount.now path.now))) result }
     ensures call { IsRequestCall (T.seen tx.old) (T.seen tx.new) result IsNotBadStart }
 {
     remove_key(alloc, tx, mount, path)?;

@@ -1,13 +1,15 @@
 //! Secrets without their texts, shown and listed.
 
-ghost use Rattle.std.specs.Prelude.{Ok};
+ghost use Rattle.std.specs.Prelude.{[], Option};
 ghost use Rattle.broker_types.specs.Fault.{IsNotBadStart};
+ghost use Rattle.broker_types.specs.Names.{names_of};
+ghost use Rattle.broker_types.specs.Text.{Text};
 ghost use Rattle.records.specs.Transaction.{IsHonest};
 ghost use Rattle.kv2.specs.Secrets.{secret_name};
 ghost use Rattle.records.specs.Calls.{OnAnswer, IsRequestCall};
-ghost use Rattle.broker_model.specs.Command.{on_secret};
-ghost use Rattle.broker_model.specs.parts.SecretCommands.{at, show_metadata, list_secrets};
-ghost use Rattle.broker_rows.specs.Operating.{Operates};
+ghost use Rattle.broker_model.specs.parts.SecretCommands.{at};
+ghost use Rattle.broker_model.specs.parts.Secrets as part;
+ghost use Rattle.broker_rows.specs.Operating.{Performs};
 ghost use Rattle.broker_rows.specs.Reads.{IsReadableWhole};
 
 use crate::secrets::shown::secret_told;
@@ -25,8 +27,8 @@ pub(super) fn show<T: RecordsTx>(
     mount: &str,
     path: &str,
 ) -> Result<Answered, RequestError>
-    ensures told { Operates context.now (T.seen tx.old) (T.seen tx.new)
-        (λ b. Ok (on_secret (at mount.now path.now) show_metadata)) result }
+    ensures told { (who : Option Text) → Performs who context.now [] (T.seen tx.old) (T.seen tx.new)
+        (λ b. part.metadata b (names_of context.now.words) (at mount.now path.now)) result }
 
     // Whatever the rows are: a damaged row is answered neither as metadata nor as an absent secret.
     ensures readable { IsHonest (T.seen tx.new)
@@ -49,8 +51,8 @@ pub(super) fn list<T: RecordsTx>(
     mount: &str,
     path: &str,
 ) -> Result<Answered, RequestError>
-    ensures told { Operates context.now (T.seen tx.old) (T.seen tx.new)
-        (λ b. Ok (on_secret (at mount.now path.now) list_secrets)) result }
+    ensures told { (who : Option Text) → Performs who context.now [] (T.seen tx.old) (T.seen tx.new)
+        (λ b. part.list b (names_of context.now.words) (at mount.now path.now)) result }
     ensures call { IsRequestCall (T.seen tx.old) (T.seen tx.new) result IsNotBadStart }
 {
     let names = kv2::list(alloc, tx, mount, path)?;

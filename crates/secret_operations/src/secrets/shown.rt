@@ -3,6 +3,7 @@
 ghost use Rattle.std.specs.Prelude.{◌≡◌, IfOk, map};
 ghost use Rattle.broker_types.specs.Names.{names_of};
 ghost use Rattle.kv2.specs.InRange.{IsMetadataInRange, AreToldInRange};
+ghost use Rattle.kv2.specs.Versions.{numbered};
 ghost use Rattle.records.specs.Ranges.{IsVersionInRange};
 ghost use Rattle.broker_model.specs.parts.SecretReplies as part;
 ghost use Rattle.broker_rows.specs.Done.{answered_of};
@@ -10,7 +11,7 @@ ghost use Rattle.broker_rows.specs.Done.{answered_of};
 use api_json::{KeyObject, VersionObject, Versions, plain_reply, secret_object};
 use broker_rows::{Answered, Context, moment, moment_or_none};
 use broker_types::{TextBuf, id_text};
-use kv2::{SecretMetadata, SecretVersion, VersionMetadata};
+use kv2::{FoundVersion, SecretMetadata, SecretVersion, VersionMetadata};
 use std::alloc::{AllocError, Global};
 
 /// What a read answers: 200 with the object of a version and its metadata, or 404 with the metadata of one that is
@@ -18,14 +19,14 @@ use std::alloc::{AllocError, Global};
 pub(super) fn version_answered(
     alloc: Global,
     context: &Context<'_>,
-    version: SecretVersion,
+    found: FoundVersion,
 ) -> Result<Answered, AllocError>
-    requires { IsVersionInRange version.1 }
+    requires { IsVersionInRange found.version }
     ensures { IfOk result (λ a. answered_of a
-        ≡ part.version_answered (names_of context.now.words).request version) }
+        ≡ part.version_answered (names_of context.now.words).request found) }
 {
-    let metadata = version_shown(&version);
-    let object = object_left(version);
+    let metadata = version_shown(found.number, &found.version);
+    let object = object_left(found.version);
     let is_left = object.is_some();
     let payload = secret_object(alloc, &object, &metadata)?;
     let request = id_text(alloc, context.words.0[0])?;
@@ -37,22 +38,22 @@ pub(super) fn version_answered(
     }
 }
 
-/// The metadata of a version.
-fn version_shown(version: &SecretVersion) -> VersionObject
-    requires { IsVersionInRange version.now.1 }
-    ensures { result ≡ part.version_shown version.now }
+/// The metadata of a version with its number.
+fn version_shown(number: u64, version: &SecretVersion) -> VersionObject
+    requires { IsVersionInRange version.now }
+    ensures { result ≡ part.version_shown (numbered number version.now) }
 {
     VersionObject {
         created: moment(version.created),
         deleted: moment_or_none(version.deleted),
         destroyed: version.secret.is_none(),
-        version: version.number,
+        version: number,
     }
 }
 
 /// The object of a version, unless it is deleted or destroyed.
 fn object_left(version: SecretVersion) -> Option<TextBuf>
-    ensures { result ≡ part.object_left version.1 }
+    ensures { result ≡ part.object_left version }
 {
     match version.deleted {
         Some(_) => None,

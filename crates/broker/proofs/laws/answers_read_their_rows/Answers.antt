@@ -1,7 +1,7 @@
 use Rattle.std.specs.Prelude.{◌≡◌, ◌≢◌, ◌⊎◌, ℕ, true, false, Option, Some, None, Ok, option_map}
-use Rattle.std.proofs.Common.{refl, sym, ap, ◌∙◌, inl, inr}
+use Rattle.std.proofs.Common.{refl, sym, ap, ◌∙◌, subst, inl, inr}
 use Rattle.std.proofs.lemmas.Bool.{true≢false}
-use Rattle.std.proofs.lemmas.Option.{none-some}
+use Rattle.std.proofs.lemmas.Option.{none-some, same_Some}
 use Rattle.broker_types.specs.Answer.{Response}
 use Rattle.broker_types.specs.Broker.{Mount}
 use Rattle.broker_types.specs.Text.{Text}
@@ -17,14 +17,14 @@ use Rattle.mounts.specs.Route.{Route, cut, route_at}
 use Rattle.mounts.specs.declared.operation.CubbyholeOperation.TheVariants as cubbyhole
 use Rattle.mounts.specs.declared.operation.Operation.TheVariants.{Cubbyholes}
 use Rattle.broker_model.specs.Command.{command_by, on_cubbyhole}
-use Rattle.broker_model.specs.parts.Cubbyholes.{read_object}
+use Rattle.broker_model.specs.declared.commands.CubbyholeCommand.TheVariants as commands
 use Rattle.broker_rows.specs.Ending.{HasTokenKeys, IsSpentAt}
 use Rattle.broker_rows.specs.ReadableLaws.{readable_before, readable_gone, unspent_gone}
-use Rattle.broker_rows.specs.ReadableRow.{IsReadableObject, IsReadableToken, IsDenied}
+use Rattle.broker_rows.specs.ReadableRow.{IsReadableObject, IsReadableToken}
 use Rattle.broker_rows.specs.ExpiryLaws.{damaged_before, mount_before, objects_before}
 use Rattle.broker.specs.PermittedRows.{IsAllowedFor, IsPermittedAt}
-use Rattle.broker.specs.Answering.{AreAtCommand, Asks, IsAnsweredBy, IsCarriedOutOrForbidden, IsForbiddenThen}
-use Rattle.broker.specs.Answering.{MayBeDone}
+use Rattle.broker.specs.Answering.{AreAtCommand, Asks, IsAnsweredBy, IsAskedBy, IsCarriedOutOrForbidden, IsDenied}
+use Rattle.broker.specs.Answering.{IsForbiddenThen, MayBeDone}
 use Rattle.broker.proofs.CommandReads.{asks_spent, asks_still, ended_or_unspent, forbidden_or, objects_unspent}
 use Rattle.broker.proofs.CommandReads.{others_unspent}
 use Rattle.broker.proofs.Routes.{readable_still}
@@ -57,7 +57,7 @@ module _ (moment : ℕ) (t : Text) (old new : Rows) (ask : Ask) (response : Resp
   object_before keys mount r known found reads rows at may =
       let here : table_of at.expired kind.Token t ≢ None =
       λ none. permitted_here rows t ask.verb ask.path may.permitted (spender_gone at.expired rows t at.spends none) in
-      let command = on_cubbyhole (read_object r.parameter) in
+      let command = on_cubbyhole r.parameter commands.Read in
       let asks : Asks old ask command =
       record { mount = mount; route = r; known = known; found = found; meant = ap (λ o. command_by o r ask) reads } in
       let mounted = mount_before moment at.now old at.expired at.expires (cut ask.path).0 in
@@ -75,30 +75,44 @@ module _ (moment : ℕ) (t : Text) (old new : Rows) (ask : Ask) (response : Resp
   ended_then rows (inl done) = ended_or_unspent t done.done new done.ends
   ended_then rows (inr told) = ended_or_unspent t rows new told.ends
 
-  by_object : IsAnsweredBy moment t old new ask response → HasTokenKeys old → (mount : Option Mount) (r : Route)
+  -- who asks is the client token
+  asker : (u : Text) → ask.token ≡ Some t → IsAskedBy moment u old new ask response → IsAskedBy moment t old new ask response
+  asker u is asked = subst (λ v. IsAskedBy moment v old new ask response) (same_Some _ _ (sym asked.token ∙ is)) asked
+
+  by_object : ask.token ≡ Some t → IsAnsweredBy moment old new ask response → HasTokenKeys old → (mount : Option Mount) (r : Route)
       → IsKnownAt (table_of old) (cut ask.path).0 mount → route_at mount ask.verb ask.path ≡ Ok r → r.operation ≡ Cubbyholes cubbyhole.Read
-      → IsReadableObject old t r.parameter ⊎ (IsForbiddenThen moment t old new ask response ⊎ IsDenied moment response old new t)
-  by_object (inl at) keys mount r known found reads =
-      forbidden_or (λ done. object_before keys mount r known found reads at.0 at.1 done.may) (λ told. (at.0, at.1, told)) at.2
-  by_object (inr denied) keys mount r known found reads = inr (inr denied)
+      → IsReadableObject old t r.parameter ⊎ (IsForbiddenThen moment t old new ask response ⊎ IsDenied moment ask.token response old new)
+  by_object is (inl by) keys mount r known found reads =
+      let asked = asker by.0 is by.1 in
+      forbidden_or (λ done. object_before keys mount r known found reads asked.rows asked.at done.may) (λ told. (asked.rows, asked.at, told)) asked.done
+  by_object is (inr denied) keys mount r known found reads = inr (inr denied)
 
-  by_mount : IsAnsweredBy moment t old new ask response → IsReadableAt (table_of old) (cut ask.path).0 ⊎ IsDenied moment response old new t
-  by_mount (inl at) =
+  by_mount : ask.token ≡ Some t → IsAnsweredBy moment old new ask response
+      → IsReadableAt (table_of old) (cut ask.path).0 ⊎ IsDenied moment ask.token response old new
+  by_mount is (inl by) =
+      let asked = asker by.0 is by.1 in
       let name = (cut ask.path).0 in
-      let same = others_unspent at.1.expired at.0 t at.1.spends kind.Mount name refl
-      ∙ mount_before moment at.1.now old at.1.expired at.1.expires name in
-      inl (readable_still old at.0 name same (mount_asked at.0 at.2))
-  by_mount (inr denied) = inr denied
+      let same = others_unspent asked.at.expired asked.rows t asked.at.spends kind.Mount name refl
+      ∙ mount_before moment asked.at.now old asked.at.expired asked.at.expires name in
+      inl (readable_still old asked.rows name same (mount_asked asked.rows asked.done))
+  by_mount is (inr denied) = inr denied
 
-  by_caller : IsAnsweredBy moment t old new ask response → IsReadableToken old t
-  by_caller (inl at) =
-      let spent = at.1.spends in
-      damaged_before moment at.1.now old at.1.expired at.1.expires t (spent.entry, spent.in_range, spent.was)
-  by_caller (inr denied) = damaged_before moment denied.2 old new denied.3 t (readable_gone new t denied.1)
+  by_caller : ask.token ≡ Some t → IsAnsweredBy moment old new ask response → IsReadableToken old t
+  by_caller is (inl by) =
+      let asked = asker by.0 is by.1 in
+      let spent = asked.at.spends in
+      damaged_before moment asked.at.now old asked.at.expired asked.at.expires t (spent.entry, spent.in_range, spent.was)
+  by_caller is (inr denied) = damaged_before moment denied.now old new denied.expires t (readable_gone new t (denied.nobody t is))
 
-  by_end : IsAnsweredBy moment t old new ask response → IsSpentAt new t false
-  by_end (inl at) = ended_then at.0 at.2
-  by_end (inr denied) = unspent_gone new t denied.1
+  by_end : ask.token ≡ Some t → IsAnsweredBy moment old new ask response → IsSpentAt new t false
+  by_end is (inl by) = let asked = asker by.0 is by.1 in ended_then asked.rows asked.done
+  by_end is (inr denied) = unspent_gone new t (denied.nobody t is)
+
+-- an ask of nobody is not asked by a token
+by_nobody : (moment : ℕ) (old new : Rows) (ask : Ask) (response : Response) → ask.token ≡ None → IsAnsweredBy moment old new ask response
+    → IsDenied moment None response old new
+by_nobody moment old new ask response none (inl by) = absurd (none-some _ (sym none ∙ by.1.token))
+by_nobody moment old new ask response none (inr denied) = subst (λ o. IsDenied moment o response old new) none denied
 
 pub returns-clause-cubbyholes : goal.returns-clause-cubbyholes
 returns-clause-cubbyholes c = λ moment t old new ask response. by_object moment t old new ask response
@@ -111,3 +125,6 @@ returns-clause-caller c = λ moment t old new ask response. by_caller moment t o
 
 pub returns-clause-ends : goal.returns-clause-ends
 returns-clause-ends c = λ moment t old new ask response. by_end moment t old new ask response
+
+pub returns-clause-nobody : goal.returns-clause-nobody
+returns-clause-nobody c = λ moment old new ask response. by_nobody moment old new ask response

@@ -19,10 +19,10 @@ by_part : (b : Broker) (caller : Option Text) (names : Names) (command : Command
     → are_new b.used ((traits command).own names) ≡ true → act b caller names command ≡ Ok d
     → IsProper b ((traits command).own names) d
 by_part b None names command d new e = no_ok e
-by_part b (Some c) names (on_cubbyhole command) d new e = cubbyholes.acts b c names command d e
+by_part b (Some c) names (on_cubbyhole path command) d new e = cubbyholes.acts b c names path command d e
 by_part b (Some c) names (on_token command) d new e = tokens.acts b c names command d new e
 by_part b (Some c) names (on_secret place command) d new e = secrets.acts b names place command d e
-by_part b (Some c) names (on_policy command) d new e = policies.acts b names command d e
+by_part b (Some c) names (on_policy name command) d new e = policies.acts b names name command d e
 
 pub returns : goal.returns
 returns c = λ b caller names command d new done. by_part b caller names command d new done

@@ -1,17 +1,22 @@
-use Rattle.std.proofs.Common.{sym, ap, ◌∙◌, subst}
+use Rattle.std.proofs.Common.{sym, subst}
 use Rattle.std.proofs.lemmas.Result.{err_from_is_err_and, on_ok_weaker}
 use Rattle.broker_types.specs.Broker.{revoke}
-use Rattle.records.specs.CallLaws.{honest_before, on_both}
+use Rattle.broker_types.specs.Lineage.{without_descendants}
+use Rattle.broker_types.specs.Sound.{Sound}
+use Rattle.broker_types.specs.SpendingLaws.{end_spent_sound}
+use Rattle.records.specs.CallLaws.{honest_before}
 use Rattle.token_tree.specs.Tokens.{AreEnded}
 use Rattle.broker_model.specs.Forms.{forms}
-use Rattle.broker_rows.proofs.Callers.{revoked_long, revoked_lost, revoked_left, represents-revoked, represents-unspent}
-use Rattle.std.specs.Prelude.{true, false}
+use Rattle.broker_rows.proofs.Callers.{represents-unspent, spent_revoked}
+use Rattle.std.specs.Prelude.{true, false, Some, None}
 use Rattle.std.proofs.lemmas.Bool.{true≢false, false≢true}
 use Rattle.records.specs.Transaction.{Rows}
-use Rattle.cubbyhole.specs.Laws.{without_cubbyholes}
 use Rattle.token_tree.specs.Ended.{is_named}
 use Rattle.token_tree.specs.Endings.{EndsDescent}
 use Rattle.broker_rows.specs.Ending.{IsSpentAt}
+use Rattle.broker_rows.specs.Left.{HaveEnded}
+use Rattle.broker_rows.specs.LeftLaws.{revoked_left}
+use Rattle.broker_rows.specs.Representing.{Represents}
 use Rattle.broker_rows.specs.RepresentingLaws.{represents_tokens, still_represented}
 use Rattle.broker_rows.proofs.ending.end_spent.Goals as goal
 
@@ -35,21 +40,19 @@ returns-clause-told g c honest b st =
     let seen = g.T.RecordsTx.seen in
     let caller = c.args.caller.now in
     let ended = c.deref.result.now in
-    let revoked = honest_before (seen c.revoke.new.tx) (seen c.drop_cubbyholes.new.tx) _ c.drop_cubbyholes.ensures.call.goes_on honest in
+    let revoked = honest_before (seen c.revoke.new.tx) (seen c.leave_nothing.new.tx) _ c.leave_nothing.ensures.call.goes_on honest in
     let asked = honest_before (seen c.is_spent.new.tx) (seen c.revoke.new.tx) _ c.revoke.ensures.call.goes_on revoked in
     let old = (seen c.is_spent.new.tx).rows in
     let mid = (seen c.revoke.new.tx).rows in
-    let new = (seen c.drop_cubbyholes.new.tx).rows in
     let still = still_represented b (seen c.args.tx.now).rows old (c.in_ok-is_spent.ensures.call.same asked) st in
     let tokens = represents_tokens b old still in
+    let is = spent_revoked b caller old still c.in_ok-is_spent.field-0 (c.in_ok-is_spent.ensures.told asked b st) c.if-not-branch.false in
     let are = subst (AreEnded b (revoke b caller)) (sym c.deref.ensures.value) (c.in_ok-ended.ensures.ended revoked forms b tokens) in
-    let others = c.in_ok-ended.ensures.call.others revoked in
-    on_both c.drop_cubbyholes.result (λ dropped objects.
-    represents-revoked b caller old still mid new ended c.in_ok-is_spent.field-0 (c.in_ok-is_spent.ensures.told asked b st) c.if-not-branch.false are
-    (c.in_ok-ended.ensures.told revoked forms b tokens) others dropped objects)
-    (c.drop_cubbyholes.ensures.rows honest)
-    (c.drop_cubbyholes.ensures.told honest b (revoke b caller) (revoked_long b caller old still ended are) (revoked_lost b caller old still ended are)
-    (revoked_left b caller old still mid others))
+    let left : HaveEnded (Some caller) None b (without_descendants b.tokens caller) ended mid =
+    revoked_left b caller old mid ended still (subst (Sound forms None) is (end_spent_sound forms (Some caller) b st.sound)) are
+    (c.in_ok-ended.ensures.told revoked forms b tokens) (c.in_ok-ended.ensures.call.others revoked) in
+    on_ok_weaker c.leave_nothing.result (subst (Represents None (seen c.leave_nothing.new.tx).rows) (sym is))
+    (c.leave_nothing.ensures.told honest (Some caller) None b (without_descendants b.tokens caller) left)
 
 pub returns-then-not-branch-clause-rows : goal.returns-then-not-branch-clause-rows
 returns-then-not-branch-clause-rows g c honest = record {
@@ -66,17 +69,17 @@ returns-clause-rows g c honest =
     let ended = c.deref.result.now in
     let old = (seen c.args.tx.now).rows in
     let mid = (seen c.revoke.new.tx).rows in
-    let revoked = honest_before (seen c.revoke.new.tx) (seen c.drop_cubbyholes.new.tx) _ c.drop_cubbyholes.ensures.call.goes_on honest in
+    let revoked = honest_before (seen c.revoke.new.tx) (seen c.leave_nothing.new.tx) _ c.leave_nothing.ensures.call.goes_on honest in
     let asked = honest_before (seen c.is_spent.new.tx) (seen c.revoke.new.tx) _ c.revoke.ensures.call.goes_on revoked in
     let ends : EndsDescent (is_named caller) old ended mid =
     subst (λ (z : Rows). EndsDescent (is_named caller) z ended mid) (c.in_ok-is_spent.ensures.call.same asked)
     (subst (λ list. EndsDescent (is_named caller) (seen c.is_spent.new.tx).rows list mid) (sym c.deref.ensures.value)
     (c.in_ok-ended.ensures.rows revoked)) in
-    on_ok_weaker c.drop_cubbyholes.result
-    (λ dropped. record {
+    on_ok_weaker c.leave_nothing.result
+    (λ leaves. record {
       spent = true;
       told = subst (IsSpentAt old caller) c.if-not-branch.false (c.in_ok-is_spent.ensures.found asked);
       stays = λ e. absurd (true≢false e);
-      ends = λ _. (ended, ends.descent, ends.readable, dropped ∙ ap (λ z. without_cubbyholes z ended) ends.rows);
+      ends = λ _. record { ended = ended; left = mid; ends = ends; leaves = leaves };
     })
-    (c.drop_cubbyholes.ensures.rows honest)
+    (c.leave_nothing.ensures.rows honest)

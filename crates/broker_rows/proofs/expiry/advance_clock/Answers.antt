@@ -1,11 +1,15 @@
-use Rattle.std.proofs.Common.{rules, ◌≡◌, [], max, Some, sym, ap, ◌∙◌}
+use Rattle.std.proofs.Common.{rules, ◌≡◌, [], max, Some, None, sym, ap, subst, ◌∙◌}
 use Rattle.std.specs.FinMap as map
 use Rattle.records.specs.RowForms.{clock_row}
 use Rattle.records.specs.declared.kind.Kind.TheVariants as kind
 use Rattle.std.proofs.lemmas.Option.{same_Some}
+use Rattle.records.specs.ClockLaws.{with_clock}
+use Rattle.records.specs.Table.{table_of}
 use Rattle.records.specs.ValueLaws.{ok_inj}
+use Rattle.broker_rows.specs.Representing.{Represents}
+use Rattle.broker_rows.specs.RepresentingLaws.{still_represented}
 use Rattle.records.specs.CallLaws.{honest_before}
-use Rattle.broker_rows.proofs.ClockCalls.{clock_found, clock_put, clock_keeps, clock_written}
+use Rattle.broker_rows.proofs.ClockCalls.{clock_found, clock_put, clock_keeps, clock_stays, clock_written}
 use Rattle.broker_rows.proofs.expiry.advance_clock.Goals as goal
 
 pub returns-in_default-clause-wants : goal.returns-in_default-clause-wants
@@ -17,6 +21,38 @@ returns-in_err-clock-clause-wants g c honest b st =
     let is : c.in-Some.kept ≡ clock_row b.clock = same_Some _ _ (sym c.in-Some.is ∙ c.in_ok-kept.ensures.found honest
     ∙ clock_found b (g.T.RecordsTx.seen c.args.tx.now).rows st) in
     absurd (let e = c.in_err-clock.ensures.again b.clock st.sound.clock is in cc)
+
+-- ---- the clock does not move
+
+pub returns-then-seconds-clause-told : goal.returns-then-seconds-clause-told
+returns-then-seconds-clause-told g c honest b st =
+    let seen = g.T.RecordsTx.seen in
+    let old = (seen c.args.tx.now).rows in
+    let is : c.in-Some.kept ≡ clock_row b.clock = same_Some _ _ (sym c.in-Some.is ∙ c.in_ok-kept.ensures.found honest ∙ clock_found b old st) in
+    let clock : c.in_ok-clock.clock ≡ b.clock = ok_inj (c.in_ok-clock.ensures.again b.clock st.sound.clock is) in
+    let stays : c.later-now.result ≡ c.in_ok-clock.clock = search rules in (
+      c.later-now.ensures.value ∙ ap (λ n. max n c.args.moment) clock,
+      subst (λ n. Represents None (seen c.get.new.self).rows (with_clock b n)) (sym clock ∙ sym stays)
+          (still_represented b old (seen c.get.new.self).rows (c.in_ok-kept.ensures.call.same honest) st),
+    )
+
+pub returns-then-seconds-clause-rows : goal.returns-then-seconds-clause-rows
+returns-then-seconds-clause-rows g c honest =
+    let seen = g.T.RecordsTx.seen in
+    let old = (seen c.args.tx.now).rows in
+    let stays : c.later-now.result ≡ c.in_ok-clock.clock = search rules in
+    let was : table_of old kind.Clock [] ≡ Some (clock_row c.in_ok-clock.clock) =
+    sym (c.in_ok-kept.ensures.found honest) ∙ c.in-Some.is ∙ ap Some c.in_ok-clock.ensures.exact.1 in
+    record {
+      clock = c.in_ok-clock.clock;
+      in_range = c.in_ok-clock.ensures.exact.0;
+      was = was;
+      later = c.later-now.ensures.value;
+      is = clock_stays old (seen c.get.new.self).rows c.later-now.result (c.in_ok-kept.ensures.call.same honest)
+          (was ∙ ap (λ n. Some (clock_row n)) (sym stays));
+    }
+
+-- ---- it moves
 
 pub returns-clause-told : goal.returns-clause-told
 returns-clause-told g c honest b st =

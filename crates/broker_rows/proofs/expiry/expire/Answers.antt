@@ -1,17 +1,19 @@
-use Rattle.std.proofs.Common.{rules, sym, ap, ◌∙◌, subst}
+use Rattle.std.proofs.Common.{rules, sym, subst}
+use Rattle.std.specs.Prelude.{None}
 use Rattle.std.proofs.lemmas.Result.{err_from_is_err_and}
+use Rattle.broker_types.specs.Lineage.{alive_at}
 use Rattle.records.specs.CallLaws.{honest_before}
 use Rattle.records.specs.ClockLaws.{with_clock}
-use Rattle.records.specs.Parts.{KeepsOthers, of_cubbyholes}
 use Rattle.records.specs.Table.{table_of}
 use Rattle.token_tree.specs.Ended.{has_come}
 use Rattle.token_tree.specs.Tokens.{AreEnded, without_expired}
-use Rattle.cubbyhole.specs.Laws.{without_cubbyholes}
 use Rattle.broker_model.specs.Forms.{forms}
-use Rattle.broker_rows.specs.EndingLaws.{others_kept}
+use Rattle.broker_rows.specs.Ending.{LeavesNothing}
+use Rattle.broker_rows.specs.EndingLaws.{leaves_others}
 use Rattle.broker_rows.specs.RepresentingLaws.{represents_tokens}
-use Rattle.broker_rows.proofs.Expired.{represents-expired}
 use Rattle.broker_rows.specs.ExpiryLaws.{others_expired, damaged_still}
+use Rattle.broker_rows.specs.Representing.{Represents}
+use Rattle.broker_rows.proofs.Expired.{expired_then, swept_left}
 use Rattle.broker_rows.proofs.expiry.expire.Goals as goal
 
 pub returns-in_err-ended-clause-wants : goal.returns-in_err-ended-clause-wants
@@ -26,26 +28,20 @@ returns-in_err-ended-clause-wants g c honest b st =
 pub returns-clause-told : goal.returns-clause-told
 returns-clause-told g c honest b st =
     let seen = g.T.RecordsTx.seen in
-    let swept = honest_before (seen c.sweep_tokens.new.tx) (seen c.drop_cubbyholes.new.tx) _ c.drop_cubbyholes.ensures.call.goes_on honest in
+    let swept = honest_before (seen c.sweep_tokens.new.tx) (seen c.leave_nothing.new.tx) _ c.leave_nothing.ensures.call.goes_on honest in
     let ticked = honest_before (seen c.advance_clock.new.tx) (seen c.sweep_tokens.new.tx) _ c.sweep_tokens.ensures.call.goes_on swept in
     let now = c.in_ok-now.now in
     let at = with_clock b now in
     let old = (seen c.advance_clock.new.tx).rows in
-    let mid = (seen c.sweep_tokens.new.tx).rows in
-    let new = (seen c.drop_cubbyholes.new.tx).rows in
     let later = c.in_ok-now.ensures.told ticked b st in
     let tokens = represents_tokens at old later.1 in
-    let ended = c.deref.result.now in (
+    let are = subst (AreEnded at (without_expired at now)) (sym c.deref.ensures.value) (c.in_ok-ended.ensures.ended swept forms at tokens) in
+    let left = swept_left b c.args.moment now (seen c.args.tx.now).rows old st later.0 later.1 (seen c.sweep_tokens.new.tx).rows c.deref.result.now are
+    (c.in_ok-ended.ensures.told swept forms at tokens) (c.in_ok-ended.ensures.call.others swept) in (
       later.0,
-      represents-expired b (seen c.args.tx.now).rows old mid new c.args.moment now ended st later.0
-          (record {
-            later = later.1;
-            are = subst (AreEnded at (without_expired at now)) (sym c.deref.ensures.value) (c.in_ok-ended.ensures.ended swept forms at tokens);
-            tells = c.in_ok-ended.ensures.told swept forms at tokens;
-            others = c.in_ok-ended.ensures.call.others swept;
-            drops = λ long lost told. c.in_ok-drop_cubbyholes.ensures.told honest at (without_expired at now) long lost told;
-            kept = subst (KeepsOthers of_cubbyholes (table_of mid)) (sym (c.in_ok-drop_cubbyholes.ensures.rows honest)) (others_kept ended (table_of mid));
-          }),
+      subst (Represents None (seen c.leave_nothing.new.tx).rows)
+          (expired_then b c.args.moment now (seen c.args.tx.now).rows old st later.0 later.1)
+          (c.in_ok-leave_nothing.ensures.told honest None None at (alive_at now b.tokens) left),
     )
 
 pub returns-clause-call : goal.returns-clause-call
@@ -53,12 +49,12 @@ returns-clause-call g c =
     record {
       others = λ honest.
           let seen = g.T.RecordsTx.seen in
-          let swept = honest_before (seen c.sweep_tokens.new.tx) (seen c.drop_cubbyholes.new.tx) _ c.drop_cubbyholes.ensures.call.goes_on honest in
+          let swept = honest_before (seen c.sweep_tokens.new.tx) (seen c.leave_nothing.new.tx) _ c.leave_nothing.ensures.call.goes_on honest in
           let ticked = honest_before (seen c.advance_clock.new.tx) (seen c.sweep_tokens.new.tx) _ c.sweep_tokens.ensures.call.goes_on swept in
           let mid = table_of (seen c.sweep_tokens.new.tx).rows in
-          others_expired (table_of (seen c.args.tx.now).rows) (table_of (seen c.advance_clock.new.tx).rows) mid (table_of (seen c.drop_cubbyholes.new.tx).rows)
+          others_expired (table_of (seen c.args.tx.now).rows) (table_of (seen c.advance_clock.new.tx).rows) mid (table_of (seen c.leave_nothing.new.tx).rows)
           (c.in_ok-now.ensures.call.others ticked) (c.in_ok-ended.ensures.call.others swept)
-          (subst (KeepsOthers of_cubbyholes mid) (sym (c.in_ok-drop_cubbyholes.ensures.rows honest)) (others_kept c.deref.result.now mid));
+          (leaves_others c.deref.result.now _ _ (c.in_ok-leave_nothing.ensures.rows honest));
       faults = tt;
       goes_on = search rules;
     }
@@ -66,17 +62,17 @@ returns-clause-call g c =
 pub returns-clause-kept : goal.returns-clause-kept
 returns-clause-kept g c honest =
     let seen = g.T.RecordsTx.seen in
-    let swept = honest_before (seen c.sweep_tokens.new.tx) (seen c.drop_cubbyholes.new.tx) _ c.drop_cubbyholes.ensures.call.goes_on honest in
+    let swept = honest_before (seen c.sweep_tokens.new.tx) (seen c.leave_nothing.new.tx) _ c.leave_nothing.ensures.call.goes_on honest in
     let ticked = honest_before (seen c.advance_clock.new.tx) (seen c.sweep_tokens.new.tx) _ c.sweep_tokens.ensures.call.goes_on swept in
     let mid = (seen c.sweep_tokens.new.tx).rows in
-    damaged_still (seen c.args.tx.now).rows (seen c.advance_clock.new.tx).rows mid (seen c.drop_cubbyholes.new.tx).rows (has_come c.in_ok-now.now)
+    damaged_still (seen c.args.tx.now).rows (seen c.advance_clock.new.tx).rows mid (seen c.leave_nothing.new.tx).rows (has_come c.in_ok-now.now)
     c.in_ok-ended.ended.items (c.in_ok-now.ensures.call.others ticked) (c.in_ok-ended.ensures.rows swept)
-    (c.in_ok-drop_cubbyholes.ensures.rows honest ∙ ap (without_cubbyholes (table_of mid)) c.deref.ensures.value)
+    (subst (λ ended. LeavesNothing ended mid (seen c.leave_nothing.new.tx).rows) c.deref.ensures.value (c.in_ok-leave_nothing.ensures.rows honest))
 
 pub returns-clause-rows : goal.returns-clause-rows
 returns-clause-rows g c honest =
     let seen = g.T.RecordsTx.seen in
-    let swept = honest_before (seen c.sweep_tokens.new.tx) (seen c.drop_cubbyholes.new.tx) _ c.drop_cubbyholes.ensures.call.goes_on honest in
+    let swept = honest_before (seen c.sweep_tokens.new.tx) (seen c.leave_nothing.new.tx) _ c.leave_nothing.ensures.call.goes_on honest in
     let ticked = honest_before (seen c.advance_clock.new.tx) (seen c.sweep_tokens.new.tx) _ c.sweep_tokens.ensures.call.goes_on swept in
     record {
       timed = (seen c.advance_clock.new.tx).rows;
@@ -84,5 +80,6 @@ returns-clause-rows g c honest =
       ended = c.in_ok-ended.ended.items;
       advances = c.in_ok-now.ensures.rows ticked;
       ends = c.in_ok-ended.ensures.rows swept;
-      rows = c.in_ok-drop_cubbyholes.ensures.rows honest ∙ ap (without_cubbyholes (table_of (seen c.sweep_tokens.new.tx).rows)) c.deref.ensures.value;
+      leaves = subst (λ ended. LeavesNothing ended (seen c.sweep_tokens.new.tx).rows (seen c.leave_nothing.new.tx).rows) c.deref.ensures.value
+          (c.in_ok-leave_nothing.ensures.rows honest);
     }

@@ -1,8 +1,10 @@
-use Rattle.std.proofs.Common.{true, Some, slice_index, refl}
-use Rattle.sqlite_trees.proofs.Doubt.{no_doubt}
+use Rattle.std.specs.Prelude.{⊤}
+use Rattle.std.proofs.Common.{Some, Err, slice_index, refl, sym, ap, subst, inl, inr}
 use Rattle.broker_types.specs.First.{first_broker}
+use Rattle.broker_sql.specs.HonestLaws.{always_honest}
+use Rattle.replay.specs.Exits.{EndsBy, HasEqualWords}
 use Rattle.replay.specs.Replays.{started, told}
-use Rattle.replay.proofs.ExitLemmas.{ends_weaker}
+use Rattle.replay.proofs.ExitLemmas.{ends_by_start, ends_weaker}
 use Rattle.replay.proofs.StoppedLemmas.{stopped_none}
 use Rattle.replay.proofs.replaying.run_in_memory.Goals as goal
 
@@ -13,17 +15,35 @@ pub returns-in-Err-start-clause-stopped : goal.returns-in-Err-start-clause-stopp
 returns-in-Err-start-clause-stopped g c =
     stopped_none (Some (told c.args.script.now)) (g.W.Sink.written c.args.writer.now) c.from-in-Err-start.result
 
+pub returns-in-Err-start-clause-ends : goal.returns-in-Err-start-clause-ends
+returns-in-Err-start-clause-ends g c =
+    let honest = always_honest (λ _. refl) c.start.new.self in
+    subst (EndsBy (HasEqualWords (Some (told c.args.script.now))) ⊤ (g.W.Sink.has_failed c.args.writer.now)) (sym c.from-in-Err-start.ensures)
+    (ends_by_start c.in-Err-start.fault (HasEqualWords (Some (told c.args.script.now))) (g.W.Sink.has_failed c.args.writer.now)
+    c.in-Err-start.ensures.faults
+    (λ bad. elim (c.in-Err-start.ensures.bad_start honest (ap Err bad)) [
+      | inl rows ↦ absurd (rows c.in-Ok.ensures.rows)
+      | inr equal ↦ equal
+    ]))
+
+pub returns-clause-ran : goal.returns-clause-ran
+returns-clause-ran g c unfaulted =
+    let start = c.args.script.now.start in
+    let b = first_broker start.moment (slice_index start.words.0 1) (slice_index start.words.0 2) in
+    c.run_script.ensures.ran (always_honest (λ _. refl) c.run_script.new.hub.store) (started start)
+    (c.new.ensures.represents b (c.in_default.ensures.told (always_honest (λ _. refl) c.start.new.self))) unfaulted
+
 pub returns-clause-ends : goal.returns-clause-ends
 returns-clause-ends g c =
     let start = c.args.script.now.start in
     let b = first_broker start.moment (slice_index start.words.0 1) (slice_index start.words.0 2) in
-    let honest = no_doubt true refl in
     ends_weaker _ _ _ _ (g.W.Sink.has_failed c.run_script.new.writer) c.run_script.result (λ none. absurd none) (λ failed. tt)
-    (c.run_script.ensures.ends honest (started start) (c.new.ensures.represents b (c.in_default.ensures.told honest)))
+    (c.run_script.ensures.ends (always_honest (λ _. refl) c.run_script.new.hub.store) (started start)
+    (c.new.ensures.represents b (c.in_default.ensures.told (always_honest (λ _. refl) c.start.new.self))))
 
 pub returns-clause-stopped : goal.returns-clause-stopped
 returns-clause-stopped g c =
     let start = c.args.script.now.start in
     let b = first_broker start.moment (slice_index start.words.0 1) (slice_index start.words.0 2) in
-    let honest = no_doubt true refl in
-    c.run_script.ensures.stopped honest (started start) (c.new.ensures.represents b (c.in_default.ensures.told honest))
+    c.run_script.ensures.stopped (always_honest (λ _. refl) c.run_script.new.hub.store) (started start)
+    (c.new.ensures.represents b (c.in_default.ensures.told (always_honest (λ _. refl) c.start.new.self)))

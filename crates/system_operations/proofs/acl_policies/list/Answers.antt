@@ -7,7 +7,7 @@ use Rattle.broker_rows.specs.RepresentingLaws.{policies_there, still_represented
 use Rattle.system_operations.proofs.acl_policies.list.Goals as goal
 
 pub returns-clause-told : goal.returns-clause-told
-returns-clause-told g c honest b starts =
+returns-clause-told g c who honest b starts fresh =
     let seen = g.T.RecordsTx.seen in
     let old = (seen c.args.tx.now).rows in
     let new = (seen c.list.new.tx).rows in

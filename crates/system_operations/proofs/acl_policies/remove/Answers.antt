@@ -1,4 +1,4 @@
-use Rattle.std.proofs.Common.{Some, Err, ap, ◌∙◌}
+use Rattle.std.proofs.Common.{Err, ap, ◌∙◌}
 use Rattle.std.proofs.lemmas.Result.{err_from_is_err_and}
 use Rattle.api_json.specs.Kept.{is_object}
 use Rattle.policies.specs.Policies as policies
@@ -8,24 +8,23 @@ use Rattle.system_operations.proofs.AclPolicyAnswers.{acts_changed, acts_refused
 use Rattle.system_operations.proofs.acl_policies.remove.Goals as goal
 
 pub returns-in_err-delete-clause-told : goal.returns-in_err-delete-clause-told
-returns-in_err-delete-clause-told g c honest b starts =
+returns-in_err-delete-clause-told g c who x honest b starts fresh =
     let seen = g.T.RecordsTx.seen in
     let old = (seen c.args.tx.now).rows in
     let new = (seen c.delete.new.tx).rows in
     let st = starts.represents in
     let p = err_from_is_err_and c.from_residual.result c.from_residual.ensures.1 in
     rw (p.1 ∙ ap Err p.2)
-    (acts_refused b c.args.context.now.caller old new st (policies.deleted b.policies c.args.name.now) c.in_err-delete.field-0.0
+    (acts_refused b who old new st (policies.deleted b.policies c.args.name.now) c.in_err-delete.field-0.0
     (c.in_err-delete.ensures.told honest b.policies (policies_there b old st)))
 
 pub returns-clause-told : goal.returns-clause-told
-returns-clause-told g c honest b starts =
+returns-clause-told g c who x honest b starts fresh =
     let seen = g.T.RecordsTx.seen in
     let old = (seen c.args.tx.now).rows in
     let new = (seen c.delete.new.tx).rows in
-    let caller = c.args.context.now.caller in
     let name = c.args.name.now in
     let st = starts.represents in
-    acts_changed b caller old new st c.in_ok-delete.field-0 (policies.deleted b.policies name)
-    (λ next is. deleted_sound b next is_object (Some caller) name st.sound is) (c.in_ok-delete.ensures.told honest b.policies (policies_there b old st))
-    (c.in_ok-delete.ensures.call.others honest)
+    acts_changed b who old new st c.in_ok-delete.field-0 (policies.deleted b.policies name)
+    (λ next is. deleted_sound b next is_object who name st.sound is)
+    (c.in_ok-delete.ensures.told honest b.policies (policies_there b old st)) (c.in_ok-delete.ensures.call.others honest)

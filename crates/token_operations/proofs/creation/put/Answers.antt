@@ -12,6 +12,7 @@ use Rattle.records.specs.declared.kind.Kind.TheVariants as kind
 use Rattle.token_tree.specs.Tokens.{with_token}
 use Rattle.broker_model.specs.Forms.{forms}
 use Rattle.broker_model.specs.parts.TokenReplies.{auth_reply}
+use Rattle.broker_rows.specs.Context.{Context}
 use Rattle.broker_rows.specs.declared.answered.Answered.TheVariants.{Made}
 use Rattle.broker_rows.specs.RepresentingLaws.{represents_tokens}
 use Rattle.token_operations.specs.TokenMaking.{PutsToken}
@@ -20,10 +21,10 @@ use Rattle.token_operations.proofs.creation.put.Goals as goal
 
 pub returns-clause-told : goal.returns-clause-told
 unfolding names_of
-returns-clause-told g c =
+returns-clause-told g c who is =
     let seen = g.T.RecordsTx.seen in
     let names = names_of c.context.inside.words.now in
-    subst (λ x. PutsToken x (seen c.args.tx.now) (seen c.use_up-2.new.tx) c.args.token (Ok (Made c.in_ok-reply.reply c.in_ok-accessor.accessor)))
+    subst (λ x. PutsToken who x (seen c.args.tx.now) (seen c.use_up-2.new.tx) c.args.token (Ok (Made c.in_ok-reply.reply c.in_ok-accessor.accessor)))
     c.context.view_is
     (λ honest b starts y entry can bare named.
     let rows = (seen c.args.tx.now).rows in
@@ -31,7 +32,7 @@ returns-clause-told g c =
     let once = honest_before (seen c.use_up.new.tx) (seen c.use_up-2.new.tx) _ c.in_ok-use_up-2.ensures.call.goes_on honest in
     let made = honest_before (seen c.create.new.tx) (seen c.use_up.new.tx) _ c.in_ok-use_up.ensures.call.goes_on once in
     let text : c.as_str-2.result.now ≡ token_text names.token = c.as_str-2.ensures ∙ c.in_ok-text.ensures in
-    let identifier : c.as_str-4.result.now ≡ names.token = c.as_str-4.ensures.value ∙ c.in_ok-identifier.ensures in
+    let identifier : c.as_str-4.result.now ≡ names.token = c.as_str-4.ensures ∙ is ∙ ap (λ (x : Context). (names_of x.words).token) (sym c.context.view_is) in
     let request : c.as_str-5.result.now ≡ names.request = c.as_str-5.ensures.value ∙ c.in_ok-request.ensures in
     let shown : c.as_str-6.result.now ≡ token_text names.token = c.as_str-6.ensures ∙ c.in_ok-text.ensures in
     let given : c.in_ok-accessor.accessor ≡ y.accessor = c.in_ok-accessor.ensures ∙ c.as_str.ensures

@@ -10,13 +10,13 @@ use Rattle.broker_rows.specs.RepresentingLaws.{represents_tokens, still_represen
 use Rattle.token_operations.proofs.lookup.list_accessors.Goals as goal
 
 pub returns-in_err-names-clause-told : goal.returns-in_err-names-clause-told
-returns-in_err-names-clause-told g c honest b starts =
+returns-in_err-names-clause-told g c who honest b starts fresh =
     let p = err_from_is_err_and c.from_residual.result c.from_residual.ensures.1 in
     rw (p.1 ∙ ap Err p.2)
     (c.in_err-names.ensures.wants honest forms b (represents_tokens b (g.T.RecordsTx.seen c.args.tx.now).rows starts.represents))
 
 pub returns-clause-told : goal.returns-clause-told
-returns-clause-told g c honest b starts =
+returns-clause-told g c who honest b starts fresh =
     let seen = g.T.RecordsTx.seen in
     let rows = (seen c.args.tx.now).rows in
     let request = (names_of c.args.context.now.words).request in (

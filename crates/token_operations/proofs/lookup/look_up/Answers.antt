@@ -1,15 +1,48 @@
-use Rattle.std.proofs.Common.{Ok, sym, ap, ◌∙◌, subst}
-use Rattle.api_json.specs.Parsed.{members_of}
-use Rattle.api_json.specs.Readers as reader
-use Rattle.records.specs.Calls.{OnAnswer}
-use Rattle.broker_model.specs.parts.TokenCommands.{lookup_token}
-use Rattle.broker_rows.specs.Reads.{AreReadableTokens}
-use Rattle.token_operations.proofs.TokenReads.{meant_as}
+use Rattle.std.specs.Prelude.{◌≡◌, Err, None}
+use Rattle.std.proofs.Common.{sym, ap, ◌∙◌}
+use Rattle.std.proofs.lemmas.Result.{err_from_is_err_and}
+use Rattle.broker_types.specs.Names.{names_of}
+use Rattle.broker_types.specs.Operation.{reply}
+use Rattle.records.specs.ValueLaws.{none_of}
+use Rattle.broker_model.specs.Forms.{forms}
+use Rattle.broker_rows.specs.Context.{Context}
+use Rattle.api_json.specs.Reply.{plain_reply}
+use Rattle.api_json.specs.Objects.{token_object}
+use Rattle.broker_rows.specs.RepresentingLaws.{represents_tokens, still_represented}
+use Rattle.token_operations.proofs.TokenLookups.{acts_look_up, acts_unknown}
 use Rattle.token_operations.proofs.lookup.look_up.Goals as goal
 
+pub returns-in_err-found-clause-told : goal.returns-in_err-found-clause-told
+returns-in_err-found-clause-told g c who honest b starts fresh =
+    let p = err_from_is_err_and c.from_residual.result c.from_residual.ensures.1 in
+    rw (p.1 ∙ ap Err p.2)
+    (c.in_err-found.ensures.wants honest forms b (represents_tokens b (g.T.RecordsTx.seen c.args.tx.now).rows starts.represents))
+
+pub returns-in_default-clause-told : goal.returns-in_default-clause-told
+returns-in_default-clause-told g c who honest b starts fresh =
+    let seen = g.T.RecordsTx.seen in
+    let rows = (seen c.args.tx.now).rows in
+    let known = c.args.context.now in
+    acts_unknown b (seen c.find.new.tx).rows who c.args.token.now c.args.id.now (names_of known.words) c.in_ok-found.field-0
+    (still_represented b rows (seen c.find.new.tx).rows (c.in_ok-found.ensures.call.same honest) starts.represents)
+    (c.in_ok-found.ensures.told honest forms b (represents_tokens b rows starts.represents)) (none_of _ c.in_default.not-Some)
+
+pub returns-clause-told : goal.returns-clause-told
+returns-clause-told g c who honest b starts fresh =
+    let seen = g.T.RecordsTx.seen in
+    let rows = (seen c.args.tx.now).rows in
+    let known = c.args.context.now in
+    let clock : b.clock ≡ c.context.inside.clock = starts.clock ∙ sym (ap (λ (x : Context). x.clock) c.context.view_is) in
+    acts_look_up b (seen c.find.new.tx).rows who c.args.token.now c.args.id.now (names_of known.words) c.in_ok-found.field-0
+    (still_represented b rows (seen c.find.new.tx).rows (c.in_ok-found.ensures.call.same honest) starts.represents)
+    (c.in_ok-found.ensures.told honest forms b (represents_tokens b rows starts.represents))
+    c.context.inside.clock c.in-Some.found _ clock c.in-Some.is
+    (c.in_ok-shown.ensures
+    ∙ ap (λ o. reply (plain_reply (names_of known.words).request o) None) (c.in_ok-object.ensures ∙ ap token_object c.in_ok-token.ensures))
+
+pub returns-in_default-clause-readable : goal.returns-in_default-clause-readable
+returns-in_default-clause-readable g c honest =
+    (c.in_ok-found.field-0, c.in_ok-found.ensures.in_range, c.in_ok-found.ensures.found honest)
+
 pub returns-clause-readable : goal.returns-clause-readable
-returns-clause-readable g c honest command meant =
-    subst (λ x. OnAnswer c.show.result (AreReadableTokens (g.T.RecordsTx.seen c.args.tx.now).rows c.args.context.now.caller x))
-    (meant_as reader.token lookup_token c.args.body.now (members_of c.in_ok-members.members) c.as_str.result.now command c.in_ok-members.ensures
-    (c.in_ok-token.ensures ∙ ap Ok (sym c.as_str.ensures)) meant)
-    (c.show.ensures.readable honest)
+returns-clause-readable g c honest = (c.in_ok-found.field-0, c.in_ok-found.ensures.in_range, c.in_ok-found.ensures.found honest)

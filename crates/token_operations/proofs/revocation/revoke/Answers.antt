@@ -1,15 +1,51 @@
-use Rattle.std.proofs.Common.{Ok, sym, ap, ◌∙◌, subst}
-use Rattle.api_json.specs.Parsed.{members_of}
-use Rattle.api_json.specs.Readers as reader
-use Rattle.records.specs.Calls.{OnAnswer}
-use Rattle.broker_model.specs.parts.TokenCommands.{revoke_token}
-use Rattle.broker_rows.specs.Reads.{AreReadableTokens}
-use Rattle.token_operations.proofs.TokenReads.{meant_as}
+use Rattle.std.proofs.Common.{refl, sym, ap, ◌∙◌, subst, Err}
+use Rattle.std.proofs.lemmas.Result.{err_from_is_err_and}
+use Rattle.broker_types.specs.Broker.{revoke}
+use Rattle.broker_types.specs.Lineage.{without_descendants}
+use Rattle.records.specs.CallLaws.{honest_before}
+use Rattle.token_tree.specs.Tokens.{AreEnded}
+use Rattle.broker_model.specs.Forms.{forms}
+use Rattle.broker_rows.specs.Ending.{LeavesNothing}
+use Rattle.broker_rows.specs.RepresentingLaws.{represents_tokens}
+use Rattle.token_operations.proofs.TokenTables.{has_revoked}
 use Rattle.token_operations.proofs.revocation.revoke.Goals as goal
 
+pub returns-in_err-ended-clause-told : goal.returns-in_err-ended-clause-told
+returns-in_err-ended-clause-told g c honest who b st =
+    let seen = g.T.RecordsTx.seen in
+    let p = err_from_is_err_and c.from_residual.result c.from_residual.ensures.1 in
+    rw (p.1 ∙ ap Err p.2)
+    (c.in_err-ended.ensures.wants honest forms b (represents_tokens b (seen c.args.tx.now).rows st))
+
+pub returns-clause-told : goal.returns-clause-told
+returns-clause-told g c honest who b st =
+    let seen = g.T.RecordsTx.seen in
+    let t = c.args.token.now in
+    let ended = c.deref.result.now in
+    let revoked = honest_before (seen c.revoke.new.tx) (seen c.leave_nothing.new.tx) _ c.leave_nothing.ensures.call.goes_on honest in
+    let old = (seen c.args.tx.now).rows in
+    let mid = (seen c.revoke.new.tx).rows in
+    let tokens = represents_tokens b old st in
+    let are = subst (AreEnded b (revoke b t)) (sym c.deref.ensures.value) (c.in_ok-ended.ensures.ended revoked forms b tokens) in
+    let left = has_revoked b t old mid ended st (c.in_ok-ended.ensures.call.others revoked) are (c.in_ok-ended.ensures.told revoked forms b tokens) in
+    (refl, c.in_ok-leave_nothing.ensures.told honest _ _ b (without_descendants b.tokens t) left)
+
 pub returns-clause-readable : goal.returns-clause-readable
-returns-clause-readable g c honest command meant =
-    subst (λ x. OnAnswer c.end.result (AreReadableTokens (g.T.RecordsTx.seen c.args.tx.now).rows c.args.context.now.caller x))
-    (meant_as reader.token revoke_token c.args.body.now (members_of c.in_ok-members.members) c.as_str.result.now command c.in_ok-members.ensures
-    (c.in_ok-token.ensures ∙ ap Ok (sym c.as_str.ensures)) meant)
-    (c.end.ensures.readable honest)
+returns-clause-readable g c honest =
+    let seen = g.T.RecordsTx.seen in
+    let revoked = honest_before (seen c.revoke.new.tx) (seen c.leave_nothing.new.tx) _ c.leave_nothing.ensures.call.goes_on honest in
+    let ends = c.in_ok-ended.ensures.rows revoked in
+    (c.in_ok-ended.ended.items, ends.descent, ends.readable)
+
+pub returns-clause-rows : goal.returns-clause-rows
+returns-clause-rows g c honest =
+    let seen = g.T.RecordsTx.seen in
+    let revoked = honest_before (seen c.revoke.new.tx) (seen c.leave_nothing.new.tx) _ c.leave_nothing.ensures.call.goes_on honest in
+    let left = (seen c.revoke.new.tx).rows in
+    record {
+      ended = c.in_ok-ended.ended.items;
+      left = left;
+      ends = c.in_ok-ended.ensures.rows revoked;
+      leaves = subst (λ ended. LeavesNothing ended left (seen c.leave_nothing.new.tx).rows) c.deref.ensures.value
+          (c.in_ok-leave_nothing.ensures.rows honest);
+    }

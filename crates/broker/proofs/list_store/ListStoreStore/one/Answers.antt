@@ -6,8 +6,8 @@ use Rattle.broker.specs.Answering.{IsAnsweredBy}
 use Rattle.broker.proofs.list_store.ListStoreStore.one.Goals as goal
 
 pub returns-clause-answers : goal.returns-clause-answers
-returns-clause-answers c honest t is =
+returns-clause-answers c honest =
     let r = response_of c.in_ok-answer.answer in
-    subst (λ (rows : Rows). IsAnsweredBy c.args.moment t rows (list_rows c.commit.new.self) c.args.ask.now r) c.in_ok-tx.ensures
-    (subst (λ (rows : Rows). IsAnsweredBy c.args.moment t (tx_rows c.in_ok-tx.tx) rows c.args.ask.now r) (sym c.commit.ensures)
-    (c.in_ok-answer.ensures.reads honest t is))
+    subst (λ (rows : Rows). IsAnsweredBy c.args.moment rows (list_rows c.commit.new.self) c.args.ask.now r) c.in_ok-tx.ensures
+    (subst (λ (rows : Rows). IsAnsweredBy c.args.moment (tx_rows c.in_ok-tx.tx) rows c.args.ask.now r) (sym c.commit.ensures)
+    (c.in_ok-answer.ensures.reads honest))

@@ -1,4 +1,4 @@
-use Rattle.std.proofs.Common.{Some, ap, sym, ◌∙◌}
+use Rattle.std.proofs.Common.{ap, sym, ◌∙◌}
 use Rattle.records.specs.Parts.{of_secrets}
 use Rattle.records.specs.Table.{table_of}
 use Rattle.kv2.specs.SecretRows.{current_of}
@@ -8,21 +8,20 @@ use Rattle.kv2.specs.Versions.{soft_deleted}
 use Rattle.broker_model.specs.Forms.{forms}
 use Rattle.broker_rows.specs.Context.{Context}
 use Rattle.broker_rows.specs.RepresentingLaws.{tells_part}
+use Rattle.secret_operations.proofs.Changes.{changed_readable}
 use Rattle.secret_operations.proofs.SecretAnswers.{acts_changed}
-use Rattle.secret_operations.proofs.SecretReads.{changed_readable}
 use Rattle.secret_operations.proofs.SecretTables.{keeps_outside}
 use Rattle.secret_operations.proofs.secrets.changes.delete_current.Goals as goal
 
 pub returns-clause-told : goal.returns-clause-told
-returns-clause-told g c named good honest b starts =
+returns-clause-told g c named good who honest b starts fresh =
     let seen = g.T.RecordsTx.seen in
     let old = (seen c.args.tx.now).rows in
     let new = (seen c.delete.new.tx).rows in
-    let caller = c.args.context.now.caller in
     let mount = c.args.mount.now in
     let path = c.args.path.now in
     let st = starts.represents in
-    acts_changed b caller old new (delete b mount path).secrets st (delete_sound forms (Some caller) b st.sound mount path)
+    acts_changed b who old new (delete b mount path).secrets st (delete_sound forms who b st.sound mount path)
     (c.in_ok-delete.ensures.told honest forms b st.sound.secrets (tells_part of_secrets b old st)
     (ap (λ (x : Context). x.clock) c.context.view_is ∙ sym starts.clock)
     (is_secret_name mount path named (record { good = good; utf8 = c.utf8.path })))

@@ -1,4 +1,3 @@
-use Rattle.std.proofs.Common.{Some}
 use Rattle.records.specs.Parts.{of_secrets}
 use Rattle.records.specs.Table.{table_of}
 use Rattle.kv2.specs.Secrets.{secret_name, remove_key}
@@ -10,15 +9,14 @@ use Rattle.secret_operations.proofs.SecretTables.{keeps_outside}
 use Rattle.secret_operations.proofs.secrets.changes.remove.Goals as goal
 
 pub returns-clause-told : goal.returns-clause-told
-returns-clause-told g c named good honest b starts =
+returns-clause-told g c named good who x honest b starts fresh =
     let seen = g.T.RecordsTx.seen in
     let old = (seen c.args.tx.now).rows in
     let new = (seen c.remove_key.new.tx).rows in
-    let caller = c.args.context.now.caller in
     let mount = c.args.mount.now in
     let path = c.args.path.now in
     let st = starts.represents in
-    acts_changed b caller old new (remove_key b mount path).secrets st (remove_key_sound forms (Some caller) b st.sound mount path)
+    acts_changed b who old new (remove_key b mount path).secrets st (remove_key_sound forms who b st.sound mount path)
     (c.in_ok-remove_key.ensures.told honest b (tells_part of_secrets b old st)
     (is_secret_name mount path named (record { good = good; utf8 = c.utf8.path })))
     (keeps_outside (secret_name mount path) (table_of old) (table_of new) (c.in_ok-remove_key.ensures.call.others honest))

@@ -14,26 +14,25 @@ use Rattle.broker_rows.specs.OperatingLaws.{acts_found, acts_absent}
 use Rattle.secret_operations.proofs.secrets.metadata.show.Goals as goal
 
 pub returns-in_default-clause-told : goal.returns-in_default-clause-told
-returns-in_default-clause-told g c honest b starts =
+returns-in_default-clause-told g c who honest b starts fresh =
     let seen = g.T.RecordsTx.seen in
     let old = (seen c.args.tx.now).rows in
     let new = (seen c.metadata.new.tx).rows in
-    let known = c.args.context.now in
+    let request = (names_of c.args.context.now.words).request in
     let st = starts.represents in
-    acts_absent b new known.caller (λ (m : Metadata). plainly (reply (metadata_reply (names_of known.words).request m) None) b)
+    acts_absent b new who (λ (m : Metadata). plainly (reply (metadata_reply request m) None) b)
     (secrets.metadata b c.args.mount.now c.args.path.now)
     (sym (c.in_ok-found.ensures.told honest forms b st.sound.secrets (tells_part of_secrets b old st)) ∙ none_of _ c.in_default.not-Some)
     (still_represented b old new (c.in_ok-found.ensures.call.same honest) st)
 
 pub returns-clause-told : goal.returns-clause-told
-returns-clause-told g c honest b starts =
+returns-clause-told g c who honest b starts fresh =
     let seen = g.T.RecordsTx.seen in
     let old = (seen c.args.tx.now).rows in
     let new = (seen c.metadata.new.tx).rows in
-    let known = c.args.context.now in
-    let request = (names_of known.words).request in
+    let request = (names_of c.args.context.now.words).request in
     let st = starts.represents in
-    acts_found b new known.caller (λ (m : Metadata). plainly (reply (metadata_reply request m) None) b)
+    acts_found b new who (λ (m : Metadata). plainly (reply (metadata_reply request m) None) b)
     (secrets.metadata b c.args.mount.now c.args.path.now) c.in-Some.found (Ok c.in_ok-shown.field-0)
     (sym (c.in_ok-found.ensures.told honest forms b st.sound.secrets (tells_part of_secrets b old st)) ∙ c.in-Some.is) (
       c.in_ok-shown.ensures

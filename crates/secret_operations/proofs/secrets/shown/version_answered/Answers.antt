@@ -9,7 +9,7 @@ use Rattle.secret_operations.proofs.secrets.shown.version_answered.Goals as goal
 pub returns-then-is_left : goal.returns-then-is_left
 unfolding names_of
 returns-then-is_left c =
-    answered_left (names_of c.args.context.now.words).request c.args.version c.in_ok-reply.reply
+    answered_left (names_of c.args.context.now.words).request c.args.found c.in_ok-reply.reply
     (c.in_ok-reply.ensures
     ∙ (λ i. plain_reply ((c.as_str.ensures.value ∙ c.in_ok-request.ensures ∙ ap (λ (x : Context). (names_of x.words).request) c.context.view_is) i)
     ((c.in_ok-payload.ensures ∙ (λ j. secret_object (c.object_left-object.ensures j) (c.version_shown-metadata.ensures j))) i)))
@@ -18,7 +18,7 @@ returns-then-is_left c =
 pub returns : goal.returns
 unfolding names_of
 returns c =
-    answered_gone (names_of c.args.context.now.words).request c.args.version c.in_ok-reply.reply
+    answered_gone (names_of c.args.context.now.words).request c.args.found c.in_ok-reply.reply
     (c.in_ok-reply.ensures
     ∙ (λ i. plain_reply ((c.as_str.ensures.value ∙ c.in_ok-request.ensures ∙ ap (λ (x : Context). (names_of x.words).request) c.context.view_is) i)
     ((c.in_ok-payload.ensures ∙ (λ j. secret_object (c.object_left-object.ensures j) (c.version_shown-metadata.ensures j))) i)))

@@ -1,47 +1,33 @@
-use Rattle.std.proofs.Common.{Ok, Err, sym, ◌∙◌}
+use Rattle.std.proofs.Common.{Ok, sym, ◌∙◌}
 use Rattle.broker_types.specs.Names.{names_of}
 use Rattle.broker_types.specs.Operation.{plainly}
-use Rattle.broker_types.specs.declared.refusal.Refusal.TheVariants as refusal
-use Rattle.broker_types.specs.declared.request_error.RequestError.TheVariants.{Refused}
 use Rattle.records.specs.Parts.{of_secrets}
 use Rattle.records.specs.ValueLaws.{none_of}
 use Rattle.kv2.specs.Secrets as secrets
 use Rattle.broker_model.specs.Forms.{forms}
-use Rattle.broker_model.specs.parts.SecretCommands.{at}
 use Rattle.broker_model.specs.parts.SecretReplies.{version_answered}
 use Rattle.broker_rows.specs.RepresentingLaws.{still_represented, tells_part}
 use Rattle.broker_rows.specs.OperatingLaws.{acts_found, acts_absent}
-use Rattle.secret_operations.proofs.SecretAnswers.{acts_asked}
 use Rattle.secret_operations.proofs.secrets.versions.read.Goals as goal
 
 pub returns-in_default-clause-told : goal.returns-in_default-clause-told
-returns-in_default-clause-told g c honest b starts =
+returns-in_default-clause-told g c who honest b starts fresh =
     let seen = g.T.RecordsTx.seen in
     let old = (seen c.args.tx.now).rows in
     let new = (seen c.read.new.tx).rows in
-    let known = c.args.context.now in
-    let mount = c.args.mount.now in
-    let path = c.args.path.now in
     let st = starts.represents in
-    acts_asked b new known.caller (names_of known.words) (at mount path) c.args.version.now c.in_ok-number.number (Err (Refused refusal.NotFound))
-    (sym c.in_ok-number.ensures)
-    (acts_absent b new known.caller (λ v. plainly (version_answered (names_of known.words).request v) b)
-    (secrets.read b mount path c.in_ok-number.number)
+    acts_absent b new who (λ v. plainly (version_answered (names_of c.args.context.now.words).request v) b)
+    (secrets.read b c.args.mount.now c.args.path.now c.args.number)
     (sym (c.in_ok-found.ensures.told honest forms b st.sound.secrets (tells_part of_secrets b old st)) ∙ none_of _ c.in_default.not-Some)
-    (still_represented b old new (c.in_ok-found.ensures.call.same honest) st))
+    (still_represented b old new (c.in_ok-found.ensures.call.same honest) st)
 
 pub returns-clause-told : goal.returns-clause-told
-returns-clause-told g c honest b starts =
+returns-clause-told g c who honest b starts fresh =
     let seen = g.T.RecordsTx.seen in
     let old = (seen c.args.tx.now).rows in
     let new = (seen c.read.new.tx).rows in
-    let known = c.args.context.now in
-    let mount = c.args.mount.now in
-    let path = c.args.path.now in
     let st = starts.represents in
-    acts_asked b new known.caller (names_of known.words) (at mount path) c.args.version.now c.in_ok-number.number (Ok c.in_ok-version_answered.field-0)
-    (sym c.in_ok-number.ensures)
-    (acts_found b new known.caller (λ v. plainly (version_answered (names_of known.words).request v) b)
-    (secrets.read b mount path c.in_ok-number.number) c.in-Some.found (Ok c.in_ok-version_answered.field-0)
+    acts_found b new who (λ v. plainly (version_answered (names_of c.args.context.now.words).request v) b)
+    (secrets.read b c.args.mount.now c.args.path.now c.args.number) c.in-Some.found (Ok c.in_ok-version_answered.field-0)
     (sym (c.in_ok-found.ensures.told honest forms b st.sound.secrets (tells_part of_secrets b old st)) ∙ c.in-Some.is)
-    (c.in_ok-version_answered.ensures, still_represented b old new (c.in_ok-found.ensures.call.same honest) st))
+    (c.in_ok-version_answered.ensures, still_represented b old new (c.in_ok-found.ensures.call.same honest) st)

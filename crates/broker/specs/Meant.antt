@@ -1,0 +1,34 @@
+-- What a command of the code means (this project's definition).
+use Rattle.std.specs.Prelude.{◌≡◌, true, ⊤}
+use Rattle.broker_types.specs.Name.{is_mount_name}
+use Rattle.broker_types.specs.Path.{is_path}
+use Rattle.broker_model.specs.Command as model
+use Rattle.broker_model.specs.Command.{on_cubbyhole, on_token, on_secret, on_policy}
+use Rattle.secret_operations.specs.InRange.{IsCubbyholeCommandInRange, IsSecretCommandInRange}
+use Rattle.secret_operations.specs.Paths.{needs_path}
+use Rattle.system_operations.specs.InRange.{IsPolicyCommandInRange}
+use Rattle.token_operations.specs.TokenRanges.{IsTokenCommandInRange}
+use Rattle.broker.specs.declared.command.Command.{Command}
+use Rattle.broker.specs.declared.command.Command.TheVariants.{OnCubbyhole, OnToken, OnSecret, OnPolicy}
+
+-- the command, in the words of the definition
+abbrev pub meant : Command → model.Command
+meant (OnCubbyhole path command) = on_cubbyhole path.now command
+meant (OnToken command) = on_token command
+meant (OnSecret place command) = on_secret place command
+meant (OnPolicy name command) = on_policy name.now command
+
+-- where it acts is of the form that it asks for
+abbrev pub IsWellPlaced : model.Command → Type 0
+IsWellPlaced (on_cubbyhole path command) = is_path path ≡ true
+IsWellPlaced (on_token command) = ⊤
+IsWellPlaced (on_secret place command) =
+    (is_mount_name place.mount ≡ true) × (needs_path command ≡ true → is_path place.path ≡ true)
+IsWellPlaced (on_policy name command) = ⊤
+
+-- what it brings can be kept
+abbrev pub IsInRange : model.Command → Type 0
+IsInRange (on_cubbyhole path command) = IsCubbyholeCommandInRange command
+IsInRange (on_token command) = IsTokenCommandInRange command
+IsInRange (on_secret place command) = IsSecretCommandInRange command
+IsInRange (on_policy name command) = IsPolicyCommandInRange command

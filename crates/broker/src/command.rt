@@ -1,0 +1,82 @@
+//! What an ask means: a command, with where it acts.
+
+ghost use Rattle.std.specs.Prelude.{◌≡◌, IfOk};
+ghost use Rattle.broker_types.specs.Names.{names_of};
+ghost use Rattle.api_json.specs.Reads.{IsReadAs};
+ghost use Rattle.broker_model.specs.Command.{command_for};
+ghost use Rattle.broker_model.specs.Step.{traits};
+ghost use Rattle.broker_rows.specs.Operating.{IsWellFormed};
+ghost use Rattle.broker.specs.Meant.{meant, IsInRange, IsWellPlaced};
+
+use broker_model::{CubbyholeCommand, PolicyCommand, SecretCommand, TokenCommand};
+use broker_types::{Ask, RequestError, TextBuf, Words};
+use mounts::{Operation, Route};
+use secret_operations::{Place, read_cubbyhole_command, read_secret_command};
+use std::alloc::{AllocError, Global};
+use system_operations::read_policy_command;
+use token_operations::read_token_command;
+
+/// The commands, part by part.
+#[derive(Drop)]
+pub(crate) enum Command<'r> {
+    /// At a path of the caller's cubbyhole.
+    OnCubbyhole(&'r str, CubbyholeCommand),
+    /// On tokens.
+    OnToken(TokenCommand),
+    /// At a place of secrets.
+    OnSecret(Place<'r>, SecretCommand),
+    /// At the name of a policy.
+    OnPolicy(&'r str, PolicyCommand),
+}
+
+/// Reads what an ask of this route means. What its body or its version brings is refused with 400, if it is wrong. The
+/// only fault is running out of memory.
+pub(crate) fn read_command<'r>(
+    alloc: Global,
+    ask: &Ask<'_>,
+    route: &Route<'r>,
+) -> Result<Command<'r>, RequestError>
+    ensures reads { IsReadAs meant (command_for route.now ask.now) result }
+    ensures placed { IsWellFormed route.now → IfOk result (λ command. IsWellPlaced (meant command)) }
+    ensures in_range { IfOk result (λ command. IsInRange (meant command)) }
+{
+    let body = ask.body.as_slice();
+    let parameter = route.parameter;
+    match route.operation {
+        Operation::Cubbyholes(operation) => {
+            let command = read_cubbyhole_command(alloc, operation, body)?;
+            Ok(Command::OnCubbyhole(parameter, command))
+        }
+        Operation::Tokens(operation) => {
+            let command = read_token_command(alloc, operation, body)?;
+            Ok(Command::OnToken(command))
+        }
+        Operation::Secrets(operation) => {
+            let version = ask.version.as_slice();
+            let command = read_secret_command(alloc, operation, version, body)?;
+            let place = Place {
+                mount: route.mount,
+                path: parameter,
+            };
+            Ok(Command::OnSecret(place, command))
+        }
+        Operation::Policies(operation) => {
+            let command = read_policy_command(alloc, operation, body)?;
+            Ok(Command::OnPolicy(parameter, command))
+        }
+    }
+}
+
+/// The identifiers that a command needs, which have to be new. It fails if memory runs out.
+pub(crate) fn own_identifiers(
+    alloc: Global,
+    words: &Words,
+    command: &Command<'_>,
+) -> Result<Vec<TextBuf>, AllocError>
+    ensures { IfOk result (λ identifiers. identifiers.items ≡ (traits (meant command.now)).own (names_of words.now)) }
+{
+    match command {
+        Command::OnToken(command) => token_operations::own_identifiers(alloc, words, command),
+        _ => Ok(Vec::new(alloc)),
+    }
+}

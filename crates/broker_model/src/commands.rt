@@ -1,0 +1,84 @@
+//! What requests ask for, once their bodies are read: the commands, part by part. Where a command acts, as a path, stands
+//! beside it.
+
+use crate::making::Making;
+use api_json::{Counts, MountSettings, SecretWrite, TokenCreation, TokenRenewal};
+use broker_types::{Seconds, TextBuf};
+
+/// What an operation does with the caller's cubbyhole, at a path (Vault's documentation, "Cubbyhole secrets engine
+/// (API)").
+#[derive(Drop)]
+pub enum CubbyholeCommand {
+    /// Shows the object.
+    Read,
+    /// Keeps an object: its compact text, or nothing where it has no members.
+    Write(Option<TextBuf>),
+}
+
+/// What an operation does with tokens (Vault's documentation, "Token auth method (API)").
+#[derive(Drop)]
+pub enum TokenCommand {
+    /// Makes a token, by one of the two routes that do.
+    Create(Making, TokenCreation),
+    /// Shows a token.
+    LookUp(TextBuf),
+    /// Shows the token of an accessor, without its text.
+    LookUpAccessor(TextBuf),
+    /// Shows the caller's token.
+    LookUpSelf,
+    /// Gives a token a new end.
+    Renew(TokenRenewal),
+    /// Gives the caller's token a new end, for so long, or for the time that it was made for if that is 0.
+    RenewSelf(Seconds),
+    /// Ends a token with all below it.
+    Revoke(TextBuf),
+    /// Ends a token alone.
+    RevokeOrphan(TextBuf),
+    /// Ends the token of an accessor with all below it.
+    RevokeAccessor(TextBuf),
+    /// Ends the caller's token with all below it.
+    RevokeSelf,
+    /// Lists the accessors of all tokens.
+    ListAccessors,
+}
+
+/// What an operation does with versioned secrets, at a place (Vault's documentation, "KV secrets engine - version 2
+/// (API)").
+#[derive(Drop)]
+pub enum SecretCommand {
+    /// Shows the settings of the mount.
+    ShowSettings,
+    /// Changes the settings of the mount.
+    SetSettings(MountSettings),
+    /// Shows a version; 0 is the current one.
+    Read(u64),
+    /// Writes one more version.
+    Write(SecretWrite),
+    /// Deletes the current version.
+    DeleteCurrent,
+    /// Deletes versions.
+    Delete(Counts),
+    /// Takes back the deletion of versions.
+    Undelete(Counts),
+    /// Destroys versions.
+    Destroy(Counts),
+    /// Shows the secret without its texts.
+    ShowMetadata,
+    /// Removes the secret with all its versions.
+    Remove,
+    /// Lists the secrets and folders of the folder.
+    List,
+}
+
+/// What an operation does with policies, at a name (Vault's documentation, "/sys/policies").
+#[derive(Drop)]
+pub enum PolicyCommand {
+    /// Lists the names of all policies, whatever the name is.
+    List,
+    /// Shows a policy with its text.
+    Show,
+    /// Sets a policy to a text.
+    Set(TextBuf),
+    /// Deletes a policy.
+    Remove,
+}

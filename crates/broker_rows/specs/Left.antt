@@ -1,0 +1,32 @@
+-- What is left of a broker when tokens have ended (this project's definition).
+use Rattle.std.specs.Prelude.{◌≡◌, List, Option, Some}
+use Rattle.broker_types.specs.Text.{Text}
+use Rattle.broker_types.specs.Map.{get}
+use Rattle.broker_types.specs.Token.{Token, Tokens}
+use Rattle.broker_types.specs.Broker.{Broker}
+use Rattle.broker_types.specs.Sound.{Sound}
+use Rattle.records.specs.Parts.{Tells, KeepsOthers, of_tokens}
+use Rattle.records.specs.Table.{table_of}
+use Rattle.records.specs.Transaction.{Rows}
+use Rattle.token_tree.specs.Tokens.{AreEnded}
+use Rattle.broker_model.specs.Forms.{forms}
+use Rattle.broker_rows.specs.Ending.{HaveNoLeases}
+use Rattle.broker_rows.specs.Representing.{Represents}
+
+-- each token is one of the others, with the same cubbyhole
+abbrev pub KeepCubbyholes : Tokens → Tokens → Type 0
+KeepCubbyholes ts us =
+    (t : Text) (y : Token) → get us t ≡ Some y → (x : Token) × (get ts t ≡ Some x) × (y.cubbyhole ≡ x.cubbyhole)
+
+-- Tokens of the broker b have ended, and us are those that are left, each with its cubbyhole. The rows tell us already;
+-- what belonged to the ended tokens is still there, and so is all else.
+pub record HaveEnded (who after : Option Text) (b : Broker) (us : Tokens) (ended : List Text) (rows : Rows) :
+    Type 0 where
+  pub old : Rows
+  pub represents : Represents who old b
+  pub are : AreEnded b (record b { tokens = us }) ended
+  pub keep : KeepCubbyholes b.tokens us
+  pub no_leases : HaveNoLeases us
+  pub sound : Sound forms after (record b { tokens = us })
+  pub tells : Tells of_tokens (table_of rows) (record b { tokens = us })
+  pub others : KeepsOthers of_tokens (table_of old) (table_of rows)

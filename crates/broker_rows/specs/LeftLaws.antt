@@ -1,0 +1,36 @@
+-- Laws of what is left of a broker when tokens have ended.
+use Rattle.std.specs.Prelude.{◌≡◌, not, List, Option, Some}
+use Rattle.std.proofs.Common.{refl}
+use Rattle.broker_types.specs.Broker.{Broker, revoke}
+use Rattle.broker_types.specs.Lineage.{is_under, without_descendants}
+use Rattle.broker_types.specs.Map.{get}
+use Rattle.broker_types.specs.SearchLaws.{kept_get}
+use Rattle.broker_types.specs.Sound.{Sound}
+use Rattle.broker_types.specs.Text.{Text}
+use Rattle.broker_types.specs.Token.{Token}
+use Rattle.records.specs.Parts.{Tells, KeepsOthers, of_tokens}
+use Rattle.records.specs.Table.{table_of}
+use Rattle.records.specs.Transaction.{Rows}
+use Rattle.token_tree.specs.Tokens.{AreEnded}
+use Rattle.broker_model.specs.Forms.{forms}
+use Rattle.broker_rows.specs.Left.{HaveEnded}
+use Rattle.broker_rows.specs.Representing.{Represents}
+
+-- what a revocation leaves was there
+was_there : (b : Broker) (t q : Text) (y : Token) → get (without_descendants b.tokens t) q ≡ Some y → get b.tokens q ≡ Some y
+was_there b t q y is = (kept_get (λ u. not (is_under b.tokens u t)) b.tokens q y is).0
+
+-- the token t was revoked, with all below it
+pub revoked_left : {who after : Option Text} (b : Broker) (t : Text) (old mid : Rows) (ended : List Text) → Represents who old b
+    → Sound forms after (revoke b t) → AreEnded b (revoke b t) ended → Tells of_tokens (table_of mid) (revoke b t)
+    → KeepsOthers of_tokens (table_of old) (table_of mid) → HaveEnded who after b (without_descendants b.tokens t) ended mid
+revoked_left b t old mid ended st sound are tells others = record {
+  old = old;
+  represents = st;
+  are = are;
+  keep = λ q y is. (y, was_there b t q y is, refl);
+  no_leases = λ q y is. st.served.no_leases q y (was_there b t q y is);
+  sound = sound;
+  tells = tells;
+  others = others;
+}

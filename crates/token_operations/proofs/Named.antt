@@ -1,0 +1,32 @@
+-- What is done with the token of an accessor.
+use Rattle.std.specs.Prelude.{◌≡◌, Option, Some, None, Result, Err}
+use Rattle.std.proofs.Common.{refl, sym, subst}
+use Rattle.broker_types.specs.Broker.{Broker}
+use Rattle.broker_types.specs.Operation.{Done}
+use Rattle.broker_types.specs.Refuse.{◌>>=◌, some_or}
+use Rattle.broker_types.specs.Text.{Text}
+use Rattle.broker_types.specs.declared.refusal.Refusal.{Refusal}
+use Rattle.broker_types.specs.declared.refusal.Refusal.TheVariants as refusal
+use Rattle.broker_types.specs.declared.refusal.Reason.TheVariants as reason
+use Rattle.broker_types.specs.declared.request_error.RequestError.{RequestError}
+use Rattle.broker_types.specs.declared.request_error.RequestError.TheVariants.{Refused}
+use Rattle.records.specs.Transaction.{Rows}
+use Rattle.token_tree.specs.Tokens.{find_accessor}
+use Rattle.broker_model.specs.parts.Tokens.{named}
+use Rattle.broker_rows.specs.Operating.{ActsAs}
+use Rattle.broker_rows.specs.Representing.{Represents}
+use Rattle.broker_rows.specs.declared.answered.Answered.{Answered}
+
+module _ (who : Option Text) (b : Broker) (rows : Rows) (accessor : Text) (does : Text → Result Done Refusal) where
+  -- it is done with the token that the accessor names
+  pub acts_on_named : (t : Text) (result : Result Answered RequestError) → find_accessor b accessor ≡ Some t
+      → ActsAs who b rows result (does t) → ActsAs who b rows result (named b accessor >>= does)
+  acts_on_named t result is acts =
+      subst (λ o. ActsAs who b rows result (some_or (refusal.BadRequest reason.InvalidAccessor) o >>= does)) (sym is) acts
+
+  -- and an accessor of none is refused
+  pub acts_on_none : find_accessor b accessor ≡ None → Represents who rows b
+      → ActsAs who b rows (Err (Refused (refusal.BadRequest reason.InvalidAccessor))) (named b accessor >>= does)
+  acts_on_none is st =
+      subst (λ o. ActsAs who b rows (Err (Refused (refusal.BadRequest reason.InvalidAccessor)))
+      (some_or (refusal.BadRequest reason.InvalidAccessor) o >>= does)) (sym is) (refl, st)
