@@ -1,16 +1,18 @@
 #!/usr/bin/env python3
-"""Measures replays under many secrets or tokens, and prints the replays for it.
+"""Measures replays under many secrets and tokens, and prints the replays for it.
 
     python3 load.py lines KIND MANY REQUESTS            # writes a replay to standard output
-    python3 load.py measure PROGRAM WORD KIND MANY REQUESTS [RUNS]
+    python3 load.py measure PROGRAM WORD MANY REQUESTS [--kinds KIND..] [--runs N]
 
-KIND is `read`, `write` (of secrets), `create` or `look_up` (of tokens). A replay makes MANY secrets or tokens by as
-many requests of the root token, and then asks REQUESTS times, each time on a new connection: `read` and `look_up` for
-one of them, spread over all; `write` writes one more version of one; `create` makes one more. Nothing ends meanwhile.
+KIND is `read`, `write` (of secrets), `create` or `look_up` (of tokens). A replay makes MANY tokens and as many
+secrets by requests of the root token, and then asks REQUESTS times, all on one connection: `read` and `look_up` for one
+of them, spread over all; `write` writes one more version of one; `create` makes one more. There are at most MANY writes
+and creations, so that no secret has more than two versions. Nothing ends meanwhile.
 
-`measure` calls PROGRAM, a built program itself, as `PROGRAM WORD` without the requests and with them, RUNS times each by
-turns (3 if not given): `brokerd replay`, or `stores list` or `stores sql`, over one store or the other. It prints the medians of the user time, and what their difference is for one request;
-in brackets the least and the greatest difference of one turn.
+`measure` calls PROGRAM, a built program itself, as `PROGRAM WORD` without the requests and with those of each kind, N
+times each by turns (3 if not given): `brokerd replay`, or `stores list` or `stores sql`, over one store or the other.
+It prints the medians of the user time, and what their difference is for one request; in brackets the least and the
+greatest difference of one turn.
 """
 
 import argparse
@@ -22,7 +24,8 @@ import sys
 import tempfile
 
 MOMENT = 1700000000
-STEP = 16  # of the first words of two events
+STEP = 16  # of the first words of two events, where they are counted up
+SPREAD = 0x9E3779B97F4A7C15F39CC0605CEDC83  # odd, so that the first words of events differ, and are in no order
 
 
 def identifier(word):
@@ -31,9 +34,14 @@ def identifier(word):
     return "-".join((digits[:8], digits[8:12], digits[12:16], digits[16:20], digits[20:]))
 
 
+def first_word(event):
+    """The first word of an event; the start is event 0. The words of two events are at least 16 apart."""
+    return event * SPREAD % 2**124 * 16
+
+
 def token(event):
-    """The text of the token that an event makes; the start is event 0."""
-    return "hvs." + identifier(event * STEP + 1)
+    """The text of the token that an event makes."""
+    return "hvs." + identifier(first_word(event) + 1)
 
 
 def request(method, path, body=None):
@@ -59,20 +67,25 @@ def read(number):
 
 
 def look_up(number):
-    """A look-up of the token of a number."""
+    """A look-up of the token of a number; the tokens are made first."""
     return request("POST", "auth/token/lookup", {"token": token(number + 1)})
 
 
-KINDS = {"read": (write, read), "write": (write, write), "create": (creation, creation), "look_up": (creation, look_up)}
+KINDS = {"read": read, "look_up": look_up, "write": write, "create": creation}
+
+
+def asked(kind, many, requests):
+    """How many requests of a kind are sent: of those that add rows no more than there are secrets or tokens."""
+    return requests if kind in ("read", "look_up") else min(requests, many)
 
 
 def lines(kind, many, requests):
     """The lines of a replay."""
-    make, ask = KINDS[kind]
-    numbers = [(make, n) for n in range(many)] + [(ask, n * 7919 % many) for n in range(requests)]
-    yield {"moment": MOMENT, "words": f"{0:032x}"}
-    for event, (text, number) in enumerate(numbers, start=1):
-        yield {"conn": event, "moment": MOMENT, "words": f"{event * STEP:032x}", "piece": text(number)}
+    texts = [creation(n) for n in range(many)] + [write(n) for n in range(many)]
+    texts += [KINDS[kind](n * 7919 % many) for n in range(requests)]
+    yield {"moment": MOMENT, "words": f"{first_word(0):032x}"}
+    for event, text in enumerate(texts, start=1):
+        yield {"conn": 1, "moment": MOMENT, "words": f"{first_word(event):032x}", "piece": text}
 
 
 def replay(kind, many, requests):
@@ -94,36 +107,39 @@ def used(command, data):
     return usage.ru_utime
 
 
-def measure(command, kind, many, requests, runs):
+def measure(command, kinds, many, requests, runs):
     """Prints what the requests took."""
-    both = [replay(kind, many, 0), replay(kind, many, requests)]
-    found = [[used(command, data) for data in both] for _ in range(runs)]
-    before, after = (statistics.median(times) for times in zip(*found))
-    differences = [run[1] - run[0] for run in found]
-    each, least, greatest = (seconds / requests * 1000
-                             for seconds in (after - before, min(differences), max(differences)))
-    print(f"{kind} {many}: {runs} runs of {requests} requests, {before:.3f} s without them, {after:.3f} s with them: "
-          f"{each:.3f} ms each ({least:.3f} to {greatest:.3f})", flush=True)
+    counts = {kind: asked(kind, many, requests) for kind in kinds}
+    inputs = [replay(kinds[0], many, 0)] + [replay(kind, many, counts[kind]) for kind in kinds]
+    found = [[used(command, data) for data in inputs] for _ in range(runs)]
+    before = statistics.median(run[0] for run in found)
+    print(f"{many} secrets and tokens, {runs} runs: {before:.2f} s without requests")
+    for place, kind in enumerate(kinds, start=1):
+        each = [(run[place] - run[0]) / counts[kind] * 1000 for run in found]
+        middle = (statistics.median(run[place] for run in found) - before) / counts[kind] * 1000
+        print(f"{kind}: {counts[kind]} requests, {middle:.3f} ms each ({min(each):.3f} to {max(each):.3f}), "
+              f"{1000 / middle if middle > 0 else 0:.0f} a second", flush=True)
 
 
 def main():
-    parser = argparse.ArgumentParser(description="measures replays under many secrets or tokens")
+    parser = argparse.ArgumentParser(description="measures replays under many secrets and tokens")
     commands = parser.add_subparsers(dest="command", required=True)
     printing = commands.add_parser("lines")
+    printing.add_argument("kind", choices=KINDS)
     measuring = commands.add_parser("measure")
     measuring.add_argument("program")
     measuring.add_argument("word", choices=["replay", "list", "sql"])
     for command in (printing, measuring):
-        command.add_argument("kind", choices=KINDS)
         command.add_argument("many", type=int)
         command.add_argument("requests", type=int)
-    measuring.add_argument("runs", type=int, nargs="?", default=3)
+    measuring.add_argument("--kinds", choices=KINDS, nargs="+", default=list(KINDS))
+    measuring.add_argument("--runs", type=int, default=3)
     arguments = parser.parse_args()
     if arguments.command == "lines":
         sys.stdout.buffer.write(replay(arguments.kind, arguments.many, arguments.requests))
     else:
         command = [os.path.abspath(arguments.program), arguments.word]
-        measure(command, arguments.kind, arguments.many, arguments.requests, arguments.runs)
+        measure(command, arguments.kinds, arguments.many, arguments.requests, arguments.runs)
 
 
 if __name__ == "__main__":

@@ -1,78 +1,163 @@
 #!/usr/bin/env python3
-"""Measures requests a second to a running `brokerd serve` on one connection over the loopback.
+"""Measures requests to a running `brokerd serve` on one connection over the loopback, under many secrets and tokens.
 
-    python3 tests/load_serve.py PROGRAM KIND MANY REQUESTS [RUNS] [--db]
+    python3 load_serve.py PROGRAM MANY REQUESTS [--db [FOLDER]] [--kinds KIND..] [--runs N]
 
-KIND is `read`, `write` (of secrets) or `look_up` (of the root token). The broker has MANY secrets of one version. Then
-REQUESTS requests are sent on one connection, each when the reply to the one before is there; `read` and `write` spread
-over all secrets, and each reply has to be 200. With --db the broker is in a file, in a folder of its own. It is done RUNS times (3 if not given), each with a broker of its own.
-It prints the median of the requests a second, and in brackets the least and the greatest.
+KIND is `read`, `write` (of secrets), `create` or `look_up` (of tokens). The broker has MANY secrets of one version, and
+as many tokens. Then REQUESTS requests of each kind are sent on one connection, each when the reply to the one before is
+there, and each reply has to be 200; `read`, `write` and `look_up` spread over all. There are at most MANY writes and
+creations, so that no secret has more than two versions. It is done N times (3 if not given), each with a broker of its
+own.
+
+With --db the broker is in a file, in a folder of its own, which is made in FOLDER (that of other temporary files, if
+not given). The rows are written into the file while no broker runs (many_rows.py), and each run has a copy. In memory
+requests make them, for each run.
+
+It prints for each kind the median of the requests a second, in brackets the least and the greatest, and the median of
+the processor time that the program took for a request; and how long a start over the file took until it listened.
 """
 
 import argparse
+import shutil
 import statistics
 import sys
 import tempfile
 import time
 from pathlib import Path
 
+import many_rows
+
 sys.path.insert(0, str(Path(__file__).resolve().parent / "clients"))
 from broker import Broker, connect, reply, request  # noqa: E402
+from load import asked  # noqa: E402
 
-BODY = '{"data":{"password":"correct horse"}}'
-
-
-def write(token, number):
-    return request("POST", f"secret/data/team/key{number:06}", token, BODY)
+SECRET = '{"data":{"password":"correct horse"}}'
 
 
-def read(token, number):
-    return request("GET", f"secret/data/team/key{number:06}", token)
+class Asked:
+    """A broker, the tokens that it has, and requests to it by the root token."""
+
+    def __init__(self, broker, tokens):
+        self.broker = broker
+        self.tokens = tokens
+
+    def request(self, kind, number):
+        """The bytes of a request of a kind."""
+        token, secret = self.broker.token, f"secret/data/team/key{number:06}"
+        if kind == "read":
+            return request("GET", secret, token)
+        if kind == "write":
+            return request("POST", secret, token, SECRET)
+        if kind == "create":
+            return request("POST", "auth/token/create", token, '{"policies":["default"]}')
+        return request("POST", "auth/token/lookup", token, f'{{"token":"{self.tokens[number]}"}}')
+
+    def send(self, connection, kind, numbers):
+        """Sends requests one by one, and answers their replies, and the wall and processor seconds that they took."""
+        texts = [self.request(kind, number) for number in numbers]
+        rest, replies = b"", []
+        begin, used = time.monotonic(), processor_seconds(self.broker.process.pid)
+        for place, text in enumerate(texts):
+            connection.sendall(text)
+            status, body, rest = reply(connection, rest)
+            if status != 200:
+                raise SystemExit(f"{kind}: reply {place} has status {status}")
+            replies.append(body)
+        return replies, time.monotonic() - begin, processor_seconds(self.broker.process.pid) - used
 
 
-def look_up(token, _):
-    return request("GET", "auth/token/lookup-self", token)
+def processor_seconds(process):
+    """The processor time that a process of one thread has taken."""
+    return int(Path(f"/proc/{process}/schedstat").read_text(encoding="ascii").split()[0]) / 1e9
 
 
-KINDS = {"read": read, "write": write, "look_up": look_up}
+def token_in(body):
+    """The token that a creation answers."""
+    return body.partition(b'"client_token":"')[2].partition(b'"')[0].decode()
 
 
-def ask_all(connection, texts):
-    """Sends the requests one by one, and how many seconds they took."""
-    rest, begin = b"", time.monotonic()
-    for place, text in enumerate(texts):
-        connection.sendall(text)
-        status, _, rest = reply(connection, rest)
-        if status != 200:
-            raise SystemExit(f"reply {place} has status {status}")
-    return time.monotonic() - begin
+def filled(program, folder, many):
+    """A database in the folder that has the rows, and its root token."""
+    file = f"{folder}/filled.db"
+    with Broker(program, "--db", file) as broker:
+        token = broker.token
+    many_rows.fill(file, many)
+    return file, token
 
 
-def measured(program, kind, many, requests, folder):
-    """The requests a second of one run, in memory or in a file of the folder."""
-    arguments = ["--db", f"{folder}/broker.db"] if folder else []
-    with Broker(program, *arguments) as broker, connect(broker.port) as connection:
-        ask_all(connection, [write(broker.token, number) for number in range(many)])
-        texts = [KINDS[kind](broker.token, number * 7919 % many) for number in range(requests)]
-        return requests / ask_all(connection, texts)
+def measure_kinds(broker, tokens, kinds, many, requests):
+    """For each kind the requests a second, and the processor milliseconds of one."""
+    asking, found = Asked(broker, tokens), {}
+    with connect(broker.port) as connection:
+        for kind in kinds:
+            count = asked(kind, many, requests)
+            numbers = [place * 7919 % many for place in range(count)]
+            _, wall, used = asking.send(connection, kind, numbers)
+            found[kind] = count / wall, used / count * 1000
+    return found
+
+
+def run_in_file(program, source, token, folder, kinds, many, requests):
+    """One run over a copy of a file; also the seconds until the program listened."""
+    file = f"{folder}/broker.db"
+    for end in ("", "-wal"):
+        if Path(source + end).exists():
+            shutil.copyfile(source + end, file + end)
+    begin = time.monotonic()
+    with Broker(program, "--db", file, token=token) as broker:
+        started = time.monotonic() - begin
+        tokens = [many_rows.token_of(place) for place in range(many)]
+        return measure_kinds(broker, tokens, kinds, many, requests), started
+
+
+def run_in_memory(program, kinds, many, requests):
+    """One run in memory, in which requests make the secrets and tokens; and the seconds that they took."""
+    begin = time.monotonic()
+    with Broker(program) as broker:
+        asking = Asked(broker, [])
+        with connect(broker.port) as connection:
+            made, _, _ = asking.send(connection, "create", range(many))
+            asking.send(connection, "write", range(many))
+        started = time.monotonic() - begin
+        return measure_kinds(broker, [token_in(body) for body in made], kinds, many, requests), started
+
+
+def told(kind, rates, used):
+    """A line that says the medians of a kind."""
+    return (f"{kind}: {statistics.median(rates):.0f} requests a second ({min(rates):.0f} to {max(rates):.0f}), "
+            f"{statistics.median(used):.3f} ms of processor time each ({min(used):.3f} to {max(used):.3f})")
+
+
+def tell(kinds, many, runs, where):
+    """Prints the medians of all runs."""
+    started = statistics.median(seconds for _, seconds in runs)
+    print(f"{many} secrets and tokens, {where}, {len(runs)} runs: {started:.2f} s until it was ready")
+    for kind in kinds:
+        rates, used = zip(*(found[kind] for found, _ in runs))
+        print(told(kind, rates, used))
 
 
 def main():
-    parser = argparse.ArgumentParser(description="measures requests a second to brokerd serve on one connection")
+    parser = argparse.ArgumentParser(description="measures requests to brokerd serve on one connection")
     parser.add_argument("program")
-    parser.add_argument("kind", choices=KINDS)
     parser.add_argument("many", type=int)
     parser.add_argument("requests", type=int)
-    parser.add_argument("runs", type=int, nargs="?", default=3)
-    parser.add_argument("--db", action="store_true")
+    parser.add_argument("--kinds", choices=["read", "look_up", "write", "create"], nargs="+",
+                        default=["read", "look_up", "write", "create"])
+    parser.add_argument("--runs", type=int, default=3)
+    parser.add_argument("--db", nargs="?", const=tempfile.gettempdir())
     arguments = parser.parse_args()
-    found = []
-    for _ in range(arguments.runs):
-        with tempfile.TemporaryDirectory() as folder:
-            found.append(measured(arguments.program, arguments.kind, arguments.many, arguments.requests,
-                                  folder if arguments.db else None))
-    print(f"{arguments.kind} with {arguments.many} secrets, {arguments.runs} runs of {arguments.requests} requests: "
-          f"{statistics.median(found):.0f} requests a second ({min(found):.0f} to {max(found):.0f})")
+    program, kinds, many, requests = arguments.program, arguments.kinds, arguments.many, arguments.requests
+    runs = []
+    with tempfile.TemporaryDirectory(dir=arguments.db) as folder:
+        source, token = filled(program, folder, many) if arguments.db else (None, None)
+        for _ in range(arguments.runs):
+            with tempfile.TemporaryDirectory(dir=folder) as own:
+                if arguments.db:
+                    runs.append(run_in_file(program, source, token, own, kinds, many, requests))
+                else:
+                    runs.append(run_in_memory(program, kinds, many, requests))
+    tell(kinds, many, runs, f"in a file in {arguments.db}" if arguments.db else "in memory")
 
 
 if __name__ == "__main__":

@@ -4,6 +4,8 @@ import socket
 import subprocess
 import time
 
+PATIENCE = 300.0  # seconds until a program listens
+
 
 def free_port():
     """A port of the loopback address that nothing listens on at this moment."""
@@ -52,11 +54,12 @@ def reply(connection, rest=b""):
 
 
 class Broker:
-    """A program that serves on a free port until the block ends."""
+    """A program that serves on a free port until the block ends. A root token is given if it was started before."""
 
-    def __init__(self, program, *arguments):
+    def __init__(self, program, *arguments, token=None):
         self.program = program
         self.arguments = arguments
+        self.known = token
 
     def __enter__(self):
         for _ in range(5):
@@ -65,18 +68,29 @@ class Broker:
                 [self.program, "serve", "--listen", f"127.0.0.1:{self.port}", "--connections", "4294967295",
                  *self.arguments],
                 stdout=subprocess.PIPE, stderr=subprocess.PIPE)
-            words = self.process.stdout.readline().decode().split()
-            if words[:2] != ["root", "token:"]:
-                raise SystemExit(f"the first line is {words}")
-            self.token = words[2]
-            try:
-                connect(self.port).close()
-            except ConnectionRefusedError:
-                pass
-            if self.process.poll() is None:
+            self.token = self.known or self.told_token()
+            if self.listens():
                 return self
             self.close()
         raise SystemExit("no port can be listened on")
+
+    def told_token(self):
+        """The root token, which the program prints when it starts a broker."""
+        words = self.process.stdout.readline().decode().split()
+        if words[:2] != ["root", "token:"]:
+            raise SystemExit(f"the first line is {words}")
+        return words[2]
+
+    def listens(self):
+        """Whether the program can be connected to. It is waited for, unless it ends; it reads all rows first."""
+        until = time.monotonic() + PATIENCE
+        while self.process.poll() is None and time.monotonic() < until:
+            try:
+                connect(self.port, 0.0).close()
+                return self.process.poll() is None
+            except ConnectionRefusedError:
+                time.sleep(0.01)
+        return False
 
     def close(self):
         self.process.kill()
