@@ -1,6 +1,8 @@
 -- Laws of options.
-use Rattle.std.specs.Prelude.{◌≡◌, ◌⊎◌, true, Option, Some, None, option_map, is_none, refl}
-use Rattle.std.proofs.Common.{inl, inr, sym}
+use Rattle.std.specs.Prelude.{◌≡◌, ◌⊎◌, ◌||◌, Bool, true, false, if◌then◌else◌, Option, Some, None, option_map, is_none}
+use Rattle.std.specs.Prelude.{refl}
+use Rattle.std.proofs.Common.{inl, inr, sym, ap}
+use Rattle.std.proofs.Math.Bool.{or-false}
 use Rattle.std.proofs.lemmas.Bool.{false≢true}
 use Rattle.std.proofs.lemmas.Option.{none-some, same_Some}
 
@@ -12,6 +14,13 @@ found_or_not (Some x) = inr (x, refl)
 pub is_nothing : {X : Type 0} (o : Option X) → is_none o ≡ true → o ≡ None
 is_nothing None h = refl
 is_nothing (Some x) h = absurd (false≢true h)
+
+-- what one test takes out, and then another
+pub taken_out_twice : {X : Type 0} (a b : Bool) (o : Option X)
+    → (if a then None else (if b then None else o)) ≡ (if (b || a) then None else o)
+taken_out_twice true true o = refl
+taken_out_twice true false o = refl
+taken_out_twice false b o = ap (λ v. if v then None else o) (sym (or-false b))
 
 module _ {X Y : Type 0} where
   -- the value of a mapped option

@@ -47,3 +47,12 @@ OnePlaceEach b = (p q : Place) (i : Text) → identifier_at b p ≡ Some i → i
 -- each identifier in a place was given out
 abbrev pub AllUsed : Broker → Type 0
 AllUsed b = (p : Place) (i : Text) → identifier_at b p ≡ Some i → IsUsed b i
+
+-- the token or wrapping token that the place is of
+abbrev pub place_token : Place → Text
+place_token (token t) = t
+place_token (accessor t) = t
+place_token (lease t lease_id) = t
+place_token (credential t lease_id) = t
+place_token (wrapping_token t) = t
+place_token (wrapping_accessor t) = t

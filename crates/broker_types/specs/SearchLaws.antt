@@ -167,3 +167,25 @@ module _ {X : Type 0} where
               ] refl
         ])
       ]
+
+  -- what passes in the first map is in the second too
+  abbrev pub PassesInto : (Text → X → Bool) → Map X → Map X → Type 0
+  PassesInto p m n = (t : Text) (x : X) → get m t ≡ Some x → p t x ≡ true → get n t ≡ Some x
+
+  -- nothing is found if nothing passes
+  pub none_found : (p : Text → X → Bool) (m : Map X) → ((t : Text) (x : X) → get m t ≡ Some x → p t x ≡ true → ⊥)
+      → first_where p m ≡ None
+  none_found p m h = elim (found_or_not (first_where p m)) [
+    | inl none ↦ none
+    | inr e ↦ let is = first_where_is p m e.0 e.1 in absurd (h e.0.0 e.0.1 is.0 is.1)
+  ]
+
+  -- the same is found if the same passes
+  pub same_found : (p : Text → X → Bool) (m n : Map X) → OnePasses p n → PassesInto p m n → PassesInto p n m
+      → first_where p m ≡ first_where p n
+  same_found p m n one there back = elim (found_or_not (first_where p m)) [
+    | inl none ↦ none ∙ sym (none_found p n (λ t x is passes.
+        false≢true (sym (first_where_none p m t x none (back t x is passes)) ∙ passes)))
+    | inr e ↦ let is = first_where_is p m e.0 e.1 in
+        e.1 ∙ sym (first_where_only p n e.0.0 e.0.1 one (there e.0.0 e.0.1 is.0 is.1) is.1)
+  ]

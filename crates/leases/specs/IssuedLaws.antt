@@ -1,10 +1,10 @@
 -- A lease made under new identifiers leaves a sound broker sound, and lets it evolve.
-use Rattle.std.specs.Prelude.{◌≡◌, ◌≤◌, ◌+◌, ◌-◌, ◌++◌, ℕ, drop, length, codes, true, false, cond}
+use Rattle.std.specs.Prelude.{◌≡◌, ◌≤◌, ◌+◌, ◌-◌, ◌++◌, ℕ, drop, length, codes, true, false}
 use Rattle.std.specs.Prelude.{if◌then◌else◌, Option, Some, None, option_map, option_and_then}
 use Rattle.std.proofs.Common.{refl, sym, ◌∙◌, ap, subst, inl, inr, length-append}
 use Rattle.std.proofs.Math.Nat.{le_trans, min-le_right, add-le-add, add-sub_cancel}
 use Rattle.std.proofs.Math.Seq.{drop-append_seam}
-use Rattle.std.proofs.lemmas.Option.{none-some, same_Some}
+use Rattle.std.proofs.lemmas.Option.{none-some}
 use Rattle.broker_types.specs.Text.{Text, same}
 use Rattle.broker_types.specs.Limits.{longest_ttl}
 use Rattle.broker_types.specs.Map.{Map, get, put}
@@ -13,11 +13,13 @@ use Rattle.broker_types.specs.Token.{Token, Lease}
 use Rattle.broker_types.specs.Broker.{Broker, Role}
 use Rattle.broker_types.specs.Evolves.{Evolves, IsNew}
 use Rattle.broker_types.specs.IdentifierLaws.{id-length}
-use Rattle.broker_types.specs.Places.{Place, token, accessor, lease, credential, wrapping_token, wrapping_accessor}
-use Rattle.broker_types.specs.Places.{identifier_at, lease_of, token_identifier, lease_identifier, IsUsed}
+use Rattle.broker_types.specs.Places.{token, accessor, lease, credential, wrapping_token, wrapping_accessor}
+use Rattle.broker_types.specs.Places.{lease_of, token_identifier, lease_identifier}
 use Rattle.broker_types.specs.Sound.{Forms, Sound, IsSoundLease, IsIdentifier, IsMoment}
-use Rattle.broker_types.specs.MapLaws.{valued_is, get-put, get-put_self}
+use Rattle.broker_types.specs.MapLaws.{valued_is}
+use Rattle.broker_types.specs.NewPlaceLaws.{HasTwoMore, still_marked, sound_with_two}
 use Rattle.broker_types.specs.OptionLaws.{mapped}
+use Rattle.broker_types.specs.PutLaws.{put_is}
 use Rattle.broker_types.specs.TextLaws.{same_true}
 use Rattle.leases.specs.Leases.{with_leases}
 use Rattle.leases.specs.Laws.{issued, MayBeIssued}
@@ -38,11 +40,7 @@ module _ (b : Broker) (t id : Text) (l : Lease) where
       → (u ≡ t → q ≡ id → k ≡ l → P) → (get m q ≡ Some k → P) → P
   in_leases u q m k P is first rest =
       elim (same u t) as (λ v. same u t ≡ v → get (if v then put m id l else m) q ≡ Some k → P) [
-        | true ↦ λ here e.
-            elim (same q id) as (λ v. same q id ≡ v → cond v (Some l) (get m q) ≡ Some k → P) [
-              | true ↦ λ at g. first (same_true u t here) (same_true q id at) (sym (same_Some _ _ g))
-              | false ↦ λ _ g. rest g
-            ] refl (sym (get-put m id l q) ∙ e)
+        | true ↦ λ here e. put_is m id l q k P e (first (same_true u t here)) rest
         | false ↦ λ _ e. rest e
       ] refl is
 
@@ -59,21 +57,10 @@ module _ (b : Broker) (t id : Text) (l : Lease) where
       there None h = absurd (none-some _ h)
       there (Some x) h = (x, refl, h)
 
-  still_used : (i : Text) → IsUsed b i → IsUsed after i
-  still_used i used none =
-      elim (same i (lease_identifier id)) as
-      (λ v. cond v (Some (tt {0})) (get (put b.used l.credential (tt {0})) i) ≡ None → ⊥) [
-        | true ↦ λ e. absurd (none-some _ (sym e))
-        | false ↦ λ e. elim (same i l.credential) as (λ v. cond v (Some (tt {0})) (get b.used i) ≡ None → ⊥) [
-          | true ↦ λ f. absurd (none-some _ (sym f))
-          | false ↦ λ f. used f
-        ] (sym (get-put b.used l.credential (tt {0}) i) ∙ e)
-      ] (sym (get-put _ (lease_identifier id) (tt {0}) i) ∙ none)
-
   -- a lease made under new identifiers lets a broker evolve
   pub issue_evolves : IsNew b (lease_identifier id) → IsNew b l.credential → Evolves b after
   issue_evolves new_id new_credential = record {
-    used = still_used;
+    used = still_marked b (lease_identifier id) l.credential;
     tokens = λ u y e.
         let x = valued_is (λ t x. with_leases (edit t x.leases) x) b.tokens u y e in
         inl (λ none. absurd (none-some _ (sym none ∙ x.1)));
@@ -91,64 +78,21 @@ module _ (b : Broker) (t id : Text) (l : Lease) where
   module _ (forms : Forms) (who : Option Text) (sound : Sound forms who b) (made : MayBeIssued b t id l)
       (is_identifier : IsIdentifier (lease_identifier id)) where
     -- an identifier is that of the new lease, its credential, or it was there
-    filled : (p : Place) (i : Text) (P : Type 0) → identifier_at after p ≡ Some i
-        → (p ≡ lease t id → i ≡ lease_identifier id → P) → (p ≡ credential t id → i ≡ l.credential → P)
-        → (identifier_at b p ≡ Some i → P) → P
-    filled (token u) i P e f g h = h (sym (at_token b edit (λ _. token_identifier u) (λ x m. refl) u) ∙ e)
-    filled (accessor u) i P e f g h = h (sym (at_token b edit (λ (x : Token). x.accessor) (λ x m. refl) u) ∙ e)
-    filled (lease u q) i P e f g h =
+    filled : HasTwoMore b (lease t id) (lease_identifier id) (credential t id) l.credential after
+    filled (token u) i e = inl (sym (at_token b edit (λ _. token_identifier u) (λ x m. refl) u) ∙ e)
+    filled (accessor u) i e = inl (sym (at_token b edit (λ (x : Token). x.accessor) (λ x m. refl) u) ∙ e)
+    filled (lease u q) i e =
         let k = mapped (λ (k : Lease). lease_identifier q) (lease_of after u q) i e in
-        lease_cases u q k.0 P k.1
-        (λ ut qid kl. f (λ j. lease (ut j) (qid j)) (k.2 ∙ ap lease_identifier qid))
-        (λ before. h (ap (option_map (λ (k : Lease). lease_identifier q)) before ∙ ap Some (sym k.2)))
-    filled (credential u q) i P e f g h =
+        lease_cases u q k.0 _ k.1
+        (λ ut qid kl. inr (inl ((λ j. lease (ut j) (qid j)), k.2 ∙ ap lease_identifier qid)))
+        (λ before. inl (ap (option_map (λ (k : Lease). lease_identifier q)) before ∙ ap Some (sym k.2)))
+    filled (credential u q) i e =
         let k = mapped (λ (k : Lease). k.credential) (lease_of after u q) i e in
-        lease_cases u q k.0 P k.1
-        (λ ut qid kl. g (λ j. credential (ut j) (qid j)) (k.2 ∙ ap (λ (z : Lease). z.credential) kl))
-        (λ before. h (ap (option_map (λ (k : Lease). k.credential)) before ∙ ap Some (sym k.2)))
-    filled (wrapping_token u) i P e f g h = h e
-    filled (wrapping_accessor u) i P e f g h = h e
-
-    -- what has a place in b is not new
-    old_id : (p : Place) (i : Text) (P : Type 0) → identifier_at b p ≡ Some i → i ≡ lease_identifier id → P
-    old_id p i P e is = absurd (sound.identifiers.all_used p i e (ap (get b.used) is ∙ made.id_is_new))
-
-    old_credential : (p : Place) (i : Text) (P : Type 0) → identifier_at b p ≡ Some i → i ≡ l.credential → P
-    old_credential p i P e is = absurd (sound.identifiers.all_used p i e (ap (get b.used) is ∙ made.credential_is_new))
-
-    one_place : (p q : Place) (i : Text) → identifier_at after p ≡ Some i → identifier_at after q ≡ Some i → p ≡ q
-    one_place p q i e f =
-        filled p i (p ≡ q) e
-        (λ pl is. filled q i (p ≡ q) f (λ ql _. pl ∙ sym ql) (λ _ js. absurd (made.differ (sym is ∙ js)))
-        (λ old. old_id q i (p ≡ q) old is))
-        (λ pc is. filled q i (p ≡ q) f (λ _ js. absurd (made.differ (sym js ∙ is))) (λ qc _. pc ∙ sym qc)
-        (λ old. old_credential q i (p ≡ q) old is))
-        (λ was. filled q i (p ≡ q) f (λ _ js. old_id p i (p ≡ q) was js) (λ _ js. old_credential p i (p ≡ q) was js)
-        (λ old. sound.identifiers.one_place p q i was old))
-
-    used_id : IsUsed after (lease_identifier id)
-    used_id none = absurd (none-some _ (sym none ∙ get-put_self _ (lease_identifier id) (tt {0})))
-
-    used_credential : IsUsed after l.credential
-    used_credential none =
-        elim (same l.credential (lease_identifier id)) as
-        (λ v. cond v (Some (tt {0})) (get (put b.used l.credential (tt {0})) l.credential) ≡ None → ⊥) [
-          | true ↦ λ e. absurd (none-some _ (sym e))
-          | false ↦ λ e. absurd (none-some _ (sym e ∙ get-put_self b.used l.credential (tt {0})))
-        ] (sym (get-put _ (lease_identifier id) (tt {0}) l.credential) ∙ none)
-
-    identifiers : (i : Text) → IsUsed after i → IsIdentifier i
-    identifiers i used =
-        elim (same i (lease_identifier id)) as (λ v. same i (lease_identifier id) ≡ v → IsIdentifier i) [
-          | true ↦ λ is. subst IsIdentifier (sym (same_true i (lease_identifier id) is)) is_identifier
-          | false ↦ λ other. elim (same i l.credential) as (λ v. same i l.credential ≡ v → IsIdentifier i) [
-            | true ↦ λ is. subst IsIdentifier (sym (same_true i l.credential is)) made.sound.credential
-            | false ↦ λ apart. sound.identifiers.used i (λ none. used (get-put _ (lease_identifier id) (tt {0}) i
-                ∙ ap (λ v. cond v (Some (tt {0})) (get (put b.used l.credential (tt {0})) i)) other
-                ∙ get-put b.used l.credential (tt {0}) i ∙ ap (λ v. cond v (Some (tt {0})) (get b.used i)) apart
-                ∙ none))
-          ] refl
-        ] refl
+        lease_cases u q k.0 _ k.1
+        (λ ut qid kl. inr (inr ((λ j. credential (ut j) (qid j)), k.2 ∙ ap (λ (z : Lease). z.credential) kl)))
+        (λ before. inl (ap (option_map (λ (k : Lease). k.credential)) before ∙ ap Some (sym k.2)))
+    filled (wrapping_token u) i e = inl e
+    filled (wrapping_accessor u) i e = inl e
 
     -- and leaves a sound one sound
     pub issue_sound : Sound forms who after
@@ -156,15 +100,12 @@ module _ (b : Broker) (t id : Text) (l : Lease) where
         sound_with b edit forms who sound
         (λ u q x k is e. in_leases u q x.leases k (IsSoundLease q k) e
         (λ ut qid kl. subst (λ z. IsSoundLease z k) (sym qid) (subst (IsSoundLease id) (sym kl) made.sound))
-        (λ before. (sound.tokens.each u x is).leases q k before)) after refl (record {
-          used = identifiers;
-          one_place = one_place;
-          all_used = λ p i e.
-              filled p i (IsUsed after i) e (λ _ is. subst (IsUsed after) (sym is) used_id)
-              (λ _ is. subst (IsUsed after) (sym is) used_credential)
-              (λ old. still_used i (sound.identifiers.all_used p i old));
-          origins_used = λ u w e. still_used w.origin (sound.identifiers.origins_used u w e);
-        })
+        (λ before. (sound.tokens.each u x is).leases q k before)) after refl
+        (sound_with_two b (lease_identifier id) l.credential (lease t id) (credential t id) after refl
+        sound.identifiers made.id_is_new made.credential_is_new made.differ filled is_identifier
+        made.sound.credential
+        (λ u w e. still_marked b (lease_identifier id) l.credential w.origin
+        (sound.identifiers.origins_used u w e)))
 
 -- ---- the identifier of a lease
 

@@ -1,7 +1,7 @@
 -- Rows of tokens in a list, by their texts.
 use Rattle.std.specs.Prelude.{◌≡◌, ◌<◌, ◌||◌, ◌++◌, ℕ, zero, suc, List, [], ◌∷◌, Bool, true, false, length, take, get_or, Some, Contains}
 use Rattle.std.specs.FinMap.{get}
-use Rattle.std.specs.List.{AllByRecursion, IsDistinct, list_any}
+use Rattle.std.specs.List.{AllByRecursion, IsDistinct}
 use Rattle.std.proofs.Common.{refl, sym, ◌∙◌, ap, subst, arith}
 use Rattle.std.proofs.lemmas.Bool.{false≢true, or_left, or_right}
 use Rattle.std.proofs.lemmas.List.Elements.{All-contains, All-from_recursion, All-contains_itself, Contains-append_left, Contains-append_right}
@@ -96,30 +96,6 @@ none_before (e ∷ es) (suc n) d below once =
     (λ i. (same_equiv.symm (get_or es n d).0.1 e.0.1 ∙ apart_at e.0.1 es n d (omega (arith, below)) once.0) i
     || has (texts (take n es)) (get_or es n d).0.1)
     ∙ none_before es n d (omega (arith, below)) once.1
-
--- ---- tests
-
--- a test that an element passes
-pub any_contained : {X : Type 0} (p : X → Bool) (es : List X) (e : X) → Contains es e → p e ≡ true → list_any p es ≡ true
-any_contained {X} p es e at passes = All-contains (λ f. p f ≡ true → list_any p es ≡ true) es e
-    (All-from_recursion (λ f. p f ≡ true → list_any p es ≡ true) es (each es)) at passes
-  where
-    each : (fs : List X) → AllByRecursion (λ f. p f ≡ true → list_any p fs ≡ true) fs
-    each [] = tt
-    each (f ∷ fs) = (λ h. or_left (p f) _ h, later fs (each fs))
-      where
-        later : (gs : List X) → AllByRecursion (λ g. p g ≡ true → list_any p fs ≡ true) gs
-            → AllByRecursion (λ g. p g ≡ true → list_any p (f ∷ fs) ≡ true) gs
-        later [] h = tt
-        later (g ∷ gs) h = (λ k. or_right (p f) _ (h.0 k), later gs h.1)
-
--- and an element that passes
-pub passing : {X : Type 0} (p : X → Bool) (es : List X) → list_any p es ≡ true → (e : X) × Contains es e × (p e ≡ true)
-passing p [] h = absurd (false≢true h)
-passing {X} p (e ∷ es) h =
-    or_cases (p e) (list_any p es) ((f : X) × Contains (e ∷ es) f × (p f ≡ true))
-    (λ is. (e, Contains-append_left (e ∷ []) es e (All-contains_itself (e ∷ []) 0 e (omega arith)), is))
-    (λ rest. let f = passing p es rest in (f.0, Contains-append_right (e ∷ []) es f.0 f.1, f.2)) h
 
 -- ---- rows of tokens
 

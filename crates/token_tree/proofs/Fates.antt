@@ -1,6 +1,7 @@
 -- What the passes collect is what ends: what does so by itself, and each child of what ends.
 use Rattle.std.specs.Prelude.{◌≡◌, ℕ, zero, suc, List, [], ◌∷◌, Bool, true, false, not, ◌&&◌, ◌||◌, nat_lt, nat_le, Option, Some, None, unwrap_or}
 use Rattle.std.specs.Prelude.{option_and_then}
+use Rattle.std.specs.Cmp.{both_ways}
 use Rattle.std.specs.List.{list_any, list_all}
 use Rattle.std.specs.Option.{option_map_or}
 use Rattle.std.proofs.Common.{refl, sym, ◌∙◌, ap, inl, inr, arith}
@@ -20,11 +21,6 @@ use Rattle.token_tree.proofs.Listed.{node, listing, each_listed, listed_at}
 pub record IsFate (ts : Tokens) (s : Start) (gone : Text → Bool) : Type 0 where
   pub unknown : (q : Text) → get ts q ≡ None → gone q ≡ false
   pub known : (q : Text) (x : Token) → get ts q ≡ Some x → gone q ≡ (s (node q x) || option_map_or gone x.parent false)
-
-pub both_ways : (a b : Bool) → (a ≡ true → b ≡ true) → (b ≡ true → a ≡ true) → a ≡ b
-both_ways true b f g = sym (f refl)
-both_ways false true f g = g refl
-both_ways false false f g = refl
 
 -- what holds of an owner holds of its text
 owned : (p : Text → Bool) (o : Text) → of_owner p o ≡ true → p o ≡ true

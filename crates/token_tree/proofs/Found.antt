@@ -1,11 +1,13 @@
 -- The rows that a walk found, in place of those of all tokens.
 use Rattle.std.specs.Prelude.{◌≡◌, ◌&&◌, not, ℕ, List, [], ◌∷◌, Bool, true, false, if◌then◌else◌, filter, nat_eq, None, Some}
+use Rattle.std.specs.Cmp.{both_ways}
 use Rattle.std.specs.FinMap.{get, entries}
 use Rattle.std.specs.FinMap as fin
 use Rattle.std.specs.List.{AllByRecursion, list_any, starts_with, IsDistinct}
 use Rattle.std.proofs.Common.{refl, sym, ◌∙◌, ap, subst}
 use Rattle.std.proofs.lemmas.Bool.{false≢true, and_parts, or_left}
 use Rattle.std.proofs.lemmas.List.Elements.{All-contains, All-from_recursion, recursion_from_All, Contains-get_or, filter_agree}
+use Rattle.broker_types.specs.ListLaws.{any_contained, passing}
 use Rattle.broker_types.specs.Text.{Text, same}
 use Rattle.broker_types.specs.TextLaws.{same_self}
 use Rattle.records.specs.declared.kind.Kind.{Kind}
@@ -22,8 +24,7 @@ use Rattle.token_tree.specs.Endings.{AreTokenRows, EndsDescent, IsDamagedDescent
 use Rattle.token_tree.specs.Orphaned.{is_child, orphaned, without_parent}
 use Rattle.token_tree.specs.Removed.{without_token, without_each, IsTokenRow}
 use Rattle.token_tree.specs.Walks.{children, texts, AreTokens, HasDamagedDescent}
-use Rattle.token_tree.proofs.Entries.{has_texts, has_text, any_contained, passing, entry_is, at_text}
-use Rattle.token_tree.proofs.Fates.{both_ways}
+use Rattle.token_tree.proofs.Entries.{has_texts, has_text, entry_is, at_text}
 use Rattle.token_tree.proofs.Removals.{takes, table_of-without_ended, others_stay}
 use Rattle.token_tree.proofs.Taken.{AreReadableEnded, without_ended}
 use Rattle.token_tree.proofs.TokenEnds.{table_of-without_tokens, rows_read, read_rows, descent_within}

@@ -1,21 +1,18 @@
 -- The table without the rows of tokens that ended.
-use Rattle.std.specs.Prelude.{◌≡◌, ◌<◌, ◌^◌, ◌++◌, ℕ, List, [], ◌∷◌, Bool, true, false, not, cond, ◌&&◌, ◌||◌, Option, Some, None, option_map, is_some, length}
-use Rattle.std.specs.Prelude.{take, map, if◌then◌else◌}
+use Rattle.std.specs.Prelude.{◌≡◌, List, [], ◌∷◌, Bool, true, false, not, cond, ◌&&◌, ◌||◌, Option, Some, None, option_map, is_some}
+use Rattle.std.specs.Prelude.{map, if◌then◌else◌}
 use Rattle.std.specs.List.{list_any, find}
 use Rattle.std.specs.FinMap as fin
-use Rattle.std.specs.Int.{w32, to_be_bytes, from_be_bytes}
-use Rattle.std.proofs.Common.{refl, sym, ◌∙◌, ap, inl, inr, append_assoc}
-use Rattle.std.proofs.Math.Seq.{take-append_seam}
-use Rattle.std.proofs.lemmas.Nat.{from_be_bytes-to_be_bytes_4}
+use Rattle.std.proofs.Common.{refl, sym, ◌∙◌, ap, inl, inr}
 use Rattle.broker_types.specs.Text.{Text, same}
 use Rattle.broker_types.specs.Map.{get, entries, keep, first_where, map_values}
 use Rattle.broker_types.specs.Token.{Token, Tokens}
 use Rattle.broker_types.specs.Broker.{Broker, Waiting}
 use Rattle.broker_types.specs.Sound.{Forms, SoundTokens}
-use Rattle.broker_types.specs.Places.{Place, token, accessor, lease, credential, wrapping_token, wrapping_accessor, OnePlaceEach}
+use Rattle.broker_types.specs.Places.{accessor, wrapping_accessor, place_token, OnePlaceEach}
 use Rattle.std.proofs.Math.Bool.{or-false}
 use Rattle.std.proofs.lemmas.Bool.{false≢true, and_parts}
-use Rattle.broker_types.specs.OptionLaws.{found_or_not}
+use Rattle.broker_types.specs.OptionLaws.{found_or_not, taken_out_twice}
 use Rattle.broker_types.specs.MapLaws.{get-keep, get-map_values, first_where-map_values}
 use Rattle.broker_types.specs.SearchLaws.{OnePasses, first_where_is, first_where_none, first_where-keep, if_kept}
 use Rattle.broker_types.specs.TextLaws.{same_self, same_true}
@@ -23,46 +20,28 @@ use Rattle.records.specs.declared.holder.Holder.TheVariants as holder
 use Rattle.records.specs.declared.kind.Kind.{Kind}
 use Rattle.records.specs.declared.kind.Kind.TheVariants as kind
 use Rattle.records.specs.declared.row.Row.{Row}
+use Rattle.records.specs.AccessorLaws.{token_tells}
+use Rattle.records.specs.Accessors.{accessor_in}
 use Rattle.records.specs.Kind.{RowKey}
 use Rattle.records.specs.Parts.{of_tokens, Tells, KeepsOthers}
-use Rattle.records.specs.RowForms.{token_row, entry_row, accessor_row, pair}
+use Rattle.records.specs.RowForms.{token_row, accessor_row}
 use Rattle.records.specs.Rows.{rows_of, or_else}
-use Rattle.records.specs.Spelling.{number, count, text, optional_field, listed}
 use Rattle.records.specs.Table.{table_of, is_at, without_row}
-use Rattle.records.specs.TokenEntry.{TokenEntry, token_entry}
-use Rattle.records.specs.Ranges.{IsTokenInRange}
+use Rattle.records.specs.TokenEntry.{token_entry}
 use Rattle.records.specs.Transaction.{Rows}
 use Rattle.records.specs.TableLaws.{table_of-remove}
 use Rattle.records.specs.RangeLaws.{token_in_range}
 use Rattle.records.specs.Children.{has}
-use Rattle.token_tree.specs.Removed.{accessor_in, without_token}
+use Rattle.token_tree.specs.Removed.{without_token}
 use Rattle.token_tree.proofs.Taken.{without_ended}
 use Rattle.token_tree.specs.Tokens.{has_accessor}
 use Rattle.token_tree.proofs.Listed.{node, listing}
-
--- ---- the accessor that a row tells
-
-text_first : (a p q r s : List ℕ) → length a < 2 ^ 32 → take (from_be_bytes w32 (to_be_bytes w32 (length a))) (a ++ p ++ q ++ r ++ s) ≡ a
-text_first a p q r s short =
-    let one : a ++ p ++ q ++ r ++ s ≡ a ++ (p ++ q ++ r ++ s) = ap (λ l. l ++ r ++ s) (append_assoc a p q) ∙ ap (λ l. l ++ s) (append_assoc a (p ++ q) r)
-    ∙ append_assoc a (p ++ q ++ r) s in
-    ap (λ n. take n (a ++ p ++ q ++ r ++ s)) (from_be_bytes-to_be_bytes_4 (length a) short) ∙ ap (take (length a)) one ∙ take-append_seam a (p ++ q ++ r ++ s)
-
-pub accessor_told : (x : TokenEntry) → IsTokenInRange x → accessor_in (entry_row x) ≡ x.accessor
-unfolding count
-accessor_told x h = text_first x.accessor (listed text x.policies) (number x.issued ++ number x.ttl ++ number x.explicit_max_ttl ++ number x.period)
-    (optional_field number x.uses_left) (listed pair x.meta) h.accessor.short
 
 -- ---- which rows are taken out
 
 nested : {X : Type 0} (a b : Bool) (o : Option X) → (if a then None else (if b then None else o)) ≡ (if (a || b) then None else o)
 nested true b o = refl
 nested false b o = refl
-
-turned : {X : Type 0} (a b : Bool) (o : Option X) → (if a then None else (if b then None else o)) ≡ (if (b || a) then None else o)
-turned true true o = refl
-turned true false o = refl
-turned false b o = ap (λ v. if v then None else o) (sym (or-false b))
 
 module _ (ended : List Text) where
   -- the removal of the entry takes the row out
@@ -87,7 +66,7 @@ module _ (ended : List Text) where
   table_of-without_ended (e ∷ es) rows k q =
       table_of-without_ended es (if has ended e.0.1 then without_token rows e else rows) k q
       ∙ ap (λ o. if list_any (takes k q) es then None else o) (one e rows k q)
-      ∙ turned (list_any (takes k q) es) (takes k q e) (table_of rows k q)
+      ∙ taken_out_twice (list_any (takes k q) es) (takes k q e) (table_of rows k q)
 
   other_kind : (k : Kind) (q : Text) (e : RowKey × Row) → of_tokens k ≡ false → takes k q e ≡ false
   other_kind k q e h = ap (λ v. has ended e.0.1 && v) (none k h) ∙ never (has ended e.0.1)
@@ -122,18 +101,10 @@ module _ (ended : List Text) where
 
 -- ---- the rows that are left are those of the tokens that are kept
 
-abbrev place_text : Place → Text
-place_text (token t) = t
-place_text (accessor t) = t
-place_text (lease t i) = t
-place_text (credential t i) = t
-place_text (wrapping_token t) = t
-place_text (wrapping_accessor t) = t
-
 -- no two tokens of a sound broker have one accessor
 pub one_accessor : (b : Broker) → OnePlaceEach b → (q : Text) → OnePasses (has_accessor q) b.tokens
 one_accessor b one_place q t u x y is js f g =
-    ap place_text (one_place (accessor t) (accessor u) q (ap (option_map (λ (x : Token). x.accessor)) is ∙ ap Some (same_true x.accessor q f))
+    ap place_token (one_place (accessor t) (accessor u) q (ap (option_map (λ (x : Token). x.accessor)) is ∙ ap Some (same_true x.accessor q f))
     (ap (option_map (λ (x : Token). x.accessor)) js ∙ ap Some (same_true y.accessor q g)))
 
 module _ (forms : Forms) (b : Broker) (sound : SoundTokens forms b.tokens) (one_place : OnePlaceEach b) (ended : List Text) (p : Text → Bool)
@@ -184,7 +155,7 @@ module _ (forms : Forms) (b : Broker) (sound : SoundTokens forms b.tokens) (one_
           ] refl
 
   accessor_is : (t : Text) (x : Token) → get b.tokens t ≡ Some x → accessor_in (token_row x) ≡ x.accessor
-  accessor_is t x is = accessor_told (token_entry x) (token_in_range forms b.tokens sound t x is)
+  accessor_is t x is = token_tells (token_entry x) (token_in_range forms b.tokens sound t x is)
 
   abbrev waits : Text → Option Row
   waits q = option_map (λ e. accessor_row e.0 holder.WrappingToken) (first_where (λ t (w : Waiting). same w.accessor q) b.waiting)

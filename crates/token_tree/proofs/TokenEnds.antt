@@ -1,5 +1,6 @@
 -- What the end of tokens leaves of a table, whatever its rows are.
 use Rattle.std.specs.Prelude.{◌≡◌, List, [], ◌∷◌, Bool, true, false, not, ◌&&◌, ◌||◌, if◌then◌else◌, Option, Some, None, option_map, is_some}
+use Rattle.std.specs.Cmp.{both_ways}
 use Rattle.std.specs.FinMap as fin
 use Rattle.std.specs.List.{AllByRecursion, list_any}
 use Rattle.std.specs.Option.{option_map_or}
@@ -13,6 +14,7 @@ use Rattle.broker_types.specs.TextLaws.{same_self, same_true}
 use Rattle.records.specs.declared.kind.Kind.{Kind}
 use Rattle.records.specs.declared.kind.Kind.TheVariants as kind
 use Rattle.records.specs.declared.row.Row.{Row}
+use Rattle.records.specs.Accessors.{accessor_in, is_told}
 use Rattle.records.specs.Children.{has}
 use Rattle.records.specs.Kind.{RowKey}
 use Rattle.records.specs.Parts.{of_tokens}
@@ -20,14 +22,12 @@ use Rattle.records.specs.Table.{Table, table_of}
 use Rattle.records.specs.TableLaws.{table_of-insert}
 use Rattle.records.specs.Transaction.{Rows, rows_under}
 use Rattle.token_tree.specs.Ended.{IsClosed, IsDescent, Start, Starts, of_owner, AllStay}
-use Rattle.token_tree.specs.Endings.{AreTokenRows, EndsAlone, is_told, without_tokens, orphan_row, without_children_of}
+use Rattle.token_tree.specs.Endings.{AreTokenRows, EndsAlone, without_tokens, orphan_row, without_children_of}
 use Rattle.token_tree.specs.Orphaned.{is_child, orphaned, without_parent}
 use Rattle.token_tree.specs.TokenRows.{IsDamagedToken}
-use Rattle.token_tree.specs.Removed.{accessor_in}
 use Rattle.token_tree.proofs.Taken.{without_ended, AreReadableEnded}
 use Rattle.token_tree.proofs.Removals.{takes, table_of-without_ended, others_stay}
 use Rattle.token_tree.proofs.Orphans.{parents_keep, parents_accessors, turned}
-use Rattle.token_tree.proofs.Fates.{both_ways}
 use Rattle.token_tree.proofs.TokenMap.{row_node, any_of, some_of, each_token, token_each, no_token_passes, token_passes}
 
 nothing : {X : Type 0} (v : Bool) → ◌≡◌ {A = Option X} (if v then None else None) None
@@ -75,16 +75,16 @@ module _ (rows : Rows) (ended : List Text) where
   tells q t = option_map_or (λ row. same q (accessor_in row)) (old kind.Token t) false
 
   -- that of an accessor goes if the row of a token that ended tells it
-  accessor_taken : (q : Text) → list_any (takes ended kind.Accessor q) (rows_under rows kind.Token []) ≡ is_told ended old q
+  accessor_taken : (q : Text) → list_any (takes ended kind.Accessor q) (rows_under rows kind.Token []) ≡ is_told kind.Token ended old q
   accessor_taken q = both_ways _ _ onto from
     where
-      onto : list_any (takes ended kind.Accessor q) (rows_under rows kind.Token []) ≡ true → is_told ended old q ≡ true
-      onto h = elim (is_told ended old q) as (λ v. is_told ended old q ≡ v → v ≡ true) [
+      onto : list_any (takes ended kind.Accessor q) (rows_under rows kind.Token []) ≡ true → is_told kind.Token ended old q ≡ true
+      onto h = elim (is_told kind.Token ended old q) as (λ v. is_told kind.Token ended old q ≡ v → v ≡ true) [
         | true ↦ λ _. refl
         | false ↦ λ none. absurd (false≢true (sym (no_token_passes rows (takes ended kind.Accessor q) (λ t r is. fails t r is none)) ∙ h))
       ] refl
         where
-          fails : (t : Text) (r : Row) → old kind.Token t ≡ Some r → is_told ended old q ≡ false → (has ended t && same q (accessor_in r)) ≡ false
+          fails : (t : Text) (r : Row) → old kind.Token t ≡ Some r → is_told kind.Token ended old q ≡ false → (has ended t && same q (accessor_in r)) ≡ false
           fails t r is none =
               elim (has ended t && same q (accessor_in r)) as (λ v. (has ended t && same q (accessor_in r)) ≡ v → v ≡ false) [
                 | true ↦ λ goes. let two = and_parts (has ended t) (same q (accessor_in r)) goes in
@@ -93,7 +93,7 @@ module _ (rows : Rows) (ended : List Text) where
                 | false ↦ λ _. refl
               ] refl
 
-      from : is_told ended old q ≡ true → list_any (takes ended kind.Accessor q) (rows_under rows kind.Token []) ≡ true
+      from : is_told kind.Token ended old q ≡ true → list_any (takes ended kind.Accessor q) (rows_under rows kind.Token []) ≡ true
       from h =
           let t = some_of (tells q) ended h in
           elim (found_or_not (old kind.Token t.0)) [

@@ -1,32 +1,26 @@
 -- What the end of tokens makes of rows, whatever these are (this project's definition).
-use Rattle.std.specs.Prelude.{◌≡◌, List, [], ◌∷◌, Bool, true, false, not, ◌&&◌, if◌then◌else◌, Some, None}
+use Rattle.std.specs.Prelude.{◌≡◌, List, [], ◌∷◌, true, not, ◌&&◌, if◌then◌else◌, Some, None}
 use Rattle.std.specs.Prelude.{option_map, is_some}
-use Rattle.std.specs.List.{list_any}
-use Rattle.std.specs.Option.{option_map_or}
 use Rattle.broker_types.specs.Text.{Text, same}
 use Rattle.records.specs.declared.kind.Kind.TheVariants as kind
 use Rattle.records.specs.declared.row.Row.{Row}
+use Rattle.records.specs.Accessors.{is_told}
 use Rattle.records.specs.Children.{has}
 use Rattle.records.specs.Table.{Table, table_of}
 use Rattle.records.specs.Transaction.{Rows, rows_under}
 use Rattle.token_tree.specs.Ended.{IsDescent, Start}
 use Rattle.token_tree.specs.Orphaned.{orphaned}
-use Rattle.token_tree.specs.Removed.{accessor_in, IsTokenRow}
+use Rattle.token_tree.specs.Removed.{IsTokenRow}
 
 -- the rows of the tokens can be read
 abbrev pub AreTokenRows : List Text → Table → Type 0
 AreTokenRows tokens rows =
     (t : Text) (row : Row) → has tokens t ≡ true → rows kind.Token t ≡ Some row → IsTokenRow ((kind.Token, t), row)
 
--- whether the row of one of the tokens tells the accessor
-abbrev pub is_told : List Text → Table → Text → Bool
-is_told tokens rows accessor =
-    list_any (λ t. option_map_or (λ row. same accessor (accessor_in row)) (rows kind.Token t) false) tokens
-
 -- the table without the rows of the tokens, and of the accessors that these tell
 abbrev pub without_tokens : List Text → Table → Table
 without_tokens tokens rows kind.Token q = if has tokens q then None else rows kind.Token q
-without_tokens tokens rows kind.Accessor q = if is_told tokens rows q then None else rows kind.Accessor q
+without_tokens tokens rows kind.Accessor q = if is_told kind.Token tokens rows q then None else rows kind.Accessor q
 without_tokens tokens rows k q = rows k q
 
 -- ---- all that descends

@@ -1,24 +1,14 @@
 -- The rows of tokens that ended, and of their accessors, taken out (this project's definition).
-use Rattle.std.specs.Prelude.{◌≡◌, ℕ, List, [], ◌∷◌, take}
-use Rattle.std.specs.Int.{w32, from_be_bytes}
+use Rattle.std.specs.Prelude.{◌≡◌, List, [], ◌∷◌}
 use Rattle.std.specs.FinMap as fin
-use Rattle.broker_types.specs.Text.{Text}
 use Rattle.records.specs.declared.kind.Kind.TheVariants as kind
 use Rattle.records.specs.declared.row.Row.{Row}
+use Rattle.records.specs.Accessors.{accessor_in}
 use Rattle.records.specs.Kind.{RowKey}
 use Rattle.records.specs.Ranges.{IsTokenInRange}
 use Rattle.records.specs.RowForms.{entry_row}
 use Rattle.records.specs.TokenEntry.{TokenEntry}
 use Rattle.records.specs.Transaction.{Rows}
-
--- the text that a body begins with, after its format
-abbrev pub first_text : List ℕ → Text
-first_text (f ∷ a ∷ b ∷ c ∷ d ∷ rest) = take (from_be_bytes w32 (a ∷ b ∷ c ∷ d ∷ [])) rest
-first_text _ = []
-
--- the accessor that the row of a token tells
-abbrev pub accessor_in : Row → Text
-accessor_in row = first_text row.body
 
 -- the row of a token, which can be read
 abbrev pub IsTokenRow : RowKey × Row → Type 0

@@ -11,14 +11,16 @@ use Rattle.broker_types.specs.Token.{Token, Tokens, Lease}
 use Rattle.broker_types.specs.Broker.{Broker}
 use Rattle.broker_types.specs.Evolves.{Evolves, IsNew}
 use Rattle.broker_types.specs.Lineage.{ends_within, ParentsExist, ChainsEnd}
-use Rattle.broker_types.specs.Places.{Place, token, accessor, lease, credential, wrapping_token, wrapping_accessor}
-use Rattle.broker_types.specs.Places.{identifier_at, lease_of, token_identifier, lease_identifier, IsUsed}
+use Rattle.broker_types.specs.Places.{token, accessor, lease, credential, wrapping_token, wrapping_accessor}
+use Rattle.broker_types.specs.Places.{lease_of, token_identifier, lease_identifier}
 use Rattle.broker_types.specs.Sound.{Forms, Sound, IsEnd, IsIdentifier, IsSoundToken}
 use Rattle.broker_types.specs.EditLaws.{IsEdit, edit_evolves, edit_sound, unspent_still}
 use Rattle.broker_types.specs.FewerLaws.{edited_sound}
 use Rattle.broker_types.specs.LineageLaws.{ends_above, ends_at, ends_in_time}
 use Rattle.broker_types.specs.MapLaws.{get-put, get-put_self}
+use Rattle.broker_types.specs.NewPlaceLaws.{HasTwoMore, still_marked, sound_with_two}
 use Rattle.broker_types.specs.OptionLaws.{mapped}
+use Rattle.broker_types.specs.PutLaws.{put_is}
 use Rattle.broker_types.specs.TextLaws.{same_true}
 use Rattle.token_tree.specs.Tokens.{with_end, renew, created, MayBeMade}
 
@@ -53,14 +55,6 @@ module _ (ts : Tokens) (t : Text) (x : Token) where
   there : (q : Text) → same q t ≡ false → get more q ≡ get ts q
   there q other = get-put ts t x q ∙ ap (λ v. cond v (Some x) (get ts q)) other
 
-  -- a token is the new one, or it was there
-  either : (q : Text) (y : Token) (P : Type 0) → get more q ≡ Some y → (q ≡ t → y ≡ x → P) → (get ts q ≡ Some y → P) → P
-  either q y P is first rest =
-      elim (same q t) as (λ v. same q t ≡ v → cond v (Some x) (get ts q) ≡ Some y → P) [
-        | true ↦ λ at e. first (same_true q t at) (sym (same_Some _ _ e))
-        | false ↦ λ _ e. rest e
-      ] refl (sym (get-put ts t x q) ∙ is)
-
   module _ (absent : get ts t ≡ None) (parents : ParentsExist ts)
       (parent : (p : Text) → x.parent ≡ Some p → get ts p ≢ None) where
     apart : (p : Text) → get ts p ≢ None → same p t ≡ false
@@ -71,7 +65,7 @@ module _ (ts : Tokens) (t : Text) (x : Token) where
 
     more_parents : ParentsExist more
     more_parents q p y is up none =
-        either q y ⊥ is
+        put_is ts t x q y ⊥ is
         (λ qt yx. stands_still p (parent p (ap (λ (z : Token). z.parent) (sym yx) ∙ up)) none)
         (λ old. stands_still p (parents q p y old up) none)
 
@@ -111,22 +105,11 @@ module _ (b : Broker) (t : Text) (x : Token) where
   abbrev after : Broker
   after = created b t x
 
-  still_used : (i : Text) → IsUsed b i → IsUsed after i
-  still_used i used none =
-      elim (same i (token_identifier t)) as
-      (λ v. cond v (Some (tt {0})) (get (put b.used x.accessor (tt {0})) i) ≡ None → ⊥) [
-        | true ↦ λ e. absurd (none-some _ (sym e))
-        | false ↦ λ e. elim (same i x.accessor) as (λ v. cond v (Some (tt {0})) (get b.used i) ≡ None → ⊥) [
-          | true ↦ λ f. absurd (none-some _ (sym f))
-          | false ↦ λ f. used f
-        ] (sym (get-put b.used x.accessor (tt {0}) i) ∙ e)
-      ] (sym (get-put _ (token_identifier t) (tt {0}) i) ∙ none)
-
   module _ (no_lease : x.leases ≡ empty) where
     lease_before : (u lease_id : Text) (l : Lease) → lease_of after u lease_id ≡ Some l → lease_of b u lease_id ≡ Some l
     lease_before u lease_id l e =
         let y = then_mapped (get after.tokens u) e in
-        either b.tokens t x u y.0 (lease_of b u lease_id ≡ Some l) y.1
+        put_is b.tokens t x u y.0 (lease_of b u lease_id ≡ Some l) y.1
         (λ ut yx. absurd (none-some _ (sym (ap (λ m. get m lease_id) (ap (λ (z : Token). z.leases) yx ∙ no_lease)
         ∙ get-empty text_cmp lease_id) ∙ y.2)))
         (λ old. ap (option_and_then (λ (z : Token). get z.leases lease_id)) old ∙ y.2)
@@ -139,9 +122,9 @@ module _ (b : Broker) (t : Text) (x : Token) where
     -- a token made under a new identifier lets the broker evolve
     pub create_evolves : IsNew b (token_identifier t) → Evolves b after
     create_evolves new = record {
-      used = still_used;
+      used = still_marked b (token_identifier t) x.accessor;
       tokens = λ u y is.
-          either b.tokens t x u y _ is (λ ut yx. inr (subst (λ z. IsNew b (token_identifier z)) (sym ut) new))
+          put_is b.tokens t x u y _ is (λ ut yx. inr (subst (λ z. IsNew b (token_identifier z)) (sym ut) new))
           (λ old. inl (λ none. absurd (none-some _ (sym none ∙ old))));
       leases = λ u lease_id l e. inl (l, lease_before u lease_id l e, refl);
       wrapping_tokens = λ u w is. inl (λ none. absurd (none-some _ (sym none ∙ is)));
@@ -159,76 +142,30 @@ module _ (b : Broker) (t : Text) (x : Token) where
             (ap (option_map (λ (z : Token). token_identifier t)) (is y refl)) made.token_is_new)
 
     -- an identifier is that of the new token, that of its accessor, or it was there
-    filled : (p : Place) (i : Text) (P : Type 0) → identifier_at after p ≡ Some i
-        → (p ≡ token t → i ≡ token_identifier t → P) → (p ≡ accessor t → i ≡ x.accessor → P)
-        → (identifier_at b p ≡ Some i → P) → P
-    filled (token u) i P e f g h =
+    filled : HasTwoMore b (token t) (token_identifier t) (accessor t) x.accessor after
+    filled (token u) i e =
         let y = mapped (λ _. token_identifier u) (get after.tokens u) i e in
-        either b.tokens t x u y.0 P y.1
-        (λ ut yx. f (ap token ut) (y.2 ∙ ap token_identifier ut))
-        (λ old. h (ap (option_map (λ _. token_identifier u)) old ∙ ap Some (sym y.2)))
-    filled (accessor u) i P e f g h =
+        put_is b.tokens t x u y.0 _ y.1
+        (λ ut yx. inr (inl (ap token ut, y.2 ∙ ap token_identifier ut)))
+        (λ old. inl (ap (option_map (λ _. token_identifier u)) old ∙ ap Some (sym y.2)))
+    filled (accessor u) i e =
         let y = mapped (λ (z : Token). z.accessor) (get after.tokens u) i e in
-        either b.tokens t x u y.0 P y.1
-        (λ ut yx. g (ap accessor ut) (y.2 ∙ ap (λ (z : Token). z.accessor) yx))
-        (λ old. h (ap (option_map (λ (z : Token). z.accessor)) old ∙ ap Some (sym y.2)))
-    filled (lease u lease_id) i P e f g h =
+        put_is b.tokens t x u y.0 _ y.1
+        (λ ut yx. inr (inr (ap accessor ut, y.2 ∙ ap (λ (z : Token). z.accessor) yx)))
+        (λ old. inl (ap (option_map (λ (z : Token). z.accessor)) old ∙ ap Some (sym y.2)))
+    filled (lease u lease_id) i e =
         let l = mapped (λ _. lease_identifier lease_id) (lease_of after u lease_id) i e in
-        h (ap (option_map (λ _. lease_identifier lease_id)) (lease_before made.no_lease u lease_id l.0 l.1)
+        inl (ap (option_map (λ _. lease_identifier lease_id)) (lease_before made.no_lease u lease_id l.0 l.1)
         ∙ ap Some (sym l.2))
-    filled (credential u lease_id) i P e f g h =
+    filled (credential u lease_id) i e =
         let l = mapped (λ (z : Lease). z.credential) (lease_of after u lease_id) i e in
-        h (ap (option_map (λ (z : Lease). z.credential)) (lease_before made.no_lease u lease_id l.0 l.1)
+        inl (ap (option_map (λ (z : Lease). z.credential)) (lease_before made.no_lease u lease_id l.0 l.1)
         ∙ ap Some (sym l.2))
-    filled (wrapping_token u) i P e f g h = h e
-    filled (wrapping_accessor u) i P e f g h = h e
+    filled (wrapping_token u) i e = inl e
+    filled (wrapping_accessor u) i e = inl e
 
-    -- what has a place in b is not new
-    old_token : (p : Place) (i : Text) (P : Type 0) → identifier_at b p ≡ Some i → i ≡ token_identifier t → P
-    old_token p i P e is = absurd (sound.identifiers.all_used p i e (ap (get b.used) is ∙ made.token_is_new))
-
-    old_accessor : (p : Place) (i : Text) (P : Type 0) → identifier_at b p ≡ Some i → i ≡ x.accessor → P
-    old_accessor p i P e is = absurd (sound.identifiers.all_used p i e (ap (get b.used) is ∙ made.accessor_is_new))
-
-    one_place : (p q : Place) (i : Text) → identifier_at after p ≡ Some i → identifier_at after q ≡ Some i → p ≡ q
-    one_place p q i e f =
-        filled p i (p ≡ q) e
-        (λ pt is. filled q i (p ≡ q) f (λ qt _. pt ∙ sym qt) (λ _ js. absurd (made.differ (sym is ∙ js)))
-        (λ old. old_token q i (p ≡ q) old is))
-        (λ pa is. filled q i (p ≡ q) f (λ _ js. absurd (made.differ (sym js ∙ is))) (λ qa _. pa ∙ sym qa)
-        (λ old. old_accessor q i (p ≡ q) old is))
-        (λ was. filled q i (p ≡ q) f (λ _ js. old_token p i (p ≡ q) was js) (λ _ js. old_accessor p i (p ≡ q) was js)
-        (λ old. sound.identifiers.one_place p q i was old))
-
-    used_token : IsUsed after (token_identifier t)
-    used_token none = absurd (none-some _ (sym none ∙ get-put_self _ (token_identifier t) (tt {0})))
-
-    used_accessor : IsUsed after x.accessor
-    used_accessor none =
-        elim (same x.accessor (token_identifier t)) as
-        (λ v. cond v (Some (tt {0})) (get (put b.used x.accessor (tt {0})) x.accessor) ≡ None → ⊥) [
-          | true ↦ λ e. absurd (none-some _ (sym e))
-          | false ↦ λ e. absurd (none-some _ (sym e ∙ get-put_self b.used x.accessor (tt {0})))
-        ] (sym (get-put _ (token_identifier t) (tt {0}) x.accessor) ∙ none)
-
-    all_used : (p : Place) (i : Text) → identifier_at after p ≡ Some i → IsUsed after i
-    all_used p i e =
-        filled p i (IsUsed after i) e (λ _ is. subst (IsUsed after) (sym is) used_token)
-        (λ _ is. subst (IsUsed after) (sym is) used_accessor)
-        (λ old. still_used i (sound.identifiers.all_used p i old))
-
-    identifiers : (i : Text) → IsUsed after i → IsIdentifier i
-    identifiers i used =
-        elim (same i (token_identifier t)) as (λ v. same i (token_identifier t) ≡ v → IsIdentifier i) [
-          | true ↦ λ is. subst IsIdentifier (sym (same_true i (token_identifier t) is ∙ ap (drop 4) made.sound.name.2))
-              made.sound.name.1
-          | false ↦ λ other. elim (same i x.accessor) as (λ v. same i x.accessor ≡ v → IsIdentifier i) [
-            | true ↦ λ is. subst IsIdentifier (sym (same_true i x.accessor is)) made.sound.accessor
-            | false ↦ λ apart. sound.identifiers.used i (λ none. used (get-put _ (token_identifier t) (tt {0}) i
-                ∙ ap (λ v. cond v (Some (tt {0})) (get (put b.used x.accessor (tt {0})) i)) other
-                ∙ get-put b.used x.accessor (tt {0}) i ∙ ap (λ v. cond v (Some (tt {0})) (get b.used i)) apart ∙ none))
-          ] refl
-        ] refl
+    token_is_identifier : IsIdentifier (token_identifier t)
+    token_is_identifier = subst IsIdentifier (sym (ap (drop 4) made.sound.name.2)) made.sound.name.1
 
     -- a token made under new identifiers leaves a sound broker sound
     pub create_sound : Sound forms who after
@@ -236,7 +173,7 @@ module _ (b : Broker) (t : Text) (x : Token) where
       clock = sound.clock;
       tokens = record {
         each = λ u y is.
-            either b.tokens t x u y _ is
+            put_is b.tokens t x u y _ is
             (λ ut yx. subst (λ z. IsSoundToken forms z y) (sym ut) (subst (IsSoundToken forms t) (sym yx) made.sound))
             (λ old. sound.tokens.each u y old);
         parents_exist = more_parents b.tokens t x absent sound.tokens.parents_exist made.parent;
@@ -247,14 +184,12 @@ module _ (b : Broker) (t : Text) (x : Token) where
       mounts = sound.mounts;
       roles = sound.roles;
       policies = sound.policies;
-      identifiers = record {
-        used = identifiers;
-        one_place = one_place;
-        all_used = all_used;
-        origins_used = λ u w e. still_used w.origin (sound.identifiers.origins_used u w e);
-      };
+      identifiers = sound_with_two b (token_identifier t) x.accessor (token t) (accessor t) after refl
+          sound.identifiers made.token_is_new made.accessor_is_new made.differ filled token_is_identifier
+          made.sound.accessor
+          (λ u w e. still_marked b (token_identifier t) x.accessor w.origin (sound.identifiers.origins_used u w e));
       unspent = λ u y is zero.
-          either b.tokens t x u y _ is
+          put_is b.tokens t x u y _ is
           (λ ut yx. absurd (made.unspent (ap (λ (z : Token). z.uses_left) (sym yx) ∙ zero)))
           (λ old. sound.unspent u y old zero);
     }

@@ -1,62 +1,33 @@
 -- Of the rows that are due, those of wrapping tokens: what a sweep takes out, whatever the rows are.
-use Rattle.std.specs.Prelude.{◌≡◌, ◌<◌, ◌^◌, ◌++◌, ◌&&◌, ◌||◌, ℕ, List, [], ◌∷◌, Bool, true, false, cond, if◌then◌else◌}
-use Rattle.std.specs.Prelude.{Option, Some, None, length, take, map, filter, All, Contains}
+use Rattle.std.specs.Prelude.{◌≡◌, ◌&&◌, ◌||◌, ℕ, List, [], ◌∷◌, Bool, true, false, cond, if◌then◌else◌}
+use Rattle.std.specs.Prelude.{Option, Some, None, map, filter, All, Contains}
+use Rattle.std.specs.Cmp.{both_ways}
 use Rattle.std.specs.FinMap as fin
-use Rattle.std.specs.Int.{w32, to_be_bytes, from_be_bytes}
 use Rattle.std.specs.List.{AllByRecursion, list_any}
 use Rattle.std.specs.Option.{option_map_or}
-use Rattle.std.proofs.Common.{refl, sym, ◌∙◌, ap, inl, inr, append_assoc}
-use Rattle.std.proofs.Math.Bool.{or-false}
-use Rattle.std.proofs.Math.Seq.{take-append_seam}
+use Rattle.std.proofs.Common.{refl, sym, ◌∙◌, ap, inl, inr}
 use Rattle.std.proofs.lemmas.Bool.{false≢true}
 use Rattle.std.proofs.lemmas.List.Elements.{All-contains, All-filter, All-from_recursion}
 use Rattle.std.proofs.lemmas.List.Elements.{All-weaker, recursion_from_All}
-use Rattle.std.proofs.lemmas.Nat.{from_be_bytes-to_be_bytes_4}
 use Rattle.broker_types.specs.Text.{Text, same}
-use Rattle.broker_types.specs.Broker.{Waiting}
-use Rattle.broker_types.specs.OptionLaws.{found_or_not}
+use Rattle.broker_types.specs.ListLaws.{any_contained, passing, any_mapped}
+use Rattle.broker_types.specs.OptionLaws.{found_or_not, taken_out_twice}
 use Rattle.broker_types.specs.TextLaws.{same_self, same_true}
 use Rattle.records.specs.declared.kind.Kind.{Kind}
 use Rattle.records.specs.declared.kind.Kind.TheVariants as kind
 use Rattle.records.specs.declared.row.Row.{Row}
+use Rattle.records.specs.Accessors.{accessor_in, is_told}
 use Rattle.records.specs.Children.{has}
 use Rattle.records.specs.DueLaws.{due_each, due_whole}
 use Rattle.records.specs.DueRows.{is_due}
 use Rattle.records.specs.Kind.{RowKey}
 use Rattle.records.specs.Parts.{of_waiting, KeepsOthers}
-use Rattle.records.specs.Ranges.{IsWaitingInRange}
-use Rattle.records.specs.RowForms.{waiting_row}
-use Rattle.records.specs.Spelling.{number, count, text, long_text}
 use Rattle.records.specs.Table.{Table}
-use Rattle.wrapping.specs.DueResponses.{is_due_at, AreStillDue, IsWaitingRow, AreReadableDue, accessor_in, is_told}
+use Rattle.wrapping.specs.DueResponses.{is_due_at, AreStillDue, IsWaitingRow, AreReadableDue}
 use Rattle.wrapping.specs.DueResponses.{without_responses, Sweeps, is_waiting, AreReadable, without_told, without_each}
 use Rattle.wrapping.proofs.Responses.{by_kind, dropped_keeps}
-use Rattle.wrapping.proofs.Tests.{both_ways, any_at, some_at, any_mapped}
-
--- ---- the accessor that a row tells
-
-text_first : (a c t p o r : List ℕ) → length a < 2 ^ 32
-    → take (from_be_bytes w32 (to_be_bytes w32 (length a))) (a ++ c ++ t ++ p ++ o ++ r) ≡ a
-text_first a c t p o r short =
-    let one : a ++ c ++ t ++ p ++ o ++ r ≡ a ++ (c ++ t ++ p ++ o ++ r) =
-    ap (λ l. l ++ p ++ o ++ r) (append_assoc a c t) ∙ ap (λ l. l ++ o ++ r) (append_assoc a (c ++ t) p)
-    ∙ ap (λ l. l ++ r) (append_assoc a (c ++ t ++ p) o) ∙ append_assoc a (c ++ t ++ p ++ o) r in
-    ap (λ n. take n (a ++ c ++ t ++ p ++ o ++ r)) (from_be_bytes-to_be_bytes_4 (length a) short)
-    ∙ ap (take (length a)) one ∙ take-append_seam a (c ++ t ++ p ++ o ++ r)
-
-pub accessor_is_told : (w : Waiting) → IsWaitingInRange w → accessor_in (waiting_row w) ≡ w.accessor
-unfolding count
-accessor_is_told w h =
-    text_first w.accessor (number w.created) (number w.ttl) (text w.path) (text w.origin) (long_text w.reply)
-    h.accessor.short
 
 -- ---- one entry after another
-
-turned : {X : Type 0} (a b : Bool) (o : Option X)
-    → (if a then None else (if b then None else o)) ≡ (if (b || a) then None else o)
-turned true true o = refl
-turned true false o = refl
-turned false b o = ap (λ v. if v then None else o) (sym (or-false b))
 
 -- whether the entry is that of the wrapping token, or tells the accessor
 abbrev is_keyed : Text → RowKey × Row → Bool
@@ -73,7 +44,7 @@ waiting_each (e ∷ es) rows q =
     ∙ elim (is_waiting e) as (λ v.
     (if list_any (is_keyed q) es then None else (if v then without_told rows e else rows) kind.Waiting q)
     ≡ (if (v && same q e.0.1 || list_any (is_keyed q) es) then None else rows kind.Waiting q)) [
-      | true ↦ turned (list_any (is_keyed q) es) (same q e.0.1) (rows kind.Waiting q)
+      | true ↦ taken_out_twice (list_any (is_keyed q) es) (same q e.0.1) (rows kind.Waiting q)
       | false ↦ refl
     ]
 
@@ -85,7 +56,7 @@ accessor_each (e ∷ es) rows q =
     ∙ elim (is_waiting e) as (λ v.
     (if list_any (tells_it q) es then None else (if v then without_told rows e else rows) kind.Accessor q)
     ≡ (if (v && same q (accessor_in e.1) || list_any (tells_it q) es) then None else rows kind.Accessor q)) [
-      | true ↦ turned (list_any (tells_it q) es) (same q (accessor_in e.1)) (rows kind.Accessor q)
+      | true ↦ taken_out_twice (list_any (tells_it q) es) (same q (accessor_in e.1)) (rows kind.Accessor q)
       | false ↦ refl
     ]
 
@@ -136,7 +107,7 @@ module _ (now : ℕ) (es : List (RowKey × Row)) (old : Table) (still : AreStill
     where
       onto : has ended t ≡ true → is_due_at now old t ≡ true
       onto h =
-          let e = some_at (λ (e : RowKey × Row). same t e.0.1) entries
+          let e = passing (λ (e : RowKey × Row). same t e.0.1) entries
           (sym (any_mapped (same t) (λ e. e.0.1) entries) ∙ h) in
           let is = All-contains IsDueRow entries e.0 each_due e.1 in
           ap is_come (ap (old kind.Waiting) (same_true t e.0.0.1 e.2) ∙ is.0) ∙ is.1
@@ -145,7 +116,7 @@ module _ (now : ℕ) (es : List (RowKey × Row)) (old : Table) (still : AreStill
       from h = elim (found_or_not (old kind.Waiting t)) [
         | inl none ↦ absurd (false≢true (sym (ap is_come none) ∙ h))
         | inr row ↦ any_mapped (same t) (λ e. e.0.1) entries
-            ∙ any_at (λ (e : RowKey × Row). same t e.0.1) entries ((kind.Waiting, t), row.0)
+            ∙ any_contained (λ (e : RowKey × Row). same t e.0.1) entries ((kind.Waiting, t), row.0)
             (whole t row.0 row.1 (sym (ap is_come row.1) ∙ h)) (same_self t)
       ]
 
@@ -163,12 +134,12 @@ module _ (now : ℕ) (es : List (RowKey × Row)) (old : Table) (still : AreStill
   tells q o = option_map_or (λ row. same q (accessor_in row)) o false
 
   told : (q : Text) (fs : List (RowKey × Row)) → AllByRecursion IsDueRow (filter is_waiting fs)
-      → list_any (tells_it q) fs ≡ is_told (map (λ e. e.0.1) (filter is_waiting fs)) old q
+      → list_any (tells_it q) fs ≡ is_told kind.Waiting (map (λ e. e.0.1) (filter is_waiting fs)) old q
   told q [] a = refl
   told q (e ∷ fs) a =
       elim (is_waiting e) as (λ v. AllByRecursion IsDueRow (cond v (e ∷ filter is_waiting fs) (filter is_waiting fs))
       → (v && same q (accessor_in e.1) || list_any (tells_it q) fs)
-      ≡ is_told (map (λ e. e.0.1) (cond v (e ∷ filter is_waiting fs) (filter is_waiting fs))) old q) [
+      ≡ is_told kind.Waiting (map (λ e. e.0.1) (cond v (e ∷ filter is_waiting fs) (filter is_waiting fs))) old q) [
         | true ↦ λ b. λ i. sym (ap (tells q) b.0.0) i || told q fs b.1 i
         | false ↦ λ b. told q fs b
       ] a

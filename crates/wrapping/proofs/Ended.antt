@@ -1,6 +1,7 @@
 -- The rows of a broker's waiting responses, after those went that have come to their end.
 use Rattle.std.specs.Prelude.{◌≡◌, ◌<◌, ◌≤◌, ℕ, List, Bool, true, false, not, cond, if◌then◌else◌}
 use Rattle.std.specs.Prelude.{Option, Some, None, option_map, nat_le, nat_lt}
+use Rattle.std.specs.Cmp.{both_ways}
 use Rattle.std.specs.Option.{option_map_or}
 use Rattle.std.proofs.Common.{refl, sym, ◌∙◌, ap, inl, inr, arith}
 use Rattle.std.proofs.lemmas.Bool.{false≢true, false_from_ne_true, leb-true, leb-false, ltb-true, lt-ltb}
@@ -8,11 +9,14 @@ use Rattle.broker_types.specs.Text.{Text, same}
 use Rattle.broker_types.specs.Map.{Map, get, keep, first_where}
 use Rattle.broker_types.specs.Broker.{Broker, Waiting, waiting_ends}
 use Rattle.broker_types.specs.MapLaws.{get-keep}
+use Rattle.broker_types.specs.ListLaws.{any_contained, passing}
 use Rattle.broker_types.specs.OptionLaws.{found_or_not, mapped}
 use Rattle.broker_types.specs.SearchLaws.{first_where_is, first_where_none, first_where-keep, if_kept}
 use Rattle.broker_types.specs.TextLaws.{same_self, same_true}
 use Rattle.records.specs.declared.kind.Kind.TheVariants as kind
 use Rattle.records.specs.declared.row.Row.{Row}
+use Rattle.records.specs.AccessorLaws.{response_tells}
+use Rattle.records.specs.Accessors.{accessor_in, is_told}
 use Rattle.records.specs.Children.{has}
 use Rattle.records.specs.DueRows.{is_due}
 use Rattle.records.specs.Parts.{of_waiting, Tells}
@@ -20,12 +24,10 @@ use Rattle.records.specs.RangeLaws.{waiting_in_range}
 use Rattle.records.specs.RowForms.{waiting_row}
 use Rattle.records.specs.Rows.{or_else}
 use Rattle.records.specs.Table.{Table}
-use Rattle.wrapping.specs.DueResponses.{is_due_at, AreReadableDue, accessor_in, is_told, Sweeps}
+use Rattle.wrapping.specs.DueResponses.{is_due_at, AreReadableDue, Sweeps}
 use Rattle.wrapping.specs.WaitingRows.{RepresentsWaiting}
 use Rattle.wrapping.specs.Wrapping.{has_accessor, still_waits, without_ended}
-use Rattle.wrapping.proofs.DueEntries.{accessor_is_told}
 use Rattle.wrapping.proofs.Responses.{joined, waiting_told, accessor_told, tells_waiting, one_accessor, no_token}
-use Rattle.wrapping.proofs.Tests.{both_ways, any_at, some_at}
 
 -- what has come is not later
 come_or_later : (m now : ℕ) → nat_le m now ≡ not (nat_lt now m)
@@ -93,13 +95,13 @@ module _ (now : ℕ) (b : Broker) (old : Table) (r : RepresentsWaiting old b) wh
       tells o = option_map_or (λ row. same q (accessor_in row)) o false
 
       is_told_by : (t : Text) (w : Waiting) → get b.waiting t ≡ Some w → accessor_in (waiting_row w) ≡ w.accessor
-      is_told_by t w is = accessor_is_told w (waiting_in_range t w (r.sound.each t w is))
+      is_told_by t w is = response_tells w (waiting_in_range t w (r.sound.each t w is))
 
       -- an accessor that the row of one of them tells is that of its response
-      teller : is_told ended old q ≡ true
+      teller : is_told kind.Waiting ended old q ≡ true
           → (t : Text) × (w : Waiting) × (get b.waiting t ≡ Some w) × (w.accessor ≡ q) × (has ended t ≡ true)
       teller h =
-          let t = some_at (λ t. tells (old kind.Waiting t)) ended h in
+          let t = passing (λ t. tells (old kind.Waiting t)) ended h in
           elim (found_or_not (get b.waiting t.0)) [
             | inl none ↦ absurd
                 (false≢true (sym (ap tells (waiting_told b old r.tells t.0 ∙ ap (option_map waiting_row) none)) ∙ t.2))
@@ -109,34 +111,34 @@ module _ (now : ℕ) (b : Broker) (old : Table) (r : RepresentsWaiting old b) wh
               w.1,
               sym (same_true q (accessor_in (waiting_row w.0)) (sym (ap tells (row_of t.0 w.0 w.1)) ∙ t.2)
                   ∙ is_told_by t.0 w.0 w.1),
-              any_at (same t.0) ended t.0 t.1 (same_self t.0),
+              any_contained (same t.0) ended t.0 t.1 (same_self t.0),
             )
           ]
 
       -- so it is told if its response has ended
       told_if_ended : (t : Text) (w : Waiting) → get b.waiting t ≡ Some w → w.accessor ≡ q
-          → is_told ended old q ≡ has ended t
-      told_if_ended t w is named = both_ways (is_told ended old q) (has ended t) onto from
+          → is_told kind.Waiting ended old q ≡ has ended t
+      told_if_ended t w is named = both_ways (is_told kind.Waiting ended old q) (has ended t) onto from
         where
-          onto : is_told ended old q ≡ true → has ended t ≡ true
+          onto : is_told kind.Waiting ended old q ≡ true → has ended t ≡ true
           onto h =
               let u = teller h in
               let one : u.0 ≡ t = one_accessor b r.one_place q u.0 t u.1 w u.2 is
               (ap (λ a. same a q) u.3 ∙ same_self q) (ap (λ a. same a q) named ∙ same_self q) in
               ap (has ended) (sym one) ∙ u.4
 
-          from : has ended t ≡ true → is_told ended old q ≡ true
+          from : has ended t ≡ true → is_told kind.Waiting ended old q ≡ true
           from h =
-              let u = some_at (same t) ended h in
+              let u = passing (same t) ended h in
               let one : u.0 ≡ t = sym (same_true t u.0 u.2) in
-              any_at (λ t. tells (old kind.Waiting t)) ended u.0 u.1
+              any_contained (λ t. tells (old kind.Waiting t)) ended u.0 u.1
               (ap (λ t. tells (old kind.Waiting t)) one ∙ ap tells (row_of t w is)
               ∙ ap (same q) (is_told_by t w is ∙ named) ∙ same_self q)
 
       kept_search : first_where (has_accessor q) left ≡ if_kept stays (first_where (has_accessor q) b.waiting)
       kept_search = first_where-keep (has_accessor q) stays b.waiting (one_accessor b r.one_place q)
 
-      accessor_left : (if is_told ended old q then None else joined b q (first_where (has_accessor q) b.waiting))
+      accessor_left : (if is_told kind.Waiting ended old q then None else joined b q (first_where (has_accessor q) b.waiting))
           ≡ joined b q (first_where (has_accessor q) left)
       accessor_left = elim (found_or_not (first_where (has_accessor q) b.waiting)) [
         | inl none ↦
@@ -151,8 +153,8 @@ module _ (now : ℕ) (b : Broker) (old : Table) (r : RepresentsWaiting old b) wh
             ∙ sym (ap (joined b q) (kept_search ∙ ap (if_kept stays) e.1))
       ]
         where
-          untold : first_where (has_accessor q) b.waiting ≡ None → is_told ended old q ≡ false
-          untold none = false_from_ne_true (is_told ended old q) (λ h. let u = teller h in
+          untold : first_where (has_accessor q) b.waiting ≡ None → is_told kind.Waiting ended old q ≡ false
+          untold none = false_from_ne_true (is_told kind.Waiting ended old q) (λ h. let u = teller h in
               false≢true (sym (first_where_none (has_accessor q) b.waiting u.0 u.1 none u.2)
               ∙ ap (λ a. same a q) u.3 ∙ same_self q))
 
@@ -167,4 +169,4 @@ module _ (now : ℕ) (b : Broker) (old : Table) (r : RepresentsWaiting old b) wh
       tells_waiting (without_ended b now) new
       (λ q. ap (λ (t : Table). t kind.Waiting q) s.rows ∙ waiting_left s.ended s.each q)
       (λ q. ap (λ (t : Table). t kind.Accessor q) s.rows
-      ∙ (λ i. if is_told s.ended old q then None else accessor_told b old r.tells q i) ∙ accessor_left s.ended s.each q)
+      ∙ (λ i. if is_told kind.Waiting s.ended old q then None else accessor_told b old r.tells q i) ∙ accessor_left s.ended s.each q)

@@ -2,5 +2,3 @@ pub mod DueEntries
 pub mod Ended
 pub mod Names
 pub mod Responses
-pub mod Searches
-pub mod Tests

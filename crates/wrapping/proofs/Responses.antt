@@ -9,11 +9,12 @@ use Rattle.broker_types.specs.Token.{Token, Tokens}
 use Rattle.broker_types.specs.Broker.{Broker, Waiting}
 use Rattle.broker_types.specs.Evolves.{IsNew}
 use Rattle.broker_types.specs.Places.{Place, token, accessor, lease, credential, wrapping_token, wrapping_accessor}
-use Rattle.broker_types.specs.Places.{identifier_at, token_identifier, OnePlaceEach, AllUsed}
+use Rattle.broker_types.specs.Places.{identifier_at, place_token, token_identifier, OnePlaceEach, AllUsed}
 use Rattle.broker_types.specs.Spending.{drop_waiting}
 use Rattle.broker_types.specs.MapLaws.{get-put, get-put_self, get-without, without_is}
 use Rattle.broker_types.specs.OptionLaws.{mapped, found_or_not}
-use Rattle.broker_types.specs.SearchLaws.{OnePasses, first_where_is, first_where_only}
+use Rattle.broker_types.specs.PutLaws.{put_is}
+use Rattle.broker_types.specs.SearchLaws.{OnePasses, first_where_is, first_where_only, none_found, same_found}
 use Rattle.broker_types.specs.TextLaws.{same_self, same_true}
 use Rattle.records.specs.declared.holder.Holder.TheVariants as holder
 use Rattle.records.specs.declared.kind.Kind.{Kind}
@@ -23,11 +24,9 @@ use Rattle.records.specs.Parts.{of_tokens, of_waiting, Tells, KeepsOthers}
 use Rattle.records.specs.RowForms.{waiting_row, accessor_row}
 use Rattle.records.specs.Rows.{rows_of, or_else}
 use Rattle.records.specs.Table.{Table}
-use Rattle.wrapping.specs.PutLaws.{put_is}
 use Rattle.wrapping.specs.ResponseLaws.{drop_unknown}
 use Rattle.wrapping.specs.WaitingRows.{RepresentsWaiting, with_response, without_response}
 use Rattle.wrapping.specs.Wrapping.{has_accessor, find_accessor, with_waiting}
-use Rattle.wrapping.proofs.Searches.{none_found, same_found}
 
 -- a part of two kinds
 pub by_kind : (P : Kind → Type 0) → P kind.Waiting → P kind.Accessor → (k : Kind) → of_waiting k ≡ true → P k
@@ -72,19 +71,11 @@ abbrev is_wrapping : Place → Bool
 is_wrapping (wrapping_accessor t) = true
 is_wrapping _ = false
 
-abbrev place_text : Place → Text
-place_text (token t) = t
-place_text (accessor t) = t
-place_text (lease t i) = t
-place_text (credential t i) = t
-place_text (wrapping_token t) = t
-place_text (wrapping_accessor t) = t
-
 module _ (b : Broker) (one_place : OnePlaceEach b) where
   -- no two wrapping tokens have one accessor
   pub one_accessor : (q : Text) → OnePasses (has_accessor q) b.waiting
   one_accessor q t u v w is js f g =
-      ap place_text (one_place (wrapping_accessor t) (wrapping_accessor u) q
+      ap place_token (one_place (wrapping_accessor t) (wrapping_accessor u) q
       (ap (option_map (λ (z : Waiting). z.accessor)) is ∙ ap Some (same_true v.accessor q f))
       (ap (option_map (λ (z : Waiting). z.accessor)) js ∙ ap Some (same_true w.accessor q g)))
 

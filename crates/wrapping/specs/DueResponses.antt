@@ -1,12 +1,12 @@
 -- What expiry makes of the rows of responses, whatever these are (this project's definition).
-use Rattle.std.specs.Prelude.{◌≡◌, ℕ, List, [], ◌∷◌, Bool, true, false, if◌then◌else◌, take, Some, None}
-use Rattle.std.specs.Int.{w32, from_be_bytes}
-use Rattle.std.specs.List.{AllByRecursion, list_any}
+use Rattle.std.specs.Prelude.{◌≡◌, ℕ, List, [], ◌∷◌, Bool, true, false, if◌then◌else◌, Some, None}
+use Rattle.std.specs.List.{AllByRecursion}
 use Rattle.std.specs.Option.{option_map_or}
-use Rattle.broker_types.specs.Text.{Text, same}
+use Rattle.broker_types.specs.Text.{Text}
 use Rattle.broker_types.specs.Broker.{Waiting}
 use Rattle.records.specs.declared.kind.Kind.TheVariants as kind
 use Rattle.records.specs.declared.row.Row.{Row}
+use Rattle.records.specs.Accessors.{accessor_in, is_told}
 use Rattle.records.specs.Children.{has}
 use Rattle.records.specs.DueRows.{is_due, AreDue}
 use Rattle.records.specs.Kind.{RowKey, is_of_kind}
@@ -44,24 +44,10 @@ IsDamagedDue now rows = AreReadableDue now rows → ⊥
 
 -- ---- what is left
 
--- the text that a body begins with, after its format
-abbrev pub first_text : List ℕ → Text
-first_text (f ∷ a ∷ b ∷ c ∷ d ∷ rest) = take (from_be_bytes w32 (a ∷ b ∷ c ∷ d ∷ [])) rest
-first_text _ = []
-
--- the accessor that the row of a response tells
-abbrev pub accessor_in : Row → Text
-accessor_in row = first_text row.body
-
--- whether the row of one of the wrapping tokens tells the accessor
-abbrev pub is_told : List Text → Table → Text → Bool
-is_told tokens rows accessor =
-    list_any (λ t. option_map_or (λ row. same accessor (accessor_in row)) (rows kind.Waiting t) false) tokens
-
 -- the table without the rows of the wrapping tokens, and of the accessors that these tell
 abbrev pub without_responses : List Text → Table → Table
 without_responses tokens rows kind.Waiting q = if has tokens q then None else rows kind.Waiting q
-without_responses tokens rows kind.Accessor q = if is_told tokens rows q then None else rows kind.Accessor q
+without_responses tokens rows kind.Accessor q = if is_told kind.Waiting tokens rows q then None else rows kind.Accessor q
 without_responses tokens rows k q = rows k q
 
 -- The rows of wrapping tokens that are due were read, and are gone with those of the accessors that they tell. No other

@@ -1,7 +1,6 @@
 pub mod AccessorRows
 pub mod DueResponses
 pub mod Laws
-pub mod PutLaws
 pub mod ResponseLaws
 pub mod SoundLaws
 pub mod WaitingRows

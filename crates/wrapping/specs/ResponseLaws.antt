@@ -13,10 +13,10 @@ use Rattle.broker_types.specs.Spending.{drop_waiting}
 use Rattle.broker_types.specs.FewerLaws.{WaitFewer}
 use Rattle.broker_types.specs.MapLaws.{get-put, get-put_self, get-without, get-without_self, without_is, same_map}
 use Rattle.broker_types.specs.OptionLaws.{found_or_not}
+use Rattle.broker_types.specs.PutLaws.{put_is}
 use Rattle.broker_types.specs.SearchLaws.{kept_get}
 use Rattle.broker_types.specs.SpendingLaws.{drop_takes_out}
 use Rattle.broker_types.specs.TextLaws.{same_true}
-use Rattle.wrapping.specs.PutLaws.{put_is}
 use Rattle.wrapping.specs.Wrapping.{AddsNone, find_accessor, with_waiting, moved, rewrap, drop_accessor}
 use Rattle.wrapping.specs.Wrapping.{still_waits, without_ended}
 

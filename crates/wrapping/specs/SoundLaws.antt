@@ -7,16 +7,17 @@ use Rattle.broker_types.specs.Text.{Text}
 use Rattle.broker_types.specs.Map.{Map, get, put, without, keep}
 use Rattle.broker_types.specs.Broker.{Broker, Waiting}
 use Rattle.broker_types.specs.Evolves.{Evolves, IsNew, WaitedBefore}
-use Rattle.broker_types.specs.Places.{Place, token, accessor, lease, credential, wrapping_token, wrapping_accessor}
-use Rattle.broker_types.specs.Places.{identifier_at, token_identifier, IsUsed}
+use Rattle.broker_types.specs.Places.{token, accessor, lease, credential, wrapping_token, wrapping_accessor}
+use Rattle.broker_types.specs.Places.{token_identifier, IsUsed}
 use Rattle.broker_types.specs.Sound.{Forms, Sound, IsMoment, IsIdentifier, IsTokenText}
 use Rattle.broker_types.specs.Sound.{IsSoundWaiting}
 use Rattle.broker_types.specs.Spending.{drop_waiting}
 use Rattle.broker_types.specs.FewerLaws.{WaitFewer, fewer_evolves, fewer_sound, same_fewer, tree_of}
 use Rattle.broker_types.specs.MapLaws.{without_is}
+use Rattle.broker_types.specs.NewPlaceLaws.{HasTwoMore, still_marked, first_marked, sound_with_two}
 use Rattle.broker_types.specs.OptionLaws.{mapped, found_or_not}
+use Rattle.broker_types.specs.PutLaws.{put_is}
 use Rattle.broker_types.specs.SpendingLaws.{evolves_self, drop_evolves, drop_sound, drop_ends_origin}
-use Rattle.wrapping.specs.PutLaws.{put_is, put_there, put_keeps, put_filled}
 use Rattle.wrapping.specs.ResponseLaws.{rewrap_is, rewrap_unknown, later_fewer}
 use Rattle.wrapping.specs.Wrapping.{find_accessor, with_waiting, stored, MayBeStored, moved, rewrap, drop_accessor}
 use Rattle.wrapping.specs.Wrapping.{still_waits, without_ended}
@@ -74,69 +75,24 @@ module _ (b : Broker) (t : Text) (w : Waiting) where
   abbrev after : Broker
   after = stored b t w
 
-  still_used : (i : Text) → IsUsed b i → IsUsed after i
-  still_used i used =
-      put_keeps (put b.used w.accessor (tt {0})) (token_identifier t) (tt {0}) i
-      (put_keeps b.used w.accessor (tt {0}) i used)
-
-  used_token : IsUsed after (token_identifier t)
-  used_token = put_there (put b.used w.accessor (tt {0})) (token_identifier t) (tt {0})
-
-  used_accessor : IsUsed after w.accessor
-  used_accessor =
-      put_keeps (put b.used w.accessor (tt {0})) (token_identifier t) (tt {0}) w.accessor
-      (put_there b.used w.accessor (tt {0}))
-
   -- an identifier is that of the new wrapping token, that of its accessor, or it was there
-  filled : (p : Place) (i : Text) (P : Type 0) → identifier_at after p ≡ Some i
-      → (p ≡ wrapping_token t → i ≡ token_identifier t → P) → (p ≡ wrapping_accessor t → i ≡ w.accessor → P)
-      → (identifier_at b p ≡ Some i → P) → P
-  filled (wrapping_token u) i P e f g h =
+  filled : HasTwoMore b (wrapping_token t) (token_identifier t) (wrapping_accessor t) w.accessor after
+  filled (wrapping_token u) i e =
       let v = mapped (λ _. token_identifier u) (get after.waiting u) i e in
-      put_is b.waiting t w u v.0 P v.1
-      (λ ut vw. f (ap wrapping_token ut) (v.2 ∙ ap token_identifier ut))
-      (λ old. h (ap (option_map (λ _. token_identifier u)) old ∙ ap Some (sym v.2)))
-  filled (wrapping_accessor u) i P e f g h =
+      put_is b.waiting t w u v.0 _ v.1
+      (λ ut vw. inr (inl (ap wrapping_token ut, v.2 ∙ ap token_identifier ut)))
+      (λ old. inl (ap (option_map (λ _. token_identifier u)) old ∙ ap Some (sym v.2)))
+  filled (wrapping_accessor u) i e =
       let v = mapped (λ (z : Waiting). z.accessor) (get after.waiting u) i e in
-      put_is b.waiting t w u v.0 P v.1
-      (λ ut vw. g (ap wrapping_accessor ut) (v.2 ∙ ap (λ (z : Waiting). z.accessor) vw))
-      (λ old. h (ap (option_map (λ (z : Waiting). z.accessor)) old ∙ ap Some (sym v.2)))
-  filled (token u) i P e f g h = h e
-  filled (accessor u) i P e f g h = h e
-  filled (lease u lease_id) i P e f g h = h e
-  filled (credential u lease_id) i P e f g h = h e
+      put_is b.waiting t w u v.0 _ v.1
+      (λ ut vw. inr (inr (ap wrapping_accessor ut, v.2 ∙ ap (λ (z : Waiting). z.accessor) vw)))
+      (λ old. inl (ap (option_map (λ (z : Waiting). z.accessor)) old ∙ ap Some (sym v.2)))
+  filled (token u) i e = inl e
+  filled (accessor u) i e = inl e
+  filled (lease u lease_id) i e = inl e
+  filled (credential u lease_id) i e = inl e
 
   module _ (forms : Forms) (who : Option Text) (sound : Sound forms who b) (may : MayBeStored b t w) where
-    -- what has a place in b is not new
-    old_token : (p : Place) (i : Text) (P : Type 0) → identifier_at b p ≡ Some i → i ≡ token_identifier t → P
-    old_token p i P e is = absurd (sound.identifiers.all_used p i e (ap (get b.used) is ∙ may.token_is_new))
-
-    old_accessor : (p : Place) (i : Text) (P : Type 0) → identifier_at b p ≡ Some i → i ≡ w.accessor → P
-    old_accessor p i P e is = absurd (sound.identifiers.all_used p i e (ap (get b.used) is ∙ may.accessor_is_new))
-
-    one_place : (p q : Place) (i : Text) → identifier_at after p ≡ Some i → identifier_at after q ≡ Some i → p ≡ q
-    one_place p q i e f =
-        filled p i (p ≡ q) e
-        (λ pt is. filled q i (p ≡ q) f (λ qt _. pt ∙ sym qt) (λ _ js. absurd (may.differ (sym is ∙ js)))
-        (λ old. old_token q i (p ≡ q) old is))
-        (λ pa is. filled q i (p ≡ q) f (λ _ js. absurd (may.differ (sym js ∙ is))) (λ qa _. pa ∙ sym qa)
-        (λ old. old_accessor q i (p ≡ q) old is))
-        (λ was. filled q i (p ≡ q) f (λ _ js. old_token p i (p ≡ q) was js) (λ _ js. old_accessor p i (p ≡ q) was js)
-        (λ old. sound.identifiers.one_place p q i was old))
-
-    all_used : (p : Place) (i : Text) → identifier_at after p ≡ Some i → IsUsed after i
-    all_used p i e =
-        filled p i (IsUsed after i) e (λ _ is. subst (IsUsed after) (sym is) used_token)
-        (λ _ is. subst (IsUsed after) (sym is) used_accessor)
-        (λ old. still_used i (sound.identifiers.all_used p i old))
-
-    identifiers : (i : Text) → IsUsed after i → IsIdentifier i
-    identifiers i used =
-        put_filled (put b.used w.accessor (tt {0})) (token_identifier t) (tt {0}) i (IsIdentifier i) used
-        (λ is. subst IsIdentifier (sym (is ∙ ap (drop 4) may.sound.name.2)) may.sound.name.1)
-        (λ other. put_filled b.used w.accessor (tt {0}) i (IsIdentifier i) other
-        (λ is. subst IsIdentifier (sym is) may.sound.accessor) (sound.identifiers.used i))
-
     -- no response that waited has the origin of the new one
     new_origin : (u : Text) (v : Waiting) → get b.waiting u ≡ Some v → v.origin ≢ w.origin
     new_origin u v is one = elim (may.origin) [
@@ -146,9 +102,12 @@ module _ (b : Broker) (t : Text) (w : Waiting) where
 
     used_origin : IsUsed after w.origin
     used_origin = elim (may.origin) [
-      | inl own ↦ subst (IsUsed after) (sym own) used_token
-      | inr gone ↦ still_used w.origin gone.used
+      | inl own ↦ subst (IsUsed after) (sym own) (first_marked b (token_identifier t) w.accessor)
+      | inr gone ↦ still_marked b (token_identifier t) w.accessor w.origin gone.used
     ]
+
+    token_is_identifier : IsIdentifier (token_identifier t)
+    token_is_identifier = subst IsIdentifier (sym (ap (drop 4) may.sound.name.2)) may.sound.name.1
 
     -- a response stored under new identifiers leaves a sound broker sound
     pub store_sound : Sound forms who after
@@ -172,15 +131,12 @@ module _ (b : Broker) (t : Text) (w : Waiting) where
       mounts = sound.mounts;
       roles = sound.roles;
       policies = sound.policies;
-      identifiers = record {
-        used = identifiers;
-        one_place = one_place;
-        all_used = all_used;
-        origins_used = λ u v is.
-            put_is b.waiting t w u v (IsUsed after v.origin) is
-            (λ ut vw. subst (λ (z : Waiting). IsUsed after z.origin) (sym vw) used_origin)
-            (λ old. still_used v.origin (sound.identifiers.origins_used u v old));
-      };
+      identifiers = sound_with_two b (token_identifier t) w.accessor (wrapping_token t) (wrapping_accessor t) after refl
+          sound.identifiers may.token_is_new may.accessor_is_new may.differ filled token_is_identifier
+          may.sound.accessor
+          (λ u v is. put_is b.waiting t w u v (IsUsed after v.origin) is
+          (λ ut vw. subst (λ (z : Waiting). IsUsed after z.origin) (sym vw) used_origin)
+          (λ old. still_marked b (token_identifier t) w.accessor v.origin (sound.identifiers.origins_used u v old)));
       unspent = sound.unspent;
     }
 

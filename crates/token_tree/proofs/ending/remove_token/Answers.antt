@@ -2,12 +2,12 @@ use Rattle.std.proofs.Common.{◌≡◌, sym, ap, ◌∙◌}
 use Rattle.std.specs.FinMap as map
 use Rattle.records.specs.declared.kind.Kind.TheVariants as kind
 use Rattle.records.specs.declared.row.Row.{Row}
+use Rattle.records.specs.AccessorLaws.{token_tells}
+use Rattle.records.specs.Accessors.{accessor_in}
 use Rattle.records.specs.Kind.{RowKey}
 use Rattle.records.specs.TokenEntry.{TokenEntry}
 use Rattle.std.proofs.lemmas.Result.{on_ok_weaker}
 use Rattle.records.specs.CallLaws.{honest_before}
-use Rattle.token_tree.specs.Removed.{accessor_in}
-use Rattle.token_tree.proofs.Removals.{accessor_told}
 use Rattle.token_tree.proofs.ending.remove_token.Goals as goal
 
 pub returns-clause-rows : goal.returns-clause-rows
@@ -15,7 +15,7 @@ returns-clause-rows g c honest =
     let seen = g.T.RecordsTx.seen in
     let mid = honest_before (seen c.remove.new.self) (seen c.remove-2.new.self) _ c.remove-2.ensures.call.goes_on honest in
     let read = c.in_ok-token.ensures.exact in
-    let told = accessor_told c.in_ok-token.token read.0 in
+    let told = token_tells c.in_ok-token.token read.0 in
     let accessor : c.as_str.result.now ≡ accessor_in c.args.entry.now.1 =
     c.as_str.ensures ∙ ap (λ (t : TokenEntry). t.accessor) c.token.view_is ∙ sym told ∙ ap accessor_in (sym read.1)
     ∙ ap (λ (e : RowKey × Row). accessor_in e.1) c.entry.view_is in

@@ -2,18 +2,18 @@ use Rattle.std.proofs.Common.{◌≡◌, sym, ap, ◌∙◌}
 use Rattle.std.proofs.lemmas.Result.{on_ok_weaker}
 use Rattle.broker_types.specs.Broker.{Waiting}
 use Rattle.records.specs.declared.row.Row.{Row}
+use Rattle.records.specs.AccessorLaws.{response_tells}
+use Rattle.records.specs.Accessors.{accessor_in}
 use Rattle.records.specs.Kind.{RowKey}
 use Rattle.records.specs.Table.{table}
-use Rattle.wrapping.specs.DueResponses.{accessor_in}
 use Rattle.wrapping.specs.WaitingRows.{without_response}
-use Rattle.wrapping.proofs.DueEntries.{accessor_is_told}
 use Rattle.wrapping.proofs.sweeping.remove_entry.Goals as goal
 
 pub returns-clause-rows : goal.returns-clause-rows
 returns-clause-rows g c honest =
     let read = c.in_ok-waiting.ensures.exact in
     let accessor : c.waiting.inside.accessor.now ≡ accessor_in c.args.entry.now.1 =
-    ap (λ (w : Waiting). w.accessor) c.waiting.view_is ∙ sym (accessor_is_told _ read.0)
+    ap (λ (w : Waiting). w.accessor) c.waiting.view_is ∙ sym (response_tells _ read.0)
     ∙ ap accessor_in (sym read.1) ∙ ap (λ (e : RowKey × Row). accessor_in e.1) c.entry.view_is in
     let key : c.as_str.result.now ≡ c.args.entry.now.0.1 = c.as_str.ensures
     ∙ ap (λ (e : RowKey × Row). e.0.1) c.entry.view_is in
