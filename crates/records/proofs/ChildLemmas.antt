@@ -8,7 +8,7 @@ use Rattle.std.proofs.lemmas.Bool.{eqb-true}
 use Rattle.std.proofs.lemmas.List.{take-append-drop}
 use Rattle.broker_types.specs.Text.{Text, same}
 use Rattle.broker_types.specs.TextLaws.{same_self, same_true}
-use Rattle.records.specs.Children.{child, below, push_once, push_each}
+use Rattle.records.specs.Children.{child, past, below, push_once, push_each}
 use Rattle.records.specs.Splits.{slash}
 
 -- ---- a path, and its first part
@@ -46,6 +46,30 @@ child-folder (c ∷ path) h =
           let e = position_later c path is in
           let k : position_or_len is_slash path < length path = omega (arith, e, h) in
           ap (λ p. c ∷ p) (child-folder path k) ∙ sym (ap (λ n. take n (c ∷ path) ++ slash ∷ []) e)
+    ] refl
+
+-- what is past a path without a slash
+pub past-whole : (path : Text) → position_or_len is_slash path ≡ length path → past path ≡ path ++ 0 ∷ []
+past-whole [] h = refl
+past-whole (c ∷ path) h =
+    elim (is_slash c) as (λ v. is_slash c ≡ v → (if v then (slash + 1) ∷ [] else c ∷ past path) ≡ c ∷ path ++ 0 ∷ []) [
+      | true ↦ λ is. let e = position_here c path is in absurd (omega (arith, e, h))
+      | false ↦ λ is.
+          let e = position_later c path is in
+          let k : position_or_len is_slash path ≡ length path = omega (arith, e, h) in
+          ap (λ p. c ∷ p) (past-whole path k)
+    ] refl
+
+-- and past another
+pub past-folder : (path : Text) → position_or_len is_slash path < length path → past path ≡ before_first is_slash path ++ (slash + 1) ∷ []
+past-folder [] h = absurd (omega (arith, h))
+past-folder (c ∷ path) h =
+    elim (is_slash c) as (λ v. is_slash c ≡ v → (if v then (slash + 1) ∷ [] else c ∷ past path) ≡ take (position_or_len is_slash (c ∷ path)) (c ∷ path) ++ (slash + 1) ∷ []) [
+      | true ↦ λ is. sym (ap (λ n. take n (c ∷ path) ++ (slash + 1) ∷ []) (position_here c path is))
+      | false ↦ λ is.
+          let e = position_later c path is in
+          let k : position_or_len is_slash path < length path = omega (arith, e, h) in
+          ap (λ p. c ∷ p) (past-folder path k) ∙ sym (ap (λ n. take n (c ∷ path) ++ (slash + 1) ∷ []) e)
     ] refl
 
 -- ---- one key after another

@@ -27,7 +27,7 @@ abbrev once_after : Text → List Text → List Text
 once_after last [] = []
 once_after last (t ∷ texts) = if same last t then once_after last texts else t ∷ once_after t texts
 
-last_is : (before : List Text) (last : Text) → slice_get (before ++ last ∷ []) (length (before ++ last ∷ []) - 1) ≡ Some last
+pub last_is : (before : List Text) (last : Text) → slice_get (before ++ last ∷ []) (length (before ++ last ∷ []) - 1) ≡ Some last
 last_is before last =
     let long : length (before ++ last ∷ []) - 1 ≡ length before = omega (arith, length-append before (last ∷ [])) in
     ap (slice_get (before ++ last ∷ [])) long
@@ -110,7 +110,7 @@ child_order (c ∷ x) (d ∷ y) h =
 
 -- ---- what follows a prefix is in the same order
 
-after_prefix : (prefix a b : Text) → text_cmp (prefix ++ a) (prefix ++ b) ≡ text_cmp a b
+pub after_prefix : (prefix a b : Text) → text_cmp (prefix ++ a) (prefix ++ b) ≡ text_cmp a b
 after_prefix [] a b = refl
 after_prefix (c ∷ prefix) a b = ap (λ o. ordering_then o (text_cmp (prefix ++ a) (prefix ++ b))) (tied_itself nat_cmp_total c) ∙ after_prefix prefix a b
 
@@ -120,12 +120,12 @@ dropped_order prefix a b ha hb less =
     sym (after_prefix prefix (drop (length prefix) a) (drop (length prefix) b))
     ∙ sym (λ i. text_cmp (begun prefix a ha i) (begun prefix b hb i)) ∙ less
 
-less_true : (o : Ordering) → is_lt o ≡ true → o ≡ Less
+pub less_true : (o : Ordering) → is_lt o ≡ true → o ≡ Less
 less_true Less h = refl
 less_true Equal h = absurd (false≢true h)
 less_true Greater h = absurd (false≢true h)
 
-T_true : (b : Bool) → T b → b ≡ true
+pub T_true : (b : Bool) → T b → b ≡ true
 T_true true t = refl
 T_true false t = absurd t
 

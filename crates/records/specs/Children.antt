@@ -1,6 +1,6 @@
 -- The immediate children of a folder among paths (Vault's documentation, "KV secrets engine - version 2" and
 -- "Cubbyhole secrets engine", list secrets).
-use Rattle.std.specs.Prelude.{◌≡◌, ◌==◌, ◌++◌, ◌-◌, List, [], ◌∷◌, Bool, false, Option, Some, None, if◌then◌else◌, map}
+use Rattle.std.specs.Prelude.{◌≡◌, ◌==◌, ◌++◌, ◌-◌, ◌+◌, List, [], ◌∷◌, Bool, false, Option, Some, None, if◌then◌else◌, map}
 use Rattle.std.specs.Prelude.{filter, drop, length, slice_get, is_some, nat_eq, ⊤}
 use Rattle.std.specs.List.{starts_with, list_any}
 use Rattle.std.specs.FinMap.{from_entries, get}
@@ -19,6 +19,11 @@ folder (c ∷ path) = (c ∷ path) ++ slash ∷ []
 abbrev pub child : Text → Text
 child [] = []
 child (c ∷ path) = c ∷ (if c == slash then [] else child path)
+
+-- a text above all paths with one first part, and not above any other path that is above them
+abbrev pub past : Text → Text
+past [] = 0 ∷ []
+past (c ∷ path) = if c == slash then (slash + 1) ∷ [] else c ∷ past path
 
 -- what follows the prefix, for each text that begins with it
 abbrev pub below : Text → List Text → List Text

@@ -1,5 +1,5 @@
 -- What a query in a transaction shows of the rows.
-use Rattle.std.proofs.Common.{◌≡◌, inl, inr, ℕ, true, IsTrue, List, [], ◌∷◌, map, slice_get, Option, Some, None, option_map, refl, sym, ap, subst, ◌∙◌, arith}
+use Rattle.std.proofs.Common.{◌≡◌, inl, inr, ℕ, true, IsTrue, List, [], ◌∷◌, map, slice_get, take, Option, Some, None, option_map, refl, sym, ap, subst, ◌∙◌, arith}
 use Rattle.std.specs.Prelude.{filter, nat_eq}
 use Rattle.std.specs.List.{starts_with}
 use Rattle.std.specs.FinMap.{get, find, get-from_entries}
@@ -13,17 +13,18 @@ use Rattle.sqlite.specs.Clock.{timed}
 use Rattle.sqlite.specs.State.{State, HasCleanDisk, Survives, Shown, ShowsRows, IsUnchanged}
 use Rattle.sqlite.proofs.Callers.{IsPlain, reads_as}
 use Rattle.records.specs.Kind.{RowKey as Key, key_cmp}
-use Rattle.records.specs.Transaction.{rows_under, rows_owned}
+use Rattle.records.specs.Transaction.{rows_under, rows_from, rows_upto, rows_owned}
 use Rattle.records.specs.declared.row.Row.{Row as Fields}
 use Rattle.records.specs.KeyLaws.{key_cmp_total}
 use Rattle.records_sql.specs.Table.{Kept, stored, kept, due_value, broker_schema, IsStore, IsSoundAt, IsActive, IsUsable, rows_of, entries_of, are_apart, due_in, Stays, read_row, entry_in, whole_entry}
-use Rattle.records_sql.specs.Texts.{get_text, under_text, owner_text, due_text, key_params, under_params, due_params}
-use Rattle.records_sql.specs.Bounds.{IsAbove}
+use Rattle.records_sql.specs.Texts.{get_text, under_text, from_text, upto_text, owner_text, due_text, key_params, under_params, from_params, upto_params, due_params}
+use Rattle.records_sql.specs.Bounds.{IsAbove, IsLater}
 use Rattle.records.specs.DueRows.{AreDue}
+use Rattle.records_sql.proofs.PageLemmas.{from_found, upto_found}
 use Rattle.records_sql.proofs.UnderLemmas.{under_found, owner_found}
 use Rattle.records_sql.proofs.DueLemmas.{due_found}
-use Rattle.records_sql.proofs.Texts.{at_key, get_is, get_plain, get_unlisted, under_is, under_plain, under_unlisted, owner_is, owner_plain, owner_unlisted, due_is, due_plain, due_unlisted, under_tests, owner_tests, due_tests, entry_project, whole_project, by_key, by_due}
-use Rattle.records_sql.proofs.QueryLemmas.{is_found, IsFound}
+use Rattle.records_sql.proofs.Texts.{at_key, get_is, get_plain, get_unlisted, under_is, under_plain, under_unlisted, from_is, from_plain, from_unlisted, upto_is, upto_plain, upto_unlisted, owner_is, owner_plain, owner_unlisted, due_is, due_plain, due_unlisted, under_tests, upto_tests, owner_tests, due_tests, entry_project, whole_project, by_key, by_due}
+use Rattle.records_sql.proofs.QueryLemmas.{is_found, is_page, IsFound}
 use Rattle.records_sql.proofs.StateLemmas.{usable_clean, clean_usable}
 use Rattle.records_sql.proofs.KeptLemmas.{due_back, at_most_one, find_first}
 use Rattle.records_sql.proofs.ReadLemmas.{none_answered, one_answered}
@@ -90,6 +91,20 @@ module _ (old new : State) (P : Trees → Type 0) (s : Survives old new P) (was 
   under_reads q bound rows above shown = reads under_text (under_params q bound) rows _ shown under_plain (λ clean store.
       let read = reads_as under_text (under_params q bound) old new broker_schema store.schema _ under_is under_plain under_unlisted rows (shown clean) in
       under_found q bound above (map kept (old.now.trees 0)) (old.now.trees 0) rows (sym store.shape) store.apart (is_found under_tests entry_project by_key (under_params q bound) old.now.trees rows read.answer))
+
+  pub from_reads : (q : Key) (from first : List ℕ) (bound : Option (List ℕ)) (count : ℕ) (rows : List Row) → IsAbove q.1 bound → IsLater q.1 from first
+      → (HasCleanDisk new → Shown from_text (from_params (q.0, first) bound count) old new rows)
+      → Read (filter (λ e. starts_with nat_eq e.0.1 q.1) (map (entry_in q.0) rows) ≡ take count (rows_from (rows_of old.now.trees) q.0 q.1 from))
+  from_reads q from first bound count rows above later shown = reads from_text (from_params (q.0, first) bound count) rows _ shown from_plain (λ clean store.
+      let read = reads_as from_text (from_params (q.0, first) bound count) old new broker_schema store.schema _ from_is from_plain from_unlisted rows (shown clean) in
+      let page = is_page under_tests entry_project by_key (from_params (q.0, first) bound count) (col 0 3) count refl old.now.trees rows read.answer in
+      from_found q from first later bound above count (map kept (old.now.trees 0)) (old.now.trees 0) page.whole rows (sym store.shape) store.apart page.found page.taken)
+
+  pub upto_reads : (q : Key) (last : List ℕ) (rows : List Row) → (HasCleanDisk new → Shown upto_text (upto_params q last) old new rows)
+      → Read (filter (λ e. starts_with nat_eq e.0.1 q.1) (map (entry_in q.0) rows) ≡ rows_upto (rows_of old.now.trees) q.0 q.1 last)
+  upto_reads q last rows shown = reads upto_text (upto_params q last) rows _ shown upto_plain (λ clean store.
+      let read = reads_as upto_text (upto_params q last) old new broker_schema store.schema _ upto_is upto_plain upto_unlisted rows (shown clean) in
+      upto_found q last (map kept (old.now.trees 0)) (old.now.trees 0) rows (sym store.shape) store.apart (is_found upto_tests entry_project by_key (upto_params q last) old.now.trees rows read.answer))
 
   pub owner_reads : (q : Key) (rows : List Row) → (HasCleanDisk new → Shown owner_text (key_params q) old new rows)
       → Read (map (entry_in q.0) rows ≡ rows_owned (rows_of old.now.trees) q.0 q.1)

@@ -33,7 +33,7 @@ use Rattle.records_sql.proofs.KeptLemmas.{and_left, and_right, map_of}
 use Rattle.records_sql.proofs.ReadLemmas.{same_tests, equal_is, is_true_is, int_nat}
 use Rattle.records_sql.proofs.ShownLemmas.{key_listed}
 
-and_true : (b : Bool) → (b && true) ≡ b
+pub and_true : (b : Bool) → (b && true) ≡ b
 and_true true = refl
 and_true false = refl
 
@@ -41,7 +41,7 @@ eq_number : (m n : ℕ) → is_eq (nat_cmp m n) ≡ (m == n)
 eq_number m n = same_tests _ _ (λ h. let same : m ≡ n = nat_cmp-IsAntisymmetric m n (equal_is _ h) in grind (arith, nat_tests)) (λ h. let same : m ≡ n = grind (arith, nat_tests) in ap is_eq (subst (λ k. nat_cmp m k ≡ Equal) same (tied_itself nat_cmp_total m)))
 
 -- the test of the kind
-kind_test : (kind : Kind) (k : Kind) → is_true (from_truth (Some (is_eq (value_cmp (Int (pos (kind_number k))) (Int (pos (kind_number kind))))))) ≡ (kind_number k == kind_number kind)
+pub kind_test : (kind : Kind) (k : Kind) → is_true (from_truth (Some (is_eq (value_cmp (Int (pos (kind_number k))) (Int (pos (kind_number kind))))))) ≡ (kind_number k == kind_number kind)
 kind_test kind k =
     is_true_is _ ∙ ap is_eq (value_cmp-Int (pos (kind_number k)) (pos (kind_number kind))) ∙ int_nat (kind_number k) (kind_number kind)
     ∙ eq_number (kind_number k) (kind_number kind)
@@ -65,7 +65,7 @@ owner_found q = key_listed q.0 (owns q) (λ x h. sym (same_kind x.0.0 q.0 (and_l
 -- ---- by prefix
 
 -- what begins with a text is not below it
-not_below : (xs p : List ℕ) → starts_with nat_eq xs p ≡ true → is_ge (slice_cmp nat_cmp xs p) ≡ true
+pub not_below : (xs p : List ℕ) → starts_with nat_eq xs p ≡ true → is_ge (slice_cmp nat_cmp xs p) ≡ true
 not_below [] [] h = refl
 not_below (x ∷ xs) [] h = refl
 not_below [] (y ∷ p) h = absurd cc
@@ -78,21 +78,29 @@ not_below (x ∷ xs) (y ∷ p) h =
 abbrev below_bound : Term
 below_bound = op2 (Compare Lt Binary) (col 1 2) (col 0 2)
 
-abbrev is_below : Option Text → Text → Bool
+abbrev pub is_below : Option Text → Text → Bool
 is_below None x = true
 is_below (Some bound) x = is_lt (text_cmp x bound)
 
-bound_test : (q : Key) (bound : Option Text) (e : Kept) → holds (under_params q bound ∷ stored e ∷ []) below_bound ≡ is_below bound e.1.0.1
+pub bound_test : (q : Key) (bound : Option Text) (e : Kept) → holds (under_params q bound ∷ stored e ∷ []) below_bound ≡ is_below bound e.1.0.1
 unfolding binary
 bound_test q None e = is_true_is _ ∙ ap is_lt (value_cmp-apart (Words e.1.0.1) (Bytes []) (λ same. absurd cc))
 bound_test q (Some bound) e = is_true_is _ ∙ ap is_lt (value_cmp-Text e.1.0.1 bound)
 
+-- what passes two tests, one after the other
+pub twice : {X : Type 0} (a b c : X → Bool) (xs : List X) → ((x : X) → (a x && b x) ≡ c x) → filter b (filter a xs) ≡ filter c xs
+twice a b c [] h = refl
+twice a b c (x ∷ xs) h = elim (a x) as (λ t. a x ≡ t → filter b (cond t (x ∷ filter a xs) (filter a xs)) ≡ cond (c x) (x ∷ filter c xs) (filter c xs)) [
+  | true ↦ λ e. ap (λ t. cond t (x ∷ filter b (filter a xs)) (filter b (filter a xs))) (sym (ap (λ t. t && b x) e) ∙ h x) ∙ ap (λ l. cond (c x) (x ∷ l) l) (twice a b c xs h)
+  | false ↦ λ e. twice a b c xs h ∙ ap (λ t. cond t (x ∷ filter c xs) (filter c xs)) (ap (λ t. t && b x) (sym e) ∙ h x)
+] refl
+
 module _ (q : Key) (bound : Option Text) where
   -- of the kind, not below the prefix, and below the bound
-  abbrev may_be_under : Key × Fields → Bool
+  abbrev pub may_be_under : Key × Fields → Bool
   may_be_under e = is_of_kind q.0 e.0 && (is_ge (slice_cmp nat_cmp e.0.1 q.1) && is_below bound e.0.1)
 
-  under_tests_are : (e : Kept) → list_all (holds (under_params q bound ∷ stored e ∷ [])) under_tests ≡ may_be_under e.1
+  pub under_tests_are : (e : Kept) → list_all (holds (under_params q bound ∷ stored e ∷ [])) under_tests ≡ may_be_under e.1
   unfolding binary
   under_tests_are e =
       ap (λ x. x && (is_true (from_truth (Some (is_ge (value_cmp (Words e.1.0.1) (Words q.1))))) && (holds (under_params q bound ∷ stored e ∷ []) below_bound && true))) (kind_test q.0 e.1.0.0)
@@ -105,7 +113,7 @@ module _ (q : Key) (bound : Option Text) where
   abbrev is_under : Key × Fields → Bool
   is_under e = is_of_kind q.0 e.0 && starts_with nat_eq e.0.1 q.1
 
-  under_bound : (b : Option Text) → IsAbove q.1 b → (x : Text) → starts_with nat_eq x q.1 ≡ true → is_below b x ≡ true
+  pub under_bound : (b : Option Text) → IsAbove q.1 b → (x : Text) → starts_with nat_eq x q.1 ≡ true → is_below b x ≡ true
   under_bound None above x h = refl
   under_bound (Some b) above x h = above x h
 
@@ -119,13 +127,6 @@ module _ (q : Key) (bound : Option Text) where
       and_false : (b : Bool) → (b && false) ≡ false
       and_false true = refl
       and_false false = refl
-
-  twice : {X : Type 0} (a b c : X → Bool) (xs : List X) → ((x : X) → (a x && b x) ≡ c x) → filter b (filter a xs) ≡ filter c xs
-  twice a b c [] h = refl
-  twice a b c (x ∷ xs) h = elim (a x) as (λ t. a x ≡ t → filter b (cond t (x ∷ filter a xs) (filter a xs)) ≡ cond (c x) (x ∷ filter c xs) (filter c xs)) [
-    | true ↦ λ e. ap (λ t. cond t (x ∷ filter b (filter a xs)) (filter b (filter a xs))) (sym (ap (λ t. t && b x) e) ∙ h x) ∙ ap (λ l. cond (c x) (x ∷ l) l) (twice a b c xs h)
-    | false ↦ λ e. twice a b c xs h ∙ ap (λ t. cond t (x ∷ filter c xs) (filter c xs)) (ap (λ t. t && b x) (sym e) ∙ h x)
-  ] refl
 
   pub under_found : IsAbove q.1 bound → (es : List Kept) (rows answer : List Row) → rows ≡ map stored es → are_apart es ≡ true → IsFound under_tests entry_project by_key (under_params q bound) rows answer
       → filter (λ e. starts_with nat_eq e.0.1 q.1) (map (entry_in q.0) answer) ≡ rows_under (map_of es) q.0 q.1

@@ -8,7 +8,7 @@ use Rattle.broker_types.specs.Text.{Text as Words}
 use Rattle.records_sql.specs.Bounds.{bound_value}
 use Rattle.records_sql.specs.Table.{due_value}
 
--- ---- the six statements
+-- ---- the eight statements
 
 abbrev pub get_text : List ℕ
 get_text = codes "SELECT owner, due, body FROM broker_rows WHERE kind = ?1 AND key = ?2"
@@ -24,6 +24,14 @@ abbrev pub under_text : List ℕ
 under_text =
     codes "SELECT key, owner, due, body FROM broker_rows WHERE kind = ?1 AND key >= ?2 AND key < ?3 ORDER BY key"
 
+abbrev pub from_text : List ℕ
+from_text =
+    codes "SELECT key, owner, due, body FROM broker_rows WHERE kind = ?1 AND key >= ?2 AND key < ?3 ORDER BY key LIMIT ?4"
+
+abbrev pub upto_text : List ℕ
+upto_text =
+    codes "SELECT key, owner, due, body FROM broker_rows WHERE kind = ?1 AND key >= ?2 AND key <= ?3 ORDER BY key"
+
 abbrev pub owner_text : List ℕ
 owner_text = codes "SELECT key, owner, due, body FROM broker_rows WHERE kind = ?1 AND owner = ?2 ORDER BY key"
 
@@ -36,7 +44,7 @@ due_text =
 abbrev pub numbers_text : List ℕ
 numbers_text = codes "SELECT rowid, kind, due FROM broker_rows ORDER BY rowid"
 
--- ---- the parameters of the six
+-- ---- the parameters of the eight
 
 abbrev pub key_params : Key → Row
 key_params q = Int (pos (kind_number q.0)) ∷ Text q.1 ∷ []
@@ -46,6 +54,12 @@ put_params q row = Int (pos (kind_number q.0)) ∷ Text q.1 ∷ Text row.owner �
 
 abbrev pub under_params : Key → Option Words → Row
 under_params q bound = Int (pos (kind_number q.0)) ∷ Text q.1 ∷ bound_value bound ∷ []
+
+abbrev pub from_params : Key → Option Words → ℕ → Row
+from_params q bound count = Int (pos (kind_number q.0)) ∷ Text q.1 ∷ bound_value bound ∷ Int (pos count) ∷ []
+
+abbrev pub upto_params : Key → Words → Row
+upto_params q last = Int (pos (kind_number q.0)) ∷ Text q.1 ∷ Text last ∷ []
 
 abbrev pub due_params : ℕ → Row
 due_params moment = Int (pos moment) ∷ []

@@ -9,7 +9,7 @@ ghost use Rattle.std.specs.List.{starts_with};
 ghost use Rattle.broker_types.specs.Fault.{IsMemoryOrStorage};
 ghost use Rattle.records.specs.KeyLaws.{kind_of};
 ghost use Rattle.sqlite_value.specs.Order.{column, bytes};
-ghost use Rattle.records_sql.specs.Bounds.{IsAbove};
+ghost use Rattle.records_sql.specs.Bounds.{IsAbove, IsLater};
 ghost use Rattle.records_sql.specs.Numbered.{AreNumbered, IsOver};
 ghost use Rattle.records_sql.specs.Table.{read_row, row_from, entry_in, whole_entry};
 ghost use Rattle.records_sql.specs.Table.{due_in, due_value, int_in, size_of};
@@ -239,4 +239,11 @@ pub(crate) fn bound_above(alloc: Global, prefix: &str) -> Result<Option<Vec<u8>>
     let mut bound = init.to_vec(alloc)?;
     bound.push(raised)?;
     Ok(Some(bound))
+}
+
+/// The later of two texts.
+pub(crate) fn later<'t>(a: &'t str, b: &'t str) -> &'t str
+    ensures { IsLater a.now b.now result.now }
+{
+    if a.cmp(b).is_lt() { b } else { a }
 }

@@ -1,17 +1,17 @@
 //! Rows in a table of a database.
 
-ghost use Rattle.std.specs.Prelude.{◌≡◌, ◌≤◌, ◌||◌, IsTrue, OnOk, OnErr, IfOk, IfErr, option_map};
+ghost use Rattle.std.specs.Prelude.{◌≡◌, ◌≤◌, ◌||◌, IsTrue, OnOk, OnErr, IfOk, IfErr, option_map, take};
 ghost use Rattle.std.specs.Option.{option_copied};
 ghost use Rattle.std.specs.FinMap as map;
 ghost use Rattle.sqlite.specs.Held.{state};
 ghost use Rattle.sqlite.specs.State.{HasCleanDisk};
 ghost use Rattle.broker_types.specs.Fault.{IsMemoryOrStorage};
 ghost use Rattle.records.specs.DueRows.{AreDue};
-ghost use Rattle.records.specs.Transaction.{is_storage, rows_under, rows_owned};
+ghost use Rattle.records.specs.Transaction.{is_storage, rows_under, rows_from, rows_upto, rows_owned};
 ghost use Rattle.records_sql.specs.Props.{state_props};
 ghost use Rattle.records_sql.specs.Table.{IsSoundAt, IsActive, IsUsable, Stays, rows_of, mismatches};
 
-use crate::reading::{bound_above, entries_of, entries_under, first_row, whole_entries};
+use crate::reading::{bound_above, entries_of, entries_under, first_row, later, whole_entries};
 use crate::statements;
 use broker_types::{Fault, Moment};
 use records::{Entry, Kind, Row};
@@ -137,6 +137,79 @@ impl<S: Alter> SqlRecords<S> {
         }
         let bound = bound_above(self.alloc, prefix)?;
         let Ok(rows) = statements::under(&mut self.conn, kind, prefix, lent(&bound)) else {
+            self.is_active = false;
+            self.failed = true;
+            return Err(Fault::Storage);
+        };
+        match entries_under(self.alloc, kind, prefix, &rows) {
+            Ok(list) => Ok(list),
+            Err(Fault::Memory) => Err(Fault::Memory),
+            Err(_) => {
+                self.is_active = false;
+                self.failed = true;
+                Err(Fault::Storage)
+            }
+        }
+    }
+
+    pub(crate) fn under_from(
+        &mut self,
+        kind: Kind,
+        prefix: &str,
+        from: &str,
+        count: u32,
+    ) -> Result<Vec<Entry>, Fault>
+        ensures listed { HasCleanDisk (state S.Store self.new.conn) → IfOk result (λ list. list.items
+            ≡ take count (rows_from (rows_of (state S.Store self.old.conn).now.trees) kind prefix.now from.now)) }
+        ensures same { HasCleanDisk (state S.Store self.new.conn) → OnOk result
+            (rows_of (state S.Store self.new.conn).now.trees ≡ rows_of (state S.Store self.old.conn).now.trees) }
+        ensures stays { Stays (state S.Store self.old.conn) (state S.Store self.new.conn) }
+        ensures failed { self.new.failed ≡ (self.old.failed || is_storage result) }
+        ensures faults { IfErr result IsMemoryOrStorage }
+    {
+        if !self.is_active {
+            self.failed = true;
+            return Err(Fault::Storage);
+        }
+        let bound = bound_above(self.alloc, prefix)?;
+        let first = later(prefix, from);
+        let Ok(rows) =
+            statements::under_from(&mut self.conn, kind, first, lent(&bound), count)
+        else {
+            self.is_active = false;
+            self.failed = true;
+            return Err(Fault::Storage);
+        };
+        match entries_under(self.alloc, kind, prefix, &rows) {
+            Ok(list) => Ok(list),
+            Err(Fault::Memory) => Err(Fault::Memory),
+            Err(_) => {
+                self.is_active = false;
+                self.failed = true;
+                Err(Fault::Storage)
+            }
+        }
+    }
+
+    pub(crate) fn under_upto(
+        &mut self,
+        kind: Kind,
+        prefix: &str,
+        last: &str,
+    ) -> Result<Vec<Entry>, Fault>
+        ensures listed { HasCleanDisk (state S.Store self.new.conn) → IfOk result (λ list. list.items
+            ≡ rows_upto (rows_of (state S.Store self.old.conn).now.trees) kind prefix.now last.now) }
+        ensures same { HasCleanDisk (state S.Store self.new.conn) → OnOk result
+            (rows_of (state S.Store self.new.conn).now.trees ≡ rows_of (state S.Store self.old.conn).now.trees) }
+        ensures stays { Stays (state S.Store self.old.conn) (state S.Store self.new.conn) }
+        ensures failed { self.new.failed ≡ (self.old.failed || is_storage result) }
+        ensures faults { IfErr result IsMemoryOrStorage }
+    {
+        if !self.is_active {
+            self.failed = true;
+            return Err(Fault::Storage);
+        }
+        let Ok(rows) = statements::under_upto(&mut self.conn, kind, prefix, last) else {
             self.is_active = false;
             self.failed = true;
             return Err(Fault::Storage);

@@ -9,10 +9,12 @@ ghost use Rattle.sqlite.specs.State.{HasCleanDisk, Executes, Survives, CommitsBy
 ghost use Rattle.sqlite.specs.Held.{state};
 ghost use Rattle.records.specs.Kind.{kind_number};
 ghost use Rattle.records_sql.specs.Texts.{get_text, put_text, remove_text, under_text, owner_text, due_text};
+ghost use Rattle.records_sql.specs.Texts.{from_text, upto_text};
 ghost use Rattle.records_sql.specs.Texts.{numbers_text};
 ghost use Rattle.records_sql.specs.Texts.{begin_text, commit_text, rollback_text};
 ghost use Rattle.records_sql.specs.Texts.{create_text, create_owner_text, create_due_text};
 ghost use Rattle.records_sql.specs.Texts.{key_params, put_params, under_params, due_params};
+ghost use Rattle.records_sql.specs.Texts.{from_params, upto_params};
 
 use broker_types::Moment;
 use records::{Kind, Row};
@@ -181,6 +183,56 @@ pub(crate) fn under<S: Alter>(
             ToSql::to_sql(prefix),
             bound_value(bound),
         ],
+    )
+}
+
+/// The first rows of a kind with keys from one key up to the bound, at most so many.
+pub(crate) fn under_from<S: Alter>(
+    conn: &mut Connection<S>,
+    kind: Kind,
+    from: &str,
+    bound: Option<&[u8]>,
+    count: u32,
+) -> Result<Vec<SqlRow>, Error>
+    ensures ok { HasCleanDisk (state S.Store conn.new)
+        → IfOk result (λ rows. Shown from_text (from_params (kind, from.now) (option_copied bound.entry) count)
+        (state S.Store conn.old) (state S.Store conn.new) rows.items) }
+    ensures err { HasCleanDisk (state S.Store conn.new)
+        → IfErr result (FailsToQuery from_text (from_params (kind, from.now) (option_copied bound.entry) count)
+        (state S.Store conn.old) (state S.Store conn.new)) }
+    ensures survives { Survives (state S.Store conn.old) (state S.Store conn.new) (CommitsShowing from_text
+        (from_params (kind, from.now) (option_copied bound.entry) count) (state S.Store conn.old)) }
+{
+    conn.query_all(
+        "SELECT key, owner, due, body FROM broker_rows WHERE kind = ?1 AND key >= ?2 AND key < ?3 ORDER BY key LIMIT ?4",
+        &[
+            ToSql::to_sql(number(kind)),
+            ToSql::to_sql(from),
+            bound_value(bound),
+            ToSql::to_sql(count),
+        ],
+    )
+}
+
+/// Rows of a kind with keys from the prefix up to the last key. Not all of them begin with the prefix.
+pub(crate) fn under_upto<S: Alter>(
+    conn: &mut Connection<S>,
+    kind: Kind,
+    prefix: &str,
+    last: &str,
+) -> Result<Vec<SqlRow>, Error>
+    ensures ok { HasCleanDisk (state S.Store conn.new)
+        → IfOk result (λ rows. Shown upto_text (upto_params (kind, prefix.now) last.now) (state S.Store conn.old)
+        (state S.Store conn.new) rows.items) }
+    ensures err { HasCleanDisk (state S.Store conn.new)
+        → IfErr result (FailsToQuery upto_text (upto_params (kind, prefix.now) last.now) (state S.Store conn.old)
+        (state S.Store conn.new)) }
+    ensures survives { Survives (state S.Store conn.old) (state S.Store conn.new) (CommitsShowing upto_text
+        (upto_params (kind, prefix.now) last.now) (state S.Store conn.old)) }
+{
+    conn.query_all(
+        "SELECT key, owner, due, body FROM broker_rows WHERE kind = ?1 AND key >= ?2 AND key <= ?3 ORDER BY key",
+        params![number(kind), prefix, last],
     )
 }
 

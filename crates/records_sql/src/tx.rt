@@ -93,6 +93,20 @@ impl<'c, S: Alter> RecordsTx for SqlTx<'c, S> {
         self.records.under(kind, prefix)
     }
 
+    fn under_from(
+        &mut self,
+        kind: Kind,
+        prefix: &str,
+        from: &str,
+        count: u32,
+    ) -> Result<Vec<Entry>, Fault> {
+        self.records.under_from(kind, prefix, from, count)
+    }
+
+    fn under_upto(&mut self, kind: Kind, prefix: &str, last: &str) -> Result<Vec<Entry>, Fault> {
+        self.records.under_upto(kind, prefix, last)
+    }
+
     fn by_owner(&mut self, kind: Kind, owner: &str) -> Result<Vec<Entry>, Fault> {
         self.records.by_owner(kind, owner)
     }
