@@ -1,6 +1,6 @@
 -- Expiry: from the rows to the broker.
 use Rattle.std.specs.Prelude.{◌≡◌, ◌≤◌, ℕ, max, List, None}
-use Rattle.std.proofs.Common.{◌∙◌, sym, ap, subst}
+use Rattle.std.proofs.Common.{refl, ◌∙◌, sym, ap, subst}
 use Rattle.std.proofs.Math.Nat.{le-max_right, le_trans}
 use Rattle.broker_types.specs.Text.{Text}
 use Rattle.broker_types.specs.Moment.{greatest_moment}
@@ -10,19 +10,25 @@ use Rattle.broker_types.specs.RemovalLaws.{at_moment_sound}
 use Rattle.broker_types.specs.Sound.{Sound}
 use Rattle.broker_types.specs.TreeLaws.{alive_is}
 use Rattle.broker_types.specs.Lineage.{alive_at}
+use Rattle.records.specs.declared.kind.Kind.TheVariants as kind
+use Rattle.records.specs.declared.row.Row.{Row}
 use Rattle.records.specs.ClockLaws.{with_clock}
+use Rattle.records.specs.DueRows.{AreDue}
+use Rattle.records.specs.Kind.{RowKey}
 use Rattle.records.specs.Parts.{Tells, KeepsOthers, of_tokens}
 use Rattle.records.specs.Table.{table_of}
 use Rattle.records.specs.Transaction.{Rows}
 use Rattle.token_tree.specs.Tokens.{AreEnded, without_expired}
 use Rattle.leases.specs.Endings as leases
-use Rattle.leases.specs.Endings.{EndsLeases}
+use Rattle.leases.specs.Endings.{AreReadable, EndsLeases}
 use Rattle.leases.specs.Laws.{AreLeft}
 use Rattle.leases.specs.Leases.{live}
-use Rattle.leases.specs.LeftLaws.{expire_too}
+use Rattle.leases.specs.LeftLaws.{all_readable, expire_too}
+use Rattle.leases.specs.Removed.{AreStillDue}
 use Rattle.broker_model.specs.Forms.{forms}
 use Rattle.broker_rows.specs.Left.{HaveEnded}
 use Rattle.broker_rows.specs.Representing.{Represents}
+use Rattle.broker_rows.specs.RepresentingLaws.{represents_leases}
 use Rattle.broker_rows.proofs.Clocks.{expired_is}
 
 module _ (b : Broker) (m n : ℕ) (first old : Rows) (st : Represents None first b) (is : n ≡ max b.clock m)
@@ -59,3 +65,16 @@ module _ (b : Broker) (m n : ℕ) (first old : Rows) (st : Represents None first
         exact = are.exact;
         kept = λ t y alive. let x = alive_is n b.tokens t y alive in (x.0, x.1, ap (λ (z : Token). z.leases) x.3);
       }
+
+  -- the leases that are due can be read
+  pub due_readable : (mid : Rows) → KeepsOthers of_tokens (table_of old) (table_of mid) → AreReadable (leases.has_come n) (table_of mid)
+  due_readable mid others = all_readable (leases.has_come n) (table_of mid) (with_clock b n) (represents_leases (with_clock b n) old mid later others)
+
+-- the list of what is due, once tokens have ended
+pub still_due : (timed asked mid : Rows) (n : ℕ) (list : List (RowKey × Row)) → AreDue timed n list → asked ≡ timed
+    → KeepsOthers of_tokens (table_of asked) (table_of mid) → AreStillDue n list (table_of mid)
+still_due timed asked mid n list due same others = record {
+  asked = timed;
+  due = due;
+  same = λ q. others kind.Lease q refl ∙ ap (λ (r : Rows). table_of r kind.Lease q) same;
+}

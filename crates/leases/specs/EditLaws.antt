@@ -19,13 +19,13 @@ use Rattle.leases.specs.Endings.{Leaves}
 -- an edit that takes out what ends
 leaves_by : (b : Broker) (edit : Text → Map Lease → Map Lease) (ends : rows.Ending)
     → ((t q : Text) (m : Map Lease) → get (edit t m) q
-        ≡ option_and_then (λ l. if ends q (lease_row t l) then None else Some l) (get m q))
+    ≡ option_and_then (λ l. if ends q (lease_row t l) then None else Some l) (get m q))
     → Leaves ends b (edited b edit)
 leaves_by b edit ends taken t q = lease_of-edited b edit t q ∙ inner (get b.tokens t)
   where
     inner : (o : Option Token) → option_and_then (λ (x : Token). get (edit t x.leases) q) o
         ≡ option_and_then (λ l. if ends q (lease_row t l) then None else Some l)
-            (option_and_then (λ (x : Token). get x.leases q) o)
+        (option_and_then (λ (x : Token). get x.leases q) o)
     inner None = refl
     inner (Some x) = taken t q x.leases
 

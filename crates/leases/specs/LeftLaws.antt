@@ -53,7 +53,7 @@ module _ (first second : Ending) (old mid new : Table) (one : EndsLeases first o
     | inl none ↦ absurd (none-some _ (sym (one.leases q ∙ ap (unless_ended first q) none) ∙ is))
     | inr s ↦
         elim (first q s.0) as (λ v. first q s.0 ≡ v → (if v then None else Some s.0) ≡ Some row
-            → (old kind.Lease q ≡ Some row) × (first q row ≡ false)) [
+        → (old kind.Lease q ≡ Some row) × (first q row ≡ false)) [
           | true ↦ λ _ none. absurd (none-some _ none)
           | false ↦ λ stays some. (s.1 ∙ some, ap (first q) (sym (same_Some _ _ some)) ∙ stays)
         ] refl (sym (one.leases q ∙ ap (unless_ended first q) s.1) ∙ is)
@@ -64,7 +64,7 @@ module _ (first second : Ending) (old mid new : Table) (one : EndsLeases first o
   rows_left q None = refl
   rows_left q (Some row) =
       elim (first q row) as (λ v. unless_ended second q (if v then None else Some row)
-          ≡ (if v || second q row then None else Some row)) [
+      ≡ (if v || second q row then None else Some row)) [
         | true ↦ refl
         | false ↦ refl
       ]
@@ -89,7 +89,7 @@ module _ (first second : Ending) (old mid new : Table) (one : EndsLeases first o
   gone q w =
       let row = lease_row w.owner w.lease in
       elim (first w.lease_id row) as (λ v. first w.lease_id row ≡ v → (v || second w.lease_id row) ≡ true
-          → new kind.Credential q ≡ None) [
+      → new kind.Credential q ≡ None) [
         | true ↦ λ at _. stays_gone q (one.credentials_gone q (record {
           lease_id = w.lease_id;
           owner = w.owner;
@@ -155,8 +155,7 @@ nothing_ends rows = record {
 -- the rows of a broker's leases can be read
 pub all_readable : (ends : Ending) (old : Table) (b : Broker) → RepresentsLeases old b → AreReadable ends old
 all_readable ends old b represents q row is goes =
-    let l = (are_leases b represents.one_place old represents.tells).leases q row is in
-    (
+    let l = (are_leases b represents.one_place old represents.tells).leases q row is in (
       l.1,
       lease_in_range q l.1 (represents.sound l.0 q l.1 l.2),
       l.3 ∙ ap (λ t. lease_row t l.1) (sym (ap (λ (r : Row). r.owner) l.3)),
@@ -178,7 +177,7 @@ readable_after ends other old new ended readable q row is goes = elim (found_or_
 
 module _ (b : Broker) (us : Tokens) (ended : List Text) (f : Map Lease → Map Lease) (rest : Ending)
     (taken : (t q : Text) (m : Map Lease) → get (f m) q
-        ≡ option_and_then (λ l. if rest q (lease_row t l) then None else Some l) (get m q))
+    ≡ option_and_then (λ l. if rest q (lease_row t l) then None else Some l) (get m q))
     (left : AreLeft f b.tokens us ended) where
   abbrev c : Broker
   c = record b { tokens = us }
