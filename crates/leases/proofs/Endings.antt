@@ -17,7 +17,6 @@ use Rattle.records.specs.declared.kind.Kind.TheVariants as kind
 use Rattle.records.specs.declared.row.Row.{Row}
 use Rattle.records.specs.Kind.{RowKey}
 use Rattle.records.specs.Parts.{of_leases, Tells, KeepsOthers}
-use Rattle.records.specs.RangeLaws.{lease_in_range}
 use Rattle.records.specs.RowForms.{lease_row, credential_row}
 use Rattle.records.specs.Table.{Table, table_of, is_at, without_row}
 use Rattle.records.specs.TableLaws.{table_of-remove}
