@@ -52,11 +52,7 @@ pub fn leave_nothing<T: RecordsTx>(
 }
 
 /// Drops the cubbyholes of tokens that ended, one after another.
-fn drop_cubbyholes<T: RecordsTx>(
-    alloc: Global,
-    tx: &mut T,
-    ended: &[TextBuf],
-) -> Result<(), Fault>
+fn drop_cubbyholes<T: RecordsTx>(alloc: Global, tx: &mut T, ended: &[TextBuf]) -> Result<(), Fault>
     ensures rows { IsHonest (T.seen tx.new) → OnOk result (table_of (T.seen tx.new).rows
         ≡ without_cubbyholes (table_of (T.seen tx.old).rows) ended.now) }
     ensures call { IsCall (T.seen tx.old) (T.seen tx.new) result IsMemoryOrStorage }

@@ -64,7 +64,32 @@ returns-clause-kept g c honest =
     damaged_before c.args.moment c.in_ok-now.now (seen c.args.tx.now).rows (seen c.leave_nothing.new.tx).rows (returns-clause-rows g c honest)
 
 pub returns-clause-told : goal.returns-clause-told
-returns-clause-told g c honest b st = ?
+returns-clause-told g c honest b st =
+    let seen = g.T.RecordsTx.seen in
+    let now = c.in_ok-now.now in
+    let live = honest_before (seen c.end_due-2.new.tx) (seen c.leave_nothing.new.tx) _ c.leave_nothing.ensures.call.goes_on honest in
+    let swept = honest_before (seen c.end_due.new.tx) (seen c.end_due-2.new.tx) _ c.end_due-2.ensures.call.goes_on live in
+    let asked = honest_before (seen c.due_until.new.self) (seen c.end_due.new.tx) _ c.end_due.ensures.call.goes_on swept in
+    let ticked = honest_before (seen c.advance_clock.new.tx) (seen c.due_until.new.self) _ c.due_until.ensures.call.goes_on asked in
+    let at = with_clock b now in
+    let first = (seen c.args.tx.now).rows in
+    let timed = (seen c.advance_clock.new.tx).rows in
+    let old = (seen c.due_until.new.self).rows in
+    let mid = (seen c.end_due.new.tx).rows in
+    let same = c.in_ok-due.ensures.call.same asked in
+    let later = c.in_ok-now.ensures.told ticked b st in
+    let still = still_represented at timed old same later.1 in
+    let tokens = represents_tokens at old still in
+    let listed : AreDue timed now c.deref.result.now =
+    subst (AreDue timed now) (sym c.deref.ensures.value) (c.in_ok-due.ensures.listed asked) in
+    let due = subst (λ (rows : Rows). AreDue rows now c.deref.result.now) (sym same) listed in
+    let are = subst (AreEnded at (without_expired at now)) (sym c.deref-3.ensures.value) (c.in_ok-ended.ensures.ended swept forms at tokens due) in
+    let left = swept_left b c.args.moment now first old st later.0 still mid (seen c.end_due-2.new.tx).rows c.deref-3.result.now are
+    (c.in_ok-ended.ensures.told swept forms at tokens due) (c.in_ok-ended.ensures.call.others swept) (returns-clause-rows g c honest).due in (
+      later.0,
+      subst (Represents None (seen c.leave_nothing.new.tx).rows) (expired_then b c.args.moment now first old st later.0 still)
+          (c.in_ok-leave_nothing.ensures.told honest None None at (alive_at now b.tokens) left),
+    )
 
 pub returns-in_err-ended-clause-wants : goal.returns-in_err-ended-clause-wants
 returns-in_err-ended-clause-wants g c honest b st = ?
