@@ -10,7 +10,6 @@ use Rattle.broker_types.specs.Map.{get}
 use Rattle.broker_types.specs.Token.{Token}
 use Rattle.broker_types.specs.Broker.{Broker, revoke}
 use Rattle.broker_types.specs.MapLaws.{get-change}
-use Rattle.broker_types.specs.OptionLaws.{mapped}
 use Rattle.broker_types.specs.Spending.{spend, one_less, is_spent, end_spent}
 use Rattle.broker_types.specs.SpendingLaws.{spend_sound, end_spent_sound}
 use Rattle.records.specs.declared.kind.Kind.{Kind}
@@ -22,9 +21,9 @@ use Rattle.records.specs.Table.{Table, table_of}
 use Rattle.records.specs.TokenEntry.{TokenEntry, token_entry}
 use Rattle.records.specs.Transaction.{Rows}
 use Rattle.broker_model.specs.Forms.{forms}
-use Rattle.broker_rows.specs.Ending.{HaveNoLeases}
 use Rattle.broker_rows.specs.Representing.{AsServed, Represents}
-use Rattle.broker_rows.specs.EndingLaws.{neither, no_token, other_tokens}
+use Rattle.broker_rows.specs.EndingLaws.{no_token, is_object, is_elsewhere, other_tokens}
+use Rattle.broker_rows.specs.RepresentingLaws.{leases_still, changed_leases}
 
 -- ---- a use is spent
 
@@ -48,32 +47,16 @@ module _ (b : Broker) (c : Text) where
       ap (λ o. if has_slash q then o else None) (sym (spent_objects (take token_len q) (drop (token_len + 1) q)))
   spent_cubbyholes _ q h = absurd (false≢true h)
 
-  spent_no_leases : HaveNoLeases b.tokens → HaveNoLeases (spend b c).tokens
-  spent_no_leases none t y is =
-      let x = mapped (λ x. if same t c then one_less x else x) (get b.tokens t) y (sym (get-change b.tokens c one_less t) ∙ is) in
-      ap (λ (z : Token). z.leases) x.2 ∙ leases (same t c) x.0 ∙ none t x.0 x.1
-    where
-      leases : (v : Bool) (x : Token) → (if v then one_less x else x).leases ≡ x.leases
-      leases true x = refl
-      leases false x = refl
-
-  served-spend : AsServed b → AsServed (spend b c)
-  served-spend s = record {
-    no_leases = spent_no_leases s.no_leases;
-    none_waits = s.none_waits;
-    no_roles = s.no_roles;
-  }
-
   -- rows of tokens that are those after a use was spent, where nothing else has changed
   pub represents-spend : (old new : Rows) → Represents None old b → Tells of_tokens (table_of new) (spend b c)
       → KeepsOthers of_tokens (table_of old) (table_of new) → Represents (Some c) new (spend b c)
   represents-spend old new st tells others = record {
     rows = other_tokens b (spend b c).tokens (table_of old) (table_of new) st.rows tells
-        (λ k q h. others k q (no_token k h) ∙ ap (λ (t : Table). t k q) st.rows ∙ spent_cubbyholes k q h)
-        (λ k q h. others k q (neither (of_tokens k) (of_cubbyholes k) h).0)
-        st.served.no_leases (spent_no_leases st.served.no_leases);
+        (λ k q h. others k q (no_token k (is_object k h).0) ∙ ap (λ (t : Table). t k q) st.rows ∙ spent_cubbyholes k q h)
+        (leases_still b (spend b c) old new st others (changed_leases b c one_less (λ x. refl)))
+        (λ k q h. others k q (is_elsewhere k h).0);
     sound = spend_sound forms b c st.sound;
-    served = served-spend st.served;
+    served = record { none_waits = st.served.none_waits };
   }
 
 -- ---- a caller that has spent its last use ends

@@ -1,4 +1,4 @@
--- The broker at a later moment, as long as no token has leases and no response waits.
+-- The broker at a later moment, as long as no response waits.
 use Rattle.std.specs.Prelude.{◌≡◌, ◌≤◌, ℕ, max, nat_lt, [], Bool, true, false, cond, None}
 use Rattle.std.specs.Option.{option_map_or}
 use Rattle.std.specs.FinMap.{get-empty}
@@ -6,8 +6,6 @@ use Rattle.std.proofs.Common.{refl, sym, ◌∙◌, ap}
 use Rattle.broker_types.specs.Text.{Text, text_cmp}
 use Rattle.broker_types.specs.Map.{Map, get, empty, keep}
 use Rattle.broker_types.specs.Moment.{greatest_moment}
-use Rattle.broker_types.specs.Token.{Token, Tokens}
-use Rattle.broker_types.specs.TreeLaws.{alive_is}
 use Rattle.broker_types.specs.Lineage.{alive_at}
 use Rattle.broker_types.specs.Broker.{Broker, at_moment, waiting_ends}
 use Rattle.broker_types.specs.FieldLaws.{sound_with}
@@ -20,7 +18,6 @@ use Rattle.records.specs.Table.{table_of, with_row}
 use Rattle.records.specs.Transaction.{Rows}
 use Rattle.records.specs.RowForms.{clock_row}
 use Rattle.token_tree.specs.Tokens.{without_expired}
-use Rattle.broker_rows.specs.Ending.{HaveNoLeases}
 use Rattle.broker_rows.specs.Representing.{AsServed, Represents}
 
 kept_empty : {X : Type 0} (p : Text → Bool) (m : Map X) → m ≡ empty → keep p m ≡ m
@@ -30,20 +27,9 @@ kept_empty p m e = same_map (keep p m) m (λ q. get-keep p m q ∙ ap (λ n. con
     none true q = refl
     none false q = sym (get-empty text_cmp q)
 
--- no token gets leases
-pub alive_no_leases : (now : ℕ) (ts : Tokens) → HaveNoLeases ts → HaveNoLeases (alive_at now ts)
-alive_no_leases now ts none t y is =
-    let x = alive_is now ts t y is in
-    let empty_x = none t x.0 x.1 in
-    ap (λ (z : Token). z.leases) x.3 ∙ kept_empty _ x.0.leases empty_x ∙ empty_x
-
 module _ (b : Broker) (s : AsServed b) where
   pub served-with_clock : (n : ℕ) → AsServed (with_clock b n)
-  served-with_clock n = record {
-    no_leases = s.no_leases;
-    none_waits = s.none_waits;
-    no_roles = s.no_roles;
-  }
+  served-with_clock n = record { none_waits = s.none_waits }
 
 pub sound-with_clock : (b : Broker) (n : ℕ) → Sound forms None b → n ≤ greatest_moment → Sound forms None (with_clock b n)
 sound-with_clock b n s h = sound_with b n b.secrets b.mounts b.roles b.policies forms None s h s.secrets s.mounts s.roles s.policies

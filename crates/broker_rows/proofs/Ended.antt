@@ -1,7 +1,7 @@
 -- Tokens that ended: from the rows that are left to the broker without them.
 use Rattle.std.specs.Prelude.{◌≡◌, ◌&&◌, List, true, false, is_some, is_none, if◌then◌else◌}
 use Rattle.std.specs.Prelude.{Option, Some, None, option_and_then}
-use Rattle.std.proofs.Common.{refl, sym, ◌∙◌, ap, inl, inr}
+use Rattle.std.proofs.Common.{refl, sym, ◌∙◌, ap, subst, inl, inr}
 use Rattle.std.proofs.lemmas.Bool.{false≢true}
 use Rattle.broker_types.specs.Text.{Text}
 use Rattle.broker_types.specs.Map.{get}
@@ -11,36 +11,44 @@ use Rattle.broker_types.specs.OptionLaws.{found_or_not}
 use Rattle.records.specs.declared.kind.Kind.{Kind}
 use Rattle.records.specs.declared.kind.Kind.TheVariants as kind
 use Rattle.records.specs.Children.{has}
-use Rattle.records.specs.Parts.{Tells, of_tokens, of_cubbyholes}
-use Rattle.records.specs.Table.{table_of}
+use Rattle.records.specs.Parts.{Tells, of_tokens, of_cubbyholes, of_leases}
+use Rattle.records.specs.Table.{Table, table_of}
 use Rattle.records.specs.Transaction.{Rows}
 use Rattle.cubbyhole.specs.Cubbyhole.{object_at}
-use Rattle.broker_rows.specs.Ending.{AreTokenLong, LeavesNothing, LosesObjects}
-use Rattle.broker_rows.specs.EndingLaws.{leaves_others, neither, no_token, other_tokens}
+use Rattle.cubbyhole.specs.Laws.{EndedLeaveNothing}
+use Rattle.leases.specs.Endings.{AreReadable, either, are_owned}
+use Rattle.leases.specs.LeaseRows.{RepresentsLeases}
+use Rattle.leases.specs.Laws.{EndedAreTold}
+use Rattle.leases.specs.LeftLaws.{all_readable, ends_added, readable_after}
+use Rattle.broker_rows.specs.Ending.{of_belongings, AreTokenLong, LeavesNothing, LosesObjects}
+use Rattle.broker_rows.specs.EndingLaws.{leaves_others, neither, no_token, is_object, is_lease, is_elsewhere, other_tokens, others_kept}
 use Rattle.broker_rows.specs.Left.{HaveEnded}
 use Rattle.broker_rows.specs.Representing.{Represents}
-use Rattle.broker_rows.specs.RepresentingLaws.{tells_part, tokens_long}
+use Rattle.broker_rows.specs.RepresentingLaws.{represents_leases, tells_part, tokens_long}
 
--- a row of a token or of an accessor is none of a cubbyhole
-no_cubbyhole : (k : Kind) → of_tokens k ≡ true → of_cubbyholes k ≡ false
-no_cubbyhole kind.Token h = refl
-no_cubbyhole kind.Accessor h = refl
-no_cubbyhole _ h = absurd (false≢true h)
+-- a row of a token or of an accessor does not belong to a token
+no_belonging : (k : Kind) → of_tokens k ≡ true → of_belongings k ≡ false
+no_belonging kind.Token h = refl
+no_belonging kind.Accessor h = refl
+no_belonging _ h = absurd (false≢true h)
 
-module _ {who after : Option Text} (b : Broker) (us : Tokens) (ended : List Text) (mid : Rows)
-    (e : HaveEnded who after b us ended mid) where
+no_lease : (k : Kind) → of_tokens k ≡ true → of_leases k ≡ false
+no_lease k h = (neither (of_cubbyholes k) (of_leases k) (no_belonging k h)).1
+
+module _ {who after : Option Text} (b : Broker) (us : Tokens) (ended : List Text) (rest : Rows)
+    (e : HaveEnded who after b us ended rest) where
   abbrev c : Broker
   c = record b { tokens = us }
 
   -- the tokens that ended were tokens
-  pub ended_long : AreTokenLong ended
+  ended_long : AreTokenLong ended
   ended_long t h = elim (found_or_not (get b.tokens t)) [
     | inl none ↦ absurd (false≢true (ap (λ o. is_some o && is_none (get us t)) (sym none) ∙ sym (e.are.exact t) ∙ h))
     | inr x ↦ tokens_long b e.old e.represents t x.0 x.1
   ]
 
   -- their objects are gone, and no others
-  pub objects_lost : LosesObjects ended b c
+  objects_lost : LosesObjects ended b c
   objects_lost t path = elim (found_or_not (get us t)) [
     | inr y ↦
         let x = e.keep t y.0 y.1 in
@@ -61,21 +69,45 @@ module _ {who after : Option Text} (b : Broker) (us : Tokens) (ended : List Text
       gone (Some x) = refl
 
   -- until they are dropped, all objects are there
-  pub objects_there : Tells of_cubbyholes (table_of mid) b
-  objects_there k q h = e.others k q (no_token k h) ∙ tells_part of_cubbyholes b e.old e.represents k q h
+  objects_there : Tells of_cubbyholes (table_of rest) b
+  objects_there k q h =
+      let object = is_object k h in
+      e.ends.others k q object.1 ∙ e.others k q (no_token k object.0) ∙ tells_part of_cubbyholes b e.old e.represents k q h
 
-  -- once nothing is left of the ended tokens, the rows are those of the broker without them
-  pub represents-ended : (new : Rows) → LeavesNothing ended mid new → Tells of_cubbyholes (table_of new) c
-      → Represents after new c
-  represents-ended new leaves objects = record {
-    rows = other_tokens b us (table_of e.old) (table_of new) e.represents.rows
-        (λ k q h. leaves_others ended mid new leaves k q (no_cubbyhole k h) ∙ e.tells k q h) objects
-        (λ k q h. let parts = neither (of_tokens k) (of_cubbyholes k) h in leaves_others ended mid new leaves k q parts.1 ∙ e.others k q parts.0)
-        e.represents.served.no_leases e.no_leases;
-    sound = e.sound;
-    served = record {
-      no_leases = e.no_leases;
-      none_waits = e.represents.served.none_waits;
-      no_roles = e.represents.served.no_roles;
-    };
-  }
+  -- and all leases are, but those that were due
+  leases_there : RepresentsLeases (table_of e.mid) b
+  leases_there = represents_leases b e.old e.mid e.represents e.others
+
+  -- the leases of the ended tokens can be read
+  pub theirs_readable : AreReadable (are_owned ended) (table_of rest)
+  theirs_readable =
+      readable_after e.due (are_owned ended) (table_of e.mid) (table_of rest) e.ends
+      (all_readable (are_owned ended) (table_of e.mid) b leases_there)
+
+  module _ (new : Rows) (leaves : LeavesNothing ended rest new) where
+    -- once nothing is left of the ended tokens, no other object is missing
+    objects_told : EndedLeaveNothing → Tells of_cubbyholes (table_of new) c
+    objects_told law =
+        subst (λ rows. Tells of_cubbyholes rows c) (sym leaves.cubbyholes)
+        (law b c ended (table_of leaves.mid) ended_long
+        (λ k q h. leaves.leases.others k q (is_object k h).1 ∙ objects_there k q h) objects_lost)
+
+    -- and no other lease
+    leases_told : EndedAreTold → Tells of_leases (table_of new) c
+    leases_told law k q h =
+        ap (λ (z : Table). z k q) leaves.cubbyholes ∙ others_kept ended (table_of leaves.mid) k q (is_lease k h).1
+        ∙ law (either e.due (are_owned ended)) (table_of e.mid) (table_of leaves.mid) b c leases_there
+        (ends_added e.due (are_owned ended) (table_of e.mid) (table_of rest) (table_of leaves.mid) e.ends leaves.leases) e.leaves k q h
+
+    -- the rows are those of the broker without the tokens
+    pub represents-ended : EndedLeaveNothing → EndedAreTold → Represents after new c
+    represents-ended objects leases = record {
+      rows = other_tokens b us (table_of e.old) (table_of new) e.represents.rows
+          (λ k q h. leaves_others ended rest new leaves k q (no_belonging k h) ∙ e.ends.others k q (no_lease k h) ∙ e.tells k q h)
+          (objects_told objects) (leases_told leases)
+          (λ k q h. let apart = is_elsewhere k h in
+          leaves_others ended rest new leaves k q apart.1 ∙ e.ends.others k q (neither (of_cubbyholes k) (of_leases k) apart.1).1
+          ∙ e.others k q apart.0);
+      sound = e.sound;
+      served = record { none_waits = e.represents.served.none_waits };
+    }

@@ -1,6 +1,6 @@
 -- Expiry: from the rows to the broker.
 use Rattle.std.specs.Prelude.{◌≡◌, ◌≤◌, ℕ, max, List, None}
-use Rattle.std.proofs.Common.{◌∙◌, sym, ap, subst}
+use Rattle.std.proofs.Common.{refl, ◌∙◌, sym, ap, subst}
 use Rattle.std.proofs.Math.Nat.{le-max_right, le_trans}
 use Rattle.broker_types.specs.Text.{Text}
 use Rattle.broker_types.specs.Moment.{greatest_moment}
@@ -10,15 +10,26 @@ use Rattle.broker_types.specs.RemovalLaws.{at_moment_sound}
 use Rattle.broker_types.specs.Sound.{Sound}
 use Rattle.broker_types.specs.TreeLaws.{alive_is}
 use Rattle.broker_types.specs.Lineage.{alive_at}
+use Rattle.records.specs.declared.kind.Kind.TheVariants as kind
+use Rattle.records.specs.declared.row.Row.{Row}
 use Rattle.records.specs.ClockLaws.{with_clock}
+use Rattle.records.specs.DueRows.{AreDue}
+use Rattle.records.specs.Kind.{RowKey}
 use Rattle.records.specs.Parts.{Tells, KeepsOthers, of_tokens}
 use Rattle.records.specs.Table.{table_of}
 use Rattle.records.specs.Transaction.{Rows}
 use Rattle.token_tree.specs.Tokens.{AreEnded, without_expired}
+use Rattle.leases.specs.Endings as leases
+use Rattle.leases.specs.Endings.{AreReadable, EndsLeases}
+use Rattle.leases.specs.Laws.{AreLeft}
+use Rattle.leases.specs.Leases.{live}
+use Rattle.leases.specs.LeftLaws.{all_readable, expire_too}
+use Rattle.leases.specs.Removed.{AreStillDue}
 use Rattle.broker_model.specs.Forms.{forms}
 use Rattle.broker_rows.specs.Left.{HaveEnded}
 use Rattle.broker_rows.specs.Representing.{Represents}
-use Rattle.broker_rows.proofs.Clocks.{alive_no_leases, expired_is}
+use Rattle.broker_rows.specs.RepresentingLaws.{represents_leases}
+use Rattle.broker_rows.proofs.Clocks.{expired_is}
 
 module _ (b : Broker) (m n : ℕ) (first old : Rows) (st : Represents None first b) (is : n ≡ max b.clock m)
     (later : Represents None old (with_clock b n)) where
@@ -31,17 +42,39 @@ module _ (b : Broker) (m n : ℕ) (first old : Rows) (st : Represents None first
       let within : max b.clock m ≤ greatest_moment = subst (λ k. k ≤ greatest_moment) is later.sound.clock in
       subst (Sound forms None) (sym expired_then) (at_moment_sound forms None b st.sound m (le_trans (le-max_right b.clock m) within))
 
-  -- what has come to its end by then is swept
-  pub swept_left : (mid : Rows) (ended : List Text) → AreEnded (with_clock b n) (without_expired (with_clock b n) n) ended
+  -- what has come to its end by then is swept: tokens, and then leases
+  pub swept_left : (mid rest : Rows) (ended : List Text) → AreEnded (with_clock b n) (without_expired (with_clock b n) n) ended
       → Tells of_tokens (table_of mid) (without_expired (with_clock b n) n) → KeepsOthers of_tokens (table_of old) (table_of mid)
-      → HaveEnded None None (with_clock b n) (alive_at n b.tokens) ended mid
-  swept_left mid ended are tells others = record {
+      → EndsLeases (leases.has_come n) (table_of mid) (table_of rest) → HaveEnded None None (with_clock b n) (alive_at n b.tokens) ended rest
+  swept_left mid rest ended are tells others due = record {
     old = old;
+    mid = mid;
     represents = later;
     are = are;
     keep = λ t y alive. let x = alive_is n b.tokens t y alive in (x.0, x.1, ap (λ (z : Token). z.cubbyhole) x.3);
-    no_leases = alive_no_leases n b.tokens st.served.no_leases;
     sound = expired_sound;
     tells = tells;
     others = others;
+    due = leases.has_come n;
+    ends = due;
+    leaves = expire_too (with_clock b n) (alive_at n b.tokens) n ended left;
   }
+    where
+      left : AreLeft (live n) b.tokens (alive_at n b.tokens) ended
+      left = record {
+        exact = are.exact;
+        kept = λ t y alive. let x = alive_is n b.tokens t y alive in (x.0, x.1, ap (λ (z : Token). z.leases) x.3);
+      }
+
+  -- the leases that are due can be read
+  pub due_readable : (mid : Rows) → KeepsOthers of_tokens (table_of old) (table_of mid) → AreReadable (leases.has_come n) (table_of mid)
+  due_readable mid others = all_readable (leases.has_come n) (table_of mid) (with_clock b n) (represents_leases (with_clock b n) old mid later others)
+
+-- the list of what is due, once tokens have ended
+pub still_due : (timed asked mid : Rows) (n : ℕ) (list : List (RowKey × Row)) → AreDue timed n list → asked ≡ timed
+    → KeepsOthers of_tokens (table_of asked) (table_of mid) → AreStillDue n list (table_of mid)
+still_due timed asked mid n list due same others = record {
+  asked = timed;
+  due = due;
+  same = λ q. others kind.Lease q refl ∙ ap (λ (r : Rows). table_of r kind.Lease q) same;
+}

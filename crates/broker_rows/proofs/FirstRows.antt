@@ -5,11 +5,10 @@ use Rattle.std.proofs.Common.{refl, sym, ◌∙◌, ap}
 use Rattle.broker_types.specs.Text.{Text, text_cmp}
 use Rattle.broker_types.specs.Map.{empty, entries}
 use Rattle.broker_types.specs.Identifier.{id}
-use Rattle.broker_types.specs.Token.{Token}
 use Rattle.broker_types.specs.TokenText.{token_text}
 use Rattle.broker_types.specs.First.{first_broker, root_token, default_policy, secret_mount}
 use Rattle.broker_types.specs.FirstLaws.{first_sound}
-use Rattle.broker_types.specs.MapLaws.{one_entry, entries-empty}
+use Rattle.broker_types.specs.MapLaws.{entries-empty}
 use Rattle.broker_types.specs.Moment.{greatest_moment}
 use Rattle.records.specs.declared.kind.Kind.TheVariants as kind
 use Rattle.records.specs.declared.row.Row.{Row}
@@ -63,12 +62,7 @@ first_represented rows moment v w now fits_v fits_w differ is =
     record {
       rows = is;
       sound = first_sound forms moment v w now fits_v fits_w differ first_policy;
-      served =
-          record {
-            no_leases = λ t x is. ap (λ (z : Token). z.leases) (one_entry (token_text (id v)) t (root_token moment (id w)) x is).1;
-            none_waits = refl;
-            no_roles = refl;
-          };
+      served = record { none_waits = refl };
     }
 
 -- the rows that a start puts represent the first broker

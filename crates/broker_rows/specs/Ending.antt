@@ -5,12 +5,10 @@ use Rattle.std.specs.FinMap as map
 use Rattle.std.specs.Option.{option_map_or}
 use Rattle.broker_types.specs.Sound.{IsMoment}
 use Rattle.broker_types.specs.Text.{Text}
-use Rattle.broker_types.specs.Map.{get, empty}
-use Rattle.broker_types.specs.Token.{Token, Tokens}
 use Rattle.broker_types.specs.Broker.{Broker}
 use Rattle.records.specs.declared.kind.Kind.TheVariants as kind
 use Rattle.records.specs.Children.{has}
-use Rattle.records.specs.Parts.{Part, of_clock, of_tokens, of_cubbyholes}
+use Rattle.records.specs.Parts.{Part, of_clock, of_cubbyholes, of_leases, of_tokens_and_theirs}
 use Rattle.records.specs.Ranges.{IsTokenInRange}
 use Rattle.records.specs.Reading.{IsSomeIn}
 use Rattle.records.specs.Rows.{token_len}
@@ -24,14 +22,16 @@ use Rattle.token_tree.specs.TokenRows.{IsTokenAt}
 use Rattle.cubbyhole.specs.Cubbyhole.{object_at}
 use Rattle.cubbyhole.specs.Laws.{without_cubbyholes}
 use Rattle.cubbyhole.specs.Objects.{object_key}
+use Rattle.leases.specs.Endings as leases
+use Rattle.leases.specs.Endings.{EndsLeases, are_owned}
 
--- tokens, their accessors and their cubbyholes
-abbrev pub of_ended : Part
-of_ended k = of_tokens k || of_cubbyholes k
+-- what belongs to tokens: their cubbyholes and their leases
+abbrev pub of_belongings : Part
+of_belongings k = of_cubbyholes k || of_leases k
 
--- these and the clock
+-- the clock, and tokens with all that goes with them
 abbrev pub of_expired : Part
-of_expired k = of_clock k || of_ended k
+of_expired k = of_clock k || of_tokens_and_theirs k
 
 -- each of the texts is as long as a token
 abbrev pub AreTokenLong : List Text → Type 0
@@ -52,15 +52,14 @@ KeepsCubbyholes old new =
     (t path : Text) → map.get new (kind.Token, t) ≢ None
     → table_of new kind.Cubby (object_key t path) ≡ table_of old kind.Cubby (object_key t path)
 
--- no token has leases
-abbrev pub HaveNoLeases : Tokens → Type 0
-HaveNoLeases ts = (t : Text) (x : Token) → get ts t ≡ Some x → x.leases ≡ empty
-
 -- ---- what belonged to tokens that ended, whatever the rows are
 
--- What belonged to tokens that ended is gone: their cubbyholes. No other row has changed.
+-- What belonged to tokens that ended is gone: their leases, whose rows were read, and their cubbyholes. No other row has
+-- changed.
 pub record LeavesNothing (ended : List Text) (old new : Rows) : Type 0 where
-  pub rows : table_of new ≡ without_cubbyholes (table_of old) ended
+  pub mid : Rows
+  pub leases : EndsLeases (are_owned ended) (table_of old) (table_of mid)
+  pub cubbyholes : table_of new ≡ without_cubbyholes (table_of mid) ended
 
 -- The rows of t and of all below it were read. They are gone, with those of their accessors and what belonged to them.
 -- No other row has changed.
@@ -88,15 +87,18 @@ pub record Advances (moment now : ℕ) (old new : Rows) : Type 0 where
   pub later : now ≡ max clock moment
   pub is : table_of new ≡ with_row (table_of old) kind.Clock [] (clock_row now)
 
--- The clock has moved on, and what has come to its end by then has ended with all below it: the rows of these tokens
--- were read, and are gone with those of their accessors and what belonged to them. No other row has changed.
+-- The clock has moved on, and what has come to its end by then has ended: tokens with all below them, and leases. The
+-- rows of these were read, and are gone with those of accessors and of credentials, and with what belonged to the
+-- tokens. No other row has changed.
 pub record Expires (moment now : ℕ) (old new : Rows) : Type 0 where
   pub timed : Rows
   pub swept : Rows
+  pub live : Rows
   pub ended : List Text
   pub advances : Advances moment now old timed
   pub ends : EndsDescent (has_come now) timed ended swept
-  pub leaves : LeavesNothing ended swept new
+  pub due : EndsLeases (leases.has_come now) (table_of swept) (table_of live)
+  pub leaves : LeavesNothing ended live new
 
 -- ---- a caller that has spent its last use, whatever the rows are
 

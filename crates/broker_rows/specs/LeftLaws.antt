@@ -1,5 +1,5 @@
 -- Laws of what is left of a broker when tokens have ended.
-use Rattle.std.specs.Prelude.{◌≡◌, not, List, Option, Some}
+use Rattle.std.specs.Prelude.{◌≡◌, not, false, List, Option, Some}
 use Rattle.std.proofs.Common.{refl}
 use Rattle.broker_types.specs.Broker.{Broker, revoke}
 use Rattle.broker_types.specs.Lineage.{is_under, without_descendants}
@@ -8,6 +8,8 @@ use Rattle.broker_types.specs.SearchLaws.{kept_get}
 use Rattle.broker_types.specs.Sound.{Sound}
 use Rattle.broker_types.specs.Text.{Text}
 use Rattle.broker_types.specs.Token.{Token}
+use Rattle.leases.specs.Laws.{AreLeft}
+use Rattle.leases.specs.LeftLaws.{go_with_tokens, nothing_ends}
 use Rattle.records.specs.Parts.{Tells, KeepsOthers, of_tokens}
 use Rattle.records.specs.Table.{table_of}
 use Rattle.records.specs.Transaction.{Rows}
@@ -26,11 +28,17 @@ pub revoked_left : {who after : Option Text} (b : Broker) (t : Text) (old mid : 
     → KeepsOthers of_tokens (table_of old) (table_of mid) → HaveEnded who after b (without_descendants b.tokens t) ended mid
 revoked_left b t old mid ended st sound are tells others = record {
   old = old;
+  mid = mid;
   represents = st;
   are = are;
   keep = λ q y is. (y, was_there b t q y is, refl);
-  no_leases = λ q y is. st.served.no_leases q y (was_there b t q y is);
   sound = sound;
   tells = tells;
   others = others;
+  due = λ q row. false;
+  ends = nothing_ends (table_of mid);
+  leaves = go_with_tokens b (without_descendants b.tokens t) ended left;
 }
+  where
+    left : AreLeft (λ m. m) b.tokens (without_descendants b.tokens t) ended
+    left = record { exact = are.exact; kept = λ q y is. (y, was_there b t q y is, refl) }

@@ -6,12 +6,14 @@ use Rattle.broker_types.specs.Text.{Text}
 use Rattle.broker_types.specs.TextLaws.{same_self}
 use Rattle.records.specs.Children.{has}
 use Rattle.records.specs.Ranges.{IsTokenInRange}
-use Rattle.records.specs.Table.{table_of}
+use Rattle.records.specs.Table.{Table, table_of}
 use Rattle.records.specs.Transaction.{Rows}
 use Rattle.records.specs.declared.row.Row.{Row}
+use Rattle.records.specs.Parts.{KeepsOthers, of_tokens}
 use Rattle.token_tree.specs.Endings.{AreTokenRows, EndsAlone}
+use Rattle.leases.specs.Endings.{Ending, AreReadable, are_owned}
 use Rattle.broker_rows.specs.Ending.{KeepsCubbyholes, IsSpentAt}
-use Rattle.broker_rows.specs.ReadableRow.{IsReadableObject, IsReadableToken}
+use Rattle.broker_rows.specs.ReadableRow.{IsReadableObject, IsReadableToken, IsReadableAlone}
 use Rattle.std.specs.FinMap as map
 use Rattle.records.specs.declared.kind.Kind.TheVariants as kind
 
@@ -39,10 +41,17 @@ readable_if_ended rows t ended are among = at (table_of rows kind.Token t) refl
 pub unspent_gone : (rows : Rows) (t : Text) → table_of rows kind.Token t ≡ None → IsSpentAt rows t false
 unspent_gone rows t none = (None, (λ x e. absurd (none-some _ e)), none, refl)
 
--- the row of a token that ends alone can be read
+-- leases that can be read once tokens have ended can be read before
+pub leases_before : (ends : Ending) (old mid : Table) → KeepsOthers of_tokens old mid → AreReadable ends mid
+    → AreReadable ends old
+leases_before ends old mid others readable q row is goes = readable q row (others kind.Lease q refl ∙ is) goes
+
+-- the row of a token that ends alone can be read, and so can those of its leases
 pub readable_alone : (t : Text) (old : Rows) (ended : List Text) (new : Rows) → EndsAlone t old ended new
-    → IsReadableToken old t
-readable_alone t old ended new ends =
-    readable_if_ended old t ended ends.readable
-    (λ row some. ap (λ ts. has ts t) (ends.ends ∙ ap (λ o. if is_some o then t ∷ [] else []) some)
-    ∙ ap (λ v. v || false) (same_self t))
+    → AreReadable (are_owned ended) (table_of old) → IsReadableAlone old t
+readable_alone t old ended new ends leases = record {
+  token = readable_if_ended old t ended ends.readable
+      (λ row some. ap (λ ts. has ts t) (ends.ends ∙ ap (λ o. if is_some o then t ∷ [] else []) some)
+      ∙ ap (λ v. v || false) (same_self t));
+  leases = subst (λ ts. AreReadable (are_owned ts) (table_of old)) ends.ends leases;
+}

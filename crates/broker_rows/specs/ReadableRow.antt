@@ -1,4 +1,4 @@
--- Which rows of cubbyholes, policies, tokens and secrets can be read (this project's definition).
+-- Which rows of cubbyholes, policies, tokens, leases and secrets can be read (this project's definition).
 use Rattle.std.specs.Prelude.{ℕ, List, [], Option, All}
 use Rattle.std.specs.Option.{option_map_or}
 use Rattle.broker_types.specs.Sound.{IsShortText}
@@ -10,9 +10,10 @@ use Rattle.records.specs.Ranges.{IsTokenInRange}
 use Rattle.records.specs.Reading.{IsSomeIn}
 use Rattle.records.specs.TokenEntry.{TokenEntry}
 use Rattle.token_tree.specs.Ended.{IsDescent, is_named}
-use Rattle.token_tree.specs.Endings.{AreTokenRows}
+use Rattle.token_tree.specs.Endings.{AreTokenRows, alone}
 use Rattle.token_tree.specs.TokenRows.{IsTokenAt}
 use Rattle.cubbyhole.specs.Objects.{IsObjectAt}
+use Rattle.leases.specs.Endings.{AreReadable, are_owned}
 use Rattle.policies.specs.PolicyRows as policies
 use Rattle.kv2.specs.SecretRows.{IsRead}
 use Rattle.kv2.specs.Secrets.{secret_name}
@@ -46,11 +47,17 @@ HasReadablePolicies rows t =
     (entry : Option TokenEntry) × IsSomeIn IsTokenInRange entry × IsTokenAt (table_of rows) t entry
     × All (policies.IsReadable (table_of rows)) (option_map_or (λ e. e.policies) entry [])
 
--- the rows of the token t and of all below it are those of tokens; if t has no row, there are none
+-- the rows of the token t and of all below it are those of tokens, and the rows of their leases are those of leases; if
+-- t has no row, there are none
 abbrev pub IsReadableDescent : Rows → Text → Type 0
 IsReadableDescent rows t =
     (ended : List Text) × IsDescent (is_named t) (rows_under rows kind.Token []) ended
-    × AreTokenRows ended (table_of rows)
+    × AreTokenRows ended (table_of rows) × AreReadable (are_owned ended) (table_of rows)
+
+-- the row of t is that of some token, and the rows of its leases are those of leases; or t has no row
+pub record IsReadableAlone (rows : Rows) (t : Text) : Type 0 where
+  pub token : IsReadableToken rows t
+  pub leases : AreReadable (are_owned (alone t (table_of rows))) (table_of rows)
 
 -- each row of a token that was damaged before is damaged still: none was mended, and none taken out
 abbrev pub KeepsDamaged : Rows → Rows → Type 0

@@ -20,7 +20,7 @@ use Rattle.broker_model.specs.declared.commands.TokenCommand.{TokenCommand}
 use Rattle.broker_model.specs.declared.commands.TokenCommand.TheVariants as token
 use Rattle.broker_model.specs.parts.SecretCommands.{Place}
 use Rattle.broker_rows.specs.ReadableRow.{IsReadableObject, IsReadablePolicy, IsReadableSecret, IsReadableToken}
-use Rattle.broker_rows.specs.ReadableRow.{IsReadableDescent}
+use Rattle.broker_rows.specs.ReadableRow.{IsReadableDescent, IsReadableAlone}
 
 -- ---- cubbyholes
 
@@ -48,7 +48,7 @@ AreReadableTokens rows caller token.LookUpSelf = IsReadableToken rows caller
 AreReadableTokens rows caller (token.Renew asked) = IsReadableToken rows asked.token
 AreReadableTokens rows caller (token.RenewSelf increment) = IsReadableToken rows caller
 AreReadableTokens rows caller (token.Revoke t) = IsReadableDescent rows t
-AreReadableTokens rows caller (token.RevokeOrphan t) = IsReadableToken rows t
+AreReadableTokens rows caller (token.RevokeOrphan t) = IsReadableAlone rows t
 AreReadableTokens rows caller (token.RevokeAccessor a) = IsReadableName rows (IsReadableDescent rows) a
 AreReadableTokens rows caller token.RevokeSelf = IsReadableDescent rows caller
 AreReadableTokens rows caller token.ListAccessors = AreAccessorRows rows

@@ -11,14 +11,10 @@ use Rattle.broker_model.specs.Order.{Outcome}
 use Rattle.records.specs.Transaction.{Rows}
 use Rattle.records.specs.Table.{table_of}
 use Rattle.records.specs.Rows.{rows_of}
-use Rattle.broker_rows.specs.Ending.{HaveNoLeases}
 
--- What the requests served so far can leave: tokens of every form, but without leases; secrets and settings of mounts
--- of every form; policies; no roles and no waiting responses.
+-- What the requests served so far can leave: everything of every form, but no waiting responses.
 pub record AsServed (b : Broker) : Type 0 where
-  pub no_leases : HaveNoLeases b.tokens
   pub none_waits : b.waiting ≡ empty
-  pub no_roles : b.roles ≡ empty
 
 -- The rows are those of the broker, which is sound, but for the caller who may have spent its last use: none between
 -- two requests. And it is one that the requests served so far can leave.

@@ -1,23 +1,30 @@
 -- Laws of rows that represent a broker.
-use Rattle.std.proofs.Common.{sym, ap, subst, inl, inr}
-use Rattle.std.specs.Prelude.{◌≡◌, true, Option, Some, None, ◌≢◌, List, length}
+use Rattle.std.proofs.Common.{refl, sym, ◌∙◌, ap, subst, inl, inr}
+use Rattle.std.specs.Prelude.{◌≡◌, Bool, true, false, if◌then◌else◌, Option, Some, None, option_map, option_and_then}
+use Rattle.std.specs.Prelude.{◌≢◌, List, length}
 use Rattle.broker_types.specs.Broker.{Broker}
-use Rattle.broker_types.specs.Map.{get}
+use Rattle.broker_types.specs.Map.{get, change}
+use Rattle.broker_types.specs.MapLaws.{get-change}
 use Rattle.broker_types.specs.OptionLaws.{found_or_not}
-use Rattle.broker_types.specs.Text.{Text}
+use Rattle.broker_types.specs.Places.{lease_of}
+use Rattle.broker_types.specs.Text.{Text, same}
 use Rattle.broker_types.specs.Token.{Token}
 use Rattle.records.specs.CubbyKeyLaws.{length-token}
-use Rattle.records.specs.Parts.{Part, Tells, of_tokens, of_mounts, of_policies}
+use Rattle.records.specs.Parts.{Part, Tells, KeepsOthers, of_tokens, of_leases, of_mounts, of_policies}
 use Rattle.records.specs.Rows.{token_len}
 use Rattle.records.specs.Table.{Table, table_of}
 use Rattle.records.specs.Transaction.{Rows}
 use Rattle.token_tree.specs.Tokens.{RepresentsTokens}
+use Rattle.leases.specs.LeaseRows.{RepresentsLeases}
+use Rattle.leases.specs.LeftLaws.{same_rows}
+use Rattle.leases.specs.TellLaws.{token_of}
 use Rattle.mounts.specs.MountRows.{AreMounts}
 use Rattle.mounts.specs.TellLaws.{mounts_told}
 use Rattle.policies.specs.PolicyLaws.{told_at}
 use Rattle.policies.specs.PolicyRows.{ArePoliciesAt, ArePolicies}
 use Rattle.policies.specs.TellLaws.{policies_told}
 use Rattle.broker_model.specs.Forms.{forms}
+use Rattle.broker_rows.specs.EndingLaws.{no_token, is_lease}
 use Rattle.broker_rows.specs.Representing.{Represents}
 
 -- they represent the same broker
@@ -42,6 +49,38 @@ represents_tokens b rows st = record {
   one_place = st.sound.identifiers.one_place;
   tells = tells_part of_tokens b rows st;
 }
+
+-- and its leases, also where rows of tokens alone have changed since
+pub represents_leases : {who : Option Text} (b : Broker) (old new : Rows) → Represents who old b
+    → KeepsOthers of_tokens (table_of old) (table_of new) → RepresentsLeases (table_of new) b
+represents_leases b old new st others = record {
+  sound = λ t lease_id l is.
+      let x = token_of b t lease_id l is in (st.sound.tokens.each t x.0 x.1).leases lease_id l x.2;
+  one_place = st.sound.identifiers.one_place;
+  tells = λ k q h. others k q (no_token k (is_lease k h).0) ∙ tells_part of_leases b old st k q h;
+}
+
+-- where rows of tokens alone have changed, those of leases are those of a broker whose tokens have the same leases
+pub leases_still : {who : Option Text} (b c : Broker) (old new : Rows) → Represents who old b
+    → KeepsOthers of_tokens (table_of old) (table_of new)
+    → ((t lease_id : Text) → lease_of c t lease_id ≡ lease_of b t lease_id) → Tells of_leases (table_of new) c
+leases_still b c old new st others same =
+    let leases = represents_leases b old new st others in
+    same_rows b c (table_of new) leases.one_place same leases.tells
+
+-- a token that is changed has the same leases, if the change leaves them
+pub changed_leases : (b : Broker) (t : Text) (f : Token → Token) → ((x : Token) → (f x).leases ≡ x.leases)
+    → (q lease_id : Text) → lease_of (record b { tokens = change b.tokens t f }) q lease_id ≡ lease_of b q lease_id
+changed_leases b t f keeps q lease_id =
+    ap (option_and_then (λ (x : Token). get x.leases lease_id)) (get-change b.tokens t f q)
+    ∙ inner (same q t) (get b.tokens q)
+  where
+    inner : (v : Bool) (o : Option Token)
+        → option_and_then (λ (x : Token). get x.leases lease_id) (option_map (λ x. if v then f x else x) o)
+        ≡ option_and_then (λ (x : Token). get x.leases lease_id) o
+    inner v None = refl
+    inner true (Some x) = ap (λ m. get m lease_id) (keeps x)
+    inner false (Some x) = refl
 
 -- the tokens of a broker have the length of tokens
 pub tokens_long : {who : Option Text} (b : Broker) (rows : Rows) → Represents who rows b → (t : Text) (x : Token)

@@ -17,10 +17,10 @@ use crate::ending::leave_nothing;
 use broker_types::{Fault, Moment};
 use records::{Kind, RecordsTx, read_clock, write_clock};
 use std::alloc::Global;
-use token_tree::sweep_tokens;
 
 /// Moves the clock on to the moment, unless it is later already, and answers it. Each token that has come to its end by
-/// then ends with all below it, and what belonged to them goes (Vault's documentation, "Tokens"). It fails with
+/// then ends with all below it, and so does each lease; what belonged to the tokens goes (Vault's documentation,
+/// "Tokens", and "Lease, renew, and revoke"). It is asked once what is due, for all of these. It fails with
 /// `BadStart` if the clock has no row, with `Memory` if memory runs out, with `Storage` if the transaction's storage
 /// failed, and with `Damaged` if a row that it asks for cannot be read.
 pub fn expire<T: RecordsTx>(alloc: Global, tx: &mut T, moment: Moment) -> Result<Moment, Fault>
@@ -39,11 +39,13 @@ pub fn expire<T: RecordsTx>(alloc: Global, tx: &mut T, moment: Moment) -> Result
     ensures kept { IsHonest (T.seen tx.new)
         → OnOk result (KeepsDamaged (T.seen tx.old).rows (T.seen tx.new).rows) }
 
-    // No row changes but those of the clock, of tokens and of cubbyholes.
+    // No row changes but those of the clock, of tokens and of what belongs to them.
     ensures call { IsChange (KeepsOthers of_expired) (T.seen tx.old) (T.seen tx.new) result (λ _. ⊤) }
 {
     let now = advance_clock(alloc, tx, moment)?;
-    let ended = sweep_tokens(alloc, tx, now)?;
+    let due = tx.due_until(now)?;
+    let ended = token_tree::end_due(alloc, tx, &due, now)?;
+    leases::end_due(tx, &due)?;
     leave_nothing(alloc, tx, &ended)?;
     Ok(now)
 }

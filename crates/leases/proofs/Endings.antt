@@ -17,7 +17,6 @@ use Rattle.records.specs.declared.kind.Kind.TheVariants as kind
 use Rattle.records.specs.declared.row.Row.{Row}
 use Rattle.records.specs.Kind.{RowKey}
 use Rattle.records.specs.Parts.{of_leases, Tells, KeepsOthers}
-use Rattle.records.specs.RangeLaws.{lease_in_range}
 use Rattle.records.specs.RowForms.{lease_row, credential_row}
 use Rattle.records.specs.Table.{Table, table_of, is_at, without_row}
 use Rattle.records.specs.TableLaws.{table_of-remove}
@@ -26,7 +25,7 @@ use Rattle.leases.specs.Endings.{Ending, is_named, AreReadable, unless_ended, En
 use Rattle.leases.specs.LeaseRows.{IsLeaseRow, RepresentsLeases}
 use Rattle.leases.specs.Removed.{RemovesLease, RemovesEach, AreThoseThatEnd}
 use Rattle.leases.proofs.LeaseBodies.{credential_told}
-use Rattle.leases.proofs.LeasesTold.{AreLeases, are_leases, leases_tell, one_credential}
+use Rattle.leases.specs.TellLaws.{AreLeases, are_leases, leases_tell, one_credential}
 
 -- ---- one lease
 
@@ -297,9 +296,3 @@ module _ (ends : Ending) (old new : Table) (b c : Broker) (represents : Represen
 
   pub left_told : Tells of_leases new c
   left_told = leases_tell new c are_left
-
--- the rows of a broker's leases can be read
-pub all_readable : (ends : Ending) (old : Table) (b : Broker) → RepresentsLeases old b → AreReadable ends old
-all_readable ends old b represents q row is goes =
-    let l = (are_leases b represents.one_place old represents.tells).leases q row is in
-    (l.1, lease_in_range q l.1 (represents.sound l.0 q l.1 l.2), l.3 ∙ ap (λ t. lease_row t l.1) (sym (ap (λ (r : Row). r.owner) l.3)))

@@ -17,7 +17,7 @@ use Rattle.records.specs.RowForms.{lease_row, credential_row}
 use Rattle.records.specs.Table.{Table}
 use Rattle.leases.specs.LeaseRows.{Held, IsLeaseAt, IsReadableCredential, RepresentsLeases}
 use Rattle.leases.specs.Leases.{find, verify}
-use Rattle.leases.proofs.LeasesTold.{holds, holds_credential, lease_at, credential_at, lease_rows, credential_rows, lease_in, is_there, are_leases}
+use Rattle.leases.specs.TellLaws.{holds, holds_credential, lease_at, credential_at, lease_rows, credential_rows, lease_in, is_there, are_leases}
 
 -- the record of a row that is there
 pub at_is : (rows : Table) (q : Text) (o : Option Held) (r : Row) → IsLeaseAt rows q o → rows kind.Lease q ≡ Some r

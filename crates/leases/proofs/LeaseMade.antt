@@ -21,7 +21,7 @@ use Rattle.leases.specs.Leases.{edited, issue}
 use Rattle.leases.specs.LeaseRows.{with_issued, RepresentsLeases, KeepsOtherLeases}
 use Rattle.leases.specs.IssuedLaws.{lease_cases}
 use Rattle.leases.specs.SoundLaws.{lease_of-edited}
-use Rattle.leases.proofs.LeasesTold.{AreLeases, are_leases, leases_tell, one_owner}
+use Rattle.leases.specs.TellLaws.{AreLeases, are_leases, leases_tell, one_owner}
 
 -- ---- a lease made
 

@@ -1,10 +1,13 @@
+pub mod EditLaws
 pub mod Endings
 pub mod IssuedLaws
 pub mod KeptLaws
 pub mod Laws
 pub mod LeaseRows
 pub mod Leases
+pub mod LeftLaws
 pub mod Removed
 pub mod RoleRows
 pub mod Roles
 pub mod SoundLaws
+pub mod TellLaws

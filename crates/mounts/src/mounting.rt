@@ -1,10 +1,11 @@
 //! Mounts, enabled and disabled.
 
-ghost use Rattle.std.specs.Prelude.{◌≡◌, option_map};
-ghost use Rattle.broker_types.specs.Map.{Map};
+ghost use Rattle.std.specs.Prelude.{◌≡◌, is_some, option_map};
+ghost use Rattle.broker_types.specs.Map.{Map, get};
 ghost use Rattle.broker_types.specs.Broker.{Mount};
 ghost use Rattle.broker_types.specs.Fault.{IsMemoryOrStorage};
 ghost use Rattle.broker_types.specs.RequestError.{Ends};
+ghost use Rattle.records.specs.declared.kind.Kind.TheVariants as kind;
 ghost use Rattle.records.specs.Calls.{IsRequestChange};
 ghost use Rattle.records.specs.Engines.{engine_of};
 ghost use Rattle.records.specs.Parts.{of_mounts, KeepsOthers};
@@ -86,21 +87,23 @@ fn engine_asked(type_name: &str, version: Option<u64>) -> Option<Engine>
     None
 }
 
-/// Disables a mount; nothing happens if no mount has the name. It is refused for the mounts that are always
-/// there. What is kept at the mount is removed by the parts that keep it. It fails only if memory runs out or
-/// the storage fails (Vault's documentation, "/sys/mounts", disable secrets engine).
-pub fn disable<T: RecordsTx>(tx: &mut T, name: &str) -> Result<(), RequestError>
+/// Disables a mount, and answers whether there was one of the name; if not, nothing happens. It is refused for the
+/// mounts that are always there. What is kept at the mount is removed by the parts that keep it. It fails only if
+/// memory runs out or the storage fails (Vault's documentation, "/sys/mounts", disable secrets engine).
+pub fn disable<T: RecordsTx>(tx: &mut T, name: &str) -> Result<bool, RequestError>
     ensures rows { IsHonest (T.seen tx.new)
-        → Ends (λ _ next. table (T.seen tx.new) ≡ next) ((T.seen tx.new).rows ≡ (T.seen tx.old).rows) result
+        → Ends (λ was next. (was ≡ is_some (table (T.seen tx.old) kind.Mount name.now))
+        × (table (T.seen tx.new) ≡ next)) ((T.seen tx.new).rows ≡ (T.seen tx.old).rows) result
         (rows.disabled (table (T.seen tx.old)) name.now) }
     ensures told { IsHonest (T.seen tx.new) → (mounts : Map Mount) → AreMounts (table (T.seen tx.old)) mounts
-        → Ends (λ _ next. AreMounts (table (T.seen tx.new)) next)
+        → Ends (λ was next. (was ≡ is_some (get mounts name.now)) × AreMounts (table (T.seen tx.new)) next)
         ((T.seen tx.new).rows ≡ (T.seen tx.old).rows) result (spec.disabled mounts name.now) }
     ensures call { IsRequestChange (KeepsOthers of_mounts) (T.seen tx.old) (T.seen tx.new) result IsMemoryOrStorage }
 {
     if is_fixed(name) {
         return Err(RequestError::Refused(Refusal::BadRequest(Reason::MountFixed)));
     }
+    let was_there = tx.get(Kind::Mount, name)?.is_some();
     tx.remove(Kind::Mount, name)?;
-    Ok(())
+    Ok(was_there)
 }

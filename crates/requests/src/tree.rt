@@ -5,7 +5,8 @@ use broker::handle;
 use broker_types::Status::{BadRequest, Forbidden, MethodNotAllowed, NoContent, Success};
 use broker_types::Verb::{Get, List, Write};
 use broker_types::{Answer, Bytes, Status, TextBuf, TokenText, Verb, id_text};
-use records::{Due, Holder, Kind, ListTx, RecordsTx, Row, write_accessor};
+use leases::issue;
+use records::{Due, Holder, Kind, LeaseRecord, ListTx, RecordsTx, Row, write_accessor};
 use std::alloc::{AllocGlobal, Global};
 use std::process::Abort;
 use std::test::Fail;
@@ -350,4 +351,45 @@ fn revoked_generations(rt: HostRuntime) -> Result<(), Fail> {
     let mut tx = tree(alloc)?;
     let whole = Request(0, 1, Write, REVOKE, NAMED);
     expect_steps(&rt, &mut tx, &[(whole, NoContent, "", WITHOUT_A)])
+}
+
+/// How many leases there are, and how many credentials.
+fn leased(tx: &mut ListTx) -> Result<(usize, usize), Fail> {
+    let leases = tx.under(Kind::Lease, "")?.len();
+    let credentials = tx.under(Kind::Credential, "")?.len();
+    Ok((leases, credentials))
+}
+
+/// A lease ends with a token above its own, and another, whose token is left, when it has come to its end.
+#[test]
+fn leases_end_with_tokens(rt: HostRuntime) -> Result<(), Fail> {
+    let alloc = rt.alloc();
+    let mut tx = tree(alloc)?;
+    let of_b = LeaseRecord {
+        issued: START,
+        ttl: 1_000,
+        max_ttl: 1_000,
+        ends: Due::at(START + 1_000),
+        renewed: None,
+        credential: "one",
+    };
+    let token = TokenText::of_word(alloc, 0xb)?;
+    issue(alloc, &mut tx, token.as_str(), "db/role/1", &of_b)?;
+    let of_d = LeaseRecord {
+        issued: START,
+        ttl: 50,
+        max_ttl: 1_000,
+        ends: Due::at(START + 50),
+        renewed: None,
+        credential: "two",
+    };
+    let token = TokenText::of_word(alloc, 0xd)?;
+    issue(alloc, &mut tx, token.as_str(), "db/role/2", &of_d)?;
+    let revoked = Request(49, 1, Write, REVOKE, NAMED);
+    expect_steps(&rt, &mut tx, &[(revoked, NoContent, "", WITHOUT_A)])?;
+    assert!(rt; leased(&mut tx)? == (1, 1));
+    let later = Request(50, 0xd, Get, KEPT, "");
+    expect_steps(&rt, &mut tx, &[(later, Success, GIVEN, WITHOUT_A)])?;
+    assert!(rt; leased(&mut tx)? == (0, 0));
+    Ok(())
 }

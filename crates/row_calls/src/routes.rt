@@ -294,8 +294,8 @@ fn mounts_are_refused_in_order(rt: HostRuntime) -> Result<(), Fail> {
     );
     let fixed = RequestError::Refused(Refusal::BadRequest(Reason::MountFixed));
     assert!(rt; disable(&mut tx, "cubbyhole") == Err(fixed));
-    assert!(rt; disable(&mut tx, "identity") == Ok(()));
-    assert!(rt; disable(&mut tx, "new") == Ok(()));
+    assert!(rt; disable(&mut tx, "identity") == Ok(false));
+    assert!(rt; disable(&mut tx, "new") == Ok(true));
     expect_mounts(&rt, &mut tx, &[("new", "issued", None, None)]);
     Ok(())
 }

@@ -51,8 +51,7 @@ outside_mounts name _ q h = refl
 
 -- what the requests served so far can leave is so with any secrets and mounts
 served_still : (b : Broker) (secrets : Map Key) (mounts : Map Mount) → AsServed b → AsServed (record b { secrets = secrets; mounts = mounts })
-served_still b secrets mounts s =
-    record { no_leases = s.no_leases; none_waits = s.none_waits; no_roles = s.no_roles }
+served_still b secrets mounts s = record { none_waits = s.none_waits }
 
 module _ {who : Option Text} (b : Broker) (old new : Rows) (st : Represents who old b) where
   pub represents-secrets : (secrets : Map Key) → Sound forms who (record b { secrets = secrets })

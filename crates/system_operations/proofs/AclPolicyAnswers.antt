@@ -25,7 +25,7 @@ use Rattle.broker_rows.specs.RepresentingLaws.{still_represented}
 
 -- what the requests served so far can leave is so with any policies
 served_still : (b : Broker) (next : Map Text) → AsServed b → AsServed (record b { policies = next })
-served_still b next s = record { no_leases = s.no_leases; none_waits = s.none_waits; no_roles = s.no_roles }
+served_still b next s = record { none_waits = s.none_waits }
 
 module _ (b : Broker) (who : Option Text) (old new : Rows) (st : Represents who old b) where
   represents-policies : (next : Map Text) → Sound forms who (record b { policies = next }) → ArePolicies (table_of new) next

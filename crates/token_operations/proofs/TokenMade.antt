@@ -31,7 +31,7 @@ use Rattle.broker_rows.specs.Representing.{Represents}
 use Rattle.broker_rows.specs.Done.{IsDone}
 use Rattle.broker_rows.specs.declared.answered.Answered.TheVariants.{Made}
 use Rattle.broker_rows.specs.RepresentingLaws.{tokens_long}
-use Rattle.token_operations.proofs.TokenSound.{IsLeft, served_tokens, no_leases_put}
+use Rattle.token_operations.proofs.TokenSound.{IsLeft, served_tokens}
 use Rattle.token_operations.proofs.TokenTables.{represents-created}
 
 -- ---- the rows of identifiers
@@ -70,8 +70,7 @@ module _ {who : Option Text} (b : Broker) (names : Names) (x : Token) (old mid n
   left : IsLeft forms who (created b (token_text names.token) x)
   left = record {
     sound = create_sound b (token_text names.token) x forms who st.sound can;
-    served = served_tokens b (put b.tokens (token_text names.token) x) (use_up b.used (names.token ∷ x.accessor ∷ [])) st.served
-        (no_leases_put b.tokens (token_text names.token) x st.served.no_leases can.no_lease);
+    served = served_tokens b (put b.tokens (token_text names.token) x) (use_up b.used (names.token ∷ x.accessor ∷ [])) st.served;
   }
 
   -- the token was made, both identifiers were marked, and the reply shows it

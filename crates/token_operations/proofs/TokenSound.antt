@@ -1,26 +1,24 @@
 -- What commands on tokens leave: a sound broker, and one that the requests served so far can leave.
-use Rattle.std.specs.Prelude.{◌≡◌, ◌≢◌, ◌≤◌, ◌<◌, ◌^◌, ◌+◌, ◌==◌, ◌||◌, ◌&&◌, ℕ, min, List, Bool, All, ⊤, true, false, not, cond, if◌then◌else◌}
+use Rattle.std.specs.Prelude.{◌≡◌, ◌≢◌, ◌≤◌, ◌<◌, ◌^◌, ◌+◌, ◌==◌, ◌||◌, ◌&&◌, ℕ, min, List, Bool, All, ⊤, true, false, not, if◌then◌else◌}
 use Rattle.std.specs.Prelude.{Option, Some, None, is_none, Ok}
 use Rattle.std.proofs.Common.{refl, sym, ◌∙◌, ap, subst, arith, lt_of_le_of_lt}
 use Rattle.std.proofs.Math.Nat.{le_trans, min-le_left, min-le_right}
 use Rattle.std.proofs.lemmas.Bool.{false≢true, and_parts}
 use Rattle.std.proofs.lemmas.Option.{none-some, same_Some}
 use Rattle.broker_types.specs.Text.{Text, same}
-use Rattle.broker_types.specs.Map.{Map, get, put, empty, change}
-use Rattle.broker_types.specs.MapLaws.{no_entry, get-put, get-change}
+use Rattle.broker_types.specs.Map.{Map, get, change}
+use Rattle.broker_types.specs.MapLaws.{no_entry}
 use Rattle.broker_types.specs.Moment.{greatest_moment}
 use Rattle.broker_types.specs.Limits.{longest_ttl}
-use Rattle.broker_types.specs.Lineage.{is_under, without_descendants, without_parent}
+use Rattle.broker_types.specs.Lineage.{without_descendants, without_parent}
 use Rattle.broker_types.specs.Names.{Names}
-use Rattle.broker_types.specs.OptionLaws.{mapped, is_nothing}
+use Rattle.broker_types.specs.OptionLaws.{is_nothing}
 use Rattle.broker_types.specs.Token.{Token, Tokens}
 use Rattle.broker_types.specs.TokenText.{token_text}
 use Rattle.broker_types.specs.Broker.{Broker}
 use Rattle.broker_types.specs.Refuse.{some_or}
 use Rattle.broker_types.specs.RemovalLaws.{revoke_sound, revoke_orphan_sound}
-use Rattle.broker_types.specs.SearchLaws.{kept_get}
 use Rattle.broker_types.specs.Sound.{Forms, Sound, IsSoundToken, IsEnd, IsShortText}
-use Rattle.broker_types.specs.TreeLaws.{orphaned_is}
 use Rattle.broker_types.specs.Used.{are_new}
 use Rattle.broker_types.specs.TextLaws.{same_self}
 use Rattle.broker_types.specs.UsedLaws.{first_new}
@@ -29,14 +27,13 @@ use Rattle.broker_types.specs.declared.refusal.Refusal.TheVariants as refusal
 use Rattle.api_json.specs.declared.token_bodies.TokenCreation.{TokenCreation}
 use Rattle.records.specs.ValueLaws.{ok_inj}
 use Rattle.token_tree.specs.SoundLaws.{renew_sound}
-use Rattle.token_tree.specs.Tokens.{MayBeMade, created, with_end}
+use Rattle.token_tree.specs.Tokens.{MayBeMade, with_end}
 use Rattle.token_tree.specs.Tokens as tree
 use Rattle.broker_model.specs.declared.making.Making.{Making}
 use Rattle.broker_model.specs.parts.TokenCreation.{makes_orphans}
 use Rattle.broker_model.specs.parts.TokenCreation.{new_token, new_parent, or_longest, asked_ttl, has_no_end, use_limit}
 use Rattle.broker_model.specs.parts.Tokens.{known, revoke}
 use Rattle.broker_model.specs.parts.Tokens.{revoke_alone}
-use Rattle.broker_rows.specs.Ending.{HaveNoLeases}
 use Rattle.broker_rows.specs.Representing.{AsServed}
 use Rattle.broker_rows.specs.Done.{counted}
 use Rattle.broker_model.specs.parts.TokenCommands.{token_names}
@@ -118,38 +115,9 @@ pub record IsLeft (forms : Forms) (who : Option Text) (b : Broker) : Type 0 wher
   pub sound : Sound forms who b
   pub served : AsServed b
 
--- other tokens without leases
-pub served_tokens : (b : Broker) (us : Tokens) (used : Map ⊤) → AsServed b → HaveNoLeases us → AsServed (record b { tokens = us; used = used })
-served_tokens b us used s none = record {
-  no_leases = none;
-  none_waits = s.none_waits;
-  no_roles = s.no_roles;
-}
-
--- and one more without leases
-pub no_leases_put : (ts : Tokens) (t : Text) (x : Token) → HaveNoLeases ts → x.leases ≡ empty → HaveNoLeases (put ts t x)
-no_leases_put ts t x none empty_leases q y is =
-    elim (same q t) as (λ v. cond v (Some x) (get ts q) ≡ Some y → y.leases ≡ empty) [
-      | true ↦ λ e. ap (λ (z : Token). z.leases) (sym (same_Some _ _ e)) ∙ empty_leases
-      | false ↦ λ e. none q y e
-    ] (sym (get-put ts t x q) ∙ is)
-
-no_leases_renewed : (ts : Tokens) (t : Text) (ends : ℕ) → HaveNoLeases ts → HaveNoLeases (change ts t (with_end ends))
-no_leases_renewed ts t ends none q y is =
-    let x = mapped (λ x. if same q t then with_end ends x else x) (get ts q) y (sym (get-change ts t (with_end ends) q) ∙ is) in
-    ap (λ (z : Token). z.leases) x.2 ∙ leases (same q t) x.0 ∙ none q x.0 x.1
-  where
-    leases : (v : Bool) (x : Token) → (if v then with_end ends x else x).leases ≡ x.leases
-    leases true x = refl
-    leases false x = refl
-
-pub no_leases_revoked : (ts : Tokens) (t : Text) → HaveNoLeases ts → HaveNoLeases (without_descendants ts t)
-no_leases_revoked ts t none q y is = none q y (kept_get (λ q. not (is_under ts q t)) ts q y is).0
-
-pub no_leases_orphaned : (ts : Tokens) (t : Text) → HaveNoLeases ts → HaveNoLeases (without_parent ts t)
-no_leases_orphaned ts t none q y is =
-    let x = orphaned_is ts t q y is in
-    ap (λ (z : Token). z.leases) x.2 ∙ none q x.0 x.1
+-- what the requests served so far can leave is so with any tokens
+pub served_tokens : (b : Broker) (us : Tokens) (used : Map ⊤) → AsServed b → AsServed (record b { tokens = us; used = used })
+served_tokens b us used s = record { none_waits = s.none_waits }
 
 -- ---- by creation
 
@@ -190,17 +158,17 @@ module _ (forms : Forms) (who : Option Text) (b : Broker) (left : IsLeft forms w
   pub left_by_revocation : (t : Text) → IsLeft forms who (counted (revoke b t))
   left_by_revocation t = record {
     sound = revoke_sound forms who b left.sound t;
-    served = served_tokens b (without_descendants b.tokens t) b.used left.served (no_leases_revoked b.tokens t left.served.no_leases);
+    served = served_tokens b (without_descendants b.tokens t) b.used left.served;
   }
 
   pub left_by_one_revocation : (t : Text) → IsLeft forms who (counted (revoke_alone b t))
   left_by_one_revocation t = record {
     sound = revoke_orphan_sound forms who b left.sound t;
-    served = served_tokens b (without_parent b.tokens t) b.used left.served (no_leases_orphaned b.tokens t left.served.no_leases);
+    served = served_tokens b (without_parent b.tokens t) b.used left.served;
   }
 
   pub left_by_renewal : (t : Text) (ends : ℕ) → IsEnd ends → IsLeft forms who (tree.renew b t ends)
   left_by_renewal t ends near = record {
     sound = renew_sound forms who b t ends left.sound near;
-    served = served_tokens b (change b.tokens t (with_end ends)) b.used left.served (no_leases_renewed b.tokens t ends left.served.no_leases);
+    served = served_tokens b (change b.tokens t (with_end ends)) b.used left.served;
   }

@@ -9,7 +9,7 @@ use Rattle.broker_types.specs.MapLaws.{get-put, get-change}
 use Rattle.broker_types.specs.TextLaws.{same_true}
 use Rattle.broker_types.specs.TreeLaws.{orphaned_is}
 use Rattle.broker_types.specs.Lineage.{without_descendants, without_parent}
-use Rattle.broker_types.specs.Places.{token, token_identifier}
+use Rattle.broker_types.specs.Places.{token, token_identifier, lease_of}
 use Rattle.broker_types.specs.Token.{Token, Tokens}
 use Rattle.broker_types.specs.Broker.{Broker, revoke, revoke_orphan}
 use Rattle.broker_types.specs.Sound.{IsEnd}
@@ -23,11 +23,12 @@ use Rattle.records.specs.Table.{Table, table_of}
 use Rattle.records.specs.Transaction.{Rows}
 use Rattle.token_tree.specs.Tokens.{AreEnded, MayBeMade, created, with_token, with_end, renew}
 use Rattle.broker_model.specs.Forms.{forms}
-use Rattle.broker_rows.specs.Ending.{HaveNoLeases}
+use Rattle.leases.specs.LeftLaws.{go_with_tokens, nothing_ends}
 use Rattle.broker_rows.specs.Left.{HaveEnded}
 use Rattle.broker_rows.specs.LeftLaws.{revoked_left}
 use Rattle.broker_rows.specs.Representing.{Represents}
-use Rattle.broker_rows.specs.EndingLaws.{neither, no_token, other_tokens}
+use Rattle.broker_rows.specs.EndingLaws.{no_token, is_object, is_elsewhere, other_tokens}
+use Rattle.broker_rows.specs.RepresentingLaws.{leases_still, changed_leases}
 use Rattle.token_operations.proofs.TokenSound.{IsLeft, left_by_revocation, left_by_one_revocation, left_by_renewal}
 
 -- rows that represent a broker, which is sound then, and one that the requests served so far can leave
@@ -44,40 +45,46 @@ module _ {who : Option Text} (b : Broker) (t : Text) (old mid : Rows) (ended : L
   has_revoked are tells =
       revoked_left b t old mid ended st (left_by_revocation forms who b (left_before b old st) t).sound are tells others
 
-  -- a token was revoked alone: those that are left have their cubbyholes
+  -- a token was revoked alone: those that are left have their cubbyholes and their leases
   pub has_revoked_alone : AreEnded b (revoke_orphan b t) ended → Tells of_tokens (table_of mid) (revoke_orphan b t)
       → HaveEnded who who b (without_parent b.tokens t) ended mid
   has_revoked_alone are tells =
       let left = left_by_one_revocation forms who b (left_before b old st) t in
       record {
         old = old;
+        mid = mid;
         represents = st;
         are = are;
         keep = λ q y is. let x = orphaned_is b.tokens t q y is in (x.0, x.1, ap (λ (z : Token). z.cubbyhole) x.2);
-        no_leases = left.served.no_leases;
         sound = left.sound;
         tells = tells;
         others = others;
+        due = λ q row. false;
+        ends = nothing_ends (table_of mid);
+        leaves = go_with_tokens b (without_parent b.tokens t) ended (record {
+          exact = are.exact;
+          kept = λ q y is. let x = orphaned_is b.tokens t q y is in (x.0, x.1, ap (λ (z : Token). z.leases) x.2);
+        });
       }
 
--- ---- rows of cubbyholes that stay
+-- ---- rows of cubbyholes and leases that stay
 
-module _ (b : Broker) (us : Tokens) (alike : (t path : Text) → object_row us t path ≡ object_row b.tokens t path) where
+module _ {who : Option Text} (b : Broker) (us : Tokens) (alike : (t path : Text) → object_row us t path ≡ object_row b.tokens t path)
+    (same : (t lease_id : Text) → lease_of (record b { tokens = us }) t lease_id ≡ lease_of b t lease_id) where
   same_cubbyholes : (k : Kind) (q : Text) → of_cubbyholes k ≡ true → rows_of b k q ≡ rows_of (record b { tokens = us }) k q
   unfolding rows_of
   same_cubbyholes kind.Cubby q h =
       ap (λ o. if has_slash q then o else None) (sym (alike (take token_len q) (drop (token_len + 1) q)))
   same_cubbyholes _ q h = absurd (false≢true h)
 
-  -- tokens that have the same cubbyholes, where nothing else has changed
-  pub rows_alike : (old new : Rows) → table_of old ≡ rows_of b → Tells of_tokens (table_of new) (record b { tokens = us })
-      → KeepsOthers of_tokens (table_of old) (table_of new) → HaveNoLeases b.tokens → HaveNoLeases us
-      → table_of new ≡ rows_of (record b { tokens = us })
-  rows_alike old new was tells others none none_after =
-      other_tokens b us (table_of old) (table_of new) was tells
-      (λ k q h. others k q (no_token k h) ∙ ap (λ (t : Table). t k q) was ∙ same_cubbyholes k q h)
-      (λ k q h. others k q (neither (of_tokens k) (of_cubbyholes k) h).0)
-      none none_after
+  -- tokens that have the same cubbyholes and leases, where nothing else has changed
+  pub rows_alike : (old new : Rows) → Represents who old b → Tells of_tokens (table_of new) (record b { tokens = us })
+      → KeepsOthers of_tokens (table_of old) (table_of new) → table_of new ≡ rows_of (record b { tokens = us })
+  rows_alike old new st tells others =
+      other_tokens b us (table_of old) (table_of new) st.rows tells
+      (λ k q h. others k q (no_token k (is_object k h).0) ∙ ap (λ (t : Table). t k q) st.rows ∙ same_cubbyholes k q h)
+      (leases_still b (record b { tokens = us }) old new st others same)
+      (λ k q h. others k q (is_elsewhere k h).0)
 
 -- ---- a renewal
 
@@ -99,8 +106,8 @@ pub represents-renewed : {who : Option Text} (b : Broker) (t : Text) (ends : ℕ
 represents-renewed {who} b t ends old new st near tells others =
     let left = left_by_renewal forms who b (left_before b old st) t ends near in
     record {
-      rows = rows_alike b (change b.tokens t (with_end ends)) (objects_renewed b.tokens t ends) old new st.rows tells others
-          st.served.no_leases left.served.no_leases;
+      rows = rows_alike b (change b.tokens t (with_end ends)) (objects_renewed b.tokens t ends)
+          (changed_leases b t (with_end ends) (λ x. refl)) old new st tells others;
       sound = left.sound;
       served = left.served;
     }
@@ -120,6 +127,18 @@ objects_made ts t x absent bare q path =
         ∙ sym (ap (option_and_then (λ (x : Token). option_map (cubby_row q) (get x.cubbyhole path))) (ap (get ts) (same_true q t is) ∙ absent))
     by false other = refl
 
+leases_made : (b : Broker) (t : Text) (x : Token) → get b.tokens t ≡ None → x.leases ≡ empty → (q lease_id : Text)
+    → lease_of (record b { tokens = put b.tokens t x }) q lease_id ≡ lease_of b q lease_id
+leases_made b t x absent none q lease_id =
+    ap (option_and_then (λ (x : Token). get x.leases lease_id)) (get-put b.tokens t x q) ∙ by (same q t) refl
+  where
+    by : (v : Bool) → same q t ≡ v
+        → option_and_then (λ (x : Token). get x.leases lease_id) (cond v (Some x) (get b.tokens q)) ≡ lease_of b q lease_id
+    by true is =
+        ap (λ m. get m lease_id) none ∙ get-empty text_cmp lease_id
+        ∙ sym (ap (option_and_then (λ (x : Token). get x.leases lease_id)) (ap (get b.tokens) (same_true q t is) ∙ absent))
+    by false other = refl
+
 module _ {who : Option Text} (b : Broker) (t : Text) (x : Token) (old : Rows) (st : Represents who old b) (can : MayBeMade forms b t x) where
   absent : get b.tokens t ≡ None
   absent = by (get b.tokens t) refl
@@ -134,8 +153,8 @@ module _ {who : Option Text} (b : Broker) (t : Text) (x : Token) (old : Rows) (s
       → Tells of_tokens (table_of mid) (with_token b t x) → KeepsOthers of_tokens (table_of old) (table_of mid)
       → Tells of_used (table_of new) (created b t x) → KeepsOthers of_used (table_of mid) (table_of new) → Represents who new (created b t x)
   represents-created mid new bare left tells others marks kept =
-      let made = rows_alike b (put b.tokens t x) (objects_made b.tokens t x absent bare) old mid st.rows tells others
-      st.served.no_leases left.served.no_leases in
+      let made = rows_alike b (put b.tokens t x) (objects_made b.tokens t x absent bare) (leases_made b t x absent can.no_lease)
+      old mid st tells others in
       record {
         rows = joined_rows of_used (table_of mid) (table_of new) (with_token b t x) (created b t x) made marks kept
             (rows_of-other_used (with_token b t x) (created b t x).used);

@@ -9,7 +9,7 @@ ghost use Rattle.records.specs.Calls.{OnAnswer, IsRequestCall};
 ghost use Rattle.broker_model.specs.parts.Tokens as part;
 ghost use Rattle.broker_rows.specs.Ending.{EndsBelow, EndsOne};
 ghost use Rattle.broker_rows.specs.Operating.{ActsAs};
-ghost use Rattle.broker_rows.specs.ReadableRow.{IsReadableDescent, IsReadableToken};
+ghost use Rattle.broker_rows.specs.ReadableRow.{IsReadableAlone, IsReadableDescent};
 ghost use Rattle.broker_rows.specs.Reads.{IsReadableName};
 ghost use Rattle.broker_rows.specs.Representing.{Represents};
 
@@ -28,8 +28,8 @@ pub(crate) fn revoke<T: RecordsTx>(
     ensures told { IsHonest (T.seen tx.new) → (who : Option Text) (b : Broker) → Represents who (T.seen tx.old).rows b
         → ActsAs who b (T.seen tx.new).rows result (Ok (part.revoke b token.now)) }
 
-    // Whatever the rows are: it is neither answered nor refused if the row of the token, or of one below it, is
-    // damaged.
+    // Whatever the rows are: it is neither answered nor refused if the row of the token is damaged, or of one below it,
+    // or of a lease of these.
     ensures readable { IsHonest (T.seen tx.new)
         → OnAnswer result (IsReadableDescent (T.seen tx.old).rows token.now) }
 
@@ -52,9 +52,10 @@ pub(crate) fn revoke_orphan<T: RecordsTx>(
     ensures told { IsHonest (T.seen tx.new) → (who : Option Text) (b : Broker) → Represents who (T.seen tx.old).rows b
         → ActsAs who b (T.seen tx.new).rows result (Ok (part.revoke_alone b token.now)) }
 
-    // Whatever the rows are: it is neither answered nor refused if the row of the token is damaged.
+    // Whatever the rows are: it is neither answered nor refused if the row of the token is damaged, or of one of its
+    // leases.
     ensures readable { IsHonest (T.seen tx.new)
-        → OnAnswer result (IsReadableToken (T.seen tx.old).rows token.now) }
+        → OnAnswer result (IsReadableAlone (T.seen tx.old).rows token.now) }
 
     // And its row goes, with that of its accessor and what belonged to it; its children have no parent then, and no
     // other row changes.
@@ -78,7 +79,7 @@ pub(crate) fn revoke_accessor<T: RecordsTx>(
         → ActsAs who b (T.seen tx.new).rows result (part.revoke_named b accessor.now) }
 
     // Whatever the rows are: it is neither answered nor refused if the row of the accessor is damaged, or that of the
-    // token that it names, or of one below it.
+    // token that it names, or of one below it, or of a lease of these.
     ensures readable { IsHonest (T.seen tx.new)
         → OnAnswer result (IsReadableName (T.seen tx.old).rows (IsReadableDescent (T.seen tx.old).rows) accessor.now) }
     ensures call { IsRequestCall (T.seen tx.old) (T.seen tx.new) result IsNotBadStart }

@@ -20,4 +20,4 @@ pub use laws::{
 pub use orphaning::revoke_one;
 pub use revoking::revoke;
 pub use single::{create, find, renew, spend};
-pub use sweeping::sweep_tokens;
+pub use sweeping::{end_due, sweep_tokens};

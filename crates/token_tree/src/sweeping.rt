@@ -39,8 +39,8 @@ fn tokens_among(alloc: Global, entries: &[Entry]) -> Result<Vec<Entry>, AllocErr
     Ok(list)
 }
 
-/// As `sweep_tokens`, from the list of all rows that are due, of which each kind of rows has its sweep.
-fn end_due<T: RecordsTx>(
+/// As `sweep_tokens`, from the list of all rows that are due, so that one list serves the sweeps of all kinds.
+pub fn end_due<T: RecordsTx>(
     alloc: Global,
     tx: &mut T,
     due: &[Entry],
@@ -48,6 +48,14 @@ fn end_due<T: RecordsTx>(
 ) -> Result<Vec<TextBuf>, Fault>
     ensures rows { IsHonest (T.seen tx.new) → AreDue (T.seen tx.old).rows clock due.now → IfOk result (λ list.
         EndsDescent (has_come clock) (T.seen tx.old).rows list.items (T.seen tx.new).rows) }
+    ensures told { OfEachBroker RepresentsTokens (T.seen tx.old) (T.seen tx.new) (λ b.
+        AreDue (T.seen tx.old).rows clock due.now
+        → OnOk result (Tells of_tokens (table (T.seen tx.new)) (without_expired b clock))) }
+    ensures ended { OfEachBroker RepresentsTokens (T.seen tx.old) (T.seen tx.new) (λ b.
+        AreDue (T.seen tx.old).rows clock due.now
+        → IfOk result (λ list. AreEnded b (without_expired b clock) list.items)) }
+    ensures wants { OfEachBroker RepresentsTokens (T.seen tx.old) (T.seen tx.new) (λ b.
+        AreDue (T.seen tx.old).rows clock due.now → IfErr result IsMemoryOrStorage) }
     ensures call { IsChange (KeepsOthers of_tokens) (T.seen tx.old) (T.seen tx.new) result
         (IsReadFault (IsHonest (T.seen tx.new) → AreDue (T.seen tx.old).rows clock due.now
         → HasDamagedDescent (has_come clock) (T.seen tx.old).rows)) }

@@ -83,3 +83,21 @@ returns-clause-rows g c honest =
       ends = λ _. record { ended = ended; left = mid; ends = ends; leaves = leaves };
     })
     (c.leave_nothing.ensures.rows honest)
+
+pub returns-clause-wants : goal.returns-clause-wants
+returns-clause-wants g c honest b st =
+    let seen = g.T.RecordsTx.seen in
+    let caller = c.args.caller.now in
+    let ended = c.deref.result.now in
+    let revoked = honest_before (seen c.revoke.new.tx) (seen c.leave_nothing.new.tx) _ c.leave_nothing.ensures.call.goes_on honest in
+    let asked = honest_before (seen c.is_spent.new.tx) (seen c.revoke.new.tx) _ c.revoke.ensures.call.goes_on revoked in
+    let old = (seen c.is_spent.new.tx).rows in
+    let mid = (seen c.revoke.new.tx).rows in
+    let still = still_represented b (seen c.args.tx.now).rows old (c.in_ok-is_spent.ensures.call.same asked) st in
+    let tokens = represents_tokens b old still in
+    let is = spent_revoked b caller old still c.in_ok-is_spent.field-0 (c.in_ok-is_spent.ensures.told asked b st) c.if-not-branch.false in
+    let are = subst (AreEnded b (revoke b caller)) (sym c.deref.ensures.value) (c.in_ok-ended.ensures.ended revoked forms b tokens) in
+    let left : HaveEnded (Some caller) None b (without_descendants b.tokens caller) ended mid =
+    revoked_left b caller old mid ended still (subst (Sound forms None) is (end_spent_sound forms (Some caller) b st.sound)) are
+    (c.in_ok-ended.ensures.told revoked forms b tokens) (c.in_ok-ended.ensures.call.others revoked) in
+    c.leave_nothing.ensures.wants honest (Some caller) None b (without_descendants b.tokens caller) left

@@ -1,25 +1,31 @@
-use Rattle.std.proofs.Common.{◌≤◌, length, sym, ◌∙◌, ap, subst, rules}
-use Rattle.std.proofs.Math.ListN.{drop_of_length-le}
-use Rattle.records.specs.Parts.{Tells, of_cubbyholes}
-use Rattle.records.specs.Table.{table_of}
-use Rattle.cubbyhole.specs.Laws.{without_cubbyholes}
-use Rattle.broker_rows.specs.Ending.{LeavesNothing}
-use Rattle.broker_rows.proofs.Ended.{ended_long, objects_lost, objects_there, represents-ended}
+use Rattle.std.proofs.Common.{rules}
+use Rattle.std.proofs.lemmas.Result.{on_ok_weaker, err_from_is_err_and}
+use Rattle.records.specs.CallLaws.{honest_before, fault_then, not_damaged}
+use Rattle.broker_rows.proofs.Ended.{represents-ended, theirs_readable}
 use Rattle.broker_rows.proofs.ending.leave_nothing.Goals as goal
 
 pub returns-clause-rows : goal.returns-clause-rows
 returns-clause-rows g c honest =
-    let left = table_of (g.T.RecordsTx.seen c.loop-token.tx).rows in
-    let past : length c.args.ended.now ≤ c.loop-token.token-index = search rules in
-    record { rows = ap (without_cubbyholes left) (sym (drop_of_length-le c.args.ended.now past)) ∙ c.loop-token.invariant.rows honest }
+    let seen = g.T.RecordsTx.seen in
+    let dropped = honest_before (seen c.drop_owners.new.tx) (seen c.drop_cubbyholes.new.tx) _ c.drop_cubbyholes.ensures.call.goes_on honest in
+    on_ok_weaker c.drop_cubbyholes.result (λ bare. record {
+      mid = (seen c.drop_owners.new.tx).rows;
+      leases = c.in_ok-drop_owners.ensures.rows dropped;
+      cubbyholes = bare;
+    }) (c.drop_cubbyholes.ensures.rows honest)
 
 pub returns-clause-told : goal.returns-clause-told
 returns-clause-told g c honest who after b us e =
     let seen = g.T.RecordsTx.seen in
-    let ended = c.args.ended.now in
     let mid = (seen c.args.tx.now).rows in
-    let new = (seen c.loop-token.tx).rows in
-    let leaves : LeavesNothing ended mid new = returns-clause-rows g c honest in
-    represents-ended b us ended mid e new leaves (subst (λ rows. Tells of_cubbyholes rows (record b { tokens = us })) (sym leaves.rows)
-    (c.ended_tokens_leave_nothing.ensures b (record b { tokens = us }) ended (table_of mid) (ended_long b us ended mid e)
-    (objects_there b us ended mid e) (objects_lost b us ended mid e)))
+    let new = (seen c.drop_cubbyholes.new.tx).rows in
+    on_ok_weaker c.drop_cubbyholes.result (λ leaves.
+    represents-ended b us c.args.ended.now mid e new leaves c.ended_tokens_leave_nothing.ensures c.leases_go_with_tokens.ensures.told)
+    (returns-clause-rows g c honest)
+
+pub returns-in_err-drop_owners-clause-wants : goal.returns-in_err-drop_owners-clause-wants
+returns-in_err-drop_owners-clause-wants g c honest who after b us e =
+    let p = err_from_is_err_and c.from_residual.result c.from_residual.ensures.1 in
+    rw (p.1, p.2)
+    (not_damaged (λ damage. damage honest (theirs_readable b us c.args.ended.now (g.T.RecordsTx.seen c.args.tx.now).rows e)) _
+    c.in_err-drop_owners.ensures.call.faults)

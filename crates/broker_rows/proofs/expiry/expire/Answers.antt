@@ -2,59 +2,58 @@ use Rattle.std.proofs.Common.{rules, sym, subst}
 use Rattle.std.specs.Prelude.{None}
 use Rattle.std.proofs.lemmas.Result.{err_from_is_err_and}
 use Rattle.broker_types.specs.Lineage.{alive_at}
-use Rattle.records.specs.CallLaws.{honest_before}
+use Rattle.records.specs.CallLaws.{honest_before, not_damaged}
 use Rattle.records.specs.ClockLaws.{with_clock}
+use Rattle.records.specs.DueRows.{AreDue}
 use Rattle.records.specs.Table.{table_of}
+use Rattle.records.specs.Transaction.{IsHonest, Rows}
 use Rattle.token_tree.specs.Ended.{has_come}
+use Rattle.token_tree.specs.Endings.{EndsDescent}
 use Rattle.token_tree.specs.Tokens.{AreEnded, without_expired}
 use Rattle.broker_model.specs.Forms.{forms}
 use Rattle.broker_rows.specs.Ending.{LeavesNothing}
-use Rattle.broker_rows.specs.EndingLaws.{leaves_others}
-use Rattle.broker_rows.specs.RepresentingLaws.{represents_tokens}
-use Rattle.broker_rows.specs.ExpiryLaws.{others_expired, damaged_still}
+use Rattle.broker_rows.specs.ExpiryLaws.{others_expired, damaged_before}
+use Rattle.broker_rows.specs.Left.{HaveEnded}
 use Rattle.broker_rows.specs.Representing.{Represents}
-use Rattle.broker_rows.proofs.Expired.{expired_then, swept_left}
+use Rattle.broker_rows.specs.RepresentingLaws.{represents_tokens, still_represented}
+use Rattle.broker_rows.proofs.Expired.{due_readable, expired_then, still_due, swept_left}
 use Rattle.broker_rows.proofs.expiry.expire.Goals as goal
 
-pub returns-in_err-ended-clause-wants : goal.returns-in_err-ended-clause-wants
-returns-in_err-ended-clause-wants g c honest b st =
+pub returns-clause-rows : goal.returns-clause-rows
+returns-clause-rows g c honest =
     let seen = g.T.RecordsTx.seen in
-    let ticked = honest_before (seen c.advance_clock.new.tx) (seen c.sweep_tokens.new.tx) _ c.sweep_tokens.ensures.call.goes_on honest in
-    let at = with_clock b c.in_ok-now.now in
-    let later = c.in_ok-now.ensures.told ticked b st in
-    let p = err_from_is_err_and c.from_residual-in_err-ended.result c.from_residual-in_err-ended.ensures.1 in
-    rw (p.1, p.2) (c.in_err-ended.ensures.wants honest forms at (represents_tokens at (seen c.advance_clock.new.tx).rows later.1))
-
-pub returns-clause-told : goal.returns-clause-told
-returns-clause-told g c honest b st =
-    let seen = g.T.RecordsTx.seen in
-    let swept = honest_before (seen c.sweep_tokens.new.tx) (seen c.leave_nothing.new.tx) _ c.leave_nothing.ensures.call.goes_on honest in
-    let ticked = honest_before (seen c.advance_clock.new.tx) (seen c.sweep_tokens.new.tx) _ c.sweep_tokens.ensures.call.goes_on swept in
     let now = c.in_ok-now.now in
-    let at = with_clock b now in
-    let old = (seen c.advance_clock.new.tx).rows in
-    let later = c.in_ok-now.ensures.told ticked b st in
-    let tokens = represents_tokens at old later.1 in
-    let are = subst (AreEnded at (without_expired at now)) (sym c.deref.ensures.value) (c.in_ok-ended.ensures.ended swept forms at tokens) in
-    let left = swept_left b c.args.moment now (seen c.args.tx.now).rows old st later.0 later.1 (seen c.sweep_tokens.new.tx).rows c.deref.result.now are
-    (c.in_ok-ended.ensures.told swept forms at tokens) (c.in_ok-ended.ensures.call.others swept) in (
-      later.0,
-      subst (Represents None (seen c.leave_nothing.new.tx).rows)
-          (expired_then b c.args.moment now (seen c.args.tx.now).rows old st later.0 later.1)
-          (c.in_ok-leave_nothing.ensures.told honest None None at (alive_at now b.tokens) left),
-    )
+    let live = honest_before (seen c.end_due-2.new.tx) (seen c.leave_nothing.new.tx) _ c.leave_nothing.ensures.call.goes_on honest in
+    let swept = honest_before (seen c.end_due.new.tx) (seen c.end_due-2.new.tx) _ c.end_due-2.ensures.call.goes_on live in
+    let asked = honest_before (seen c.due_until.new.self) (seen c.end_due.new.tx) _ c.end_due.ensures.call.goes_on swept in
+    let ticked = honest_before (seen c.advance_clock.new.tx) (seen c.due_until.new.self) _ c.due_until.ensures.call.goes_on asked in
+    let timed = (seen c.advance_clock.new.tx).rows in
+    let same = c.in_ok-due.ensures.call.same asked in
+    let listed : AreDue timed now c.deref.result.now =
+    subst (AreDue timed now) (sym c.deref.ensures.value) (c.in_ok-due.ensures.listed asked) in
+    let due = subst (λ (rows : Rows). AreDue rows now c.deref.result.now) (sym same) listed in
+    record {
+      timed = timed;
+      swept = (seen c.end_due.new.tx).rows;
+      live = (seen c.end_due-2.new.tx).rows;
+      ended = c.in_ok-ended.ended.items;
+      advances = c.in_ok-now.ensures.rows ticked;
+      ends = subst (λ (rows : Rows). EndsDescent (has_come now) rows c.in_ok-ended.ended.items (seen c.end_due.new.tx).rows) same
+          (c.in_ok-ended.ensures.rows swept due);
+      due = c.in_ok-end_due.ensures.rows live now
+          (still_due timed (seen c.due_until.new.self).rows (seen c.end_due.new.tx).rows now c.deref-2.result.now
+          (subst (AreDue timed now) (sym c.deref-2.ensures.value) (c.in_ok-due.ensures.listed asked)) same
+          (c.in_ok-ended.ensures.call.others swept));
+      leaves = subst (λ ended. LeavesNothing ended (seen c.end_due-2.new.tx).rows (seen c.leave_nothing.new.tx).rows) c.deref-3.ensures.value
+          (c.in_ok-leave_nothing.ensures.rows honest);
+    }
 
 pub returns-clause-call : goal.returns-clause-call
 returns-clause-call g c =
+    let seen = g.T.RecordsTx.seen in
     record {
       others = λ honest.
-          let seen = g.T.RecordsTx.seen in
-          let swept = honest_before (seen c.sweep_tokens.new.tx) (seen c.leave_nothing.new.tx) _ c.leave_nothing.ensures.call.goes_on honest in
-          let ticked = honest_before (seen c.advance_clock.new.tx) (seen c.sweep_tokens.new.tx) _ c.sweep_tokens.ensures.call.goes_on swept in
-          let mid = table_of (seen c.sweep_tokens.new.tx).rows in
-          others_expired (table_of (seen c.args.tx.now).rows) (table_of (seen c.advance_clock.new.tx).rows) mid (table_of (seen c.leave_nothing.new.tx).rows)
-          (c.in_ok-now.ensures.call.others ticked) (c.in_ok-ended.ensures.call.others swept)
-          (leaves_others c.deref.result.now _ _ (c.in_ok-leave_nothing.ensures.rows honest));
+          others_expired c.args.moment c.in_ok-now.now (seen c.args.tx.now).rows (seen c.leave_nothing.new.tx).rows (returns-clause-rows g c honest);
       faults = tt;
       goes_on = search rules;
     }
@@ -62,24 +61,41 @@ returns-clause-call g c =
 pub returns-clause-kept : goal.returns-clause-kept
 returns-clause-kept g c honest =
     let seen = g.T.RecordsTx.seen in
-    let swept = honest_before (seen c.sweep_tokens.new.tx) (seen c.leave_nothing.new.tx) _ c.leave_nothing.ensures.call.goes_on honest in
-    let ticked = honest_before (seen c.advance_clock.new.tx) (seen c.sweep_tokens.new.tx) _ c.sweep_tokens.ensures.call.goes_on swept in
-    let mid = (seen c.sweep_tokens.new.tx).rows in
-    damaged_still (seen c.args.tx.now).rows (seen c.advance_clock.new.tx).rows mid (seen c.leave_nothing.new.tx).rows (has_come c.in_ok-now.now)
-    c.in_ok-ended.ended.items (c.in_ok-now.ensures.call.others ticked) (c.in_ok-ended.ensures.rows swept)
-    (subst (λ ended. LeavesNothing ended mid (seen c.leave_nothing.new.tx).rows) c.deref.ensures.value (c.in_ok-leave_nothing.ensures.rows honest))
+    damaged_before c.args.moment c.in_ok-now.now (seen c.args.tx.now).rows (seen c.leave_nothing.new.tx).rows (returns-clause-rows g c honest)
 
-pub returns-clause-rows : goal.returns-clause-rows
-returns-clause-rows g c honest =
+pub returns-clause-told : goal.returns-clause-told
+returns-clause-told g c honest b st =
     let seen = g.T.RecordsTx.seen in
-    let swept = honest_before (seen c.sweep_tokens.new.tx) (seen c.leave_nothing.new.tx) _ c.leave_nothing.ensures.call.goes_on honest in
-    let ticked = honest_before (seen c.advance_clock.new.tx) (seen c.sweep_tokens.new.tx) _ c.sweep_tokens.ensures.call.goes_on swept in
-    record {
-      timed = (seen c.advance_clock.new.tx).rows;
-      swept = (seen c.sweep_tokens.new.tx).rows;
-      ended = c.in_ok-ended.ended.items;
-      advances = c.in_ok-now.ensures.rows ticked;
-      ends = c.in_ok-ended.ensures.rows swept;
-      leaves = subst (λ ended. LeavesNothing ended (seen c.sweep_tokens.new.tx).rows (seen c.leave_nothing.new.tx).rows) c.deref.ensures.value
-          (c.in_ok-leave_nothing.ensures.rows honest);
-    }
+    let now = c.in_ok-now.now in
+    let live = honest_before (seen c.end_due-2.new.tx) (seen c.leave_nothing.new.tx) _ c.leave_nothing.ensures.call.goes_on honest in
+    let swept = honest_before (seen c.end_due.new.tx) (seen c.end_due-2.new.tx) _ c.end_due-2.ensures.call.goes_on live in
+    let asked = honest_before (seen c.due_until.new.self) (seen c.end_due.new.tx) _ c.end_due.ensures.call.goes_on swept in
+    let ticked = honest_before (seen c.advance_clock.new.tx) (seen c.due_until.new.self) _ c.due_until.ensures.call.goes_on asked in
+    let at = with_clock b now in
+    let first = (seen c.args.tx.now).rows in
+    let timed = (seen c.advance_clock.new.tx).rows in
+    let old = (seen c.due_until.new.self).rows in
+    let mid = (seen c.end_due.new.tx).rows in
+    let same = c.in_ok-due.ensures.call.same asked in
+    let later = c.in_ok-now.ensures.told ticked b st in
+    let still = still_represented at timed old same later.1 in
+    let tokens = represents_tokens at old still in
+    let listed : AreDue timed now c.deref.result.now =
+    subst (AreDue timed now) (sym c.deref.ensures.value) (c.in_ok-due.ensures.listed asked) in
+    let due = subst (λ (rows : Rows). AreDue rows now c.deref.result.now) (sym same) listed in
+    let are = subst (AreEnded at (without_expired at now)) (sym c.deref-3.ensures.value) (c.in_ok-ended.ensures.ended swept forms at tokens due) in
+    let left = swept_left b c.args.moment now first old st later.0 still mid (seen c.end_due-2.new.tx).rows c.deref-3.result.now are
+    (c.in_ok-ended.ensures.told swept forms at tokens due) (c.in_ok-ended.ensures.call.others swept) (returns-clause-rows g c honest).due in (
+      later.0,
+      subst (Represents None (seen c.leave_nothing.new.tx).rows) (expired_then b c.args.moment now first old st later.0 still)
+          (c.in_ok-leave_nothing.ensures.told honest None None at (alive_at now b.tokens) left),
+    )
+
+pub returns-in_err-ended-clause-wants : goal.returns-in_err-ended-clause-wants
+returns-in_err-ended-clause-wants g c honest b st = ?
+
+pub returns-in_err-end_due-clause-wants : goal.returns-in_err-end_due-clause-wants
+returns-in_err-end_due-clause-wants g c honest b st = ?
+
+pub returns-in_err-leave_nothing-clause-wants : goal.returns-in_err-leave_nothing-clause-wants
+returns-in_err-leave_nothing-clause-wants g c honest b st = ?

@@ -6,8 +6,9 @@ use Rattle.records.specs.Transaction.{Rows, IsHonest}
 use Rattle.leases.specs.Endings.{is_owned}
 use Rattle.leases.specs.Leases.{drop_owner}
 use Rattle.leases.specs.Removed.{RemovesEach, leases_among, AreThoseThatEnd}
-use Rattle.leases.proofs.Endings.{each_readable, leases_ended, left_told, all_readable}
-use Rattle.leases.proofs.LeaseEdits.{owner_leaves}
+use Rattle.leases.proofs.Endings.{each_readable, leases_ended, left_told}
+use Rattle.leases.specs.EditLaws.{owner_leaves}
+use Rattle.leases.specs.LeftLaws.{all_readable}
 use Rattle.leases.proofs.revoking.drop_owner.Goals as goal
 
 pub returns-clause-rows : goal.returns-clause-rows

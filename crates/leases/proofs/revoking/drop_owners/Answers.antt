@@ -6,8 +6,7 @@ use Rattle.records.specs.CallLaws.{honest_before, goes_further, fault_then, not_
 use Rattle.records.specs.Transaction.{IsHonest, is_storage}
 use Rattle.records.specs.Table.{table}
 use Rattle.leases.specs.Endings.{EndsLeases, AreReadable, is_owned, are_owned}
-use Rattle.leases.proofs.Endings.{all_readable}
-use Rattle.leases.proofs.EndsAdded.{ends_added, nothing_ends, readable_after}
+use Rattle.leases.specs.LeftLaws.{all_readable, ends_added, nothing_ends, readable_after}
 use Rattle.leases.proofs.revoking.drop_owners.Goals as goal
 
 pub loop-token-preserved : goal.loop-token-preserved

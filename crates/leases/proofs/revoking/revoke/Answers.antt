@@ -8,8 +8,9 @@ use Rattle.leases.specs.Endings.{EndsLeases, is_named}
 use Rattle.leases.specs.Leases.{revoke}
 use Rattle.leases.specs.Removed.{RemovesLease}
 use Rattle.broker_types.specs.TextLaws.{same_self}
-use Rattle.leases.proofs.Endings.{one_ended, none_ended, left_told, all_readable}
-use Rattle.leases.proofs.LeaseEdits.{revoke_leaves}
+use Rattle.leases.proofs.Endings.{one_ended, none_ended, left_told}
+use Rattle.leases.specs.EditLaws.{revoke_leaves}
+use Rattle.leases.specs.LeftLaws.{all_readable}
 use Rattle.leases.proofs.revoking.revoke.Goals as goal
 
 -- ---- an unknown id

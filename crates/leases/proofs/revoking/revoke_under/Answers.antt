@@ -6,8 +6,9 @@ use Rattle.records.specs.Transaction.{Rows, IsHonest}
 use Rattle.leases.specs.Endings.{is_under}
 use Rattle.leases.specs.Leases.{revoke_under}
 use Rattle.leases.specs.Removed.{RemovesEach, leases_among, AreThoseThatEnd}
-use Rattle.leases.proofs.Endings.{each_readable, leases_ended, left_told, all_readable}
-use Rattle.leases.proofs.LeaseEdits.{under_leaves}
+use Rattle.leases.proofs.Endings.{each_readable, leases_ended, left_told}
+use Rattle.leases.specs.EditLaws.{under_leaves}
+use Rattle.leases.specs.LeftLaws.{all_readable}
 use Rattle.leases.proofs.revoking.revoke_under.Goals as goal
 
 pub returns-clause-rows : goal.returns-clause-rows

@@ -8,9 +8,10 @@ use Rattle.records.specs.Table.{table, table_of}
 use Rattle.records.specs.Transaction.{Rows}
 use Rattle.leases.specs.Endings.{EndsLeases, AreReadable, has_come}
 use Rattle.leases.specs.Leases.{without_expired}
-use Rattle.leases.proofs.Endings.{left_told, all_readable}
-use Rattle.leases.proofs.LeaseEdits.{expired_leaves}
+use Rattle.leases.proofs.Endings.{left_told}
+use Rattle.leases.specs.EditLaws.{expired_leaves}
 use Rattle.leases.proofs.Listed.{still_due}
+use Rattle.leases.specs.LeftLaws.{all_readable}
 use Rattle.leases.proofs.sweeping.sweep_leases.Goals as goal
 
 pub returns-clause-rows : goal.returns-clause-rows

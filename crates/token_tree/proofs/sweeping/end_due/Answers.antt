@@ -1,9 +1,11 @@
 use Rattle.std.proofs.Common.{IfOk, sym, subst}
-use Rattle.records.specs.CallLaws.{fault_then, each_fault}
+use Rattle.std.proofs.lemmas.Result.{IfOk-weaker}
+use Rattle.records.specs.CallLaws.{fault_then, not_damaged, each_fault}
 use Rattle.token_tree.specs.Ended.{has_come}
 use Rattle.token_tree.specs.Endings.{EndsDescent}
 use Rattle.token_tree.specs.Walks.{AreStarted, HasDamagedDescent}
 use Rattle.token_tree.proofs.Beginnings.{due_tokens}
+use Rattle.token_tree.proofs.Ends.{on_each, undamaged, expiry_told, expiry_ended}
 use Rattle.token_tree.proofs.sweeping.end_due.Goals as goal
 
 pub returns-clause-rows : goal.returns-clause-rows
@@ -27,3 +29,19 @@ returns-clause-call g c =
           c.end_all.result c.end_all.ensures.call.faults;
       goes_on = c.end_all.ensures.call.goes_on;
     }
+
+pub returns-clause-told : goal.returns-clause-told
+returns-clause-told g c honest forms b stands due =
+    on_each c.end_all.result _ (λ list ends. expiry_told forms b (g.T.RecordsTx.seen c.args.tx.now).rows stands c.args.clock list.items _ ends)
+    (returns-clause-rows g c honest due)
+
+pub returns-clause-ended : goal.returns-clause-ended
+returns-clause-ended g c honest forms b stands due =
+    IfOk-weaker c.end_all.result _ _ (λ list ends. expiry_ended forms b (g.T.RecordsTx.seen c.args.tx.now).rows stands c.args.clock list.items _ ends)
+    (returns-clause-rows g c honest due)
+
+pub returns-clause-wants : goal.returns-clause-wants
+unfolding returns-clause-call
+returns-clause-wants g c honest forms b stands due =
+    each_fault (λ f. not_damaged (λ damage. undamaged forms b (g.T.RecordsTx.seen c.args.tx.now).rows stands (has_come c.args.clock) (damage honest due)) f)
+    c.end_all.result (returns-clause-call g c).faults

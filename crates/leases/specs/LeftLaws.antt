@@ -1,5 +1,6 @@
 -- Leases that end one after another, those of tokens that ended, and brokers whose tokens have the same leases.
-use Rattle.std.specs.Prelude.{◌≡◌, ◌||◌, ◌&&◌, [], ℕ, List, Bool, true, false, if◌then◌else◌, Option, Some, None, is_some, is_none, option_and_then}
+use Rattle.std.specs.Prelude.{◌≡◌, ◌||◌, ◌&&◌, [], ℕ, List, Bool, true, false, if◌then◌else◌, Option, Some, None}
+use Rattle.std.specs.Prelude.{is_some, is_none, option_and_then}
 use Rattle.std.proofs.Common.{refl, sym, ◌∙◌, ap, inl, inr}
 use Rattle.std.proofs.lemmas.Bool.{false≢true, or_left, or_right}
 use Rattle.std.proofs.lemmas.Option.{none-some, same_Some}
@@ -13,18 +14,21 @@ use Rattle.records.specs.declared.kind.Kind.TheVariants as kind
 use Rattle.records.specs.declared.row.Row.{Row}
 use Rattle.records.specs.Children.{has}
 use Rattle.records.specs.Parts.{of_leases, Tells}
+use Rattle.records.specs.RangeLaws.{lease_in_range}
 use Rattle.records.specs.RowForms.{lease_row}
 use Rattle.records.specs.Table.{Table}
 use Rattle.leases.specs.Laws.{AreLeft}
-use Rattle.leases.specs.Endings.{Ending, AreReadable, unless_ended, EndsWith, EndsLeases, either, Leaves, are_owned, has_come}
-use Rattle.leases.specs.LeaseRows.{IsLeaseRow}
+use Rattle.leases.specs.Endings.{Ending, AreReadable, unless_ended, EndsWith, EndsLeases, either, Leaves, are_owned}
+use Rattle.leases.specs.Endings.{has_come}
+use Rattle.leases.specs.LeaseRows.{IsLeaseRow, RepresentsLeases}
 use Rattle.leases.specs.Leases.{live}
-use Rattle.leases.proofs.LeaseEdits.{expired_taken}
-use Rattle.leases.proofs.LeasesTold.{are_leases, leases_tell}
+use Rattle.leases.specs.EditLaws.{expired_taken}
+use Rattle.leases.specs.TellLaws.{are_leases, leases_tell}
 
 -- ---- brokers with the same leases
 
-pub same_rows : (b c : Broker) (rows : Table) → OnePlaceEach b → ((t id : Text) → lease_of c t id ≡ lease_of b t id) → Tells of_leases rows b
+pub same_rows : (b c : Broker) (rows : Table) → OnePlaceEach b → ((t id : Text) → lease_of c t id ≡ lease_of b t id)
+    → Tells of_leases rows b
     → Tells of_leases rows c
 same_rows b c rows one same tells =
     let are = are_leases b one rows tells in
@@ -37,7 +41,8 @@ same_rows b c rows one same tells =
 
 -- ---- one after another
 
-module _ (first second : Ending) (old mid new : Table) (one : EndsLeases first old mid) (two : EndsLeases second mid new) where
+module _ (first second : Ending) (old mid new : Table) (one : EndsLeases first old mid)
+    (two : EndsLeases second mid new) where
   -- a row that stays at first is there in between
   between : (q : Text) (row : Row) → old kind.Lease q ≡ Some row → first q row ≡ false → mid kind.Lease q ≡ Some row
   between q row is stays = one.leases q ∙ ap (unless_ended first q) is ∙ ap (λ v. if v then None else Some row) stays
@@ -47,16 +52,19 @@ module _ (first second : Ending) (old mid new : Table) (one : EndsLeases first o
   stayed q row is = elim (found_or_not (old kind.Lease q)) [
     | inl none ↦ absurd (none-some _ (sym (one.leases q ∙ ap (unless_ended first q) none) ∙ is))
     | inr s ↦
-        elim (first q s.0) as (λ v. first q s.0 ≡ v → (if v then None else Some s.0) ≡ Some row → (old kind.Lease q ≡ Some row) × (first q row ≡ false)) [
+        elim (first q s.0) as (λ v. first q s.0 ≡ v → (if v then None else Some s.0) ≡ Some row
+        → (old kind.Lease q ≡ Some row) × (first q row ≡ false)) [
           | true ↦ λ _ none. absurd (none-some _ none)
           | false ↦ λ stays some. (s.1 ∙ some, ap (first q) (sym (same_Some _ _ some)) ∙ stays)
         ] refl (sym (one.leases q ∙ ap (unless_ended first q) s.1) ∙ is)
   ]
 
-  rows_left : (q : Text) (o : Option Row) → unless_ended second q (unless_ended first q o) ≡ unless_ended (either first second) q o
+  rows_left : (q : Text) (o : Option Row) → unless_ended second q (unless_ended first q o)
+      ≡ unless_ended (either first second) q o
   rows_left q None = refl
   rows_left q (Some row) =
-      elim (first q row) as (λ v. unless_ended second q (if v then None else Some row) ≡ (if v || second q row then None else Some row)) [
+      elim (first q row) as (λ v. unless_ended second q (if v then None else Some row)
+      ≡ (if v || second q row then None else Some row)) [
         | true ↦ refl
         | false ↦ refl
       ]
@@ -65,10 +73,12 @@ module _ (first second : Ending) (old mid new : Table) (one : EndsLeases first o
   stays_gone : (q : Text) → mid kind.Credential q ≡ None → new kind.Credential q ≡ None
   stays_gone q none = elim (found_or_not (new kind.Credential q)) [
     | inl gone ↦ gone
-    | inr r ↦ absurd (none-some _ (sym (two.credentials_left q (λ w. none-some _ (sym (two.credentials_gone q w) ∙ r.1)) ∙ none) ∙ r.1))
+    | inr r ↦ absurd (none-some _ (sym (two.credentials_left q
+        (λ w. none-some _ (sym (two.credentials_gone q w) ∙ r.1)) ∙ none) ∙ r.1))
   ]
 
-  readable : (q : Text) (row : Row) → old kind.Lease q ≡ Some row → (first q row || second q row) ≡ true → IsLeaseRow row
+  readable : (q : Text) (row : Row) → old kind.Lease q ≡ Some row → (first q row || second q row) ≡ true
+      → IsLeaseRow row
   readable q row is goes =
       elim (first q row) as (λ v. first q row ≡ v → (v || second q row) ≡ true → IsLeaseRow row) [
         | true ↦ λ at _. one.readable q row is at
@@ -78,7 +88,8 @@ module _ (first second : Ending) (old mid new : Table) (one : EndsLeases first o
   gone : (q : Text) → EndsWith (either first second) old q → new kind.Credential q ≡ None
   gone q w =
       let row = lease_row w.owner w.lease in
-      elim (first w.lease_id row) as (λ v. first w.lease_id row ≡ v → (v || second w.lease_id row) ≡ true → new kind.Credential q ≡ None) [
+      elim (first w.lease_id row) as (λ v. first w.lease_id row ≡ v → (v || second w.lease_id row) ≡ true
+      → new kind.Credential q ≡ None) [
         | true ↦ λ at _. stays_gone q (one.credentials_gone q (record {
           lease_id = w.lease_id;
           owner = w.owner;
@@ -141,8 +152,18 @@ nothing_ends rows = record {
     still None = refl
     still (Some row) = refl
 
+-- the rows of a broker's leases can be read
+pub all_readable : (ends : Ending) (old : Table) (b : Broker) → RepresentsLeases old b → AreReadable ends old
+all_readable ends old b represents q row is goes =
+    let l = (are_leases b represents.one_place old represents.tells).leases q row is in (
+      l.1,
+      lease_in_range q l.1 (represents.sound l.0 q l.1 l.2),
+      l.3 ∙ ap (λ t. lease_row t l.1) (sym (ap (λ (r : Row). r.owner) l.3)),
+    )
+
 -- what can be read can be read afterwards
-pub readable_after : (ends other : Ending) (old new : Table) → EndsLeases ends old new → AreReadable other old → AreReadable other new
+pub readable_after : (ends other : Ending) (old new : Table) → EndsLeases ends old new → AreReadable other old
+    → AreReadable other new
 readable_after ends other old new ended readable q row is goes = elim (found_or_not (old kind.Lease q)) [
   | inl none ↦ absurd (none-some _ (sym (ended.leases q ∙ ap (unless_ended ends q) none) ∙ is))
   | inr s ↦
@@ -155,7 +176,8 @@ readable_after ends other old new ended readable q row is goes = elim (found_or_
 -- ---- leases of tokens that ended
 
 module _ (b : Broker) (us : Tokens) (ended : List Text) (f : Map Lease → Map Lease) (rest : Ending)
-    (taken : (t q : Text) (m : Map Lease) → get (f m) q ≡ option_and_then (λ l. if rest q (lease_row t l) then None else Some l) (get m q))
+    (taken : (t q : Text) (m : Map Lease) → get (f m) q
+    ≡ option_and_then (λ l. if rest q (lease_row t l) then None else Some l) (get m q))
     (left : AreLeft f b.tokens us ended) where
   abbrev c : Broker
   c = record b { tokens = us }
@@ -167,7 +189,8 @@ module _ (b : Broker) (us : Tokens) (ended : List Text) (f : Map Lease → Map L
   all_gone t q None = refl
   all_gone t q (Some l) = ap (λ v. if v then None else Some l) (sym (or_right (rest q (lease_row t l)) true refl))
 
-  none_gone : (t q : Text) (o : Option Lease) → option_and_then (λ l. if rest q (lease_row t l) then None else Some l) o ≡ unless false t q o
+  none_gone : (t q : Text) (o : Option Lease)
+      → option_and_then (λ l. if rest q (lease_row t l) then None else Some l) o ≡ unless false t q o
   none_gone t q None = refl
   none_gone t q (Some l) = by (rest q (lease_row t l))
     where
@@ -185,7 +208,8 @@ module _ (b : Broker) (us : Tokens) (ended : List Text) (f : Map Lease → Map L
         ∙ sym (ap (λ v. unless v t q (get x.0.leases q)) stays)
         ∙ ap (λ o. unless (has ended t) t q (option_and_then (λ (z : Token). get z.leases q) o)) (sym x.1)
     | inl none ↦ ap (option_and_then (λ (z : Token). get z.leases q)) none ∙ elim (found_or_not (get b.tokens t)) [
-      | inl nothing ↦ sym (ap (λ o. unless (has ended t) t q (option_and_then (λ (z : Token). get z.leases q) o)) nothing)
+      | inl nothing ↦ sym (ap (λ o. unless (has ended t) t q
+          (option_and_then (λ (z : Token). get z.leases q) o)) nothing)
       | inr x ↦
           let goes : has ended t ≡ true = left.exact t ∙ (λ i. is_some (x.1 i) && is_none (none i)) in
           all_gone t q (lease_of b t q) ∙ sym (ap (λ v. unless v t q (lease_of b t q)) goes)
@@ -204,4 +228,5 @@ go_with_tokens b us ended left = tokens_leave b us ended (λ m. m) (λ q row. fa
 -- and expire as tokens do
 pub expire_too : (b : Broker) (us : Tokens) (now : ℕ) (ended : List Text) → AreLeft (live now) b.tokens us ended
     → Leaves (either (has_come now) (are_owned ended)) b (record b { tokens = us })
-expire_too b us now ended left = tokens_leave b us ended (live now) (has_come now) (λ t q m. expired_taken now t q m) left
+expire_too b us now ended left = tokens_leave b us ended (live now) (has_come now)
+    (λ t q m. expired_taken now t q m) left

@@ -1,9 +1,10 @@
 -- The leases that tokens have after an edit, lease by lease.
-use Rattle.std.specs.Prelude.{◌≡◌, ℕ, nat_lt, nat_le, Bool, true, false, not, cond, if◌then◌else◌, Option, Some, None, option_and_then}
+use Rattle.std.specs.Prelude.{◌≡◌, ℕ, nat_lt, nat_le, Bool, true, false, not, cond, if◌then◌else◌, Option, Some}
+use Rattle.std.specs.Prelude.{None, option_and_then}
 use Rattle.std.specs.FinMap.{get-empty}
 use Rattle.std.specs.Option.{option_map_or}
-use Rattle.std.proofs.Common.{refl, ◌∙◌, ap, arith}
-use Rattle.std.proofs.lemmas.Bool.Decides.{nat_tests}
+use Rattle.std.proofs.Common.{refl, ◌∙◌, ap}
+use Rattle.std.proofs.lemmas.Bool.{le-ltb, lt-ltb, leb-true, leb-false}
 use Rattle.broker_types.specs.Text.{Text, text_cmp, same}
 use Rattle.broker_types.specs.Map.{Map, get, empty, without, keep}
 use Rattle.broker_types.specs.MapLaws.{get-without, get-keep}
@@ -17,12 +18,14 @@ use Rattle.leases.specs.Endings.{Leaves}
 
 -- an edit that takes out what ends
 leaves_by : (b : Broker) (edit : Text → Map Lease → Map Lease) (ends : rows.Ending)
-    → ((t q : Text) (m : Map Lease) → get (edit t m) q ≡ option_and_then (λ l. if ends q (lease_row t l) then None else Some l) (get m q))
+    → ((t q : Text) (m : Map Lease) → get (edit t m) q
+    ≡ option_and_then (λ l. if ends q (lease_row t l) then None else Some l) (get m q))
     → Leaves ends b (edited b edit)
 leaves_by b edit ends taken t q = lease_of-edited b edit t q ∙ inner (get b.tokens t)
   where
     inner : (o : Option Token) → option_and_then (λ (x : Token). get (edit t x.leases) q) o
-        ≡ option_and_then (λ l. if ends q (lease_row t l) then None else Some l) (option_and_then (λ (x : Token). get x.leases q) o)
+        ≡ option_and_then (λ l. if ends q (lease_row t l) then None else Some l)
+        (option_and_then (λ (x : Token). get x.leases q) o)
     inner None = refl
     inner (Some x) = taken t q x.leases
 
@@ -38,7 +41,8 @@ all_left None = refl
 all_left (Some l) = refl
 
 pub revoke_leaves : (b : Broker) (id : Text) → Leaves (rows.is_named id) b (revoke b id)
-revoke_leaves b id = leaves_by b (λ t m. without m id) (rows.is_named id) (λ t q m. get-without m id q ∙ inner (same q id) (get m q))
+revoke_leaves b id = leaves_by b (λ t m. without m id) (rows.is_named id)
+    (λ t q m. get-without m id q ∙ inner (same q id) (get m q))
   where
     inner : (v : Bool) (o : Option Lease) → cond v None o ≡ unless v o
     inner true o = none_left o
@@ -61,8 +65,12 @@ owner_leaves b t =
     inner true q m = get-empty text_cmp q ∙ none_left (get m q)
     inner false q m = all_left (get m q)
 
+-- not at or before, and so later
 turned : (m n : ℕ) → nat_lt m n ≡ not (nat_le n m)
-turned m n = grind (arith, nat_tests)
+turned m n = elim (nat_le n m) as (λ v. nat_le n m ≡ v → nat_lt m n ≡ not v) [
+  | true ↦ λ is. le-ltb m n (leb-true n m is)
+  | false ↦ λ is. lt-ltb m n (leb-false n m is)
+] refl
 
 -- the leases that end later
 pub expired_taken : (now : ℕ) (t q : Text) (m : Map Lease)

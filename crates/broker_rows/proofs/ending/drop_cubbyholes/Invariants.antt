@@ -2,7 +2,7 @@ use Rattle.std.proofs.Common.{◌≡◌, false, drop}
 use Rattle.records.specs.Table.{table_of}
 use Rattle.records.specs.Transaction.{IsHonest, GoesOn}
 use Rattle.cubbyhole.specs.Laws.{without_cubbyholes}
-use Rattle.broker_rows.proofs.ending.leave_nothing.Given as goal
+use Rattle.broker_rows.proofs.ending.drop_cubbyholes.Given as goal
 
 -- to drop what is left leads to the same rows
 abbrev pub invariant-loop-token : goal.invariant-loop-token
