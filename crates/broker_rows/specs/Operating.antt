@@ -48,3 +48,10 @@ abbrev pub Performs : Option Text → Context → List Text → Seen → Seen �
 Performs who x own old new does result =
     IsHonest new → (b : Broker) → Begins who x old.rows b → are_new b.used own ≡ true
     → ActsAs who b new.rows result (does b)
+
+-- the same for this caller
+abbrev pub PerformsBy : Caller → Context → List Text → Seen → Seen → (Broker → Result Done Refusal)
+    → Result Answered RequestError → Type 0
+PerformsBy c x own old new does result =
+    IsHonest new → (b : Broker) → BeginsBy c x old.rows b → are_new b.used own ≡ true
+    → ActsAs (Some c.token) b new.rows result (does b)

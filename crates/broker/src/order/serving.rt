@@ -25,7 +25,7 @@ ghost use Rattle.broker.specs.Stages.{IsServed};
 use crate::answers::PERMISSION_DENIED;
 use crate::command::{Command, own_identifiers, read_command};
 use crate::order::finishing::finish;
-use crate::order::permission::is_permitted;
+use crate::order::permission::permitted;
 use crate::order::routing::find_route;
 use broker_rows::{Answered, Caller, Context, are_new};
 use broker_types::{Answer, Ask, Fault, Refusal, RequestError};
@@ -41,27 +41,28 @@ pub(crate) fn answer_caller<T: RecordsTx>(
     alloc: Global,
     tx: &mut T,
     context: &Context<'_>,
-    caller: &Caller<'_>,
+    caller: Caller<'_>,
     ask: &Ask<'_>,
 ) -> Result<Answer, Fault>
-    requires { IsTokenInRange caller.now.entry }
-    ensures told { IsHonest (T.seen tx.new) → (b : Broker) → BeginsBy caller.now context.now (T.seen tx.old).rows b
-        → IfOk result (λ a. Gives a (T.seen tx.new).rows (order.finish b (Some caller.now.token)
-        (served b caller.now.token (names_of context.now.words) ask.now))) }
+    requires { IsTokenInRange caller.entry }
+    ensures told { IsHonest (T.seen tx.new) → (b : Broker) → BeginsBy caller context.now (T.seen tx.old).rows b
+        → IfOk result (λ a. Gives a (T.seen tx.new).rows (order.finish b (Some caller.token)
+        (served b caller.token (names_of context.now.words) ask.now))) }
 
     // Whatever the rows are: they decide whether the caller may ask. If it may, it is not answered if a row that its
     // command reads is damaged; else it is told that it may not, and nothing is done. Either way it has ended then, if
     // it has no uses left.
-    ensures readable { IsHonest (T.seen tx.new) → IsCallerAt (T.seen tx.old).rows caller.now
-        → IfOk result (λ a. IsCarriedOutOrForbidden (T.seen tx.old).rows (T.seen tx.new).rows caller.now.token ask.now
+    ensures readable { IsHonest (T.seen tx.new) → IsCallerAt (T.seen tx.old).rows caller
+        → IfOk result (λ a. IsCarriedOutOrForbidden (T.seen tx.old).rows (T.seen tx.new).rows caller.token ask.now
         (response_of a)) }
     ensures safely { AnswersSafely (T.seen tx.old) (T.seen tx.new)
-        (BeginsBy caller.now context.now (T.seen tx.old).rows) result }
+        (BeginsBy caller context.now (T.seen tx.old).rows) result }
     ensures faults { IfErr result IsNotBadStart }
 {
+    let token = caller.token;
     match serve(alloc, tx, context, caller, ask) {
-        Ok(answered) => finish(alloc, tx, caller.token, Ok(answered)),
-        Err(RequestError::Refused(refusal)) => finish(alloc, tx, caller.token, Err(refusal)),
+        Ok(answered) => finish(alloc, tx, token, Ok(answered)),
+        Err(RequestError::Refused(refusal)) => finish(alloc, tx, token, Err(refusal)),
         Err(RequestError::Fault(fault)) => Err(fault),
     }
 }
@@ -71,25 +72,25 @@ fn serve<T: RecordsTx>(
     alloc: Global,
     tx: &mut T,
     context: &Context<'_>,
-    caller: &Caller<'_>,
+    caller: Caller<'_>,
     ask: &Ask<'_>,
 ) -> Result<Answered, RequestError>
-    requires { IsTokenInRange caller.now.entry }
-    ensures told { IsHonest (T.seen tx.new) → (b : Broker) → BeginsBy caller.now context.now (T.seen tx.old).rows b
-        → Ends (IsServed (Some caller.now.token) (T.seen tx.new).rows)
-        (Represents (Some caller.now.token) (T.seen tx.new).rows b)
-        result (served b caller.now.token (names_of context.now.words) ask.now) }
+    requires { IsTokenInRange caller.entry }
+    ensures told { IsHonest (T.seen tx.new) → (b : Broker) → BeginsBy caller context.now (T.seen tx.old).rows b
+        → Ends (IsServed (Some caller.token) (T.seen tx.new).rows)
+        (Represents (Some caller.token) (T.seen tx.new).rows b)
+        result (served b caller.token (names_of context.now.words) ask.now) }
 
     // Whatever the rows are: they decide whether the caller may ask. If it may, it is neither answered nor refused if
     // a row that its command reads is damaged; else it is refused, and no row changes.
-    ensures readable { IsHonest (T.seen tx.new) → IsCallerAt (T.seen tx.old).rows caller.now
-        → OnAnswer result (MayBeDone (T.seen tx.old).rows caller.now.token ask.now
-        ⊎ IsForbidden (T.seen tx.old).rows (T.seen tx.new).rows caller.now.token ask.now result) }
+    ensures readable { IsHonest (T.seen tx.new) → IsCallerAt (T.seen tx.old).rows caller
+        → OnAnswer result (MayBeDone (T.seen tx.old).rows caller.token ask.now
+        ⊎ IsForbidden (T.seen tx.old).rows (T.seen tx.new).rows caller.token ask.now result) }
     ensures call { IsRequestCall (T.seen tx.old) (T.seen tx.new) result IsNotBadStart }
 {
     let path = ask.path.as_str();
     let found = find_route(alloc, tx, ask.verb, path)?;
-    if !is_permitted(alloc, tx, caller, ask.verb, path, &found)? {
+    if permitted(alloc, tx, &caller, ask.verb, path, &found)?.is_none() {
         return Err(RequestError::Refused(PERMISSION_DENIED));
     }
     let command = read_command(alloc, ask, &found?)?;

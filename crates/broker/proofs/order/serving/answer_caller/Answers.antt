@@ -16,7 +16,7 @@ use Rattle.broker.proofs.order.serving.answer_caller.Goals as goal
 pub returns-in-Ok-clause-told : goal.returns-in-Ok-clause-told
 returns-in-Ok-clause-told g c honest b begins =
     let seen = g.T.RecordsTx.seen in
-    let caller = c.args.caller.now.token in
+    let caller = c.args.caller.token in
     let left = honest_before (seen c.serve.new.tx) (seen c.finish.new.tx) _ c.finish.ensures.call.goes_on honest in
     let m : Result Wrapped Refusal = served b caller (names_of c.args.context.now.words) c.args.ask.now in
     c.finish.ensures.told honest b m (c.in-Ok.ensures.told left b begins)
@@ -24,7 +24,7 @@ returns-in-Ok-clause-told g c honest b begins =
 pub returns-in-Ok-clause-safely : goal.returns-in-Ok-clause-safely
 returns-in-Ok-clause-safely g c =
     let seen = g.T.RecordsTx.seen in
-    let caller = c.args.caller.now.token in
+    let caller = c.args.caller.token in
     record {
       room = c.finish.ensures.room;
       listed = c.finish.ensures.listed;
@@ -38,7 +38,7 @@ returns-in-Ok-clause-safely g c =
 pub returns-in-Err-Refused-clause-told : goal.returns-in-Err-Refused-clause-told
 returns-in-Err-Refused-clause-told g c honest b begins =
     let seen = g.T.RecordsTx.seen in
-    let caller = c.args.caller.now.token in
+    let caller = c.args.caller.token in
     let left = honest_before (seen c.serve.new.tx) (seen c.finish-in-Err-Refused.new.tx) _ c.finish-in-Err-Refused.ensures.call.goes_on honest in
     let m : Result Wrapped Refusal = served b caller (names_of c.args.context.now.words) c.args.ask.now in
     c.finish-in-Err-Refused.ensures.told honest b m
@@ -47,7 +47,7 @@ returns-in-Err-Refused-clause-told g c honest b begins =
 pub returns-in-Err-Refused-clause-safely : goal.returns-in-Err-Refused-clause-safely
 returns-in-Err-Refused-clause-safely g c =
     let seen = g.T.RecordsTx.seen in
-    let caller = c.args.caller.now.token in
+    let caller = c.args.caller.token in
     record {
       room = c.finish-in-Err-Refused.ensures.room;
       listed = c.finish-in-Err-Refused.ensures.listed;
@@ -72,7 +72,7 @@ returns-in-Err-Fault-clause-safely g c =
 pub returns-in-Ok-clause-readable : goal.returns-in-Ok-clause-readable
 returns-in-Ok-clause-readable g c honest there =
     let seen = g.T.RecordsTx.seen in
-    let caller = c.args.caller.now.token in
+    let caller = c.args.caller.token in
     let old = (seen c.args.tx.now).rows in
     let left = honest_before (seen c.serve.new.tx) (seen c.finish.new.tx) _ c.finish.ensures.call.goes_on honest in
     let done = (seen c.serve.new.tx).rows in
@@ -84,7 +84,7 @@ returns-in-Ok-clause-readable g c honest there =
 pub returns-in-Err-Refused-clause-readable : goal.returns-in-Err-Refused-clause-readable
 returns-in-Err-Refused-clause-readable g c honest there =
     let seen = g.T.RecordsTx.seen in
-    let caller = c.args.caller.now.token in
+    let caller = c.args.caller.token in
     let ask = c.args.ask.now in
     let old = (seen c.args.tx.now).rows in
     let done = (seen c.serve.new.tx).rows in

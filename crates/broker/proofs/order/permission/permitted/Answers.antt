@@ -19,7 +19,7 @@ use Rattle.broker_rows.specs.RepresentingLaws.{named_policies_there, still_repre
 use Rattle.broker.specs.PermittedRows.{has_row}
 use Rattle.broker.proofs.Permitted.{allowed_here, entry_told}
 use Rattle.broker.proofs.Serving.{entry_here}
-use Rattle.broker.proofs.order.permission.is_permitted.Goals as goal
+use Rattle.broker.proofs.order.permission.permitted.Goals as goal
 
 pub returns-in_err-rules-clause-wants : goal.returns-in_err-rules-clause-wants
 returns-in_err-rules-clause-wants g c honest b st =
@@ -35,8 +35,18 @@ returns-clause-told g c honest b st caller routed =
     let seen = g.T.RecordsTx.seen in
     let old = (seen c.args.tx.now).rows in
     let who = c.args.caller.now in
-    let path = c.args.path.now in
-    let verb = c.args.verb in
     let mid = honest_before (seen c.capability.new.tx) (seen c.rules_of.new.tx) _ c.in_ok-rules.ensures.call.goes_on honest in
     let still = still_represented b old (seen c.capability.new.tx).rows (c.in_ok-asked.ensures.call.same mid) st in
+    ?
+
+pub returns-then-not-may-clause-told : goal.returns-then-not-may-clause-told
+returns-then-not-may-clause-told g c honest b st caller routed =
+    ?
+
+pub returns-clause-found : goal.returns-clause-found
+returns-clause-found g c honest at mount known routed =
+    ?
+
+pub returns-clause-rules : goal.returns-clause-rules
+returns-clause-rules g c honest =
     ?
