@@ -54,9 +54,9 @@ entry_told P (Some x) found entry e some = ap (λ (z : TokenEntry). P z.policies
 -- so it may ask what the rules allow
 pub permitted_told : (b : Broker) (c : Caller) (verb : Verb) (path : Text) (found : Result Route Refusal) (asked : Capability) (rules : Rules) (v : Bool)
     → IsCallerOf b c → found ≡ route_of b.mounts verb path → asked ≡ asked_by (has_stored b c.token) verb found
-    → rules ≡ rules_of b.policies c.entry.policies verb → v ≡ may rules path asked → v ≡ permits b (Some c.token) verb path
+    → rules ≡ rules_of b.policies c.known.policies verb → v ≡ may rules path asked → v ≡ permits b (Some c.token) verb path
 permitted_told b c verb path found asked rules v here routed asks said is =
     let allowed : List Text → Bool =
     λ (ns : List Text). may (rules_of b.policies ns verb) path (capabilities.asked b c.token verb path) in
     is ∙ (λ i. may (said i) path ((asks ∙ ap (asked_by (has_stored b c.token) verb) routed) i))
-    ∙ entry_told allowed (get b.tokens c.token) (Some c.entry) c.entry here refl
+    ∙ entry_told allowed (get b.tokens c.token) (Some c.known) c.known here refl

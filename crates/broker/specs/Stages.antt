@@ -30,13 +30,13 @@ IsCaller b token rows None =
 -- The caller is the client token, and has spent a use; or no row has changed, and there is none of the client token.
 abbrev pub SpendsAsCaller : Option Text → Rows → Rows → Option Caller → Type 0
 SpendsAsCaller token old new (Some c) =
-    (token ≡ Some c.token) × SpendsUse c.token (table_of old) (table_of new) (Some c.entry)
+    (token ≡ Some c.token) × SpendsUse c.token (table_of old) (table_of new) (Some c.known)
 SpendsAsCaller token old new None =
     ((t : Text) → token ≡ Some t → map.get new (kind.Token, t) ≡ None) × (new ≡ old)
 
 -- what the row of the caller says can be kept, if there is a caller
 abbrev pub IsCallerInRange : Option Caller → Type 0
-IsCallerInRange = IsSomeIn (λ c. IsTokenInRange c.entry)
+IsCallerInRange = IsSomeIn (λ c. IsTokenInRange c.known)
 
 -- the same of an operation whose reply may have been wrapped
 abbrev pub IsServed : Option Text → Rows → Answered → Wrapped → Type 0

@@ -15,15 +15,15 @@ use Rattle.policies.specs.Rules.{Rules}
 -- its token, and what the row of this token says
 pub record Caller : Type 0 where
   pub token : Text
-  pub entry : TokenEntry
+  pub known : TokenEntry
 
 -- the rows say this of the caller
 abbrev pub IsCallerAt : Rows → Caller → Type 0
-IsCallerAt rows c = IsTokenAt (table_of rows) c.token (Some c.entry)
+IsCallerAt rows c = IsTokenAt (table_of rows) c.token (Some c.known)
 
 -- the caller is a token of the broker
 abbrev pub IsCallerOf : Broker → Caller → Type 0
-IsCallerOf b c = Some c.entry ≡ option_map token_entry (get b.tokens c.token)
+IsCallerOf b c = Some c.known ≡ option_map token_entry (get b.tokens c.token)
 
 -- The rows of the policies of these names can be read, where they are there, and these are their rules for what is asked
 -- for with a verb.

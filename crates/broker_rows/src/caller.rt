@@ -7,7 +7,7 @@ pub struct Caller<'r> {
     /// Its token.
     pub token: &'r str,
     /// What the row of its token says, once a use is spent.
-    pub entry: TokenRecord,
+    pub known: TokenRecord,
 }
 
 impl<'r> Model for Caller<'r> {
@@ -15,5 +15,5 @@ impl<'r> Model for Caller<'r> {
 
     ghost Value = { spec.Caller };
 
-    ghost view = { λ c. record { token = c.token.now; entry = c.entry } };
+    ghost view = { λ c. record { token = c.token.now; known = c.known } };
 }

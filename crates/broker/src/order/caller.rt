@@ -35,8 +35,8 @@ pub(crate) fn find_caller<'a, T: RecordsTx>(
         return Ok(None);
     };
     let token = token.as_str();
-    let Some(entry) = spend(alloc, tx, token)? else {
+    let Some(known) = spend(alloc, tx, token)? else {
         return Ok(None);
     };
-    Ok(Some(Caller { token, entry }))
+    Ok(Some(Caller { token, known }))
 }

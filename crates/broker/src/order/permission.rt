@@ -35,7 +35,7 @@ pub(crate) fn permitted<T: RecordsTx>(
     path: &str,
     found: &Result<Route<'_>, Refusal>,
 ) -> Result<Option<Rules>, Fault>
-    requires { IsTokenInRange caller.now.entry }
+    requires { IsTokenInRange caller.now.known }
     ensures told { IsHonest (T.seen tx.new) → (b : Broker)
         → Represents (Some caller.now.token) (T.seen tx.old).rows b → IsCallerOf b caller.now
         → found.now ≡ route_of b.mounts verb path.now
@@ -48,14 +48,14 @@ pub(crate) fn permitted<T: RecordsTx>(
         → IsKnownAt (table (T.seen tx.old)) (cut path.now).0 mount → found.now ≡ route_at mount verb path.now
         → IfOk result (λ rules. IsPermittedAt (T.seen tx.old).rows caller.now.token verb path.now (is_some rules)) }
     ensures rules { IsHonest (T.seen tx.new)
-        → IfOk result (IsSomeIn (AreRulesAt (T.seen tx.old).rows caller.now.entry.policies verb)) }
+        → IfOk result (IsSomeIn (AreRulesAt (T.seen tx.old).rows caller.now.known.policies verb)) }
 
     // And it fails as damaged only if the row of one of the caller's policies is.
     ensures call { IsReading (T.seen tx.old) (T.seen tx.new) result
-        (IsReadFault (IsHonest (T.seen tx.new) → Any (IsUnreadable (table (T.seen tx.old))) caller.now.entry.policies)) }
+        (IsReadFault (IsHonest (T.seen tx.new) → Any (IsUnreadable (table (T.seen tx.old))) caller.now.known.policies)) }
 {
     let asked = capability(alloc, tx, caller.token, verb, found)?;
-    let rules = rules_of(alloc, tx, &caller.entry.policies, verb)?;
+    let rules = rules_of(alloc, tx, &caller.known.policies, verb)?;
     if !may(&rules, path, asked) {
         return Ok(None);
     }

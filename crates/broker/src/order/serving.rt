@@ -44,19 +44,19 @@ pub(crate) fn answer_caller<T: RecordsTx>(
     caller: Caller<'_>,
     ask: &Ask<'_>,
 ) -> Result<Answer, Fault>
-    requires { IsTokenInRange caller.entry }
-    ensures told { IsHonest (T.seen tx.new) → (b : Broker) → BeginsBy caller context.now (T.seen tx.old).rows b
-        → IfOk result (λ a. Gives a (T.seen tx.new).rows (order.finish b (Some caller.token)
-        (served b caller.token (names_of context.now.words) ask.now))) }
+    requires { IsTokenInRange caller.known }
+    ensures told { IsHonest (T.seen tx.new) → (b : Broker) → BeginsBy caller.entry context.now (T.seen tx.old).rows b
+        → IfOk result (λ a. Gives a (T.seen tx.new).rows (order.finish b (Some caller.entry.token)
+        (served b caller.entry.token (names_of context.now.words) ask.now))) }
 
     // Whatever the rows are: they decide whether the caller may ask. If it may, it is not answered if a row that its
     // command reads is damaged; else it is told that it may not, and nothing is done. Either way it has ended then, if
     // it has no uses left.
-    ensures readable { IsHonest (T.seen tx.new) → IsCallerAt (T.seen tx.old).rows caller
-        → IfOk result (λ a. IsCarriedOutOrForbidden (T.seen tx.old).rows (T.seen tx.new).rows caller.token ask.now
+    ensures readable { IsHonest (T.seen tx.new) → IsCallerAt (T.seen tx.old).rows caller.entry
+        → IfOk result (λ a. IsCarriedOutOrForbidden (T.seen tx.old).rows (T.seen tx.new).rows caller.entry.token ask.now
         (response_of a)) }
     ensures safely { AnswersSafely (T.seen tx.old) (T.seen tx.new)
-        (BeginsBy caller context.now (T.seen tx.old).rows) result }
+        (BeginsBy caller.entry context.now (T.seen tx.old).rows) result }
     ensures faults { IfErr result IsNotBadStart }
 {
     let token = caller.token;
@@ -75,17 +75,17 @@ fn serve<T: RecordsTx>(
     caller: Caller<'_>,
     ask: &Ask<'_>,
 ) -> Result<Answered, RequestError>
-    requires { IsTokenInRange caller.entry }
-    ensures told { IsHonest (T.seen tx.new) → (b : Broker) → BeginsBy caller context.now (T.seen tx.old).rows b
-        → Ends (IsServed (Some caller.token) (T.seen tx.new).rows)
-        (Represents (Some caller.token) (T.seen tx.new).rows b)
-        result (served b caller.token (names_of context.now.words) ask.now) }
+    requires { IsTokenInRange caller.known }
+    ensures told { IsHonest (T.seen tx.new) → (b : Broker) → BeginsBy caller.entry context.now (T.seen tx.old).rows b
+        → Ends (IsServed (Some caller.entry.token) (T.seen tx.new).rows)
+        (Represents (Some caller.entry.token) (T.seen tx.new).rows b)
+        result (served b caller.entry.token (names_of context.now.words) ask.now) }
 
     // Whatever the rows are: they decide whether the caller may ask. If it may, it is neither answered nor refused if
     // a row that its command reads is damaged; else it is refused, and no row changes.
-    ensures readable { IsHonest (T.seen tx.new) → IsCallerAt (T.seen tx.old).rows caller
-        → OnAnswer result (MayBeDone (T.seen tx.old).rows caller.token ask.now
-        ⊎ IsForbidden (T.seen tx.old).rows (T.seen tx.new).rows caller.token ask.now result) }
+    ensures readable { IsHonest (T.seen tx.new) → IsCallerAt (T.seen tx.old).rows caller.entry
+        → OnAnswer result (MayBeDone (T.seen tx.old).rows caller.entry.token ask.now
+        ⊎ IsForbidden (T.seen tx.old).rows (T.seen tx.new).rows caller.entry.token ask.now result) }
     ensures call { IsRequestCall (T.seen tx.old) (T.seen tx.new) result IsNotBadStart }
 {
     let path = ask.path.as_str();

@@ -32,7 +32,7 @@ pub returns-clause-told : goal.returns-clause-told
 returns-clause-told g c honest b st caller routed =
     let seen = g.T.RecordsTx.seen in
     let old = (seen c.args.tx.now).rows in
-    let who : Caller = record { token = c.caller.inside.token.now; entry = c.caller.inside.entry } in
+    let who : Caller = record { token = c.caller.inside.token.now; known = c.caller.inside.known } in
     let mid = honest_before (seen c.capability.new.tx) (seen c.rules_of.new.tx) _ c.in_ok-rules.ensures.call.goes_on honest in
     let begins = subst (λ (x : Caller). Represents (Some x.token) old b) (sym c.caller.view_is) st in
     let here : IsCallerOf b who = subst (IsCallerOf b) (sym c.caller.view_is) caller in
