@@ -135,16 +135,6 @@ pub objects_unspent : (old new : Rows) (t path : Text) → ChangesToken t spent_
 objects_unspent old new t path spent r =
     (r.0, r.1, sym (others_unspent old new t spent kind.Cubby (object_key t path) refl) ∙ r.2)
 
--- tokens have expired, and the caller has spent a use
-pub at_command : (moment now : ℕ) (t : Text) (old expired new : Rows) → new ≡ expired → Expires moment now old expired → (rows : Rows)
-    → ChangesToken t spent_entry (table_of new) (table_of rows) → AreAtCommand moment t old rows
-at_command moment now t old expired new same_rows expires rows spends = record {
-  now = now;
-  expired = new;
-  expires = subst (Expires moment now old) (sym same_rows) expires;
-  spends = spends;
-}
-
 -- ---- whether it may be asked
 
 -- what is refused for its body means no command

@@ -1,5 +1,5 @@
 -- What holds of every answer over a transaction, whatever is asked (this project's definition).
-use Rattle.std.specs.Prelude.{Result, None, IfOk, IfErr}
+use Rattle.std.specs.Prelude.{Result, IfOk, IfErr}
 use Rattle.broker_types.specs.Answer.{HasRoom, response_of}
 use Rattle.broker_types.specs.Broker.{Broker}
 use Rattle.broker_types.specs.Fault.{IsMemoryOrStorage}
@@ -7,15 +7,14 @@ use Rattle.broker_types.specs.declared.answer.Answer.{Answer}
 use Rattle.broker_types.specs.declared.fault.Fault.{Fault}
 use Rattle.records.specs.Transaction.{Seen, IsHonest, GoesOn, is_storage}
 use Rattle.broker_model.specs.Listed.{IsListed}
-use Rattle.broker_rows.specs.Representing.{Represents}
 
--- P is what is known of the broker and of the request
+-- P is what is known of the broker and of the request, among others that the rows represent the broker
 pub record AnswersSafely (old new : Seen) (P : Broker → Type 0) (result : Result Answer Fault) : Type 0 where
   -- the room for the reply is reserved before anybody can commit
   pub room : IfOk result HasRoom
   -- whatever the rows are, the answer is a success or a listed refusal
   pub listed : IfOk result (λ a. IsListed (response_of a))
   -- on the rows of a broker no row is damaged or missing: it ran out of memory, or the storage failed
-  pub wants : IsHonest new → (b : Broker) → Represents None old.rows b → P b → IfErr result IsMemoryOrStorage
+  pub wants : IsHonest new → (b : Broker) → P b → IfErr result IsMemoryOrStorage
   -- `Storage` comes only from the transaction, which has then failed
   pub goes_on : GoesOn old new (is_storage result)

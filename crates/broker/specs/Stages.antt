@@ -1,30 +1,42 @@
 -- What the steps of a request leave (this project's definition).
-use Rattle.std.specs.Prelude.{◌≡◌, ◌≢◌, if◌then◌else◌, is_some, Option, Some, None, Result, Ok, Err}
+use Rattle.std.specs.Prelude.{◌≡◌, Option, Some, None, Result, Ok, Err}
 use Rattle.std.specs.FinMap as map
 use Rattle.broker_types.specs.Text.{Text}
-use Rattle.broker_types.specs.Map.{get}
 use Rattle.broker_types.specs.Broker.{Broker}
 use Rattle.broker_types.specs.RequestError.{EndsOk, EndsRefused}
+use Rattle.broker_types.specs.Spending.{spend}
 use Rattle.broker_types.specs.declared.refusal.Refusal.{Refusal}
 use Rattle.records.specs.declared.kind.Kind.TheVariants as kind
+use Rattle.records.specs.Ranges.{IsTokenInRange}
+use Rattle.records.specs.Reading.{IsSomeIn}
+use Rattle.records.specs.Table.{table_of}
 use Rattle.records.specs.Transaction.{Rows}
+use Rattle.token_tree.specs.TokenRows.{SpendsUse}
 use Rattle.broker_model.specs.Order.{Outcome, Wrapped, for_caller, denied}
+use Rattle.broker_rows.specs.Caller.{Caller, IsCallerOf}
 use Rattle.broker_rows.specs.Representing.{Represents}
 use Rattle.broker_rows.specs.declared.answered.Answered.{Answered}
 use Rattle.broker_rows.specs.Done.{IsDone}
 
--- The client token is looked for, and the rows represent a broker then. It is that of the caller, which is there; or
--- there is no caller, and the ask is denied.
-abbrev pub IsCaller : Broker → Option Text → Rows → Option Text → Type 0
-IsCaller b token rows (Some t) =
-    ((go : Text → Outcome) → for_caller b token go ≡ go t) × (get b.tokens t ≢ None) × Represents None rows b
+-- The client token is looked for. It is that of the caller, which has spent a use, and the rows represent a broker then;
+-- or there is no caller, and the ask is denied.
+abbrev pub IsCaller : Broker → Option Text → Rows → Option Caller → Type 0
+IsCaller b token rows (Some c) =
+    ((go : Text → Outcome) → for_caller b token go ≡ go c.token) × IsCallerOf (spend b c.token) c
+    × Represents (Some c.token) rows (spend b c.token)
 IsCaller b token rows None =
     (c : Broker) × ((go : Text → Outcome) → for_caller b token go ≡ denied c) × Represents None rows c
 
--- the client token, if there is a row of it
-abbrev pub token_in : Rows → Option Text → Option Text
-token_in rows None = None
-token_in rows (Some t) = if is_some (map.get rows (kind.Token, t)) then Some t else None
+-- The caller is the client token, and has spent a use; or no row has changed, and there is none of the client token.
+abbrev pub SpendsAsCaller : Option Text → Rows → Rows → Option Caller → Type 0
+SpendsAsCaller token old new (Some c) =
+    (token ≡ Some c.token) × SpendsUse c.token (table_of old) (table_of new) (Some c.known)
+SpendsAsCaller token old new None =
+    ((t : Text) → token ≡ Some t → map.get new (kind.Token, t) ≡ None) × (new ≡ old)
+
+-- what the row of the caller says can be kept, if there is a caller
+abbrev pub IsCallerInRange : Option Caller → Type 0
+IsCallerInRange = IsSomeIn (λ c. IsTokenInRange c.known)
 
 -- the same of an operation whose reply may have been wrapped
 abbrev pub IsServed : Option Text → Rows → Answered → Wrapped → Type 0

@@ -1,3 +1,4 @@
+pub mod Caller
 pub mod ClockRow
 pub mod Context
 pub mod Done

@@ -15,6 +15,7 @@ use Rattle.mounts.specs.Route.{Route}
 use Rattle.mounts.specs.Table.{takes_parameter}
 use Rattle.mounts.specs.declared.operation.Operation.TheVariants.{Secrets}
 use Rattle.mounts.specs.declared.operation.SecretOperation.{SecretOperation}
+use Rattle.broker_rows.specs.Caller.{Caller, IsCallerOf}
 use Rattle.broker_rows.specs.Context.{Context}
 use Rattle.broker_rows.specs.Representing.{Represents}
 use Rattle.broker_rows.specs.Done.{IsDone}
@@ -25,6 +26,11 @@ pub record Begins (who : Option Text) (x : Context) (rows : Rows) (b : Broker) :
   pub represents : Represents who rows b
   pub here : (c : Text) → who ≡ Some c → get b.tokens c ≢ None
   pub clock : b.clock ≡ x.clock
+
+-- the same of a request of this caller
+pub record BeginsBy (c : Caller) (x : Context) (rows : Rows) (b : Broker) : Type 0 where
+  pub begins : Begins (Some c.token) x rows b
+  pub caller : IsCallerOf b c
 
 -- what an operation takes from its route is of the form that it asks for
 pub record IsWellFormed (r : Route) : Type 0 where
@@ -42,3 +48,10 @@ abbrev pub Performs : Option Text → Context → List Text → Seen → Seen �
 Performs who x own old new does result =
     IsHonest new → (b : Broker) → Begins who x old.rows b → are_new b.used own ≡ true
     → ActsAs who b new.rows result (does b)
+
+-- the same for this caller
+abbrev pub PerformsBy : Caller → Context → List Text → Seen → Seen → (Broker → Result Done Refusal)
+    → Result Answered RequestError → Type 0
+PerformsBy c x own old new does result =
+    IsHonest new → (b : Broker) → BeginsBy c x old.rows b → are_new b.used own ≡ true
+    → ActsAs (Some c.token) b new.rows result (does b)

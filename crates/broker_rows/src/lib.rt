@@ -3,6 +3,7 @@
 #![tactic(auto)]
 
 mod answered;
+mod caller;
 mod context;
 mod ending;
 mod expiry;
@@ -13,6 +14,7 @@ mod spending;
 mod start;
 
 pub use answered::Answered;
+pub use caller::Caller;
 pub use context::Context;
 pub use ending::{end_spent, leave_nothing};
 pub use expiry::expire;

@@ -115,7 +115,8 @@ fn children_of_a_token_that_ends_alone_are_orphans(rt: HostRuntime) -> Result<()
 fn uses_and_ends(rt: HostRuntime) -> Result<(), Fail> {
     let alloc = rt.alloc();
     let mut tx = tree(alloc)?;
-    spend(alloc, &mut tx, "low")?;
+    assert!(rt; spend(alloc, &mut tx, "low")?.is_some_and(|left| left.uses_left == Some(1)));
+    assert!(rt; spend(alloc, &mut tx, "not")?.is_none());
     renew(alloc, &mut tx, "low", Due::at(200))?;
     assert!(rt;
         find(alloc, &mut tx, "low")?.is_some_and(|x| x.uses_left == Some(1)

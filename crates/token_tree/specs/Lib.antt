@@ -6,6 +6,7 @@ pub mod Laws
 pub mod Orphaned
 pub mod Removed
 pub mod SoundLaws
+pub mod SpentLaws
 pub mod Starts
 pub mod Tokens
 pub mod TokenRows

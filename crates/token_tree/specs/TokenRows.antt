@@ -43,3 +43,9 @@ pub record ChangesToken (t : Text) (f : TokenEntry → TokenEntry) (old new : Ta
   pub in_range : IsSomeIn IsTokenInRange entry
   pub was : IsTokenAt old t entry
   pub is : new ≡ with_entry old t (option_map f entry)
+
+-- A use of the token t is spent, if its uses are limited, and its row says what is left then; nothing is left if there
+-- is no row of t.
+pub record SpendsUse (t : Text) (old new : Table) (left : Option TokenEntry) : Type 0 where
+  pub changes : ChangesToken t spent_entry old new
+  pub told : left ≡ option_map spent_entry changes.entry

@@ -20,7 +20,7 @@ ghost use Rattle.records.specs.RowForms.{entry_row};
 ghost use Rattle.records.specs.Table.{with_row, table};
 ghost use Rattle.records.specs.TokenEntry.{token_entry};
 ghost use Rattle.records.specs.Transaction.{IsHonest};
-ghost use Rattle.token_tree.specs.TokenRows.{IsTokenAt, IsDamagedToken, ChangesToken, with_created, spent_entry};
+ghost use Rattle.token_tree.specs.TokenRows.{IsTokenAt, IsDamagedToken, ChangesToken, SpendsUse, with_created};
 ghost use Rattle.token_tree.specs.TokenRows.{renewed_entry};
 ghost use Rattle.token_tree.specs.Tokens as tokens;
 ghost use Rattle.token_tree.specs.Tokens.{RepresentsTokens, with_token};
@@ -108,27 +108,35 @@ fn rewrite<T: RecordsTx>(
     put_token(alloc, tx, token, entry)
 }
 
-/// Takes one use from a token whose uses are limited. Any other token stays as it is, and an unknown text changes
-/// nothing. It fails as `Damaged` if the row of the token is not one, and also if memory runs out or the storage fails
-/// (Vault's documentation, "Tokens", use limits).
-pub fn spend<T: RecordsTx>(alloc: Global, tx: &mut T, token: &str) -> Result<(), Fault>
+/// Takes one use from a token whose uses are limited, and answers what its row says then. Any other token stays as it
+/// is, and an unknown text changes nothing. It fails as `Damaged` if the row of the token is not one, and also if memory
+/// runs out or the storage fails (Vault's documentation, "Tokens", use limits).
+pub fn spend<T: RecordsTx>(
+    alloc: Global,
+    tx: &mut T,
+    token: &str,
+) -> Result<Option<TokenRecord>, Fault>
     ensures rows { IsHonest (T.seen tx.new)
-        → OnOk result (ChangesToken token.now spent_entry (table (T.seen tx.old)) (table (T.seen tx.new))) }
+        → IfOk result (SpendsUse token.now (table (T.seen tx.old)) (table (T.seen tx.new))) }
     ensures told { OfEachBroker RepresentsTokens (T.seen tx.old) (T.seen tx.new) (λ b.
         OnOk result (Tells of_tokens (table (T.seen tx.new)) (spending.spend b token.now))) }
+    ensures left { OfEachBroker RepresentsTokens (T.seen tx.old) (T.seen tx.new) (λ b.
+        IfOk result (λ left. left ≡ option_map token_entry (get (spending.spend b token.now).tokens token.now))) }
+    ensures in_range { IfOk result (IsSomeIn IsTokenInRange) }
     ensures wants { OfEachBroker RepresentsTokens (T.seen tx.old) (T.seen tx.new)
         (λ b. IfErr result IsMemoryOrStorage) }
     ensures call { IsChange (KeepsOthers of_tokens) (T.seen tx.old) (T.seen tx.new) result
         (IsReadFault (IsHonest (T.seen tx.new) → IsDamagedToken (table (T.seen tx.old)) token.now)) }
 {
     let Some(mut record) = find(alloc, tx, token)? else {
-        return Ok(());
+        return Ok(None);
     };
     let Some(uses) = record.uses_left else {
-        return Ok(());
+        return Ok(Some(record));
     };
     record.uses_left = Some(uses.saturating_sub(1));
-    rewrite(alloc, tx, token, &record)
+    rewrite(alloc, tx, token, &record)?;
+    Ok(Some(record))
 }
 
 /// Gives a token another end, which is no further ahead than ends are set. An unknown text changes nothing. It fails

@@ -1,57 +1,65 @@
 //! Whether the caller may ask at all.
 
-ghost use Rattle.std.specs.Prelude.{◌≡◌, ◌≢◌, None, Some, Option, IfOk, IfErr};
+ghost use Rattle.std.specs.Prelude.{◌≡◌, Any, Some, Option, is_some, IfOk, IfErr};
 ghost use Rattle.broker_types.specs.Broker.{Broker, Mount};
 ghost use Rattle.broker_types.specs.Fault.{IsMemoryOrStorage};
-ghost use Rattle.broker_types.specs.Map.{get};
 ghost use Rattle.records.specs.Calls.{IsReadFault, IsReading};
+ghost use Rattle.records.specs.Ranges.{IsTokenInRange};
+ghost use Rattle.records.specs.Reading.{IsSomeIn};
 ghost use Rattle.records.specs.Table.{table};
 ghost use Rattle.records.specs.Transaction.{IsHonest};
 ghost use Rattle.mounts.specs.MountRows.{IsKnownAt};
 ghost use Rattle.mounts.specs.Route.{cut, route_at, route_of};
 ghost use Rattle.broker_model.specs.Permission as permission;
+ghost use Rattle.policies.specs.PolicyRows.{IsUnreadable};
+ghost use Rattle.broker_rows.specs.Caller.{AreRulesAt, IsCallerAt, IsCallerOf};
 ghost use Rattle.broker_rows.specs.Representing.{Represents};
-ghost use Rattle.broker.specs.PermittedRows.{IsPermittedAt, IsUntold};
+ghost use Rattle.broker.specs.PermittedRows.{IsPermittedAt};
 
 use crate::order::capability::capability;
+use broker_rows::Caller;
 use broker_types::{Fault, Refusal, Verb};
 use mounts::Route;
 use policies::{Capability, Rules, allows, rules_of};
 use records::RecordsTx;
 use std::alloc::Global;
-use token_tree::find;
 
-/// Whether the caller may ask with a verb at a path: its policies allow the capability that is asked for, and `sudo`
-/// too where the path asks for it (Vault's documentation, "Policies"). The route of the path has been looked up.
-pub(crate) fn is_permitted<T: RecordsTx>(
+/// What the policies of the caller say, if it may ask with a verb at a path: they allow the capability that is asked for,
+/// and `sudo` too where the path asks for it (Vault's documentation, "Policies"). The route of the path has been looked
+/// up.
+pub(crate) fn permitted<T: RecordsTx>(
     alloc: Global,
     tx: &mut T,
-    caller: &str,
+    caller: &Caller<'_>,
     verb: Verb,
     path: &str,
     found: &Result<Route<'_>, Refusal>,
-) -> Result<bool, Fault>
-    ensures told { IsHonest (T.seen tx.new) → (b : Broker) → Represents (Some caller.now) (T.seen tx.old).rows b
-        → get b.tokens caller.now ≢ None → found.now ≡ route_of b.mounts verb path.now
-        → IfOk result (λ v. v ≡ permission.permits b (Some caller.now) verb path.now) }
-    ensures wants { IsHonest (T.seen tx.new) → (b : Broker) → Represents (Some caller.now) (T.seen tx.old).rows b
-        → IfErr result IsMemoryOrStorage }
+) -> Result<Option<Rules>, Fault>
+    requires { IsTokenInRange caller.now.known }
+    ensures told { IsHonest (T.seen tx.new) → (b : Broker)
+        → Represents (Some caller.now.token) (T.seen tx.old).rows b → IsCallerOf b caller.now
+        → found.now ≡ route_of b.mounts verb path.now
+        → IfOk result (λ rules. is_some rules ≡ permission.permits b (Some caller.now.token) verb path.now) }
+    ensures wants { IsHonest (T.seen tx.new) → (b : Broker)
+        → Represents (Some caller.now.token) (T.seen tx.old).rows b → IfErr result IsMemoryOrStorage }
 
-    // Whatever the rows are: those of the caller, of its policies and of the mount can be read, and they decide.
-    ensures found { IsHonest (T.seen tx.new) → (mount : Option Mount)
+    // Whatever the rows are: those of the caller's policies and of the mount can be read, and they decide.
+    ensures found { IsHonest (T.seen tx.new) → IsCallerAt (T.seen tx.old).rows caller.now → (mount : Option Mount)
         → IsKnownAt (table (T.seen tx.old)) (cut path.now).0 mount → found.now ≡ route_at mount verb path.now
-        → IfOk result (IsPermittedAt (T.seen tx.old).rows caller.now verb path.now) }
+        → IfOk result (λ rules. IsPermittedAt (T.seen tx.old).rows caller.now.token verb path.now (is_some rules)) }
+    ensures rules { IsHonest (T.seen tx.new)
+        → IfOk result (IsSomeIn (AreRulesAt (T.seen tx.old).rows caller.now.known.policies verb)) }
 
-    // And it fails as damaged only if the row of the caller or of one of its policies is.
+    // And it fails as damaged only if the row of one of the caller's policies is.
     ensures call { IsReading (T.seen tx.old) (T.seen tx.new) result
-        (IsReadFault (IsHonest (T.seen tx.new) → IsUntold (T.seen tx.old).rows caller.now)) }
+        (IsReadFault (IsHonest (T.seen tx.new) → Any (IsUnreadable (table (T.seen tx.old))) caller.now.known.policies)) }
 {
-    let asked = capability(alloc, tx, caller, verb, found)?;
-    let Some(token) = find(alloc, tx, caller)? else {
-        return Ok(false);
-    };
-    let rules = rules_of(alloc, tx, &token.policies, verb)?;
-    Ok(may(&rules, path, asked))
+    let asked = capability(alloc, tx, caller.token, verb, found)?;
+    let rules = rules_of(alloc, tx, &caller.known.policies, verb)?;
+    if !may(&rules, path, asked) {
+        return Ok(None);
+    }
+    Ok(Some(rules))
 }
 
 /// Whether rules allow the capability at a path, and `sudo` too where the path asks for it.

@@ -1,21 +1,21 @@
 //! A caller is served.
 
-ghost use Rattle.std.specs.Prelude.{◌≡◌, ◌≢◌, ◌⊎◌, None, Some, IfOk, IfErr};
+ghost use Rattle.std.specs.Prelude.{◌⊎◌, Some, IfOk, IfErr};
 ghost use Rattle.broker_types.specs.Answer.{response_of};
 ghost use Rattle.broker_types.specs.Broker.{Broker};
 ghost use Rattle.broker_types.specs.Fault.{IsNotBadStart};
-ghost use Rattle.broker_types.specs.Map.{get};
 ghost use Rattle.broker_types.specs.Names.{names_of};
 ghost use Rattle.broker_types.specs.RequestError.{Ends};
 ghost use Rattle.broker_types.specs.declared.ask.Ask as asked;
-ghost use Rattle.records.specs.Table.{table_of, table};
-ghost use Rattle.records.specs.Transaction.{IsHonest, Rows};
-ghost use Rattle.token_tree.specs.TokenRows.{ChangesToken, spent_entry};
 ghost use Rattle.records.specs.Calls.{OnAnswer, IsRequestCall};
+ghost use Rattle.records.specs.Ranges.{IsTokenInRange};
+ghost use Rattle.records.specs.Transaction.{IsHonest};
 ghost use Rattle.broker_model.specs.Act as model;
-ghost use Rattle.broker_model.specs.Serving.{called, operated, served};
+ghost use Rattle.broker_model.specs.Order as order;
+ghost use Rattle.broker_model.specs.Serving.{operated, served};
 ghost use Rattle.broker_model.specs.Step.{traits};
-ghost use Rattle.broker_rows.specs.Operating.{Begins, Performs};
+ghost use Rattle.broker_rows.specs.Caller.{IsCallerAt};
+ghost use Rattle.broker_rows.specs.Operating.{Begins, BeginsBy, Performs};
 ghost use Rattle.broker_rows.specs.Representing.{Represents, Gives};
 ghost use Rattle.broker.specs.Answering.{IsReadableCommand, IsForbidden, IsCarriedOutOrForbidden, MayBeDone};
 ghost use Rattle.broker.specs.Meant.{meant, IsInRange, IsWellPlaced};
@@ -25,9 +25,9 @@ ghost use Rattle.broker.specs.Stages.{IsServed};
 use crate::answers::PERMISSION_DENIED;
 use crate::command::{Command, own_identifiers, read_command};
 use crate::order::finishing::finish;
-use crate::order::permission::is_permitted;
+use crate::order::permission::permitted;
 use crate::order::routing::find_route;
-use broker_rows::{Answered, Context, are_new, spend};
+use broker_rows::{Answered, Caller, Context, are_new};
 use broker_types::{Answer, Ask, Fault, Refusal, RequestError};
 use records::RecordsTx;
 use secret_operations::{act_on_cubbyholes, act_on_secrets};
@@ -35,33 +35,34 @@ use std::alloc::Global;
 use system_operations::act_on_policies;
 use token_operations::act_on_tokens;
 
-/// Answers an ask of the caller: a use is spent, the ask is served or refused, and a caller without uses left ends.
+/// Answers an ask of the caller, which has spent its use: the ask is served or refused, and a caller without uses left
+/// ends.
 pub(crate) fn answer_caller<T: RecordsTx>(
     alloc: Global,
     tx: &mut T,
     context: &Context<'_>,
-    caller: &str,
+    caller: Caller<'_>,
     ask: &Ask<'_>,
 ) -> Result<Answer, Fault>
-    ensures told { IsHonest (T.seen tx.new) → (b : Broker) → Represents None (T.seen tx.old).rows b
-        → get b.tokens caller.now ≢ None → b.clock ≡ context.now.clock
-        → IfOk result (λ a. Gives a (T.seen tx.new).rows
-        (called b caller.now (names_of context.now.words) ask.now)) }
+    requires { IsTokenInRange caller.known }
+    ensures told { IsHonest (T.seen tx.new) → (b : Broker) → BeginsBy caller.entry context.now (T.seen tx.old).rows b
+        → IfOk result (λ a. Gives a (T.seen tx.new).rows (order.finish b (Some caller.entry.token)
+        (served b caller.entry.token (names_of context.now.words) ask.now))) }
 
-    // Whatever the rows are: once the caller has spent its use, they decide whether it may ask. If it may, it is not
-    // answered if a row that its command reads is damaged; else it is told that it may not, and nothing is done. Either
-    // way it has ended then, if it has no uses left.
-    ensures readable { IsHonest (T.seen tx.new) → IfOk result (λ a. (rows : Rows)
-        × ChangesToken caller.now spent_entry (table (T.seen tx.old)) (table_of rows)
-        × IsCarriedOutOrForbidden rows (T.seen tx.new).rows caller.now ask.now (response_of a)) }
+    // Whatever the rows are: they decide whether the caller may ask. If it may, it is not answered if a row that its
+    // command reads is damaged; else it is told that it may not, and nothing is done. Either way it has ended then, if
+    // it has no uses left.
+    ensures readable { IsHonest (T.seen tx.new) → IsCallerAt (T.seen tx.old).rows caller.entry
+        → IfOk result (λ a. IsCarriedOutOrForbidden (T.seen tx.old).rows (T.seen tx.new).rows caller.entry.token ask.now
+        (response_of a)) }
     ensures safely { AnswersSafely (T.seen tx.old) (T.seen tx.new)
-        (λ b. (get b.tokens caller.now ≢ None) × (b.clock ≡ context.now.clock)) result }
+        (BeginsBy caller.entry context.now (T.seen tx.old).rows) result }
     ensures faults { IfErr result IsNotBadStart }
 {
-    spend(alloc, tx, caller)?;
+    let token = caller.token;
     match serve(alloc, tx, context, caller, ask) {
-        Ok(answered) => finish(alloc, tx, caller, Ok(answered)),
-        Err(RequestError::Refused(refusal)) => finish(alloc, tx, caller, Err(refusal)),
+        Ok(answered) => finish(alloc, tx, token, Ok(answered)),
+        Err(RequestError::Refused(refusal)) => finish(alloc, tx, token, Err(refusal)),
         Err(RequestError::Fault(fault)) => Err(fault),
     }
 }
@@ -71,27 +72,29 @@ fn serve<T: RecordsTx>(
     alloc: Global,
     tx: &mut T,
     context: &Context<'_>,
-    caller: &str,
+    caller: Caller<'_>,
     ask: &Ask<'_>,
 ) -> Result<Answered, RequestError>
-    ensures told { IsHonest (T.seen tx.new) → (b : Broker) → Begins (Some caller.now) context.now (T.seen tx.old).rows b
-        → Ends (IsServed (Some caller.now) (T.seen tx.new).rows) (Represents (Some caller.now) (T.seen tx.new).rows b)
-        result (served b caller.now (names_of context.now.words) ask.now) }
+    requires { IsTokenInRange caller.known }
+    ensures told { IsHonest (T.seen tx.new) → (b : Broker) → BeginsBy caller.entry context.now (T.seen tx.old).rows b
+        → Ends (IsServed (Some caller.entry.token) (T.seen tx.new).rows)
+        (Represents (Some caller.entry.token) (T.seen tx.new).rows b)
+        result (served b caller.entry.token (names_of context.now.words) ask.now) }
 
     // Whatever the rows are: they decide whether the caller may ask. If it may, it is neither answered nor refused if
     // a row that its command reads is damaged; else it is refused, and no row changes.
-    ensures readable { IsHonest (T.seen tx.new)
-        → OnAnswer result (MayBeDone (T.seen tx.old).rows caller.now ask.now
-        ⊎ IsForbidden (T.seen tx.old).rows (T.seen tx.new).rows caller.now ask.now result) }
+    ensures readable { IsHonest (T.seen tx.new) → IsCallerAt (T.seen tx.old).rows caller.entry
+        → OnAnswer result (MayBeDone (T.seen tx.old).rows caller.entry.token ask.now
+        ⊎ IsForbidden (T.seen tx.old).rows (T.seen tx.new).rows caller.entry.token ask.now result) }
     ensures call { IsRequestCall (T.seen tx.old) (T.seen tx.new) result IsNotBadStart }
 {
     let path = ask.path.as_str();
     let found = find_route(alloc, tx, ask.verb, path)?;
-    if !is_permitted(alloc, tx, caller, ask.verb, path, &found)? {
+    if permitted(alloc, tx, &caller, ask.verb, path, &found)?.is_none() {
         return Err(RequestError::Refused(PERMISSION_DENIED));
     }
     let command = read_command(alloc, ask, &found?)?;
-    operate(alloc, tx, context, caller, command)
+    operate(alloc, tx, context, caller.token, command)
 }
 
 /// Does what a command means, if the identifiers that it needs are new. No reply is wrapped so far.

@@ -2,135 +2,97 @@ use Rattle.std.specs.Prelude.{◌⊎◌}
 use Rattle.std.proofs.Common.{Some, Err, Result, rules, inl}
 use Rattle.std.proofs.lemmas.Result.{IfOk-weaker}
 use Rattle.broker_types.specs.Names.{names_of}
-use Rattle.broker_types.specs.SpendingLaws.{spent_here}
-use Rattle.broker_types.specs.Spending.{spend}
 use Rattle.broker_types.specs.declared.refusal.Refusal.{Refusal}
 use Rattle.broker_types.specs.declared.request_error.RequestError.TheVariants.{Refused}
 use Rattle.broker_types.specs.declared.answer.Answer.{Answer}
-use Rattle.records.specs.CallLaws.{fault_goes_on, honest_before, goes_further}
+use Rattle.records.specs.CallLaws.{fault_goes_on, honest_before}
 use Rattle.broker_model.specs.Order.{Wrapped}
 use Rattle.broker_model.specs.Serving.{served}
-use Rattle.broker_rows.specs.Operating.{Begins}
 use Rattle.broker_rows.specs.declared.answered.Answered.{Answered}
 use Rattle.broker.specs.Answering.{IsForbidden, MayBeDone}
 use Rattle.broker.proofs.CommandReads.{may_served, may_refused, ok_with}
-use Rattle.broker.proofs.Serving.{only_caller}
 use Rattle.broker.proofs.order.serving.answer_caller.Goals as goal
 
 pub returns-in-Ok-clause-told : goal.returns-in-Ok-clause-told
-returns-in-Ok-clause-told g c honest b st here clock =
+returns-in-Ok-clause-told g c honest b begins =
     let seen = g.T.RecordsTx.seen in
-    let caller = c.args.caller.now in
+    let caller = c.args.caller.token in
     let left = honest_before (seen c.serve.new.tx) (seen c.finish.new.tx) _ c.finish.ensures.call.goes_on honest in
-    let mid = honest_before (seen c.spend.new.tx) (seen c.serve.new.tx) _ c.serve.ensures.call.goes_on left in
-    let spent = c.in_ok-spend.ensures.told mid b st in
-    let begun : Begins (Some caller) c.args.context.now (seen c.spend.new.tx).rows (spend b caller) =
-    record { represents = spent; here = only_caller (spend b caller) caller (spent_here b caller here); clock = clock } in
-    let m : Result Wrapped Refusal = served (spend b caller) caller (names_of c.args.context.now.words) c.args.ask.now in
-    c.finish.ensures.told honest (spend b caller) m (c.in-Ok.ensures.told left (spend b caller) begun)
+    let m : Result Wrapped Refusal = served b caller (names_of c.args.context.now.words) c.args.ask.now in
+    c.finish.ensures.told honest b m (c.in-Ok.ensures.told left b begins)
 
 pub returns-in-Ok-clause-safely : goal.returns-in-Ok-clause-safely
 returns-in-Ok-clause-safely g c =
     let seen = g.T.RecordsTx.seen in
-    let caller = c.args.caller.now in
+    let caller = c.args.caller.token in
     record {
       room = c.finish.ensures.room;
       listed = c.finish.ensures.listed;
-      wants = λ honest b st callers.
-          let here = callers.0 in
-          let clock = callers.1 in
+      wants = λ honest b begins.
           let left = honest_before (seen c.serve.new.tx) (seen c.finish.new.tx) _ c.finish.ensures.call.goes_on honest in
-          let mid = honest_before (seen c.spend.new.tx) (seen c.serve.new.tx) _ c.serve.ensures.call.goes_on left in
-          let spent = c.in_ok-spend.ensures.told mid b st in
-          let begun : Begins (Some caller) c.args.context.now (seen c.spend.new.tx).rows (spend b caller) =
-          record { represents = spent; here = only_caller (spend b caller) caller (spent_here b caller here); clock = clock } in
-          let m : Result Wrapped Refusal = served (spend b caller) caller (names_of c.args.context.now.words) c.args.ask.now in
-          c.finish.ensures.wants honest (spend b caller) m (c.in-Ok.ensures.told left (spend b caller) begun);
+          let m : Result Wrapped Refusal = served b caller (names_of c.args.context.now.words) c.args.ask.now in
+          c.finish.ensures.wants honest b m (c.in-Ok.ensures.told left b begins);
       goes_on = search rules;
     }
 
 pub returns-in-Err-Refused-clause-told : goal.returns-in-Err-Refused-clause-told
-returns-in-Err-Refused-clause-told g c honest b st here clock =
+returns-in-Err-Refused-clause-told g c honest b begins =
     let seen = g.T.RecordsTx.seen in
-    let caller = c.args.caller.now in
+    let caller = c.args.caller.token in
     let left = honest_before (seen c.serve.new.tx) (seen c.finish-in-Err-Refused.new.tx) _ c.finish-in-Err-Refused.ensures.call.goes_on honest in
-    let mid = honest_before (seen c.spend.new.tx) (seen c.serve.new.tx) _ c.serve.ensures.call.goes_on left in
-    let spent = c.in_ok-spend.ensures.told mid b st in
-    let begun : Begins (Some caller) c.args.context.now (seen c.spend.new.tx).rows (spend b caller) =
-    record { represents = spent; here = only_caller (spend b caller) caller (spent_here b caller here); clock = clock } in
-    let m : Result Wrapped Refusal = served (spend b caller) caller (names_of c.args.context.now.words) c.args.ask.now in
-    c.finish-in-Err-Refused.ensures.told honest (spend b caller) m
-    (rw c.in-Err-Refused.field-0-is at (c.in-Err-Refused.ensures.told left (spend b caller) begun))
+    let m : Result Wrapped Refusal = served b caller (names_of c.args.context.now.words) c.args.ask.now in
+    c.finish-in-Err-Refused.ensures.told honest b m
+    (rw c.in-Err-Refused.field-0-is at (c.in-Err-Refused.ensures.told left b begins))
 
 pub returns-in-Err-Refused-clause-safely : goal.returns-in-Err-Refused-clause-safely
 returns-in-Err-Refused-clause-safely g c =
     let seen = g.T.RecordsTx.seen in
-    let caller = c.args.caller.now in
+    let caller = c.args.caller.token in
     record {
       room = c.finish-in-Err-Refused.ensures.room;
       listed = c.finish-in-Err-Refused.ensures.listed;
-      wants = λ honest b st callers.
-          let here = callers.0 in
-          let clock = callers.1 in
+      wants = λ honest b begins.
           let left = honest_before (seen c.serve.new.tx) (seen c.finish-in-Err-Refused.new.tx) _ c.finish-in-Err-Refused.ensures.call.goes_on honest in
-          let mid = honest_before (seen c.spend.new.tx) (seen c.serve.new.tx) _ c.serve.ensures.call.goes_on left in
-          let spent = c.in_ok-spend.ensures.told mid b st in
-          let begun : Begins (Some caller) c.args.context.now (seen c.spend.new.tx).rows (spend b caller) =
-          record { represents = spent; here = only_caller (spend b caller) caller (spent_here b caller here); clock = clock } in
-          let m : Result Wrapped Refusal = served (spend b caller) caller (names_of c.args.context.now.words) c.args.ask.now in
-          c.finish-in-Err-Refused.ensures.wants honest (spend b caller) m
-          (rw c.in-Err-Refused.field-0-is at (c.in-Err-Refused.ensures.told left (spend b caller) begun));
+          let m : Result Wrapped Refusal = served b caller (names_of c.args.context.now.words) c.args.ask.now in
+          c.finish-in-Err-Refused.ensures.wants honest b m
+          (rw c.in-Err-Refused.field-0-is at (c.in-Err-Refused.ensures.told left b begins));
       goes_on = search rules;
     }
 
 pub returns-in-Err-Fault-clause-safely : goal.returns-in-Err-Fault-clause-safely
 returns-in-Err-Fault-clause-safely g c =
     let seen = g.T.RecordsTx.seen in
-    let caller = c.args.caller.now in
     record {
       room = search rules;
       listed = search rules;
-      wants = λ honest b st callers.
-          let mid = honest_before (seen c.spend.new.tx) (seen c.serve.new.tx) _ c.serve.ensures.call.goes_on honest in
-          let spent = c.in_ok-spend.ensures.told mid b st in
-          rw c.in-Err-Fault.field-0-is at (c.in-Err-Fault.ensures.told honest (spend b caller)
-          (record { represents = spent; here = only_caller (spend b caller) caller (spent_here b caller callers.0); clock = callers.1 }));
-      goes_on = fault_goes_on Answer _ _ c.in-Err-Fault.fault
-          (goes_further (seen c.args.tx.now) (seen c.spend.new.tx) (seen c.serve.new.tx) _ c.in_ok-spend.ensures.call.goes_on
-          (rw c.in-Err-Fault.field-0-is at c.in-Err-Fault.ensures.call.goes_on));
+      wants = λ honest b begins. rw c.in-Err-Fault.field-0-is at (c.in-Err-Fault.ensures.told honest b begins);
+      goes_on = fault_goes_on Answer _ _ c.in-Err-Fault.fault (rw c.in-Err-Fault.field-0-is at c.in-Err-Fault.ensures.call.goes_on);
     }
 
 pub returns-in-Ok-clause-readable : goal.returns-in-Ok-clause-readable
-returns-in-Ok-clause-readable g c honest =
+returns-in-Ok-clause-readable g c honest there =
     let seen = g.T.RecordsTx.seen in
-    let caller = c.args.caller.now in
+    let caller = c.args.caller.token in
     let old = (seen c.args.tx.now).rows in
-    let new = (seen c.spend.new.tx).rows in
     let left = honest_before (seen c.serve.new.tx) (seen c.finish.new.tx) _ c.finish.ensures.call.goes_on honest in
-    let mid = honest_before (seen c.spend.new.tx) (seen c.serve.new.tx) _ c.serve.ensures.call.goes_on left in
-    let spends = c.in_ok-spend.ensures.rows mid in
     let done = (seen c.serve.new.tx).rows in
-    let may = may_served new done caller c.args.ask.now c.in-Ok.answered (c.in-Ok.ensures.readable left) in
-    let final = (seen c.finish.new.tx).rows in
+    let may = may_served old done caller c.args.ask.now c.in-Ok.answered (c.in-Ok.ensures.readable left there) in
     let ends = c.finish.ensures.rows honest in
-    IfOk-weaker c.finish.result _ _ (λ a told. (new, spends, inl (record { may = may; done = done; ends = told.0 })))
+    IfOk-weaker c.finish.result _ _ (λ a told. inl (record { may = may; done = done; ends = told.0 }))
     (ok_with _ _ c.finish.result ends c.finish.ensures.room)
 
 pub returns-in-Err-Refused-clause-readable : goal.returns-in-Err-Refused-clause-readable
-returns-in-Err-Refused-clause-readable g c honest =
+returns-in-Err-Refused-clause-readable g c honest there =
     let seen = g.T.RecordsTx.seen in
-    let caller = c.args.caller.now in
+    let caller = c.args.caller.token in
     let ask = c.args.ask.now in
     let old = (seen c.args.tx.now).rows in
-    let new = (seen c.spend.new.tx).rows in
     let done = (seen c.serve.new.tx).rows in
     let final = (seen c.finish-in-Err-Refused.new.tx).rows in
     let left = honest_before (seen c.serve.new.tx) (seen c.finish-in-Err-Refused.new.tx) _ c.finish-in-Err-Refused.ensures.call.goes_on honest in
-    let mid = honest_before (seen c.spend.new.tx) (seen c.serve.new.tx) _ c.serve.ensures.call.goes_on left in
-    let spends = c.in_ok-spend.ensures.rows mid in
-    let found : MayBeDone new caller ask ⊎ IsForbidden {A = Answered} new done caller ask (Err (Refused c.in-Err-Refused.refusal)) =
-    rw c.in-Err-Refused.field-0-is at (c.in-Err-Refused.ensures.readable left) in
+    let found : MayBeDone old caller ask ⊎ IsForbidden {A = Answered} old done caller ask (Err (Refused c.in-Err-Refused.refusal)) =
+    rw c.in-Err-Refused.field-0-is at (c.in-Err-Refused.ensures.readable left there) in
     let ends = c.finish-in-Err-Refused.ensures.rows honest in
     IfOk-weaker c.finish-in-Err-Refused.result _ _
-    (λ a told. (new, spends, may_refused new done caller ask final c.in-Err-Refused.refusal a found told.1 told.0))
+    (λ a told. may_refused old done caller ask final c.in-Err-Refused.refusal a found told.1 told.0)
     (ok_with _ _ c.finish-in-Err-Refused.result ends c.finish-in-Err-Refused.ensures.refused)

@@ -16,76 +16,77 @@ use Rattle.broker.proofs.CommandReads.{known_by, meant_by_route, no_route, on_no
 use Rattle.broker.proofs.CommandReads.{permitted_before}
 use Rattle.broker.proofs.Routes.{is_meant, not_meant, not_served, served_by, served_nowhere, served_permitted}
 use Rattle.broker.proofs.SecretRoutes.{mount_named}
+use Rattle.broker.proofs.Serving.{caller_still}
 use Rattle.broker.proofs.order.serving.serve.Goals as goal
 
 pub returns-in_err-found-clause-told : goal.returns-in_err-found-clause-told
 returns-in_err-found-clause-told g c honest b starts =
     let p = err_from_is_err_and c.from_residual.result c.from_residual.ensures.1 in
     rw (p.1 ∙ ap Err p.2)
-    (c.in_err-found.ensures.wants honest b.mounts (mounts_there b (g.T.RecordsTx.seen c.args.tx.now).rows starts.represents))
+    (c.in_err-found.ensures.wants honest b.mounts (mounts_there b (g.T.RecordsTx.seen c.args.tx.now).rows starts.begins.represents))
 
 pub returns-then-not-branch-clause-told : goal.returns-then-not-branch-clause-told
 returns-then-not-branch-clause-told g c honest b starts =
     let seen = g.T.RecordsTx.seen in
     let old = (seen c.args.tx.now).rows in
-    let caller = c.args.caller.now in
+    let caller = c.args.caller.token in
     let ask = c.args.ask.now in
-    let mid = honest_before (seen c.find_route.new.tx) (seen c.is_permitted.new.tx) _ c.in_ok-is_permitted.ensures.call.goes_on honest in
-    let still = still_represented b old (seen c.find_route.new.tx).rows (c.in_ok-found.ensures.call.same mid) starts.represents in
-    let told = c.in_ok-is_permitted.ensures.told honest b still (starts.here caller refl) (c.in_ok-found.ensures.told mid b.mounts (mounts_there b old starts.represents)) in
+    let mid = honest_before (seen c.find_route.new.tx) (seen c.permitted.new.tx) _ c.in_ok-permitted.ensures.call.goes_on honest in
+    let still = still_represented b old (seen c.find_route.new.tx).rows (c.in_ok-found.ensures.call.same mid) starts.begins.represents in
+    let told = c.in_ok-permitted.ensures.told honest b still (starts.caller) (c.in_ok-found.ensures.told mid b.mounts (mounts_there b old starts.begins.represents)) in
     let forbidden : permits b (Some caller) ask.verb ask.path ≡ false =
     (λ i. permits b (Some caller) ask.verb (sym c.as_str-path.ensures.text i)) ∙ sym told ∙ c.if-not-branch.true in
-    not_served b caller (names_of c.args.context.now.words) ask (seen c.is_permitted.new.tx).rows forbidden
-    (still_represented b (seen c.find_route.new.tx).rows (seen c.is_permitted.new.tx).rows (c.in_ok-is_permitted.ensures.call.same honest) still)
+    not_served b caller (names_of c.args.context.now.words) ask (seen c.permitted.new.tx).rows forbidden
+    (still_represented b (seen c.find_route.new.tx).rows (seen c.permitted.new.tx).rows (c.in_ok-permitted.ensures.call.same honest) still)
 
 pub returns-then-not-branch-clause-readable : goal.returns-then-not-branch-clause-readable
-returns-then-not-branch-clause-readable g c honest =
+returns-then-not-branch-clause-readable g c honest at =
     let seen = g.T.RecordsTx.seen in
     let old = (seen c.args.tx.now).rows in
     let ask = c.args.ask.now in
-    let mid = honest_before (seen c.find_route.new.tx) (seen c.is_permitted.new.tx) _ c.in_ok-is_permitted.ensures.call.goes_on honest in
+    let mid = honest_before (seen c.find_route.new.tx) (seen c.permitted.new.tx) _ c.in_ok-permitted.ensures.call.goes_on honest in
     let readable = c.in_ok-found.ensures.readable mid in
-    let forbidden = permitted_before old (seen c.find_route.new.tx).rows c.args.caller.now c.args.caller.now
-    c.as_str-path.result.now ask.path ask.verb c.in_ok-found.found c.in_ok-is_permitted.field-0 false (c.in_ok-found.ensures.call.same mid) refl
+    let forbidden = permitted_before old (seen c.find_route.new.tx).rows c.args.caller.token c.args.caller.token
+    c.as_str-path.result.now ask.path ask.verb c.in_ok-found.found c.in_ok-permitted.field-0 false (c.in_ok-found.ensures.call.same mid) refl
     c.as_str-path.ensures.text c.if-not-branch.true readable (c.in_ok-found.ensures.found mid readable.0 readable.1)
-    (c.in_ok-is_permitted.ensures.found honest) in
-    inr (record { refused = refl; forbidden = forbidden; same = c.in_ok-is_permitted.ensures.call.same honest ∙ c.in_ok-found.ensures.call.same mid })
+    (c.in_ok-permitted.ensures.found honest (caller_still (seen c.args.tx.now).rows (seen c.find_route.new.tx).rows c.args.caller (c.in_ok-found.ensures.call.same mid) at)) in
+    inr (record { refused = refl; forbidden = forbidden; same = c.in_ok-permitted.ensures.call.same honest ∙ c.in_ok-found.ensures.call.same mid })
 
 pub returns-in_err-found-2-clause-told : goal.returns-in_err-found-2-clause-told
 returns-in_err-found-2-clause-told g c honest b starts =
     let seen = g.T.RecordsTx.seen in
     let old = (seen c.args.tx.now).rows in
-    let caller = c.args.caller.now in
+    let caller = c.args.caller.token in
     let ask = c.args.ask.now in
     let names = names_of c.args.context.now.words in
     let p = err_from_is_err_and c.from_residual-in_err-found-2.result c.from_residual-in_err-found-2.ensures.1 in
-    let mid = honest_before (seen c.find_route.new.tx) (seen c.is_permitted.new.tx) _ c.in_ok-is_permitted.ensures.call.goes_on honest in
-    let still = still_represented b old (seen c.find_route.new.tx).rows (c.in_ok-found.ensures.call.same mid) starts.represents in
-    let routed = c.in_ok-found.ensures.told mid b.mounts (mounts_there b old starts.represents) in
-    let told = c.in_ok-is_permitted.ensures.told honest b still (starts.here caller refl) routed in
+    let mid = honest_before (seen c.find_route.new.tx) (seen c.permitted.new.tx) _ c.in_ok-permitted.ensures.call.goes_on honest in
+    let still = still_represented b old (seen c.find_route.new.tx).rows (c.in_ok-found.ensures.call.same mid) starts.begins.represents in
+    let routed = c.in_ok-found.ensures.told mid b.mounts (mounts_there b old starts.begins.represents) in
+    let told = c.in_ok-permitted.ensures.told honest b still (starts.caller) routed in
     let permitted : permits b (Some caller) ask.verb ask.path ≡ true =
     (λ i. permits b (Some caller) ask.verb (sym c.as_str-path.ensures.text i)) ∙ sym told ∙ c.if-not-branch.false in
     rw (p.1 ∙ ap Err p.2)
-    (served_permitted b caller names ask (seen c.is_permitted.new.tx).rows (Err (Refused c.in_err-found-2.field-0.0)) permitted
-    (served_nowhere b caller names ask (seen c.is_permitted.new.tx).rows c.in_err-found-2.field-0.0 c.as_str-path.result.now
+    (served_permitted b caller names ask (seen c.permitted.new.tx).rows (Err (Refused c.in_err-found-2.field-0.0)) permitted
+    (served_nowhere b caller names ask (seen c.permitted.new.tx).rows c.in_err-found-2.field-0.0 c.as_str-path.result.now
     c.as_str-path.ensures.text (sym c.in_err-found-2.was ∙ routed)
-    (still_represented b (seen c.find_route.new.tx).rows (seen c.is_permitted.new.tx).rows (c.in_ok-is_permitted.ensures.call.same honest) still)))
+    (still_represented b (seen c.find_route.new.tx).rows (seen c.permitted.new.tx).rows (c.in_ok-permitted.ensures.call.same honest) still)))
 
 pub returns-in_err-found-2-clause-readable : goal.returns-in_err-found-2-clause-readable
-returns-in_err-found-2-clause-readable g c honest =
+returns-in_err-found-2-clause-readable g c honest at =
     let seen = g.T.RecordsTx.seen in
     let old = (seen c.args.tx.now).rows in
     let ask = c.args.ask.now in
     let path = c.as_str-path.result.now in
     let p = err_from_is_err_and c.from_residual-in_err-found-2.result c.from_residual-in_err-found-2.ensures.1 in
-    let mid = honest_before (seen c.find_route.new.tx) (seen c.is_permitted.new.tx) _ c.in_ok-is_permitted.ensures.call.goes_on honest in
+    let mid = honest_before (seen c.find_route.new.tx) (seen c.permitted.new.tx) _ c.in_ok-permitted.ensures.call.goes_on honest in
     let readable = c.in_ok-found.ensures.readable mid in
-    let permitted = permitted_before old (seen c.find_route.new.tx).rows c.args.caller.now c.args.caller.now
-    path ask.path ask.verb c.in_ok-found.found c.in_ok-is_permitted.field-0 true (c.in_ok-found.ensures.call.same mid) refl
+    let permitted = permitted_before old (seen c.find_route.new.tx).rows c.args.caller.token c.args.caller.token
+    path ask.path ask.verb c.in_ok-found.found c.in_ok-permitted.field-0 true (c.in_ok-found.ensures.call.same mid) refl
     c.as_str-path.ensures.text c.if-not-branch.false readable (c.in_ok-found.ensures.found mid readable.0 readable.1)
-    (c.in_ok-is_permitted.ensures.found honest) in
+    (c.in_ok-permitted.ensures.found honest (caller_still (seen c.args.tx.now).rows (seen c.find_route.new.tx).rows c.args.caller (c.in_ok-found.ensures.call.same mid) at)) in
     let nothing = λ (command : Command) (asks : Asks old ask command).
-    no_route old ask command path c.in_err-found-2.field-0.0 (IsReadableCommand old c.args.caller.now command) c.as_str-path.ensures.text asks
+    no_route old ask command path c.in_err-found-2.field-0.0 (IsReadableCommand old c.args.caller.token command) c.as_str-path.ensures.text asks
     (sym c.in_err-found-2.was ∙ c.in_ok-found.ensures.found mid asks.mount (known_by old ask command path c.as_str-path.ensures.text asks)) in
     rw (p.1 ∙ ap Err p.2) (inl (record { permitted = permitted; readable = nothing }))
 
@@ -98,17 +99,17 @@ pub returns-in_err-command-clause-told : goal.returns-in_err-command-clause-told
 returns-in_err-command-clause-told g c honest b starts =
     let seen = g.T.RecordsTx.seen in
     let old = (seen c.args.tx.now).rows in
-    let new = (seen c.is_permitted.new.tx).rows in
-    let caller = c.args.caller.now in
+    let new = (seen c.permitted.new.tx).rows in
+    let caller = c.args.caller.token in
     let ask = c.args.ask.now in
     let names = names_of c.args.context.now.words in
-    let mid = honest_before (seen c.find_route.new.tx) (seen c.is_permitted.new.tx) _ c.in_ok-is_permitted.ensures.call.goes_on honest in
-    let still = still_represented b old (seen c.find_route.new.tx).rows (c.in_ok-found.ensures.call.same mid) starts.represents in
-    let routed = c.in_ok-found.ensures.told mid b.mounts (mounts_there b old starts.represents) in
-    let told = c.in_ok-is_permitted.ensures.told honest b still (starts.here caller refl) routed in
+    let mid = honest_before (seen c.find_route.new.tx) (seen c.permitted.new.tx) _ c.in_ok-permitted.ensures.call.goes_on honest in
+    let still = still_represented b old (seen c.find_route.new.tx).rows (c.in_ok-found.ensures.call.same mid) starts.begins.represents in
+    let routed = c.in_ok-found.ensures.told mid b.mounts (mounts_there b old starts.begins.represents) in
+    let told = c.in_ok-permitted.ensures.told honest b still (starts.caller) routed in
     let permitted : permits b (Some caller) ask.verb ask.path ≡ true =
     (λ i. permits b (Some caller) ask.verb (sym c.as_str-path.ensures.text i)) ∙ sym told ∙ c.if-not-branch.false in
-    let then = still_represented b (seen c.find_route.new.tx).rows new (c.in_ok-is_permitted.ensures.call.same honest) still in
+    let then = still_represented b (seen c.find_route.new.tx).rows new (c.in_ok-permitted.ensures.call.same honest) still in
     let p = err_from_is_err_and c.from_residual-in_err-command.result c.from_residual-in_err-command.ensures.1 in
     rw (p.1 ∙ ap Err p.2)
     (served_permitted b caller names ask new (Err c.in_err-command.field-0.0) permitted
@@ -117,18 +118,18 @@ returns-in_err-command-clause-told g c honest b starts =
     (not_meant b caller names ask new (command_for c.in_ok-found-2.field-0 ask) c.in_err-command.field-0.0 c.in_err-command.ensures.reads then)))
 
 pub returns-in_err-command-clause-readable : goal.returns-in_err-command-clause-readable
-returns-in_err-command-clause-readable g c honest =
+returns-in_err-command-clause-readable g c honest at =
     let seen = g.T.RecordsTx.seen in
     let old = (seen c.args.tx.now).rows in
-    let caller = c.args.caller.now in
+    let caller = c.args.caller.token in
     let ask = c.args.ask.now in
     let path = c.as_str-path.result.now in
     let route = c.in_ok-found-2.field-0 in
-    let mid = honest_before (seen c.find_route.new.tx) (seen c.is_permitted.new.tx) _ c.in_ok-is_permitted.ensures.call.goes_on honest in
+    let mid = honest_before (seen c.find_route.new.tx) (seen c.permitted.new.tx) _ c.in_ok-permitted.ensures.call.goes_on honest in
     let readable = c.in_ok-found.ensures.readable mid in
     let permitted = permitted_before old (seen c.find_route.new.tx).rows caller caller path ask.path ask.verb
-    c.in_ok-found.found c.in_ok-is_permitted.field-0 true (c.in_ok-found.ensures.call.same mid) refl c.as_str-path.ensures.text c.if-not-branch.false
-    readable (c.in_ok-found.ensures.found mid readable.0 readable.1) (c.in_ok-is_permitted.ensures.found honest) in
+    c.in_ok-found.found c.in_ok-permitted.field-0 true (c.in_ok-found.ensures.call.same mid) refl c.as_str-path.ensures.text c.if-not-branch.false
+    readable (c.in_ok-found.ensures.found mid readable.0 readable.1) (c.in_ok-permitted.ensures.found honest (caller_still (seen c.args.tx.now).rows (seen c.find_route.new.tx).rows c.args.caller (c.in_ok-found.ensures.call.same mid) at)) in
     let p = err_from_is_err_and c.from_residual-in_err-command.result c.from_residual-in_err-command.ensures.1 in
     rw (p.1 ∙ ap Err p.2)
     (on_no_command Answered (command_for route ask) c.in_err-command.field-0.0 c.in_err-command.ensures.reads
@@ -144,44 +145,44 @@ pub returns-clause-told : goal.returns-clause-told
 returns-clause-told g c honest b starts =
     let seen = g.T.RecordsTx.seen in
     let old = (seen c.args.tx.now).rows in
-    let caller = c.args.caller.now in
+    let caller = c.args.caller.token in
     let ask = c.args.ask.now in
     let path = c.as_str-path.result.now in
     let names = names_of c.args.context.now.words in
     let route = c.in_ok-found-2.field-0 in
-    let later = honest_before (seen c.is_permitted.new.tx) (seen c.operate.new.tx) _ c.operate.ensures.call.goes_on honest in
-    let mid = honest_before (seen c.find_route.new.tx) (seen c.is_permitted.new.tx) _ c.in_ok-is_permitted.ensures.call.goes_on later in
-    let still = still_represented b old (seen c.find_route.new.tx).rows (c.in_ok-found.ensures.call.same mid) starts.represents in
-    let then = still_represented b (seen c.find_route.new.tx).rows (seen c.is_permitted.new.tx).rows (c.in_ok-is_permitted.ensures.call.same later) still in
-    let routed = c.in_ok-found.ensures.told mid b.mounts (mounts_there b old starts.represents) in
-    let told = c.in_ok-is_permitted.ensures.told later b still (starts.here caller refl) routed in
+    let later = honest_before (seen c.permitted.new.tx) (seen c.operate.new.tx) _ c.operate.ensures.call.goes_on honest in
+    let mid = honest_before (seen c.find_route.new.tx) (seen c.permitted.new.tx) _ c.in_ok-permitted.ensures.call.goes_on later in
+    let still = still_represented b old (seen c.find_route.new.tx).rows (c.in_ok-found.ensures.call.same mid) starts.begins.represents in
+    let then = still_represented b (seen c.find_route.new.tx).rows (seen c.permitted.new.tx).rows (c.in_ok-permitted.ensures.call.same later) still in
+    let routed = c.in_ok-found.ensures.told mid b.mounts (mounts_there b old starts.begins.represents) in
+    let told = c.in_ok-permitted.ensures.told later b still (starts.caller) routed in
     let permitted : permits b (Some caller) ask.verb ask.path ≡ true =
     (λ i. permits b (Some caller) ask.verb (sym c.as_str-path.ensures.text i)) ∙ sym told ∙ c.if-not-branch.false in
     let found = sym c.in_ok-found-2.was ∙ routed in
     let formed : IsWellFormed route = record {
       parameter = λ takes. c.in_ok-found.ensures.parameter c.as_str-path.ensures.good route takes c.in_ok-found-2.was;
-      mount = λ op is. mount_named b ask.verb path route op starts.represents.sound.mounts (sym found) is;
+      mount = λ op is. mount_named b ask.verb path route op starts.begins.represents.sound.mounts (sym found) is;
     } in
     served_permitted b caller names ask (seen c.operate.new.tx).rows c.operate.result permitted
     (served_by b caller names ask (seen c.operate.new.tx).rows c.operate.result route path c.as_str-path.ensures.text found
     (is_meant b caller names ask (seen c.operate.new.tx).rows (command_for route ask) (meant c.in_ok-command.command) c.operate.result c.in_ok-command.ensures.reads
-    (c.operate.ensures.told (c.in_ok-command.ensures.placed formed) honest b (record { represents = then; here = starts.here; clock = starts.clock }) ask)))
+    (c.operate.ensures.told (c.in_ok-command.ensures.placed formed) honest b (record { represents = then; here = starts.begins.here; clock = starts.begins.clock }) ask)))
 
 pub returns-clause-readable : goal.returns-clause-readable
-returns-clause-readable g c honest =
+returns-clause-readable g c honest at =
     let seen = g.T.RecordsTx.seen in
     let old = (seen c.args.tx.now).rows in
-    let caller = c.args.caller.now in
+    let caller = c.args.caller.token in
     let ask = c.args.ask.now in
     let path = c.as_str-path.result.now in
     let route = c.in_ok-found-2.field-0 in
-    let later = honest_before (seen c.is_permitted.new.tx) (seen c.operate.new.tx) _ c.operate.ensures.call.goes_on honest in
-    let mid = honest_before (seen c.find_route.new.tx) (seen c.is_permitted.new.tx) _ c.in_ok-is_permitted.ensures.call.goes_on later in
-    let same = c.in_ok-is_permitted.ensures.call.same later ∙ c.in_ok-found.ensures.call.same mid in
+    let later = honest_before (seen c.permitted.new.tx) (seen c.operate.new.tx) _ c.operate.ensures.call.goes_on honest in
+    let mid = honest_before (seen c.find_route.new.tx) (seen c.permitted.new.tx) _ c.in_ok-permitted.ensures.call.goes_on later in
+    let same = c.in_ok-permitted.ensures.call.same later ∙ c.in_ok-found.ensures.call.same mid in
     let readable = c.in_ok-found.ensures.readable mid in
     let permitted = permitted_before old (seen c.find_route.new.tx).rows caller caller path ask.path ask.verb
-    c.in_ok-found.found c.in_ok-is_permitted.field-0 true (c.in_ok-found.ensures.call.same mid) refl c.as_str-path.ensures.text c.if-not-branch.false
-    readable (c.in_ok-found.ensures.found mid readable.0 readable.1) (c.in_ok-is_permitted.ensures.found later) in
+    c.in_ok-found.found c.in_ok-permitted.field-0 true (c.in_ok-found.ensures.call.same mid) refl c.as_str-path.ensures.text c.if-not-branch.false
+    readable (c.in_ok-found.ensures.found mid readable.0 readable.1) (c.in_ok-permitted.ensures.found later (caller_still (seen c.args.tx.now).rows (seen c.find_route.new.tx).rows c.args.caller (c.in_ok-found.ensures.call.same mid) at)) in
     on_answer_weaker c.operate.result
     (λ read. inl (record {
       permitted = permitted;

@@ -1,0 +1,19 @@
+use records::TokenRecord;
+use std::marker::Model;
+
+/// The caller of a request.
+#[derive(Drop)]
+pub struct Caller<'r> {
+    /// Its token.
+    pub token: &'r str,
+    /// What the row of its token says, once a use is spent.
+    pub known: TokenRecord,
+}
+
+impl<'r> Model for Caller<'r> {
+    ghost use Rattle.broker_rows.specs.Caller as spec;
+
+    ghost Value = { spec.Caller };
+
+    ghost view = { λ c. record { token = c.token.now; known = c.known } };
+}
