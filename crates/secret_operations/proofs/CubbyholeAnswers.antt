@@ -1,8 +1,8 @@
--- From the rows that a write to a cubbyhole left to the broker that they represent.
+-- From the rows that an edit of a cubbyhole left to the broker that they represent.
 use Rattle.std.specs.Prelude.{◌≡◌, Bool, true, false, if◌then◌else◌, Option}
 use Rattle.std.proofs.Common.{refl, sym, ◌∙◌, ap}
 use Rattle.broker_types.specs.Text.{Text, same}
-use Rattle.broker_types.specs.Map.{get, put}
+use Rattle.broker_types.specs.Map.{Map, get, put, without}
 use Rattle.broker_types.specs.Token.{Token}
 use Rattle.broker_types.specs.Broker.{Broker}
 use Rattle.broker_types.specs.Sound.{IsPathText, IsObjectText}
@@ -11,24 +11,24 @@ use Rattle.broker_types.specs.OptionLaws.{mapped}
 use Rattle.records.specs.Parts.{Tells}
 use Rattle.records.specs.Table.{table_of}
 use Rattle.records.specs.Transaction.{Rows}
-use Rattle.cubbyhole.specs.Cubbyhole.{with_cubbyhole, write}
-use Rattle.cubbyhole.specs.SoundLaws.{write_sound}
+use Rattle.cubbyhole.specs.Cubbyhole.{with_cubbyhole, edited, write, delete}
+use Rattle.cubbyhole.specs.SoundLaws.{write_sound, delete_sound}
 use Rattle.broker_model.specs.Forms.{forms}
 use Rattle.broker_rows.specs.Representing.{AsServed, Represents}
 use Rattle.broker_rows.specs.RepresentingLaws.{everything}
 
--- what the requests served so far can leave is so after a write
-written_leases : (v : Bool) (path object : Text) (x : Token) → (if v then with_cubbyhole (λ m. put m path object) x else x).leases ≡ x.leases
-written_leases true path object x = refl
-written_leases false path object x = refl
+-- what the requests served so far can leave is so after an edit
+edited_leases : (v : Bool) (edit : Map Text → Map Text) (x : Token) → (if v then with_cubbyhole edit x else x).leases ≡ x.leases
+edited_leases true edit x = refl
+edited_leases false edit x = refl
 
-served-write : (b : Broker) (t path object : Text) → AsServed b → AsServed (write b t path object)
-served-write b t path object s =
+served-edited : (b : Broker) (t : Text) (edit : Map Text → Map Text) → AsServed b → AsServed (edited b t edit)
+served-edited b t edit s =
     record {
       no_leases = λ q y is.
-          let written = λ (x : Token). if same q t then with_cubbyhole (λ m. put m path object) x else x in
-          let x = mapped written (get b.tokens q) y (sym (get-change b.tokens t (with_cubbyhole (λ m. put m path object)) q) ∙ is) in
-          ap (λ (z : Token). z.leases) x.2 ∙ written_leases (same q t) path object x.0 ∙ s.no_leases q x.0 x.1;
+          let x = mapped (λ (x : Token). if same q t then with_cubbyhole edit x else x) (get b.tokens q) y
+          (sym (get-change b.tokens t (with_cubbyhole edit) q) ∙ is) in
+          ap (λ (z : Token). z.leases) x.2 ∙ edited_leases (same q t) edit x.0 ∙ s.no_leases q x.0 x.1;
       none_waits = s.none_waits;
       no_roles = s.no_roles;
     }
@@ -40,5 +40,15 @@ represents-write {who} b old new t path object st is_path is_object tells =
     record {
       rows = λ i k q. tells k q refl i;
       sound = write_sound forms who b t st.sound path object is_path is_object;
-      served = served-write b t path object st.served;
+      served = served-edited b t (λ m. put m path object) st.served;
+    }
+
+-- and those after a deletion
+pub represents-delete : {who : Option Text} (b : Broker) (old new : Rows) (t path : Text) → Represents who old b
+    → Tells everything (table_of new) (delete b t path) → Represents who new (delete b t path)
+represents-delete {who} b old new t path st tells =
+    record {
+      rows = λ i k q. tells k q refl i;
+      sound = delete_sound forms who b t st.sound path;
+      served = served-edited b t (λ m. without m path) st.served;
     }
