@@ -1,5 +1,5 @@
 -- Rows filed under their owners: those of a broker are, edits leave them so, and one owner's are one cubbyhole.
-use Rattle.std.specs.Prelude.{◌≡◌, ◌<◌, ◌+◌, [], length, take, drop, nat_eq, Bool, true, false, if◌then◌else◌, Option, Some, None, option_map}
+use Rattle.std.specs.Prelude.{◌≡◌, ◌+◌, [], length, take, drop, nat_eq, Bool, true, false, if◌then◌else◌, Some, None, option_map}
 use Rattle.std.specs.List.{starts_with}
 use Rattle.std.proofs.Common.{refl, sym, ◌∙◌, ap, inl, inr}
 use Rattle.std.proofs.lemmas.Option.{none-some, same_Some}
@@ -36,8 +36,8 @@ brokers_filed rows b told q row at = by (has_slash q) refl (sym at ∙ told kind
         let of = mapped (cubby_row t) (object_at b t path) row (sym e) in
         record {
           path = path;
-          owner = ap (λ (r : Row). length r.owner) of.2.1 ∙ token_whole q is;
-          key = key_parts q is ∙ ap (λ (r : Row). object_key r.owner path) (sym of.2.1);
+          owner = ap (λ (r : Row). length r.owner) of.2 ∙ token_whole q is;
+          key = key_parts q is ∙ ap (λ (r : Row). object_key r.owner path) (sym of.2);
         }
     by false is e = absurd (none-some _ (sym e))
 

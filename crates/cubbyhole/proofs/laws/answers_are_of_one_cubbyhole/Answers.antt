@@ -1,4 +1,4 @@
-use Rattle.std.proofs.Common.{◌∙◌, ap, sym, [], is_some}
+use Rattle.std.proofs.Common.{◌∙◌, ap, sym, is_some}
 use Rattle.cubbyhole.specs.Objects.{object_key}
 use Rattle.cubbyhole.proofs.ObjectKeys.{begins}
 use Rattle.cubbyhole.proofs.ObjectsTold.{same_option}
