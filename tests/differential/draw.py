@@ -33,9 +33,9 @@ from run import data_of
 from secret_themes import (asked_versions, check_and_set, deletions, folders, forgotten_secrets, mixed_secrets,
                            old_versions, refused_secrets, secret_callers, secret_moments, secret_routes, secret_writes,
                            settings, version_lists)
-from token_themes import (accessors, children, creations, ends, families, given_twice, lenient_creations, look_ups,
-                          mixed_tokens, other_cubbyholes, refused_creations, renewals, revocations, sudo_paths,
-                          token_routes, uses)
+from token_themes import (accessors, children, creations, cubbyhole_lists, ends, families, given_twice,
+                          lenient_creations, look_ups, mixed_tokens, other_cubbyholes, refused_creations, renewals,
+                          revocations, sudo_paths, token_routes, uses)
 
 HERE = pathlib.Path(__file__).resolve().parent
 sys.path.append(str(HERE.parent / "reference"))
@@ -51,16 +51,16 @@ THEMES = {
     connections: 3, closing: 3, moments: 3, spellings: 3, lines: 6, changed_lines: 4, large: 1, mixed: 6, queries: 4,
     limits: 4, escapes: 6, authorizations: 5, hex_and_lists: 3,
     creations: 4, lenient_creations: 7, refused_creations: 6, children: 8, families: 6, look_ups: 6, accessors: 4,
-    renewals: 6, ends: 6, uses: 6, revocations: 6, sudo_paths: 6, given_twice: 4, other_cubbyholes: 4, token_routes: 4,
-    mixed_tokens: 6,
+    renewals: 6, ends: 6, uses: 6, revocations: 6, sudo_paths: 6, given_twice: 4, other_cubbyholes: 4, cubbyhole_lists: 8,
+    token_routes: 4, mixed_tokens: 6,
     secret_writes: 4, check_and_set: 7, old_versions: 5, asked_versions: 7, deletions: 8, version_lists: 5,
     refused_secrets: 6, settings: 7, folders: 7, forgotten_secrets: 4, secret_callers: 10, secret_routes: 6,
     secret_moments: 2, mixed_secrets: 6,
-    permissions: 16, exact_and_prefix: 16, denials: 16, list_patterns: 18, creating_or_updating: 19,
-    cubbyhole_permissions: 12, stars_in_paths: 10, sudo_permissions: 18, policy_texts: 12, policy_names: 10,
+    permissions: 16, exact_and_prefix: 16, denials: 16, list_patterns: 16, creating_or_updating: 17,
+    cubbyhole_permissions: 12, stars_in_paths: 10, sudo_permissions: 16, policy_texts: 12, policy_names: 10,
     changing_policies: 16, policies_of_children: 10, policies_not_there: 8, policies_by_callers: 8,
     refusals_in_order: 10, policy_routes: 6, mixed_policies: 8,
-    unserved_routes: 6, unserved_fields: 1,
+    unserved_routes: 4, unserved_fields: 1,
 }
 
 

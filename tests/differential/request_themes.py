@@ -596,13 +596,13 @@ UNSERVED_ROUTES = (
     ("POST", "sys/leases/revoke-prefix/secret", None), ("GET", "sys/policy/default", None),
     ("POST", "sys/wrapping/wrap", '{"a":1}'), ("POST", "sys/wrapping/unwrap", '{"token":"x"}'),
     ("POST", "sys/wrapping/lookup", None), ("POST", "sys/leases/lookup", "{}"), ("GET", "db/creds/r", None),
-    ("LIST", "cubbyhole", None), ("GET", "cubbyhole", None), ("DELETE", "cubbyhole", None),
-    ("POST", "cubbyhole", '{"a":1}'), ("GET", "sys", None), ("GET", "auth", None), ("DELETE", "none", None),
-    ("LIST", "secret", None))
+    ("GET", "cubbyhole", None), ("DELETE", "cubbyhole", None), ("POST", "cubbyhole", '{"a":1}'),
+    ("GET", "sys", None), ("GET", "auth", None), ("DELETE", "none", None), ("LIST", "secret", None))
 
 
 def unserved_routes(run):
-    """Routes of the broker that are not served so far, and methods of cubbyholes and secrets that are not."""
+    """Routes of the broker that are not served so far, and methods of cubbyholes and secrets that are not. Lists and
+    deletions of an object are between them."""
     path = run.path()
     run.event(run.write(path, run.object_text(1)))
     while run.room() > 0:

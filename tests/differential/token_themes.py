@@ -371,6 +371,36 @@ def other_cubbyholes(run):
             run.ask(run.pick("revoke", "revoke-orphan"), {"token": run.pick(*run.made)[0]})
 
 
+def cubbyhole_lists(run):
+    """Lists of cubbyholes and of their folders, by LIST and by GET, between writes and deletions of two tokens."""
+    run.size = run.random.randrange(10, 17)
+    creation(run, policies=["default"], num_uses=None, ttl=None, explicit_max_ttl=None)
+    callers = [None, None, run.made[-1][0]]
+    tree = ("a/b", "a", "Z", "a/B", "a/b/c", "b", "b/c/d/e", "a-b", "a0", "ab/c", "é", "é/a", "10", "9", "a./b")
+    paths = run.random.sample(tree, run.pick(2, 3, 4, 5))
+    for path in paths:
+        run.call(run.pick("PUT", "POST"), f"cubbyhole/{path}", '{"a":1}', run.pick(*callers))
+    while run.room() > 0:
+        token = run.pick(*callers)
+        place = run.pick("", "", "", run.pick("a", "b", "é"), *("/" + path.rpartition("/")[0] for path in paths),
+                         "/" + run.pick("none", "a/b", *paths)).strip("/")
+        place = "cubbyhole" + ("/" + place if place else "")
+        way = run.random.randrange(12)
+        if way < 5:
+            run.call("LIST", place + run.pick("", "", "/"), token=token)
+        elif way < 7:
+            run.call("GET", place + run.pick("?list=true", "/?list=true", "?a&list=true&list=false", "?list=1", ""),
+                     token=token)
+        elif way < 10:
+            path = run.pick(*paths)
+            run.call("DELETE", f"cubbyhole/{path}" + run.pick("", "", "/"), token=token)
+            run.call(run.pick("LIST", "LIST", "GET"), run.pick("cubbyhole", "cubbyhole", f"cubbyhole/{path}"), token=token)
+        elif way == 10:
+            run.call(run.pick("DELETE", "PUT", "GET"), place, run.pick(None, '{"a":1}', "{"), token)
+        else:
+            run.call("PUT", f"cubbyhole/{run.pick(*tree)}", run.pick('{"a":1}', '{"b":{}}', "{}"), token)
+
+
 TOKEN_ROUTES = ("create", "create-orphan", "lookup", "lookup-self", "lookup-accessor", "renew", "renew-self", "revoke",
                 "revoke-orphan", "revoke-self", "revoke-accessor", "accessors")
 

@@ -5,7 +5,7 @@ use Rattle.broker_types.specs.Path.{is_path}
 use Rattle.broker_model.specs.Command as model
 use Rattle.broker_model.specs.Command.{on_cubbyhole, on_token, on_secret, on_policy}
 use Rattle.secret_operations.specs.InRange.{IsCubbyholeCommandInRange, IsSecretCommandInRange}
-use Rattle.secret_operations.specs.Paths.{needs_path}
+use Rattle.secret_operations.specs.Paths.{needs_path, needs_object_path}
 use Rattle.system_operations.specs.InRange.{IsPolicyCommandInRange}
 use Rattle.token_operations.specs.TokenRanges.{IsTokenCommandInRange}
 use Rattle.broker.specs.declared.command.Command.{Command}
@@ -20,7 +20,7 @@ meant (OnPolicy name command) = on_policy name.now command
 
 -- where it acts is of the form that it asks for
 abbrev pub IsWellPlaced : model.Command → Type 0
-IsWellPlaced (on_cubbyhole path command) = is_path path ≡ true
+IsWellPlaced (on_cubbyhole path command) = needs_object_path command ≡ true → is_path path ≡ true
 IsWellPlaced (on_token command) = ⊤
 IsWellPlaced (on_secret place command) =
     (is_mount_name place.mount ≡ true) × (needs_path command ≡ true → is_path place.path ≡ true)

@@ -1,5 +1,5 @@
 -- The paths below `cubbyhole/` have the routes of cubbyholes.
-use Rattle.std.specs.Prelude.{◌≡◌, ◌++◌, ◌||◌, List, [], ◌∷◌, Bool, true, not, Option, Some, None, Ok, codes}
+use Rattle.std.specs.Prelude.{◌≡◌, ◌≢◌, ◌++◌, ◌||◌, List, [], ◌∷◌, Bool, true, not, Option, Some, None, Ok, Err, codes}
 use Rattle.std.specs.List.{list_all}
 use Rattle.std.proofs.Common.{refl, sym, ◌∙◌, ap, subst, inl, inr}
 use Rattle.std.proofs.lemmas.Bool.{and_parts, false≢true, or_cases}
@@ -9,6 +9,7 @@ use Rattle.broker_types.specs.Refuse.{◌>>=◌, some_or}
 use Rattle.broker_types.specs.Text.{Text, same}
 use Rattle.broker_types.specs.TextLaws.{same_true}
 use Rattle.broker_types.specs.declared.ask.Verb.{Verb}
+use Rattle.broker_types.specs.declared.ask.Verb.TheVariants as verb
 use Rattle.broker_types.specs.declared.refusal.Refusal.TheVariants as refusal
 use Rattle.records.specs.Table.{Table}
 use Rattle.mounts.specs.Forms.{form_of, has_form, are_bytes}
@@ -22,7 +23,7 @@ use Rattle.mounts.specs.declared.mount_type.MountType.TheVariants as mount
 use Rattle.mounts.specs.declared.operation.CubbyholeOperation.{CubbyholeOperation}
 use Rattle.mounts.specs.declared.operation.Operation.{Operation}
 use Rattle.mounts.specs.declared.operation.Operation.TheVariants.{Cubbyholes}
-use Rattle.broker_model.specs.Laws.{MeansBelowCubbyhole}
+use Rattle.broker_model.specs.Laws.{MeansBelowCubbyhole, ListsTheWhole, AllowsListAlone, list_alone}
 
 -- ---- a pattern that alone has the form of a path
 
@@ -72,6 +73,32 @@ module _ (found : FoundByForm) (none : NoneFoundByForm) where
       ap (λ z. some_or refusal.NotFound z >>= route_by rows v (codes "cubbyhole") (b ∷ path)) there
       ∙ ap (λ z. some_or (refusal.MethodNotAllowed (methods_of rows (codes "{*path}"))) z
       >>= (λ (x : Operation). Ok (record { operation = x; mount = codes "cubbyhole"; parameter = b ∷ path }))) row
+
+  -- ---- the whole cubbyhole
+
+  there_itself : AreInOrder → pattern_found (route_rows mount.Cubbyhole) [] ≡ Some []
+  unfolding same
+  there_itself ordered = found_alone (route_rows mount.Cubbyhole) [] [] (ordered mount.Cubbyhole) refl refl refl refl
+
+  -- the row of LIST and of the empty pattern is that of the whole
+  pub lists_whole : AreInOrder → ListsTheWhole
+  unfolding route_at same
+  lists_whole ordered o =
+      ap (λ z. some_or refusal.NotFound z >>= route_by (route_rows mount.Cubbyhole) verb.List (codes "cubbyhole") []) (there_itself ordered)
+
+  -- and no row of it has another verb
+  pub lists_alone : AreInOrder → AllowsListAlone
+  unfolding route_at same
+  lists_alone ordered o v other =
+      ap (λ z. some_or refusal.NotFound z >>= route_by (route_rows mount.Cubbyhole) v (codes "cubbyhole") []) (there_itself ordered)
+      ∙ not_list v other
+    where
+      not_list : (v : Verb) → v ≢ verb.List
+          → route_by (route_rows mount.Cubbyhole) v (codes "cubbyhole") [] [] ≡ Err (refusal.MethodNotAllowed list_alone)
+      not_list verb.Get n = refl
+      not_list verb.List n = absurd (n refl)
+      not_list verb.Write n = refl
+      not_list verb.Delete n = refl
 
 pub always_there : (rows : Table) (o : Option Mount) (path : Text) → IsKnownAt rows (cut (codes "cubbyhole/" ++ path)).0 o
 unfolding same

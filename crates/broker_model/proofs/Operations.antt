@@ -1,14 +1,20 @@
 -- What an operation that gives out no identifier keeps.
-use Rattle.std.specs.Prelude.{◌≡◌, [], Some, None}
-use Rattle.std.proofs.Common.{refl, sym, ◌∙◌, ap, inl}
+use Rattle.std.specs.Prelude.{◌≡◌, List, [], not, Some, None, Ok}
+use Rattle.std.proofs.Common.{refl, sym, ◌∙◌, ap, subst, inl}
 use Rattle.broker_types.specs.Text.{Text}
 use Rattle.broker_types.specs.Broker.{Broker, Waiting}
 use Rattle.broker_types.specs.Evolves.{Evolves, WaitedBefore}
 use Rattle.broker_types.specs.Map.{Map, get}
 use Rattle.broker_types.specs.SpendingLaws.{evolves_self}
-use Rattle.broker_types.specs.Operation.{Answered, kept_text, missing, reply, nothing, plainly}
+use Rattle.broker_types.specs.Names.{Names}
+use Rattle.broker_types.specs.Operation.{Answered, kept_text, missing, reply, nothing, plainly, Done}
+use Rattle.broker_types.specs.Refuse.{unless}
+use Rattle.broker_types.specs.RefuseLaws.{ok_step}
+use Rattle.broker_types.specs.declared.refusal.Refusal.TheVariants as refusal
 use Rattle.broker_types.specs.declared.reply.Reply.{Reply}
+use Rattle.records.specs.ValueLaws.{ok_inj}
 use Rattle.broker_model.specs.Order.{IsProper}
+use Rattle.broker_model.specs.parts.Lists.{are_none, list_reply, listed}
 
 -- what waits as it did, waited before
 pub waits_still : (b next : Broker) → next.waiting ≡ b.waiting → (t : Text) (w : Waiting) → get next.waiting t ≡ Some w → WaitedBefore b w
@@ -38,6 +44,12 @@ changed_proper b next r used waiting evolves =
 -- one that replies, and leaves the broker as it is
 pub shown_proper : (b : Broker) (r : Reply) → IsProper b [] (plainly (reply r None) b)
 shown_proper b r = changed_proper b b r refl refl (evolves_self b)
+
+-- one that lists children
+pub listed_proper : (b : Broker) (names : Names) (children : List Text) (d : Done) → listed b names children ≡ Ok d → IsProper b [] d
+listed_proper b names children d e =
+    let some = ok_step (unless (not (are_none children)) refusal.NotFound) _ d e in
+    subst (IsProper b []) (ok_inj some.2) (shown_proper b (list_reply names.request children))
 
 -- one that answers nothing
 pub silent_proper : (b next : Broker) → next.used ≡ b.used → next.waiting ≡ b.waiting → Evolves b next

@@ -1,10 +1,10 @@
 -- Commands on secrets are proper: they give out no identifier, and let the broker evolve.
-use Rattle.std.specs.Prelude.{◌≡◌, ℕ, [], true, false, not, None, is_some, if◌then◌else◌, Ok}
+use Rattle.std.specs.Prelude.{◌≡◌, ℕ, [], true, false, None, is_some, if◌then◌else◌, Ok}
 use Rattle.std.proofs.Common.{refl, ap, subst}
 use Rattle.broker_types.specs.Broker.{Broker}
 use Rattle.broker_types.specs.Names.{Names}
 use Rattle.broker_types.specs.Operation.{reply, missing, Done, plainly}
-use Rattle.broker_types.specs.Refuse.{some_or, unless}
+use Rattle.broker_types.specs.Refuse.{some_or}
 use Rattle.broker_types.specs.RefuseLaws.{ok_step}
 use Rattle.broker_types.specs.Text.{Text}
 use Rattle.broker_types.specs.declared.refusal.Refusal.TheVariants as refusal
@@ -19,8 +19,8 @@ use Rattle.broker_model.specs.declared.commands.SecretCommand.{SecretCommand}
 use Rattle.broker_model.specs.declared.commands.SecretCommand.TheVariants as command
 use Rattle.broker_model.specs.parts.SecretCommands.{Place}
 use Rattle.broker_model.specs.parts.SecretReplies.{object_left, version_reply, version_answered, written_reply}
-use Rattle.broker_model.specs.parts.Secrets.{act_on_secrets, settings, read, write, metadata, list, are_none}
-use Rattle.broker_model.proofs.Operations.{shown_proper, silent_proper, missing_proper, changed_proper}
+use Rattle.broker_model.specs.parts.Secrets.{act_on_secrets, settings, read, write, metadata}
+use Rattle.broker_model.proofs.Operations.{shown_proper, silent_proper, missing_proper, changed_proper, listed_proper}
 
 module _ (b : Broker) where
   version_proper : (request : Text) (v : FoundVersion) → IsProper b [] (plainly (version_answered request v) b)
@@ -56,11 +56,6 @@ module _ (b : Broker) (names : Names) (p : Place) where
       let m = ok_step (some_or refusal.NotFound (secrets.metadata b p.mount p.path)) _ d e in
       subst (IsProper b []) (ok_inj m.2) (shown_proper b _)
 
-  list_proper : (d : Done) → list b names p ≡ Ok d → IsProper b [] d
-  list_proper d e =
-      let some = ok_step (unless (not (are_none (secrets.list b p.mount p.path))) refusal.NotFound) _ d e in
-      subst (IsProper b []) (ok_inj some.2) (shown_proper b _)
-
   -- a command that is not refused gives out no identifiers, and lets the broker evolve
   pub acts : (command : SecretCommand) (d : Done) → act_on_secrets b names p command ≡ Ok d → IsProper b [] d
   acts command.ShowSettings d e = settings_proper d e
@@ -74,4 +69,4 @@ module _ (b : Broker) (names : Names) (p : Place) where
   acts (command.Destroy ns) d e = subst (IsProper b []) (ok_inj e) (silent_proper b _ refl refl (secrets_evolve b _))
   acts command.ShowMetadata d e = metadata_proper d e
   acts command.Remove d e = subst (IsProper b []) (ok_inj e) (silent_proper b _ refl refl (secrets_evolve b _))
-  acts command.List d e = list_proper d e
+  acts command.List d e = listed_proper b names (secrets.list b p.mount p.path) d e

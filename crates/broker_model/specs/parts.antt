@@ -2,6 +2,7 @@ pub mod AclPolicies
 pub mod AclPolicyCommands
 pub mod Bodies
 pub mod Cubbyholes
+pub mod Lists
 pub mod SecretCommands
 pub mod SecretReplies
 pub mod Secrets

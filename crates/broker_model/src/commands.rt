@@ -11,8 +11,12 @@ use broker_types::{Seconds, TextBuf};
 pub enum CubbyholeCommand {
     /// Shows the object.
     Read,
+    /// Lists the objects and folders of the folder.
+    List,
     /// Keeps an object: its compact text, or nothing where it has no members.
     Write(Option<TextBuf>),
+    /// Removes the object.
+    Delete,
 }
 
 /// What an operation does with tokens (Vault's documentation, "Token auth method (API)").

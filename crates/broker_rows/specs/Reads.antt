@@ -24,9 +24,12 @@ use Rattle.broker_rows.specs.ReadableRow.{IsReadableDescent, IsReadableAlone}
 
 -- ---- cubbyholes
 
+-- a list looks at the keys of the rows alone, and a change reads none
 abbrev pub AreReadableObjects : Rows → Text → Text → CubbyholeCommand → Type 0
 AreReadableObjects rows caller path cubbyhole.Read = IsReadableObject rows caller path
+AreReadableObjects rows caller path cubbyhole.List = ⊤
 AreReadableObjects rows caller path (cubbyhole.Write _) = ⊤
+AreReadableObjects rows caller path cubbyhole.Delete = ⊤
 
 -- ---- tokens
 

@@ -1,5 +1,5 @@
 -- The rows of one owner's cubbyhole, by their keys.
-use Rattle.std.specs.Prelude.{◌≡◌, [], length, nat_eq, ◌==◌, ◌&&◌, take, Bool, true, false, if◌then◌else◌, Option, None}
+use Rattle.std.specs.Prelude.{◌≡◌, [], length, nat_eq, ◌==◌, ◌&&◌, take, Bool, true, false, if◌then◌else◌, Option, Some, None}
 use Rattle.std.specs.List.{starts_with}
 use Rattle.std.proofs.Common.{refl, sym, ◌∙◌, ap, subst, inl, inr}
 use Rattle.broker_types.specs.Text.{Text, same}
@@ -16,15 +16,19 @@ use Rattle.records.specs.CubbyKeyLaws.{key_has_slash, key_token}
 use Rattle.cubbyhole.proofs.ObjectKeys.{key_owner}
 
 module _ (rows : Table) (t : Text) (filed : AreFiled rows) (len : length t ≡ token_len) where
+  -- a key begins with the token and a slash if the token owns the row, and only then
+  pub key_tells : (q : Text) (row : Row) → rows kind.Cubby q ≡ Some row → starts_with nat_eq q (object_key t []) ≡ same row.owner t
+  key_tells q row at =
+      let f = filed q row at in
+      key_owner t q len (ap has_slash f.key ∙ key_has_slash row.owner f.path f.owner)
+      ∙ ap (λ u. same u t) (ap (take token_len) f.key ∙ key_token row.owner f.path f.owner)
+
   at_cubby : (q : Text) → (if starts_with nat_eq q (object_key t []) then None else rows kind.Cubby q) ≡ unless_owned t (rows kind.Cubby q)
   at_cubby q = elim (found_or_not (rows kind.Cubby q)) [
     | inl none ↦ ap (λ o. if starts_with nat_eq q (object_key t []) then None else o) none ∙ nothing (starts_with nat_eq q (object_key t []))
         ∙ sym (ap (unless_owned t) none)
     | inr r ↦
-        let f = filed q r.0 r.1 in
-        let is : has_slash q ≡ true = ap has_slash f.key ∙ key_has_slash r.0.owner f.path f.owner in
-        let by : starts_with nat_eq q (object_key t []) ≡ same r.0.owner t = key_owner t q len is
-        ∙ ap (λ u. same u t) (ap (take token_len) f.key ∙ key_token r.0.owner f.path f.owner) in
+        let by = key_tells q r.0 r.1 in
         (λ i. if by i then None else r.1 i) ∙ sym (ap (unless_owned t) r.1)
   ]
     where

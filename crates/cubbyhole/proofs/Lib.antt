@@ -1,7 +1,9 @@
 pub mod Edits
 pub mod EndedTokens
 pub mod Filed
+pub mod FiledRows
 pub mod ObjectKeys
 pub mod ObjectRows
 pub mod ObjectsListed
 pub mod ObjectsTold
+pub mod OneCubbyhole

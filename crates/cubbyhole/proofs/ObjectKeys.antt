@@ -2,9 +2,10 @@
 use Rattle.std.specs.Prelude.{◌≡◌, ◌+◌, ◌==◌, ◌&&◌, [], ◌∷◌, ◌++◌, length, take, drop, true, false, nat_eq, T}
 use Rattle.std.specs.List.{starts_with}
 use Rattle.std.proofs.Common.{refl, sym, ◌∙◌, ap, subst, append_assoc, get_or, eqb→eq, inl, inr}
+use Rattle.std.proofs.Math.Nat.{le_of_lt}
 use Rattle.std.proofs.Math.Seq.{take-append_seam, drop-cons}
 use Rattle.std.proofs.lemmas.Bool.{cases_lt, and_parts, false_from_ne_true, false≢true}
-use Rattle.std.proofs.lemmas.List.{take-append-drop, get_or_past}
+use Rattle.std.proofs.lemmas.List.{take-append-drop, length-take-le, get_or_past}
 use Rattle.broker_types.specs.Text.{Text, same}
 use Rattle.broker_types.specs.TextLaws.{same_self, same_true}
 use Rattle.records.specs.CubbyKeyLaws.{key_token, key_path}
@@ -20,6 +21,14 @@ key_parts q h =
           let at : get_or q token_len 0 ≡ slash = eqb→eq (get_or q token_len 0) slash (subst T (sym h) tt) in
           let front : drop token_len q ≡ slash ∷ drop (token_len + 1) q = drop-cons q token_len 0 within ∙ ap (λ x. x ∷ drop (token_len + 1) q) at in
           sym (take-append-drop token_len q) ∙ ap (λ r. take token_len q ++ r) front
+      | inr short ↦ absurd (false≢true (ap (λ v. v == slash) (sym (get_or_past q token_len 0 short)) ∙ h))
+    ]
+
+-- and its token is whole
+pub token_whole : (q : Text) → has_slash q ≡ true → length (take token_len q) ≡ token_len
+token_whole q h =
+    elim (cases_lt token_len (length q)) [
+      | inl within ↦ length-take-le token_len q (le_of_lt within)
       | inr short ↦ absurd (false≢true (ap (λ v. v == slash) (sym (get_or_past q token_len 0 short)) ∙ h))
     ]
 
@@ -43,7 +52,7 @@ key_met t path q len is =
     ] refl
 
 -- a text that goes on after the token and a slash begins with them, and the other way round
-begins : (t path : Text) → starts_with nat_eq (object_key t path) (object_key t []) ≡ true
+pub begins : (t path : Text) → starts_with nat_eq (object_key t path) (object_key t []) ≡ true
 unfolding same
 begins t path =
     let prefix = object_key t [] in

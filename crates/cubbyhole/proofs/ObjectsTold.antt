@@ -27,16 +27,16 @@ after_length t x = refl
 same_object : (t x y : Text) → cubby_row t x ≡ cubby_row t y → x ≡ y
 same_object t x y e = sym (after_length t x) ∙ ap (λ (r : Row). drop 5 r.body) e ∙ after_length t y
 
+pub same_option : (t : Text) (o p : Option Text) → option_map (cubby_row t) o ≡ option_map (cubby_row t) p → o ≡ p
+same_option t None None e = refl
+same_option t None (Some y) e = absurd (none-some _ e)
+same_option t (Some x) None e = absurd (none-some _ (sym e))
+same_option t (Some x) (Some y) e = ap Some (same_object t x y (same_Some _ _ e))
+
 -- what the broker has at the path is what the row there keeps
 pub object_told : (rows : Table) (b : Broker) (t path : Text) (object : Option Text) → Tells of_cubbyholes rows b → length t ≡ token_len
     → IsObjectAt rows t path object → object ≡ object_at b t path
-object_told rows b t path object told len is = same_option object (object_at b t path) (sym is ∙ told kind.Cubby (object_key t path) refl ∙ row_at b t path len)
-  where
-    same_option : (o p : Option Text) → option_map (cubby_row t) o ≡ option_map (cubby_row t) p → o ≡ p
-    same_option None None e = refl
-    same_option None (Some y) e = absurd (none-some _ e)
-    same_option (Some x) None e = absurd (none-some _ (sym e))
-    same_option (Some x) (Some y) e = ap Some (same_object t x y (same_Some _ _ e))
+object_told rows b t path object told len is = same_option t object (object_at b t path) (sym is ∙ told kind.Cubby (object_key t path) refl ∙ row_at b t path len)
 
 -- there is a row where the broker has an object
 pub object_there : (rows : Table) (b : Broker) (t path : Text) → Tells of_cubbyholes rows b → length t ≡ token_len

@@ -38,8 +38,11 @@ route_rows mount.System =
     ∷ on verb.Delete (codes "policies/acl/{name}") (Policies policy.Remove)
     ∷ []
 route_rows mount.Cubbyhole =
-    on verb.Get (codes "{*path}") (Cubbyholes cubbyhole.Read)
+    on verb.List (codes "") (Cubbyholes cubbyhole.List)
+    ∷ on verb.Get (codes "{*path}") (Cubbyholes cubbyhole.Read)
+    ∷ on verb.List (codes "{*path}") (Cubbyholes cubbyhole.List)
     ∷ on verb.Write (codes "{*path}") (Cubbyholes cubbyhole.Write)
+    ∷ on verb.Delete (codes "{*path}") (Cubbyholes cubbyhole.Delete)
     ∷ []
 route_rows mount.Kv =
     on verb.Get (codes "config") (Secrets secret.ShowSettings)
@@ -74,7 +77,9 @@ takes_name policy.Remove = true
 -- whether the operation needs what a path has in place of the parameter; a list of the whole mount has none
 abbrev pub takes_parameter : Operation → Bool
 takes_parameter (Cubbyholes cubbyhole.Read) = true
+takes_parameter (Cubbyholes cubbyhole.List) = false
 takes_parameter (Cubbyholes cubbyhole.Write) = true
+takes_parameter (Cubbyholes cubbyhole.Delete) = true
 takes_parameter (Tokens operation) = false
 takes_parameter (Secrets operation) = takes_path operation
 takes_parameter (Policies operation) = takes_name operation

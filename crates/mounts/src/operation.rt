@@ -21,8 +21,12 @@ pub enum Operation {
 pub enum CubbyholeOperation {
     /// Its object is read.
     Read,
+    /// The objects and folders of the folder are listed.
+    List,
     /// An object is put there.
     Write,
+    /// Its object is removed.
+    Delete,
 }
 
 /// What is done with tokens (Vault's documentation, "Token auth method (API)").

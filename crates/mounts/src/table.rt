@@ -71,8 +71,11 @@ const SYSTEM: &[RouteRow] = &[
 ];
 
 const CUBBYHOLE: &[RouteRow] = &[
+    RouteRow(List, "", Cubbyholes(CubbyholeOperation::List)),
     RouteRow(Get, "{*path}", Cubbyholes(CubbyholeOperation::Read)),
+    RouteRow(List, "{*path}", Cubbyholes(CubbyholeOperation::List)),
     RouteRow(Write, "{*path}", Cubbyholes(CubbyholeOperation::Write)),
+    RouteRow(Delete, "{*path}", Cubbyholes(CubbyholeOperation::Delete)),
 ];
 
 const KV: &[RouteRow] = &[

@@ -14,9 +14,14 @@ struct Line(&'static str, &'static [(Verb, Operation)], &'static [Verb]);
 
 const NONE: &[(Verb, Operation)] = &[];
 
+const OF_CUBBYHOLES: &[(Verb, Operation)] =
+    &[(List, Operation::Cubbyholes(CubbyholeOperation::List))];
+
 const IN_CUBBYHOLES: &[(Verb, Operation)] = &[
     (Get, Operation::Cubbyholes(CubbyholeOperation::Read)),
+    (List, Operation::Cubbyholes(CubbyholeOperation::List)),
     (Write, Operation::Cubbyholes(CubbyholeOperation::Write)),
+    (Delete, Operation::Cubbyholes(CubbyholeOperation::Delete)),
 ];
 
 const OF_SETTINGS: &[(Verb, Operation)] = &[
@@ -162,9 +167,9 @@ const LINES: &[Line] = &[
     Line("sys/policies", NONE, &[]),
     Line("sys/policies/acl/p", OF_ONE_POLICY, &[]),
     Line("sys/policies/acl/p/a", NONE, &[]),
-    Line("cubbyhole", NONE, &[List]),
-    Line("cubbyhole/a", IN_CUBBYHOLES, &[List, Delete]),
-    Line("cubbyhole/a/b", IN_CUBBYHOLES, &[List, Delete]),
+    Line("cubbyhole", OF_CUBBYHOLES, &[]),
+    Line("cubbyhole/a", IN_CUBBYHOLES, &[]),
+    Line("cubbyhole/a/b", IN_CUBBYHOLES, &[]),
     Line("secret/config", OF_SETTINGS, &[]),
     Line("secret/config/a", NONE, &[]),
     Line("secret", NONE, &[]),
@@ -195,7 +200,7 @@ const LINES: &[Line] = &[
     Line("db2/creds/r", NONE, &[]),
     Line("other/data/a", NONE, &[]),
     Line("cubbyholes/a", NONE, &[]),
-    Line("cubbyhole/", NONE, &[]),
+    Line("cubbyhole/", OF_CUBBYHOLES, &[]),
 ];
 
 const VERBS: &[Verb] = &[Get, List, Write, Delete];

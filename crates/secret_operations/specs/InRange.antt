@@ -9,6 +9,8 @@ use Rattle.broker_model.specs.declared.commands.SecretCommand.TheVariants as sec
 -- what is written to a cubbyhole
 abbrev pub IsCubbyholeCommandInRange : CubbyholeCommand → Type 0
 IsCubbyholeCommandInRange cubbyhole.Read = ⊤
+IsCubbyholeCommandInRange cubbyhole.List = ⊤
+IsCubbyholeCommandInRange cubbyhole.Delete = ⊤
 IsCubbyholeCommandInRange (cubbyhole.Write None) = ⊤
 IsCubbyholeCommandInRange (cubbyhole.Write (Some text)) = IsKept text
 

@@ -19,8 +19,9 @@ ghost use Rattle.broker_rows.specs.Operating.{Performs};
 ghost use Rattle.broker_rows.specs.ReadableRow.{IsReadableObject};
 ghost use Rattle.broker_rows.specs.Reads.{AreReadableObjects};
 ghost use Rattle.secret_operations.specs.InRange.{IsCubbyholeCommandInRange};
+ghost use Rattle.secret_operations.specs.Paths.{needs_object_path};
 
-use api_json::read_body;
+use api_json::{keys_object, read_body};
 use broker_model::CubbyholeCommand;
 use broker_rows::{Answered, Context};
 use broker_types::{Reason, Refusal, RequestError};
@@ -41,7 +42,9 @@ pub fn read_cubbyhole_command(
 {
     match operation {
         CubbyholeOperation::Read => Ok(CubbyholeCommand::Read),
+        CubbyholeOperation::List => Ok(CubbyholeCommand::List),
         CubbyholeOperation::Write => read_write(alloc, body),
+        CubbyholeOperation::Delete => Ok(CubbyholeCommand::Delete),
     }
 }
 
@@ -71,7 +74,7 @@ pub fn act_on_cubbyholes<T: RecordsTx>(
     command: CubbyholeCommand,
 ) -> Result<Answered, RequestError>
     requires { IsCubbyholeCommandInRange command }
-    ensures told { is_path path.now ≡ true
+    ensures told { (needs_object_path command ≡ true → is_path path.now ≡ true)
         → Performs (Some caller.now) context.now [] (T.seen tx.old) (T.seen tx.new)
         (λ b. part.act_on_cubbyhole b caller.now (names_of context.now.words) path.now command) result }
 
@@ -82,10 +85,12 @@ pub fn act_on_cubbyholes<T: RecordsTx>(
 {
     match command {
         CubbyholeCommand::Read => read(alloc, tx, context, caller, path),
+        CubbyholeCommand::List => list(alloc, tx, context, caller, path),
         CubbyholeCommand::Write(None) => {
             Err(RequestError::Refused(Refusal::BadRequest(Reason::MissingData)))
         }
         CubbyholeCommand::Write(Some(text)) => write(alloc, tx, caller, path, text.as_str()),
+        CubbyholeCommand::Delete => delete(alloc, tx, caller, path),
     }
 }
 
@@ -111,6 +116,26 @@ fn read<T: RecordsTx>(
     Ok(Answered::shown(alloc, context, object)?)
 }
 
+/// Lists the objects and folders of a folder of the caller's cubbyhole, or of the whole cubbyhole at the empty path.
+fn list<T: RecordsTx>(
+    alloc: Global,
+    tx: &mut T,
+    context: &Context<'_>,
+    caller: &str,
+    path: &str,
+) -> Result<Answered, RequestError>
+    ensures told { Performs (Some caller.now) context.now [] (T.seen tx.old) (T.seen tx.new)
+        (λ b. part.act_on_cubbyhole b caller.now (names_of context.now.words) path.now commands.List) result }
+    ensures call { IsRequestCall (T.seen tx.old) (T.seen tx.new) result IsNotBadStart }
+{
+    let names = cubbyhole::list(alloc, tx, caller, path)?;
+    if names.is_empty() {
+        return Err(RequestError::Refused(Refusal::NotFound));
+    }
+    let object = keys_object(alloc, &names)?;
+    Ok(Answered::shown(alloc, context, object)?)
+}
+
 /// Writes the text of an object to a path of the caller's cubbyhole.
 fn write<T: RecordsTx>(
     alloc: Global,
@@ -126,5 +151,20 @@ fn write<T: RecordsTx>(
     ensures call { IsRequestCall (T.seen tx.old) (T.seen tx.new) result IsNotBadStart }
 {
     cubbyhole::write(alloc, tx, caller, path, text)?;
+    Ok(Answered::Nothing)
+}
+
+/// Removes the object at a path of the caller's cubbyhole, if there is one.
+fn delete<T: RecordsTx>(
+    alloc: Global,
+    tx: &mut T,
+    caller: &str,
+    path: &str,
+) -> Result<Answered, RequestError>
+    ensures told { (x : known.Context) → Performs (Some caller.now) x [] (T.seen tx.old) (T.seen tx.new)
+        (λ b. Ok (plainly nothing (cubbyhole.delete b caller.now path.now))) result }
+    ensures call { IsRequestCall (T.seen tx.old) (T.seen tx.new) result IsNotBadStart }
+{
+    cubbyhole::delete(alloc, tx, caller, path)?;
     Ok(Answered::Nothing)
 }

@@ -25,7 +25,8 @@ PARTS = {
 ALL = frozenset(PARTS)
 
 # What `brokerd` serves today. This is the one place that says so: whoever lets it serve a further part adds its name.
-TODAY = frozenset({"cubbyholes", "tokens", "secrets", "queries", "limits", "policies", "decoding", "lines"})
+TODAY = frozenset({"cubbyholes", "tokens", "secrets", "queries", "limits", "policies", "decoding", "lines",
+                   "cubbyhole-lists"})
 
 
 def parts_of(text: str) -> frozenset:

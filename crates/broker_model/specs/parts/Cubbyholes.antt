@@ -19,6 +19,7 @@ use Rattle.api_json.specs.Reply.{plain_reply}
 use Rattle.broker_model.specs.Order.{Traits}
 use Rattle.broker_model.specs.declared.commands.CubbyholeCommand.{CubbyholeCommand}
 use Rattle.broker_model.specs.declared.commands.CubbyholeCommand.TheVariants as command
+use Rattle.broker_model.specs.parts.Lists.{listed}
 
 -- the compact text of an object, if it has members
 abbrev pub full_text : Members → Option Text
@@ -28,6 +29,8 @@ full_text (member name value rest) = Some (compact_text (object (member name val
 -- what an operation means, by the body
 abbrev pub cubbyhole_command : CubbyholeOperation → List ℕ → Result CubbyholeCommand Refusal
 cubbyhole_command operation.Read body = Ok command.Read
+cubbyhole_command operation.List body = Ok command.List
+cubbyhole_command operation.Delete body = Ok command.Delete
 cubbyhole_command operation.Write body = do
   members ← body_members body
   Ok (command.Write (full_text members))
@@ -36,11 +39,14 @@ cubbyhole_command operation.Write body = do
 abbrev pub cubbyhole_traits : CubbyholeCommand → Traits
 cubbyhole_traits command = record { own = λ names. []; may_wrap = true; must_wrap = false }
 
--- what a command of the caller c does at a path; an object without members is 400 `missing data fields`
+-- what a command of the caller c does at a path: the children of a folder are listed, the empty path being that of the
+-- whole cubbyhole; an object without members is 400 `missing data fields`; and a deletion passes over what is not there
 abbrev pub act_on_cubbyhole : Broker → Text → Names → Text → CubbyholeCommand → Result Done Refusal
 act_on_cubbyhole b c names path command.Read = do
   kept ← some_or refusal.NotFound (cubbyhole.object_at b c path)
   Ok (plainly (reply (plain_reply names.request kept) None) b)
+act_on_cubbyhole b c names path command.List = listed b names (cubbyhole.list b c path)
+act_on_cubbyhole b c names path command.Delete = Ok (plainly nothing (cubbyhole.delete b c path))
 act_on_cubbyhole b c names path (command.Write full) = do
   text ← some_or (refusal.BadRequest reason.MissingData) full
   Ok (plainly nothing (cubbyhole.write b c path text))

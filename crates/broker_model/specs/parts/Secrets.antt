@@ -1,11 +1,10 @@
 -- The part of secrets: what the commands of the routes of a mount of secrets do to the maps (Vault's documentation, "KV
 -- secrets engine - version 2 (API)").
-use Rattle.std.specs.Prelude.{ℕ, List, [], ◌∷◌, Bool, true, false, not, None, Result, Ok}
-use Rattle.broker_types.specs.Text.{Text}
+use Rattle.std.specs.Prelude.{ℕ, None, Result, Ok}
 use Rattle.broker_types.specs.Broker.{Broker}
 use Rattle.broker_types.specs.Names.{Names}
 use Rattle.broker_types.specs.Operation.{nothing, reply, plainly, Done}
-use Rattle.broker_types.specs.Refuse.{◌>>=◌, some_or, unless}
+use Rattle.broker_types.specs.Refuse.{◌>>=◌, some_or}
 use Rattle.broker_types.specs.declared.refusal.Refusal.{Refusal}
 use Rattle.broker_types.specs.declared.refusal.Refusal.TheVariants as refusal
 use Rattle.kv2.specs.Secrets as secrets
@@ -13,9 +12,9 @@ use Rattle.api_json.specs.declared.secret_bodies.SecretWrite.{SecretWrite}
 use Rattle.api_json.specs.declared.secret_bodies.MountSettings.{MountSettings}
 use Rattle.broker_model.specs.declared.commands.SecretCommand.{SecretCommand}
 use Rattle.broker_model.specs.declared.commands.SecretCommand.TheVariants as command
+use Rattle.broker_model.specs.parts.Lists.{listed}
 use Rattle.broker_model.specs.parts.SecretCommands.{Place}
 use Rattle.broker_model.specs.parts.SecretReplies.{settings_reply, version_answered, written_reply, metadata_reply}
-use Rattle.broker_model.specs.parts.SecretReplies.{list_reply}
 
 -- ---- settings
 
@@ -51,16 +50,9 @@ metadata b names p = do
   m ← some_or refusal.NotFound (secrets.metadata b p.mount p.path)
   Ok (plainly (reply (metadata_reply names.request m) None) b)
 
--- whether there are none
-abbrev pub are_none : List Text → Bool
-are_none [] = true
-are_none (name ∷ names) = false
-
 -- the secrets and folders of the folder; none is 404
 abbrev pub list : Broker → Names → Place → Result Done Refusal
-list b names p = do
-  some ← unless (not (are_none (secrets.list b p.mount p.path))) refusal.NotFound
-  Ok (plainly (reply (list_reply names.request (secrets.list b p.mount p.path)) None) b)
+list b names p = listed b names (secrets.list b p.mount p.path)
 
 -- ---- the part
 

@@ -158,3 +158,17 @@ fn cubbyhole_of_one_token(rt: HostRuntime) -> Result<(), Fail> {
         "#001 POST auth/token/revoke {'token':'hvs.#011'}" => "204";
     }
 }
+
+/// A path that a token wrote is not there for root, and root's deletion leaves it.
+#[test]
+fn path_of_another_token(rt: HostRuntime) -> Result<(), Fail> {
+    expect! { &rt, 1000;
+        "#001 POST auth/token/create {'policies':['default']}" => "200 made 011 012 2764800 0 false ['default']";
+        "#011 POST cubbyhole/a {'x':1}" => "204";
+        "#001 GET cubbyhole/a" => "404";
+        "#001 LIST cubbyhole" => "404";
+        "#001 DELETE cubbyhole/a" => "204";
+        "#011 GET cubbyhole/a" => "200 {'x':1}";
+        "#011 LIST cubbyhole" => "200 {'keys':['a']}";
+    }
+}
