@@ -10,4 +10,5 @@ pub mod Request
 pub mod Responses
 pub mod Serving
 pub mod Step
+pub mod WrappingLaws
 pub mod parts
