@@ -7,4 +7,5 @@ pub mod Operations
 pub mod SecretProper
 pub mod TokenExamples
 pub mod TokenProper
+pub mod WrappingExamples
 pub mod WrappingProper

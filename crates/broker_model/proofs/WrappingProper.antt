@@ -29,7 +29,7 @@ use Rattle.wrapping.specs.ResponseLaws.{moved_waits, moved_is_taken_out}
 use Rattle.wrapping.specs.SoundLaws.{store_evolves, rewrap_evolves, store_sound, rewrap_sound}
 use Rattle.wrapping.specs.Wrapping.{AddsNone, with_waiting, moved}
 use Rattle.broker_model.specs.Order.{IsProper, counted, kept_entry, wrap}
-use Rattle.broker_model.specs.WrappingLaws.{AreWrappingNames}
+use Rattle.broker_model.specs.Laws.{AreWrappingNames}
 use Rattle.broker_model.specs.declared.commands.WrappingCommand.{WrappingCommand}
 use Rattle.broker_model.specs.declared.commands.WrappingCommand.TheVariants as command
 use Rattle.broker_model.specs.parts.WrappingCommands.{wrapping_names, wrapping_traits}

@@ -10,5 +10,4 @@ pub mod Request
 pub mod Responses
 pub mod Serving
 pub mod Step
-pub mod WrappingLaws
 pub mod parts

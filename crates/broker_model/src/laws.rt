@@ -3,9 +3,9 @@
 ghost use Rattle.broker_types.specs.declared.ask.Verb.TheVariants as verb;
 ghost use Rattle.mounts.specs.declared.operation.CubbyholeOperation.TheVariants as operations;
 ghost use Rattle.broker_model.specs.Laws.{OperationsAreProper, MeansBelowCubbyhole, IsAlwaysThere};
-ghost use Rattle.broker_model.specs.WrappingLaws.{WrappingCommandsAreProper, WrappingCommandsKeepSoundness};
-ghost use Rattle.broker_model.specs.WrappingLaws.{RewrapMoves, UnwrapTakesOut, WrapChangesNothing, LookUpChangesNothing};
-ghost use Rattle.broker_model.specs.WrappingLaws.{WrappingKeepsSoundness, WrappingEvolves, WrappingAddsOne};
+ghost use Rattle.broker_model.specs.Laws.{WrappingCommandsAreProper, WrappingCommandsKeepSoundness};
+ghost use Rattle.broker_model.specs.Laws.{RewrapMoves, UnwrapTakesOut, WrapChangesNothing, LookUpChangesNothing};
+ghost use Rattle.broker_model.specs.Laws.{WrappingKeepsSoundness, WrappingEvolves, WrappingAddsOne};
 
 use mounts::{patterns_are_found_by_form, tables_are_in_order};
 
