@@ -1,6 +1,6 @@
--- The objects that replies about tokens, secrets and policies have: the members are in the order of the bytes of their
--- names, times are texts (RFC 3339), and lengths of time are seconds.
-use Rattle.std.specs.Prelude.{ℕ, [], ◌∷◌, List, Bool, codes, Option, is_some, map}
+-- The objects that replies have: the members are in the order of the bytes of their names, times are texts (RFC 3339),
+-- and lengths of time are seconds.
+use Rattle.std.specs.Prelude.{ℕ, [], ◌∷◌, List, Bool, true, codes, Option, Some, None, is_some, map}
 use Rattle.broker_types.specs.Text.{Text}
 use Rattle.api_json.specs.Names.{◌⟼◌}
 use Rattle.api_json.specs.Printing.{quoted, whole_number, object_of, null_text, bool_text, or_null, time, time_or}
@@ -10,6 +10,9 @@ use Rattle.api_json.specs.declared.version_list.VersionObject.{VersionObject}
 use Rattle.api_json.specs.declared.secret_objects.KeyObject.{KeyObject}
 use Rattle.api_json.specs.declared.token_objects.TokenObject.{TokenObject}
 use Rattle.api_json.specs.declared.token_objects.AuthObject.{AuthObject}
+use Rattle.api_json.specs.declared.mount_objects.MountObject.{MountObject}
+use Rattle.api_json.specs.declared.lease_objects.LeaseObject.{LeaseObject}
+use Rattle.api_json.specs.declared.wrapping_objects.WrapObject.{WrapObject}
 
 -- ---- tokens (Vault's documentation, "Token auth method (API)")
 
@@ -117,3 +120,76 @@ keys_object keys = object_of (name.Keys ⟼ texts keys ∷ [])
 unfoldable pub policy_object : Text → Text → Text
 policy_object called policy =
     object_of (name.PolicyName ⟼ quoted called ∷ name.Policy ⟼ quoted policy ∷ [])
+
+-- ---- mounts (Vault's documentation, "/sys/mounts")
+
+-- the options of a mount: its version, and `null` if it has none
+unfoldable pub options_object : Option Text → Text
+options_object None = null_text
+options_object (Some version) = object_of (name.Version ⟼ quoted version ∷ [])
+
+-- one mount, by its name
+abbrev pub mount_entry : MountObject → Text × Text
+mount_entry m = (
+  m.name,
+  object_of (name.Options ⟼ options_object m.version ∷ name.TypeName ⟼ quoted m.type_name ∷ []),
+)
+
+-- mounts, in the order in which they are given
+unfoldable pub mounts_object : List MountObject → Text
+mounts_object ms = object_of (map mount_entry ms)
+
+-- ---- leases (Vault's documentation, "/sys/leases", read lease)
+
+-- a lease that is looked up; it can always be renewed
+unfoldable pub lease_object : LeaseObject → Text
+lease_object l =
+    object_of (
+    name.ExpireTime ⟼ time l.ends
+    ∷ name.Id ⟼ quoted l.id
+    ∷ name.IssueTime ⟼ time l.issued
+    ∷ name.LastRenewal ⟼ time_or null_text l.renewed
+    ∷ name.Renewable ⟼ bool_text true
+    ∷ name.Ttl ⟼ whole_number l.ttl
+    ∷ [])
+
+-- ---- issued credentials (this project's engine)
+
+-- a role, by its longest time and its ttl, as they were given; 0 for one that was not
+unfoldable pub role_object : ℕ → ℕ → Text
+role_object max_ttl ttl = object_of (name.MaxTtl ⟼ whole_number max_ttl ∷ name.Ttl ⟼ whole_number ttl ∷ [])
+
+-- a credential
+unfoldable pub credential_object : Text → Text
+credential_object credential = object_of (name.Credential ⟼ quoted credential ∷ [])
+
+-- whether the lease of a credential still stands
+unfoldable pub valid_object : Bool → Text
+valid_object valid = object_of (name.Valid ⟼ bool_text valid ∷ [])
+
+-- ---- responses that wait (Vault's documentation, "Response wrapping", "/sys/wrapping/lookup")
+
+-- a response that waits, by the path of its request, when its wrapping token was made, and for how long it waits
+unfoldable pub waiting_object : Text → ℕ → ℕ → Text
+waiting_object path created ttl =
+    object_of (
+    name.CreationPath ⟼ quoted path
+    ∷ name.CreationTime ⟼ time created
+    ∷ name.CreationTtl ⟼ whole_number ttl
+    ∷ [])
+
+-- the accessor of the token that the reply made, if it made one
+abbrev pub wrapped_accessor : Option Text → List (Text × Text)
+wrapped_accessor None = []
+wrapped_accessor (Some accessor) = name.WrappedAccessor ⟼ quoted accessor ∷ []
+
+-- a wrapping token under which a reply waits
+unfoldable pub wrap_object : WrapObject → Text
+wrap_object w =
+    object_of (
+    name.Accessor ⟼ quoted w.accessor
+    ∷ name.CreationPath ⟼ quoted w.creation_path
+    ∷ name.CreationTime ⟼ time w.created
+    ∷ name.Token ⟼ quoted w.token
+    ∷ name.Ttl ⟼ whole_number w.ttl
+    ∷ wrapped_accessor w.wrapped_accessor)

@@ -14,6 +14,9 @@ use Rattle.api_json.specs.declared.token_bodies.TokenCreation.{TokenCreation}
 use Rattle.api_json.specs.declared.token_bodies.TokenRenewal.{TokenRenewal}
 use Rattle.api_json.specs.declared.secret_bodies.SecretWrite.{SecretWrite}
 use Rattle.api_json.specs.declared.secret_bodies.MountSettings.{MountSettings}
+use Rattle.api_json.specs.declared.mount_bodies.MountCreation.{MountCreation}
+use Rattle.api_json.specs.declared.lease_bodies.LeaseRenewal.{LeaseRenewal}
+use Rattle.api_json.specs.declared.issued_bodies.RoleSettings.{RoleSettings}
 
 -- ---- tokens (Vault's documentation, "Token auth method (API)")
 
@@ -125,3 +128,47 @@ mount_settings ms = do
 -- the text of a policy: the member `policy`, which must be there
 unfoldable pub policy_text : Members → Result Text Refusal
 policy_text ms = required kind.as_text field.Policy ms
+
+-- ---- mounts (Vault's documentation, "/sys/mounts")
+
+-- A mount that is enabled: its type, the member `type`, which must be there, and `version` of the member `options`,
+-- which may both be absent.
+unfoldable pub mount_creation : Members → Result MountCreation Refusal
+mount_creation ms = do
+  type_name ← required kind.as_text field.TypeName ms
+  options ← optional kind.as_members field.Options ms
+  version ← within (optional kind.as_count field.Version) options
+  Ok (record { type_name = type_name; version = version })
+
+-- ---- leases (Vault's documentation, "/sys/leases")
+
+-- the id of a lease that a body names: the member `lease_id`, which must be there
+unfoldable pub lease_id : Members → Result Text Refusal
+lease_id ms = required kind.as_text field.LeaseId ms
+
+-- which lease is renewed, and for how long: the members `lease_id`, which must be there, and `increment`; 0, or absent,
+-- is for the time that the lease was made for
+unfoldable pub lease_renewal : Members → Result LeaseRenewal Refusal
+lease_renewal ms = do
+  lease_id ← lease_id ms
+  increment ← increment ms
+  Ok (record { lease_id = lease_id; increment = increment })
+
+-- ---- issued credentials (this project's engine)
+
+-- a role: the members `ttl` and `max_ttl`; an absent one is 0
+unfoldable pub role_settings : Members → Result RoleSettings Refusal
+role_settings ms = do
+  ttl ← optional kind.as_duration field.Ttl ms
+  max_ttl ← optional kind.as_duration field.MaxTtl ms
+  Ok (record { ttl = unwrap_or ttl 0; max_ttl = unwrap_or max_ttl 0 })
+
+-- the credential that a body names: the member `credential`, which must be there
+unfoldable pub credential : Members → Result Text Refusal
+credential ms = required kind.as_text field.Credential ms
+
+-- ---- responses that wait (Vault's documentation, "/sys/wrapping")
+
+-- the wrapping token that a body names, if it names one: the member `token`
+unfoldable pub wrapping_token : Members → Result (Option Text) Refusal
+wrapping_token ms = optional kind.as_text field.Token ms

@@ -1,5 +1,5 @@
 -- The bodies of replies (Vault's documentation, "HTTP API").
-use Rattle.std.specs.Prelude.{[], ◌∷◌, ◌++◌, List, false, Some, None}
+use Rattle.std.specs.Prelude.{ℕ, [], ◌∷◌, ◌++◌, List, true, false, Option, Some, None}
 use Rattle.broker_types.specs.Text.{Text}
 use Rattle.broker_types.specs.declared.reply.Reply.{Reply}
 use Rattle.api_json.specs.Names.{◌⟼◌}
@@ -33,6 +33,19 @@ plain_reply request payload =
       lease_duration = 0;
       lease_id = [];
       renewable = false;
+      request_id = request;
+      wrap_info = None;
+    }
+
+-- a reply with a lease, which can be renewed, by its id and the seconds to its end
+abbrev pub lease_reply : Text → Text → ℕ → Option Text → Reply
+lease_reply request lease_id seconds payload =
+    record {
+      auth = None;
+      payload = payload;
+      lease_duration = seconds;
+      lease_id = lease_id;
+      renewable = true;
       request_id = request;
       wrap_info = None;
     }

@@ -131,6 +131,27 @@ impl ObjectText {
         }
     }
 
+    /// A time, or `null`.
+    #[tactic(auto, unfolding(crate::specs::Printing::time_or))]
+    pub(crate) fn time_or_null(
+        self,
+        name: Name,
+        moment: Option<Moment>,
+    ) -> Result<ObjectText, AllocError>
+        ensures { IfOk result (λ o. o ≡ with_member self (name_text name, time_or null_text moment)) }
+    {
+        match moment {
+            Some(moment) => self.time(name, moment),
+            None => self.null(name),
+        }
+    }
+
+    pub(crate) fn end(self, name: Name, end: EndTime) -> Result<ObjectText, AllocError>
+        ensures { IfOk result (λ o. o ≡ with_member self (name_text name, time end)) }
+    {
+        self.seconds(name, end.seconds())
+    }
+
     #[tactic(auto, unfolding(crate::specs::Printing::time_or))]
     pub(crate) fn end_or_null(
         self,
@@ -140,7 +161,7 @@ impl ObjectText {
         ensures { IfOk result (λ o. o ≡ with_member self (name_text name, time_or null_text end)) }
     {
         match end {
-            Some(end) => self.seconds(name, end.seconds()),
+            Some(end) => self.end(name, end),
             None => self.null(name),
         }
     }

@@ -1,6 +1,6 @@
 //! The bodies of replies.
 ghost use Rattle.std.specs.Prelude.{◌≡◌, IfOk};
-ghost use Rattle.api_json.specs.Reply.{reply_text, plain_reply};
+ghost use Rattle.api_json.specs.Reply.{reply_text, plain_reply, lease_reply};
 
 use crate::name::Name;
 use crate::printing::ObjectText;
@@ -39,6 +39,28 @@ pub fn plain_reply(alloc: Global, request: &str, payload: TextBuf) -> Result<Rep
         lease_duration: 0,
         lease_id: TextBuf::new(String::new(alloc)),
         renewable: false,
+        request_id: TextBuf::copied(alloc, request)?,
+        wrap_info: None,
+    })
+}
+
+/// A reply with a lease, which can be renewed: its id, the seconds to its end, and what was asked for, if anything was,
+/// the compact text of an object. The only error is running out of memory.
+pub fn lease_reply(
+    alloc: Global,
+    request: &str,
+    lease_id: TextBuf,
+    seconds: u64,
+    payload: Option<TextBuf>,
+) -> Result<Reply, AllocError>
+    ensures { IfOk result (λ r. r ≡ lease_reply request.now lease_id seconds payload) }
+{
+    Ok(Reply {
+        auth: None,
+        payload,
+        lease_duration: seconds,
+        lease_id,
+        renewable: true,
         request_id: TextBuf::copied(alloc, request)?,
         wrap_info: None,
     })

@@ -13,6 +13,8 @@ use Rattle.broker_types.specs.Operation.{nothing, reply, plainly}
 use Rattle.broker_types.specs.Time.{civil, day_from_year, day_from_month}
 use Rattle.broker_types.specs.declared.ask.Ask.{Ask}
 use Rattle.broker_types.specs.declared.reply.Reply.{Reply}
+use Rattle.api_json.specs.Names.{name_text}
+use Rattle.api_json.specs.Objects.{wrap_object}
 use Rattle.api_json.specs.Printing as printing
 use Rattle.api_json.specs.Reply.{reply_text}
 use Rattle.broker_model.specs.Act.{act}
@@ -30,7 +32,8 @@ response = record { accessor = codes "a"; created = 100; ttl = 5; path = codes "
 
 told : wrap_info (codes "hvs.t") response (Some (codes "m"))
     ≡ codes "{\"accessor\":\"a\",\"creation_path\":\"p\",\"creation_time\":\"1970-01-01T00:01:40Z\",\"token\":\"hvs.t\",\"ttl\":5,\"wrapped_accessor\":\"m\"}"
-unfolding wrap_info digits escape_byte civil day_from_year day_from_month printing.with_member printing.with_item printing.quoted
+unfolding wrap_object name_text digits escape_byte civil day_from_year day_from_month printing.with_member printing.with_item printing.quoted
+    printing.whole_number printing.time
 told = refl
 
 -- a request with a wrap TTL of 5 seconds is wrapped, and one without is not

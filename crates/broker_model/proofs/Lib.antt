@@ -2,7 +2,10 @@ pub mod AclPolicyProper
 pub mod CubbyholeProper
 pub mod CubbyholeRoutes
 pub mod Examples
+pub mod NewIdentifiers
 pub mod Operations
 pub mod SecretProper
 pub mod TokenExamples
 pub mod TokenProper
+pub mod WrappingExamples
+pub mod WrappingProper

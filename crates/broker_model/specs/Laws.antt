@@ -1,25 +1,38 @@
--- Laws of operations and routes, as statements (this project's definition).
-use Rattle.std.specs.Prelude.{◌≡◌, ◌≢◌, ◌++◌, [], ◌∷◌, ℕ, true, false, Option, Ok, Err, codes}
+-- Laws of operations, of the wrapping of replies, and of routes, as statements (this project's definition; Vault's
+-- documentation, "Response wrapping").
+use Rattle.std.specs.Prelude.{◌≡◌, ◌≢◌, ◌⊎◌, ◌++◌, ℕ, List, [], ◌∷◌, true, false, Option, Some, Ok, Err, codes}
 use Rattle.broker_types.specs.Text.{Text}
-use Rattle.broker_types.specs.Broker.{Broker, Mount}
-use Rattle.records.specs.Table.{Table}
+use Rattle.broker_types.specs.Map.{get}
+use Rattle.broker_types.specs.Broker.{Broker, Mount, Waiting}
+use Rattle.broker_types.specs.Evolves.{Evolves, IsNew, IsTakenOut, OriginIsGone, WaitedBefore}
+use Rattle.broker_types.specs.Names.{Names}
+use Rattle.broker_types.specs.Operation.{Done, kept_text}
+use Rattle.broker_types.specs.Sound.{Forms, Sound, SoundIdentifiers, SoundWaiting, IsIdentifier, IsSoundWaiting}
+use Rattle.broker_types.specs.TokenText.{token_text}
+use Rattle.broker_types.specs.Used.{are_new}
 use Rattle.broker_types.specs.declared.ask.Verb.{Verb}
 use Rattle.broker_types.specs.declared.ask.Verb.TheVariants as verb
 use Rattle.broker_types.specs.declared.refusal.Refusal.TheVariants as refusal
+use Rattle.broker_types.specs.declared.reply.Reply.{Reply}
 use Rattle.broker_types.specs.declared.status.Methods.{Methods}
+use Rattle.records.specs.Table.{Table}
 use Rattle.mounts.specs.Forms.{are_bytes}
 use Rattle.mounts.specs.MountRows.{IsKnownAt}
 use Rattle.mounts.specs.Route.{Route, cut, route_at}
 use Rattle.mounts.specs.declared.operation.CubbyholeOperation.{CubbyholeOperation}
 use Rattle.mounts.specs.declared.operation.CubbyholeOperation.TheVariants as operations
 use Rattle.mounts.specs.declared.operation.Operation.TheVariants.{Cubbyholes}
+use Rattle.wrapping.specs.Wrapping.{AddsNone, moved}
 use Rattle.broker_model.specs.Act.{act}
-use Rattle.broker_types.specs.Names.{Names}
-use Rattle.broker_types.specs.Operation.{Done}
-use Rattle.broker_types.specs.Used.{are_new}
 use Rattle.broker_model.specs.Command.{Command}
-use Rattle.broker_model.specs.Order.{IsProper}
+use Rattle.broker_model.specs.Order.{IsProper, counted, kept_entry, wrap}
 use Rattle.broker_model.specs.Step.{traits}
+use Rattle.broker_model.specs.declared.commands.WrappingCommand.{WrappingCommand}
+use Rattle.broker_model.specs.declared.commands.WrappingCommand.TheVariants as command
+use Rattle.broker_model.specs.parts.WrappingCommands.{wrapping_names, wrapping_traits}
+use Rattle.broker_model.specs.parts.Wrappings.{act_on_wrappings}
+
+-- ---- operations
 
 -- each operation gives out its own identifiers alone, and lets the broker evolve
 abbrev pub OperationsAreProper : Type 0
@@ -27,6 +40,86 @@ OperationsAreProper =
     (b : Broker) (caller : Option Text) (names : Names) (command : Command) (d : Done)
     → are_new b.used ((traits command).own names) ≡ true → act b caller names command ≡ Ok d
     → IsProper b ((traits command).own names) d
+
+-- the names of a new wrapping token and of its accessor are identifiers
+pub record AreWrappingNames (names : Names) : Type 0 where
+  pub token : IsIdentifier names.wrapping_token
+  pub accessor : IsIdentifier names.wrapping_accessor
+
+-- ---- commands on responses that wait
+
+-- each command gives out its own identifiers alone, and lets the broker evolve
+abbrev pub WrappingCommandsAreProper : Type 0
+WrappingCommandsAreProper =
+    (b : Broker) (names : Names) (command : WrappingCommand) (d : Done)
+    → are_new b.used ((wrapping_traits command).own names) ≡ true → act_on_wrappings b names command ≡ Ok d
+    → IsProper b ((wrapping_traits command).own names) d
+
+-- each command leaves a sound broker sound, once its identifiers are marked, whoever may have spent its last use
+abbrev pub WrappingCommandsKeepSoundness : Type 0
+WrappingCommandsKeepSoundness =
+    (forms : Forms) (who : Option Text) (b : Broker) (names : Names) (command : WrappingCommand) (d : Done)
+    → Sound forms who b → AreWrappingNames names → are_new b.used ((wrapping_traits command).own names) ≡ true
+    → act_on_wrappings b names command ≡ Ok d → Sound forms who (counted d)
+
+-- A response that is wrapped anew waits under the new wrapping token, which was made at the clock, with its path, its
+-- length of time, its origin and its text. The old wrapping token is taken out.
+abbrev pub RewrapMoves : Type 0
+RewrapMoves =
+    (b : Broker) (names : Names) (t : Text) (w : Waiting) (d : Done)
+    → SoundIdentifiers b → are_new b.used (wrapping_names names) ≡ true → get b.waiting t ≡ Some w
+    → act_on_wrappings b names (command.Rewrap (Some t)) ≡ Ok d
+    → (get d.next.waiting (token_text names.wrapping_token) ≡ Some (moved names.wrapping_accessor b.clock w))
+    × IsTakenOut d.next t
+
+-- the text of a response that is unwrapped is the answer; its wrapping token is taken out, and its origin is gone
+abbrev pub UnwrapTakesOut : Type 0
+UnwrapTakesOut =
+    (b : Broker) (names : Names) (t : Text) (w : Waiting) (d : Done)
+    → SoundIdentifiers b → SoundWaiting b.waiting → get b.waiting t ≡ Some w
+    → act_on_wrappings b names (command.Unwrap (Some t)) ≡ Ok d
+    → (d.answered ≡ kept_text w.reply) × IsTakenOut d.next t × OriginIsGone d.next w.origin
+
+-- a wrap changes nothing: only the order of a request makes its response wait
+abbrev pub WrapChangesNothing : Type 0
+WrapChangesNothing =
+    (b : Broker) (names : Names) (text : Text) (d : Done)
+    → act_on_wrappings b names (command.Wrap text) ≡ Ok d → d.next ≡ b
+
+-- nor does a look-up
+abbrev pub LookUpChangesNothing : Type 0
+LookUpChangesNothing =
+    (b : Broker) (names : Names) (meant : Option Text) (d : Done)
+    → act_on_wrappings b names (command.LookUp meant) ≡ Ok d → d.next ≡ b
+
+-- ---- the wrapping of a reply
+
+-- After an operation that gave out its own identifiers or none, the reply is kept: the broker is sound still, once all
+-- identifiers are marked.
+abbrev pub WrappingKeepsSoundness : Type 0
+WrappingKeepsSoundness =
+    (forms : Forms) (who : Option Text) (b : Broker) (path : Text) (ttl : ℕ) (names : Names) (own : List Text)
+    (d : Done) (r : Reply) (made : Option Text)
+    → are_new b.used (names.wrapping_token ∷ names.wrapping_accessor ∷ own) ≡ true → d.next.used ≡ b.used
+    → (d.taken ≡ []) ⊎ (d.taken ≡ own)
+    → IsSoundWaiting (token_text names.wrapping_token) (kept_entry b path ttl names r)
+    → Sound forms who (counted d) → Sound forms who (counted (wrap b path ttl names d r made).done)
+
+-- and it evolves
+abbrev pub WrappingEvolves : Type 0
+WrappingEvolves =
+    (b : Broker) (path : Text) (ttl : ℕ) (names : Names) (d : Done) (r : Reply) (made : Option Text)
+    → IsNew b names.wrapping_token → d.next.used ≡ b.used → Evolves b d.next
+    → Evolves b (wrap b path ttl names d r made).done.next
+
+-- After an operation that makes no response begin to wait, the kept reply is the only one that does.
+abbrev pub WrappingAddsOne : Type 0
+WrappingAddsOne =
+    (b : Broker) (path : Text) (ttl : ℕ) (names : Names) (d : Done) (r : Reply) (made : Option Text) (t : Text)
+    (w : Waiting) → AddsNone b d.next → get (wrap b path ttl names d r made).done.next.waiting t ≡ Some w
+    → WaitedBefore b w ⊎ ((t ≡ token_text names.wrapping_token) × (w ≡ kept_entry b path ttl names r))
+
+-- ---- routes
 
 -- the route to an operation on the caller's cubbyhole
 abbrev pub cubbyhole_route : CubbyholeOperation → Text → Route

@@ -14,11 +14,10 @@
 -- A refusal at any step keeps the clock, what the clock ended, the response that step 2 removed and the use of step 3
 -- (with step 9), and nothing else.
 use Rattle.std.specs.Prelude.{◌≡◌, ◌≢◌, ◌⊎◌, ℕ, List, [], ◌∷◌, Bool, false, not, ◌&&◌, ◌||◌, nat_lt, if◌then◌else◌}
-use Rattle.std.specs.Prelude.{Option, Some, None, Result, Ok, Err, is_some, codes, decimal}
+use Rattle.std.specs.Prelude.{Option, Some, None, Result, Ok, Err, is_some}
 use Rattle.broker_types.specs.Text.{Text}
 use Rattle.broker_types.specs.Map.{get, put, without}
 use Rattle.broker_types.specs.TokenText.{token_text}
-use Rattle.broker_types.specs.Time.{time_text}
 use Rattle.broker_types.specs.Broker.{Broker, Waiting, at_moment}
 use Rattle.broker_types.specs.Answer.{Response, refused}
 use Rattle.broker_types.specs.Evolves.{Evolves, WaitedBefore}
@@ -33,8 +32,9 @@ use Rattle.broker_types.specs.declared.refusal.Refusal.{Refusal}
 use Rattle.broker_types.specs.declared.refusal.Refusal.TheVariants as refusal
 use Rattle.broker_types.specs.declared.refusal.Reason.TheVariants as reason
 use Rattle.broker_types.specs.declared.refusal.Denial.TheVariants as denial
-use Rattle.api_json.specs.Printing.{object_of, quoted}
+use Rattle.api_json.specs.Objects.{wrap_object}
 use Rattle.api_json.specs.Reply.{reply_text}
+use Rattle.api_json.specs.declared.wrapping_objects.WrapObject.{WrapObject}
 use Rattle.broker_model.specs.Responses.{ok, no_content, not_found}
 use Rattle.broker_model.specs.Request.{Request}
 
@@ -81,21 +81,21 @@ for_caller b (Some t) go =
 
 -- ---- wrapping (Vault's documentation, "Response wrapping")
 
--- the accessor of a token that the reply made, if there is one
-abbrev pub accessor_member : Option Text → List (Text × Text)
-accessor_member None = []
-accessor_member (Some a) = (codes "wrapped_accessor", quoted a) ∷ []
+-- a wrapping token and the response that waits under it, with the accessor of the token that the kept reply made
+abbrev pub wrap_of : Text → Waiting → Option Text → WrapObject
+wrap_of t w made =
+    record {
+      accessor = w.accessor;
+      creation_path = w.path;
+      created = w.created;
+      token = t;
+      ttl = w.ttl;
+      wrapped_accessor = made;
+    }
 
--- what the reply says of a wrapping token, with the accessor of the token that the kept reply made
-unfoldable pub wrap_info : Text → Waiting → Option Text → Text
-wrap_info t w made =
-    object_of (
-    (codes "accessor", quoted w.accessor)
-    ∷ (codes "creation_path", quoted w.path)
-    ∷ (codes "creation_time", quoted (time_text w.created))
-    ∷ (codes "token", quoted t)
-    ∷ (codes "ttl", decimal w.ttl)
-    ∷ accessor_member made)
+-- what the reply says of a wrapping token
+abbrev pub wrap_info : Text → Waiting → Option Text → Text
+wrap_info t w made = wrap_object (wrap_of t w made)
 
 -- a reply with nothing but a wrapping token
 abbrev pub info_reply : Text → Text → Reply
@@ -157,13 +157,17 @@ response_to (reply r made) = ok (reply_text r)
 response_to (kept_text t) = ok t
 response_to (missing r) = not_found (reply_text r)
 
+-- the broker that an operation left, with the identifiers that it gave out
+abbrev pub counted : Done → Broker
+counted d = record d.next { used = use_up d.next.used d.taken }
+
 -- what is left when the request has been served, or refused
 abbrev pub finish : Broker → Option Text → Result Wrapped Refusal → Outcome
 finish b c (Err r) = record { response = refused r; next = end_spent b c; taken = []; handed = None; born = None }
 finish b c (Ok v) =
     record {
       response = response_to v.done.answered;
-      next = end_spent (record v.done.next { used = use_up v.done.next.used v.done.taken }) c;
+      next = end_spent (counted v.done) c;
       taken = v.done.taken;
       handed = v.done.handed;
       born = v.born;

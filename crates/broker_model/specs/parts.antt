@@ -10,3 +10,5 @@ pub mod TokenCommands
 pub mod TokenCreation
 pub mod TokenReplies
 pub mod Tokens
+pub mod WrappingCommands
+pub mod Wrappings

@@ -86,3 +86,17 @@ pub enum PolicyCommand {
     /// Deletes a policy.
     Remove,
 }
+
+/// What an operation does with responses that wait. All but the first name the wrapping token that is meant, if one is
+/// (Vault's documentation, "/sys/wrapping").
+#[derive(Drop)]
+pub enum WrappingCommand {
+    /// Answers with an object, by its compact text, so that the reply is wrapped.
+    Wrap(TextBuf),
+    /// Shows the response without its text.
+    LookUp(Option<TextBuf>),
+    /// Moves the response to a new wrapping token.
+    Rewrap(Option<TextBuf>),
+    /// Hands out the response, which is gone then.
+    Unwrap(Option<TextBuf>),
+}

@@ -4,6 +4,9 @@ ghost use Rattle.broker_types.specs.declared.ask.Verb.TheVariants as verb;
 ghost use Rattle.mounts.specs.declared.operation.CubbyholeOperation.TheVariants as operations;
 ghost use Rattle.broker_model.specs.Laws.{OperationsAreProper, MeansBelowCubbyhole, ListsTheWhole, AllowsListAlone};
 ghost use Rattle.broker_model.specs.Laws.{IsAlwaysThere};
+ghost use Rattle.broker_model.specs.Laws.{WrappingCommandsAreProper, WrappingCommandsKeepSoundness};
+ghost use Rattle.broker_model.specs.Laws.{RewrapMoves, UnwrapTakesOut, WrapChangesNothing, LookUpChangesNothing};
+ghost use Rattle.broker_model.specs.Laws.{WrappingKeepsSoundness, WrappingEvolves, WrappingAddsOne};
 
 use mounts::{patterns_are_found_by_form, tables_are_in_order};
 
@@ -12,6 +15,27 @@ use mounts::{patterns_are_found_by_form, tables_are_in_order};
 /// text is the answer; and the broker evolves.
 pub fn operations_are_proper()
     ensures { OperationsAreProper }
+{}
+
+/// A law: a command on responses that wait gives out its own identifiers or none, hands out only what waited until
+/// then, makes no response begin to wait, lets the broker evolve, and leaves a sound broker sound. A response that is
+/// wrapped anew moves to a new wrapping token, and the old one is taken out; so is that of a response that is handed
+/// out, whose text is the answer. The others change nothing (Vault's documentation, "/sys/wrapping").
+pub fn wrapping_commands_are_proper()
+    ensures proper { WrappingCommandsAreProper }
+    ensures sound { WrappingCommandsKeepSoundness }
+    ensures moved { RewrapMoves }
+    ensures taken_out { UnwrapTakesOut }
+    ensures wrapped { WrapChangesNothing }
+    ensures shown { LookUpChangesNothing }
+{}
+
+/// A law: when the reply of an operation is wrapped, it is the only response that begins to wait; a sound broker stays
+/// sound, and the broker evolves (Vault's documentation, "Response wrapping").
+pub fn wrapping_is_proper()
+    ensures sound { WrappingKeepsSoundness }
+    ensures evolves { WrappingEvolves }
+    ensures alone { WrappingAddsOne }
 {}
 
 /// A law: whatever mounts there are, each verb means its operation on the caller's cubbyhole at a path below

@@ -6,6 +6,8 @@ mod commands;
 mod laws;
 mod making;
 
-pub use commands::{CubbyholeCommand, PolicyCommand, SecretCommand, TokenCommand};
-pub use laws::{cubbyholes_are_routed, operations_are_proper};
+pub use commands::{CubbyholeCommand, PolicyCommand, SecretCommand, TokenCommand, WrappingCommand};
+pub use laws::{
+    cubbyholes_are_routed, operations_are_proper, wrapping_commands_are_proper, wrapping_is_proper,
+};
 pub use making::Making;

@@ -1,11 +1,10 @@
 -- What an operation leaves (this project's definition).
 use Rattle.std.specs.Prelude.{◌≡◌, Option, Some, None}
 use Rattle.broker_types.specs.Text.{Text}
-use Rattle.broker_types.specs.Broker.{Broker}
 use Rattle.broker_types.specs.Operation as operation
 use Rattle.broker_types.specs.Operation.{Done}
-use Rattle.broker_types.specs.Used.{use_up}
 use Rattle.records.specs.Transaction.{Rows}
+pub use Rattle.broker_model.specs.Order.{counted}
 use Rattle.broker_rows.specs.Representing.{Represents}
 use Rattle.broker_rows.specs.declared.answered.Answered.{Answered}
 use Rattle.broker_rows.specs.declared.answered.Answered.TheVariants.{Nothing, Given, Made, Missing}
@@ -16,10 +15,6 @@ answered_of Nothing = operation.nothing
 answered_of (Given r) = operation.reply r None
 answered_of (Made r accessor) = operation.reply r (Some accessor)
 answered_of (Missing r) = operation.missing r
-
--- the broker that an operation left, with the identifiers that it gave out
-abbrev pub counted : Done → Broker
-counted d = record d.next { used = use_up d.next.used d.taken }
 
 -- an operation answered as its definition, and the rows represent what it left
 abbrev pub IsDone : Option Text → Rows → Answered → Done → Type 0

@@ -4,10 +4,13 @@
 //! `members_refused` and `order_of_creation_refusals` of `tests/rows`.
 
 use api_json::{
-    AuthObject, Body, EndTime, KeyObject, Pairs, Texts, TokenObject, Tree, VersionObject, Versions,
-    accessor, auth_object, increment, key_object, keys_object, mount_settings, plain_reply,
-    policy_object, policy_text, read_body, reply_text, secret_object, secret_write,
-    settings_object, token, token_creation, token_object, token_renewal, version_object, versions,
+    AuthObject, Body, EndTime, KeyObject, LeaseObject, MountObject, Pairs, Texts, TokenObject,
+    Tree, VersionObject, Versions, WrapObject, accessor, auth_object, credential,
+    credential_object, increment, key_object, keys_object, lease_id, lease_object, lease_renewal,
+    lease_reply, mount_creation, mount_settings, mounts_object, plain_reply, policy_object,
+    policy_text, read_body, reply_text, role_object, role_settings, secret_object, secret_write,
+    settings_object, token, token_creation, token_object, token_renewal, valid_object,
+    version_object, versions, waiting_object, wrap_object, wrapping_token,
 };
 use broker_types::{Field, Moment, Reason, Refusal, Reply, RequestError, TextBuf};
 use std::alloc::{AllocError, AllocGlobal, Global};
@@ -25,6 +28,12 @@ enum Route {
     Secret,
     Versions,
     Policy,
+    Mount,
+    Lease,
+    LeaseRenewal,
+    Role,
+    Credential,
+    Wrapping,
 }
 
 /// Why the reader of a route refuses a body, if it does.
@@ -39,6 +48,12 @@ fn refused(alloc: Global, route: Route, body: &Body) -> Option<RequestError> {
         Route::Secret => secret_write(alloc, body).err(),
         Route::Versions => versions(alloc, body).err(),
         Route::Policy => policy_text(alloc, body).err(),
+        Route::Mount => mount_creation(alloc, body).err(),
+        Route::Lease => lease_id(alloc, body).err(),
+        Route::LeaseRenewal => lease_renewal(alloc, body).err(),
+        Route::Role => role_settings(alloc, body).err(),
+        Route::Credential => credential(alloc, body).err(),
+        Route::Wrapping => wrapping_token(alloc, body).err(),
     }
 }
 
@@ -244,6 +259,76 @@ fn kinds_of_members(rt: HostRuntime) -> Result<(), Fail> {
                 Field::Policy,
                 "{\"policy\":@}",
                 "mii...iiiii.........iiiiiii",
+            ),
+        ],
+    )
+}
+
+/// The same of the readers of mounts, leases, credentials and wrapping tokens.
+#[test]
+fn kinds_of_more_members(rt: HostRuntime) -> Result<(), Fail> {
+    expect_kinds(
+        &rt,
+        &[
+            (
+                Route::Mount,
+                Field::TypeName,
+                "{\"type\":@}",
+                "mii...iiiii.........iiiiiii",
+            ),
+            (
+                Route::Mount,
+                Field::Options,
+                "{\"type\":\"kv\",\"options\":@}",
+                ".iiiiiiiiiiiiiiiiiiiiiii...",
+            ),
+            (
+                Route::Mount,
+                Field::Version,
+                "{\"type\":\"kv\",\"options\":{\"version\":@}}",
+                ".iiiii..i..iiiiii.iiiiiiiii",
+            ),
+            (
+                Route::Lease,
+                Field::LeaseId,
+                "{\"lease_id\":@}",
+                "mii...iiiii.........iiiiiii",
+            ),
+            (
+                Route::LeaseRenewal,
+                Field::LeaseId,
+                "{\"lease_id\":@}",
+                "mii...iiiii.........iiiiiii",
+            ),
+            (
+                Route::LeaseRenewal,
+                Field::Increment,
+                "{\"lease_id\":\"l\",\"increment\":@}",
+                ".iiiii..iii.ii..i..iiiiiiii",
+            ),
+            (
+                Route::Role,
+                Field::Ttl,
+                "{\"ttl\":@}",
+                ".iiiii..iii.ii..i..iiiiiiii",
+            ),
+            (
+                Route::Role,
+                Field::MaxTtl,
+                "{\"max_ttl\":@}",
+                ".iiiii..iii.ii..i..iiiiiiii",
+            ),
+            (
+                Route::Credential,
+                Field::Credential,
+                "{\"credential\":@}",
+                "mii...iiiii.........iiiiiii",
+            ),
+            (
+                Route::Wrapping,
+                Field::Token,
+                "{\"token\":@}",
+                ".ii...iiiii.........iiiiiii",
             ),
         ],
     )
@@ -536,12 +621,9 @@ fn printed_replies(rt: HostRuntime) -> Result<(), Fail> {
 /// A reply with a credential and its lease.
 fn leased(alloc: Global) -> Result<Reply, AllocError> {
     let lease_id = text(alloc, "db/creds/r/00000000-0000-0000-0000-000000000053")?;
-    let credential = "{\"credential\":\"00000000-0000-0000-0000-000000000054\"}";
-    let mut reply = plain(alloc, credential)?;
-    reply.lease_duration = 60;
-    reply.lease_id = lease_id;
-    reply.renewable = true;
-    Ok(reply)
+    let credential = credential_object(alloc, "00000000-0000-0000-0000-000000000054")?;
+    let request = "00000000-0000-0000-0000-000000000020";
+    lease_reply(alloc, request, lease_id, 60, Some(credential))
 }
 
 #[test]
@@ -551,6 +633,59 @@ fn printed_leases(rt: HostRuntime) -> Result<(), Fail> {
         \"lease_duration\":60,\"lease_id\":\"db/creds/r/00000000-0000-0000-0000-000000000053\",\"renewable\":true,\
         \"request_id\":\"00000000-0000-0000-0000-000000000020\",\"warnings\":null,\"wrap_info\":null}\n";
     assert!(rt; prints(reply_text(alloc, &leased(alloc)?), want)?);
+    Ok(())
+}
+
+/// A lease of 60 seconds that was renewed.
+fn renewed_lease(alloc: Global) -> Result<LeaseObject, Fail> {
+    Ok(LeaseObject {
+        ends: EndTime::new(1060).ok_or("no end")?,
+        id: text(alloc, "db/creds/r/00000000-0000-0000-0000-000000000063")?,
+        issued: moment(1000)?,
+        renewed: Moment::new(1020),
+        ttl: 30,
+    })
+}
+
+#[test]
+fn printed_lives_of_leases(rt: HostRuntime) -> Result<(), Fail> {
+    let alloc = rt.alloc();
+    let printed = lease_object(alloc, &renewed_lease(alloc)?);
+    let want =
+        "{\"expire_time\":\"1970-01-01T00:17:40Z\",\"id\":\"db/creds/r/00000000-0000-0000-0000-000000000063\",\
+        \"issue_time\":\"1970-01-01T00:16:40Z\",\"last_renewal\":\"1970-01-01T00:17:00Z\",\
+        \"renewable\":true,\"ttl\":30}";
+    assert!(rt; prints(printed, want)?);
+    let printed = role_object(alloc, 60, 61);
+    assert!(rt; prints(printed, "{\"max_ttl\":60,\"ttl\":61}")?);
+    let printed = valid_object(alloc, true);
+    assert!(rt; prints(printed, "{\"valid\":true}")?);
+    Ok(())
+}
+
+/// A mount of secrets and one of the broker's own.
+fn two_mounts(alloc: Global) -> Result<Vec<MountObject>, AllocError> {
+    let mut mounts = Vec::new(alloc);
+    mounts.push(MountObject {
+        name: text(alloc, "secret/")?,
+        type_name: text(alloc, "kv")?,
+        version: Some(text(alloc, "2")?),
+    })?;
+    mounts.push(MountObject {
+        name: text(alloc, "sys/")?,
+        type_name: text(alloc, "system")?,
+        version: None,
+    })?;
+    Ok(mounts)
+}
+
+#[test]
+fn printed_mounts(rt: HostRuntime) -> Result<(), Fail> {
+    let alloc = rt.alloc();
+    let printed = mounts_object(alloc, two_mounts(alloc)?.as_slice());
+    let want = "{\"secret/\":{\"options\":{\"version\":\"2\"},\"type\":\"kv\"},\
+        \"sys/\":{\"options\":null,\"type\":\"system\"}}";
+    assert!(rt; prints(printed, want)?);
     Ok(())
 }
 
@@ -570,5 +705,33 @@ fn printed_wrappings(rt: HostRuntime) -> Result<(), Fail> {
         "{\"auth\":null,\"data\":null,\"lease_duration\":0,\"lease_id\":\"\",\"renewable\":false,\
         \"request_id\":\"00000000-0000-0000-0000-000000000020\",\"warnings\":null,\"wrap_info\":{\"ttl\":5}}\n";
     assert!(rt; prints(reply_text(alloc, &wrapped(alloc)?), want)?);
+    Ok(())
+}
+
+/// The wrapping token of a reply that made a token.
+fn wrapped_creation(alloc: Global) -> Result<WrapObject, Fail> {
+    Ok(WrapObject {
+        accessor: text(alloc, "00000000-0000-0000-0000-0000000000b6")?,
+        creation_path: text(alloc, "auth/token/create")?,
+        created: moment(1030)?,
+        token: text(alloc, "hvs.00000000-0000-0000-0000-0000000000b5")?,
+        ttl: 60,
+        wrapped_accessor: Some(text(alloc, "00000000-0000-0000-0000-0000000000b2")?),
+    })
+}
+
+#[test]
+fn printed_wrapping_tokens(rt: HostRuntime) -> Result<(), Fail> {
+    let alloc = rt.alloc();
+    let printed = wrap_object(alloc, &wrapped_creation(alloc)?);
+    let want =
+        "{\"accessor\":\"00000000-0000-0000-0000-0000000000b6\",\"creation_path\":\"auth/token/create\",\
+        \"creation_time\":\"1970-01-01T00:17:10Z\",\"token\":\"hvs.00000000-0000-0000-0000-0000000000b5\",\
+        \"ttl\":60,\"wrapped_accessor\":\"00000000-0000-0000-0000-0000000000b2\"}";
+    assert!(rt; prints(printed, want)?);
+    let printed = waiting_object(alloc, "auth/token/create", moment(1030)?, 60);
+    let want =
+        "{\"creation_path\":\"auth/token/create\",\"creation_time\":\"1970-01-01T00:17:10Z\",\"creation_ttl\":60}";
+    assert!(rt; prints(printed, want)?);
     Ok(())
 }

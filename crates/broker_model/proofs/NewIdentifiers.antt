@@ -1,0 +1,53 @@
+-- Two identifiers that are new, and others that are given out beside them.
+use Rattle.std.specs.Prelude.{◌≡◌, ◌≢◌, ◌||◌, List, [], ◌∷◌, Bool, true, false, not, cond, ⊤, Some, None, is_none}
+use Rattle.std.specs.List.{list_any}
+use Rattle.std.proofs.Common.{refl, sym, ◌∙◌, ap}
+use Rattle.std.proofs.lemmas.Bool.{false≢true, and_parts}
+use Rattle.broker_types.specs.Text.{Text, same}
+use Rattle.broker_types.specs.TextLaws.{same_self}
+use Rattle.broker_types.specs.Map.{Map, get}
+use Rattle.broker_types.specs.MapLaws.{get-put}
+use Rattle.broker_types.specs.OptionLaws.{is_nothing}
+use Rattle.broker_types.specs.Used.{are_new, use_up}
+
+not_so : (v : Bool) → not v ≡ true → v ≡ false
+not_so true h = absurd (false≢true h)
+not_so false h = refl
+
+neither : (v w : Bool) → (v || w) ≡ false → (v ≡ false) × (w ≡ false)
+neither true w h = absurd (false≢true (sym h))
+neither false w h = (refl, h)
+
+-- what is new stays new, if others are given out
+pub new_still : (used : Map ⊤) (i : Text) (others : List Text) → get used i ≡ None → list_any (same i) others ≡ false
+    → get (use_up used others) i ≡ None
+new_still used i [] none apart = none
+new_still used i (k ∷ others) none apart =
+    let two = neither (same i k) (list_any (same i) others) apart in
+    get-put (use_up used others) k tt i ∙ ap (λ v. cond v (Some tt) (get (use_up used others) i)) two.0
+    ∙ new_still used i others none two.1
+
+-- two new identifiers, neither of which is among others
+pub record AreTwo (used : Map ⊤) (i j : Text) (others : List Text) : Type 0 where
+  pub one : get used i ≡ None
+  pub two : get used j ≡ None
+  pub differ : i ≢ j
+  pub one_apart : list_any (same i) others ≡ false
+  pub two_apart : list_any (same j) others ≡ false
+
+-- the first two of new identifiers
+pub two_of : (used : Map ⊤) (i j : Text) (others : List Text) → are_new used (i ∷ j ∷ others) ≡ true
+    → AreTwo used i j others
+two_of used i j others new =
+    let outer = and_parts (is_none (get used i)) _ new in
+    let first = and_parts (not (same i j || list_any (same i) others)) _ outer.1 in
+    let inner = and_parts (is_none (get used j)) _ first.1 in
+    let second = and_parts (not (list_any (same j) others)) _ inner.1 in
+    let apart = neither (same i j) (list_any (same i) others) (not_so _ first.0) in
+    record {
+      one = is_nothing (get used i) outer.0;
+      two = is_nothing (get used j) inner.0;
+      differ = λ e. false≢true (sym apart.0 ∙ ap (same i) (sym e) ∙ same_self i);
+      one_apart = apart.1;
+      two_apart = not_so _ second.0;
+    }

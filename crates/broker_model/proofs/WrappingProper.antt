@@ -1,0 +1,228 @@
+-- Commands on responses that wait are proper, and so is the wrapping of a reply.
+use Rattle.std.specs.Prelude.{◌≡◌, ◌≢◌, ◌⊎◌, ℕ, List, [], ◌∷◌, true, ⊤, Option, Some, None, Ok, option_map}
+use Rattle.std.specs.List.{list_any}
+use Rattle.std.specs.Option.{option_map_or}
+use Rattle.std.proofs.Common.{refl, sym, ◌∙◌, ap, subst, inl, inr}
+use Rattle.std.proofs.lemmas.Bool.{false≢true}
+use Rattle.std.proofs.lemmas.Option.{none-some, same_Some}
+use Rattle.broker_types.specs.Text.{Text, same}
+use Rattle.broker_types.specs.Map.{Map, get}
+use Rattle.broker_types.specs.Broker.{Broker, Waiting}
+use Rattle.broker_types.specs.Evolves.{Evolves, IsNew, IsTakenOut, OriginIsGone, WaitedBefore}
+use Rattle.broker_types.specs.EvolvesLaws.{evolves_trans}
+use Rattle.broker_types.specs.Names.{Names}
+use Rattle.broker_types.specs.Operation.{Done, kept_text}
+use Rattle.broker_types.specs.Places.{wrapping_token, token_identifier}
+use Rattle.broker_types.specs.Refuse.{some_or}
+use Rattle.broker_types.specs.RefuseLaws.{ok_step}
+use Rattle.broker_types.specs.Sound.{Forms, Sound, SoundIdentifiers, SoundWaiting, IsSoundWaiting}
+use Rattle.broker_types.specs.Spending.{drop_waiting}
+use Rattle.broker_types.specs.SpendingLaws.{drop_evolves, drop_sound, drop_takes_out, drop_ends_origin}
+use Rattle.broker_types.specs.TokenText.{token_text}
+use Rattle.broker_types.specs.Used.{are_new, use_up}
+use Rattle.broker_types.specs.declared.refusal.Refusal.TheVariants as refusal
+use Rattle.broker_types.specs.declared.refusal.Reason.TheVariants as reason
+use Rattle.broker_types.specs.declared.reply.Reply.{Reply}
+use Rattle.records.specs.ValueLaws.{ok_inj}
+use Rattle.wrapping.specs.ResponseLaws.{rewrap_marks_none, rewrap_adds_none, drop_adds_none, store_adds_one}
+use Rattle.wrapping.specs.ResponseLaws.{moved_waits, moved_is_taken_out}
+use Rattle.wrapping.specs.SoundLaws.{store_evolves, rewrap_evolves, store_sound, rewrap_sound}
+use Rattle.wrapping.specs.Wrapping.{AddsNone, with_waiting, moved}
+use Rattle.broker_model.specs.Order.{IsProper, counted, kept_entry, wrap}
+use Rattle.broker_model.specs.Laws.{AreWrappingNames}
+use Rattle.broker_model.specs.declared.commands.WrappingCommand.{WrappingCommand}
+use Rattle.broker_model.specs.declared.commands.WrappingCommand.TheVariants as command
+use Rattle.broker_model.specs.parts.WrappingCommands.{wrapping_names, wrapping_traits}
+use Rattle.broker_model.specs.parts.Wrappings.{FoundResponse, found_under, found, rewrapped, handed_out, act_on_wrappings}
+use Rattle.broker_model.proofs.NewIdentifiers.{new_still, two_of}
+use Rattle.broker_model.proofs.Operations.{shown_proper}
+
+-- ---- the part
+
+-- what is found waits
+found_is : (b : Broker) (meant : Option Text) (f : FoundResponse) → found b meant ≡ Ok f
+    → get b.waiting f.token ≡ Some f.response
+found_is b None f e = absurd (cc)
+found_is b (Some t) f e = by (get b.waiting t) refl e
+  where
+    by : (o : Option Waiting) → get b.waiting t ≡ o
+        → some_or (refusal.BadRequest reason.InvalidWrappingToken) (option_map (found_under t) o) ≡ Ok f
+        → get b.waiting f.token ≡ Some f.response
+    by None none h = absurd (cc)
+    by (Some w) is h =
+        let one : found_under t w ≡ f = ok_inj h in
+        subst (λ (x : FoundResponse). get b.waiting x.token ≡ Some x.response) one is
+
+rewrapped_proper : (b : Broker) (names : Names) (f : FoundResponse) → are_new b.used (wrapping_names names) ≡ true
+    → IsProper b (wrapping_names names) (rewrapped b names f)
+rewrapped_proper b names f new =
+    let u = token_text names.wrapping_token in
+    let a = names.wrapping_accessor in
+    record {
+      used = rewrap_marks_none b f.token u a b.clock;
+      gives_own = inr refl;
+      none_at_204 = λ e. absurd (cc);
+      none_at_404 = λ r e. absurd (cc);
+      hands_out = λ o e. absurd (cc);
+      keeps_text = λ t e. absurd (cc);
+      none_born = rewrap_adds_none b f.token u a b.clock;
+      evolves = rewrap_evolves b f.token u a b.clock (two_of b.used names.wrapping_token a [] new).one;
+    }
+
+handed_out_proper : (b : Broker) (f : FoundResponse) → get b.waiting f.token ≡ Some f.response
+    → IsProper b [] (handed_out b f)
+handed_out_proper b f is = record {
+  used = refl;
+  gives_own = inl refl;
+  none_at_204 = λ _. refl;
+  none_at_404 = λ r e. absurd (cc);
+  hands_out = λ o e. record {
+    token = f.token;
+    entry = f.response;
+    waited = is;
+    origin = same_Some _ _ e;
+    text = refl;
+    waits = refl;
+  };
+  keeps_text = λ t e none. none-some _ (sym none);
+  none_born = drop_adds_none b f.token;
+  evolves = drop_evolves b f.token;
+}
+
+-- a command that is not refused gives out its own identifiers or none, and lets the broker evolve
+pub acts : (b : Broker) (names : Names) (command : WrappingCommand) (d : Done)
+    → are_new b.used ((wrapping_traits command).own names) ≡ true → act_on_wrappings b names command ≡ Ok d
+    → IsProper b ((wrapping_traits command).own names) d
+acts b names (command.Wrap text) d new e = subst (IsProper b []) (ok_inj e) (shown_proper b _)
+acts b names (command.LookUp meant) d new e =
+    let f = ok_step (found b meant) _ d e in subst (IsProper b []) (ok_inj f.2) (shown_proper b _)
+acts b names (command.Rewrap meant) d new e =
+    let f = ok_step (found b meant) _ d e in
+    subst (IsProper b (wrapping_names names)) (ok_inj f.2) (rewrapped_proper b names f.0 new)
+acts b names (command.Unwrap meant) d new e =
+    let f = ok_step (found b meant) _ d e in
+    subst (IsProper b []) (ok_inj f.2) (handed_out_proper b f.0 (found_is b meant f.0 f.1))
+
+-- ---- what is sound stays so
+
+module _ (forms : Forms) (who : Option Text) (b : Broker) (sound : Sound forms who b) where
+  moved_sound : (names : Names) (f : FoundResponse) → AreWrappingNames names
+      → are_new b.used (wrapping_names names) ≡ true → get b.waiting f.token ≡ Some f.response
+      → Sound forms who (counted (rewrapped b names f))
+  moved_sound names f good new is =
+      let u = token_text names.wrapping_token in
+      let a = names.wrapping_accessor in
+      let two = two_of b.used names.wrapping_token a [] new in
+      let after = λ (o : Option Waiting). option_map_or (λ w. with_waiting (drop_waiting b f.token) u (moved a b.clock w)) o b in
+      subst (λ (o : Option Waiting). Sound forms who (record (after o) { used = use_up (after o).used (wrapping_names names) }))
+      (sym is)
+      (rewrap_sound forms who b sound f.token u a b.clock f.response is sound.clock (names.wrapping_token, good.token, refl)
+      good.accessor two.one two.two two.differ)
+
+  -- a command leaves a sound broker sound
+  pub leave : (names : Names) (command : WrappingCommand) (d : Done) → AreWrappingNames names
+      → are_new b.used ((wrapping_traits command).own names) ≡ true → act_on_wrappings b names command ≡ Ok d
+      → Sound forms who (counted d)
+  leave names (command.Wrap text) d good new e = subst (λ d. Sound forms who (counted d)) (ok_inj e) sound
+  leave names (command.LookUp meant) d good new e =
+      let f = ok_step (found b meant) _ d e in subst (λ d. Sound forms who (counted d)) (ok_inj f.2) sound
+  leave names (command.Rewrap meant) d good new e =
+      let f = ok_step (found b meant) _ d e in
+      subst (λ d. Sound forms who (counted d)) (ok_inj f.2) (moved_sound names f.0 good new (found_is b meant f.0 f.1))
+  leave names (command.Unwrap meant) d good new e =
+      let f = ok_step (found b meant) _ d e in
+      subst (λ d. Sound forms who (counted d)) (ok_inj f.2) (drop_sound b f.0.token forms who sound)
+
+-- ---- what moves, what is taken out, and what changes nothing
+
+module _ (b : Broker) (names : Names) where
+  -- a response that waits is the one that is meant by its wrapping token
+  found_there : (t : Text) (w : Waiting) (f : FoundResponse) → get b.waiting t ≡ Some w → found b (Some t) ≡ Ok f
+      → found_under t w ≡ f
+  found_there t w f is e =
+      ok_inj (sym (ap (λ o. some_or (refusal.BadRequest reason.InvalidWrappingToken) (option_map (found_under t) o)) is) ∙ e)
+
+  -- a wrapping token that waits was given out, so a new one is another
+  other_token : (t : Text) (w : Waiting) → SoundIdentifiers b → IsNew b names.wrapping_token → get b.waiting t ≡ Some w
+      → token_text names.wrapping_token ≢ t
+  other_token t w sound new is one =
+      sound.all_used (wrapping_token t) (token_identifier t) (ap (option_map (λ _. token_identifier t)) is)
+      (ap (λ u. get b.used (token_identifier u)) (sym one) ∙ new)
+
+  pub moves : (t : Text) (w : Waiting) (d : Done) → SoundIdentifiers b → are_new b.used (wrapping_names names) ≡ true
+      → get b.waiting t ≡ Some w → act_on_wrappings b names (command.Rewrap (Some t)) ≡ Ok d
+      → (get d.next.waiting (token_text names.wrapping_token) ≡ Some (moved names.wrapping_accessor b.clock w))
+      × IsTakenOut d.next t
+  moves t w d sound new is e =
+      let u = token_text names.wrapping_token in
+      let a = names.wrapping_accessor in
+      let f = ok_step (found b (Some t)) _ d e in
+      let there = found_there t w f.0 is f.1 in
+      let one : rewrapped b names (found_under t w) ≡ d = ap (rewrapped b names) there ∙ ok_inj f.2 in
+      let differ = other_token t w sound (two_of b.used names.wrapping_token a [] new).one is in
+      subst (λ (d : Done). (get d.next.waiting u ≡ Some (moved a b.clock w)) × IsTakenOut d.next t) one (
+        moved_waits b t u a b.clock w is,
+        moved_is_taken_out b t u a b.clock sound differ (λ none. none-some _ (sym none ∙ is)),
+      )
+
+  pub takes_out : (t : Text) (w : Waiting) (d : Done) → SoundIdentifiers b → SoundWaiting b.waiting
+      → get b.waiting t ≡ Some w → act_on_wrappings b names (command.Unwrap (Some t)) ≡ Ok d
+      → (d.answered ≡ kept_text w.reply) × IsTakenOut d.next t × OriginIsGone d.next w.origin
+  takes_out t w d sound waiting is e =
+      let f = ok_step (found b (Some t)) _ d e in
+      let there = found_there t w f.0 is f.1 in
+      let one : handed_out b (found_under t w) ≡ d = ap (handed_out b) there ∙ ok_inj f.2 in
+      subst (λ (d : Done). (d.answered ≡ kept_text w.reply) × IsTakenOut d.next t × OriginIsGone d.next w.origin) one
+      (refl, drop_takes_out b t sound (λ none. none-some _ (sym none ∙ is)), drop_ends_origin b t sound waiting w is)
+
+  pub wraps_alone : (text : Text) (d : Done) → act_on_wrappings b names (command.Wrap text) ≡ Ok d → d.next ≡ b
+  wraps_alone text d e = sym (ap (λ (d : Done). d.next) (ok_inj e))
+
+  pub looks_up : (meant : Option Text) (d : Done) → act_on_wrappings b names (command.LookUp meant) ≡ Ok d → d.next ≡ b
+  looks_up meant d e =
+      let f = ok_step (found b meant) _ d e in sym (ap (λ (d : Done). d.next) (ok_inj f.2))
+
+-- ---- the wrapping of a reply
+
+module _ (b : Broker) (path : Text) (ttl : ℕ) (names : Names) (d : Done) (r : Reply) (made : Option Text) where
+  abbrev entry : Waiting
+  entry = kept_entry b path ttl names r
+
+  pub wrap_sound : (forms : Forms) (who : Option Text) (own : List Text)
+      → are_new b.used (names.wrapping_token ∷ names.wrapping_accessor ∷ own) ≡ true → d.next.used ≡ b.used
+      → (d.taken ≡ []) ⊎ (d.taken ≡ own) → IsSoundWaiting (token_text names.wrapping_token) entry
+      → Sound forms who (counted d) → Sound forms who (counted (wrap b path ttl names d r made).done)
+  wrap_sound forms who own new used taken good sound =
+      let two = two_of b.used names.wrapping_token names.wrapping_accessor own new in
+      store_sound (counted d) (token_text names.wrapping_token) entry forms who sound (record {
+        sound = good;
+        token_is_new = left names.wrapping_token two.one two.one_apart;
+        accessor_is_new = left names.wrapping_accessor two.two two.two_apart;
+        differ = two.differ;
+        origin = inl refl;
+      })
+    where
+      left : (i : Text) → get b.used i ≡ None → list_any (same i) own ≡ false → get (use_up d.next.used d.taken) i ≡ None
+      left i none apart =
+          let here : get d.next.used i ≡ None = ap (λ (m : Map ⊤). get m i) used ∙ none in
+          elim taken [
+            | inl nobody ↦ subst (λ l. get (use_up d.next.used l) i ≡ None) (sym nobody) here
+            | inr all ↦ subst (λ l. get (use_up d.next.used l) i ≡ None) (sym all) (new_still d.next.used i own here apart)
+          ]
+
+  pub wrap_evolves : IsNew b names.wrapping_token → d.next.used ≡ b.used → Evolves b d.next
+      → Evolves b (wrap b path ttl names d r made).done.next
+  wrap_evolves new used evolves =
+      evolves_trans b d.next (with_waiting d.next (token_text names.wrapping_token) entry) evolves
+      (store_evolves d.next (token_text names.wrapping_token) entry (ap (λ (m : Map ⊤). get m names.wrapping_token) used ∙ new) refl)
+
+  pub wrap_adds_one : (t : Text) (w : Waiting) → AddsNone b d.next
+      → get (wrap b path ttl names d r made).done.next.waiting t ≡ Some w
+      → WaitedBefore b w ⊎ ((t ≡ token_text names.wrapping_token) × (w ≡ entry))
+  wrap_adds_one t w none is =
+      elim (store_adds_one d.next (token_text names.wrapping_token) t entry w is) [
+        | inl before ↦
+            let was = none before.0 before.1 before.2 in
+            inl (was.0, was.1, was.2, before.3 ∙ was.3, before.4 ∙ was.4)
+        | inr one ↦ inr one
+      ]
