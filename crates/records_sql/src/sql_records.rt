@@ -173,8 +173,7 @@ impl<S: Alter> SqlRecords<S> {
         }
         let bound = bound_above(self.alloc, prefix)?;
         let first = later(prefix, from);
-        let Ok(rows) =
-            statements::under_from(&mut self.conn, kind, first, lent(&bound), count)
+        let Ok(rows) = statements::under_from(&mut self.conn, kind, first, lent(&bound), count)
         else {
             self.is_active = false;
             self.failed = true;
