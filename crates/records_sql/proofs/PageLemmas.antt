@@ -1,5 +1,5 @@
 -- What the statements by prefix that have another bound show.
-use Rattle.std.proofs.Common.{◌≡◌, ℕ, Bool, true, false, cond, ◌&&◌, ◌==◌, nat_eq, List, [], ◌∷◌, map, take, Option, Some, ◌≤◌, zero, suc, refl, sym, ap, ◌∙◌, arith}
+use Rattle.std.proofs.Common.{◌≡◌, ℕ, Bool, true, false, cond, ◌&&◌, nat_eq, List, [], ◌∷◌, map, take, Option, Some, ◌≤◌, zero, suc, refl, sym, ap, ◌∙◌, arith}
 use lib.Dec.{T}
 use Rattle.std.specs.Prelude.{filter}
 use Rattle.std.specs.List.{list_all, starts_with}
@@ -20,21 +20,20 @@ use Rattle.sqlite.specs.Ops.{binary, is_true, from_truth}
 use Rattle.sqlite_value.specs.Order.{value_cmp}
 use Rattle.sqlite_value.proofs.OrderLemmas.{value_cmp-Text}
 use Rattle.broker_types.specs.Text.{Text, text_cmp}
-use Rattle.records.specs.declared.kind.Kind.{Kind}
 use Rattle.records.specs.declared.row.Row.{Row as Fields}
 use Rattle.records.specs.Kind.{RowKey as Key, key_cmp, kind_number, is_of_kind}
 use Rattle.records.specs.KeyLaws.{same_kind}
-use Rattle.records.specs.Transaction.{rows_under, rows_from, rows_upto}
+use Rattle.records.specs.Transaction.{rows_from, rows_upto}
 use Rattle.records_sql.specs.Bounds.{IsAbove, IsLater}
 use Rattle.records_sql.specs.Table.{Kept, stored, are_apart, entry_in}
-use Rattle.records_sql.specs.Texts.{under_params, from_params, upto_params}
+use Rattle.records_sql.specs.Texts.{from_params, upto_params}
 use Rattle.records_sql.proofs.Texts.{under_tests, upto_tests, entry_project, by_key}
 use Rattle.records_sql.proofs.QueryLemmas.{IsFound}
-use Rattle.records_sql.proofs.KeptLemmas.{and_left, and_right, map_of}
+use Rattle.records_sql.proofs.KeptLemmas.{and_left, map_of}
 use Rattle.records_sql.proofs.ListLemmas.{first_T, second_T, sorted_filter}
 use Rattle.records_sql.proofs.ReadLemmas.{is_true_is}
 use Rattle.records_sql.proofs.ShownLemmas.{key_listed}
-use Rattle.records_sql.proofs.UnderLemmas.{and_true, kind_test, not_below, may_be_under, under_tests_are, bound_test, under_bound, is_below, twice}
+use Rattle.records_sql.proofs.UnderLemmas.{and_true, kind_test, not_below, may_be_under, under_tests_are, under_bound, is_below, twice}
 
 -- ---- what begins with a prefix comes before what is above it and does not
 
