@@ -18,7 +18,7 @@ ghost use Rattle.cubbyhole.specs.Objects.{children_in, IsObjectAt, IsDamagedAt};
 
 use crate::keys::{folder_key, object_key};
 use broker_types::{Fault, TextBuf};
-use records::{Kind, RecordsTx, Row, children_of, read_cubby};
+use records::{Kind, RecordsTx, Row, list_children, read_cubby};
 use std::alloc::Global;
 
 /// The compact text of the object that a row of the token's cubbyhole keeps. It fails as `Damaged` if
@@ -96,6 +96,5 @@ pub fn list<T: RecordsTx>(
     ensures call { IsReading (T.seen tx.old) (T.seen tx.new) result IsMemoryOrStorage }
 {
     let key = folder_key(alloc, token, path)?;
-    let listed = tx.under(Kind::Cubby, key.as_str())?;
-    Ok(children_of(alloc, &listed, key.as_str())?)
+    list_children(alloc, tx, Kind::Cubby, key.as_str())
 }

@@ -1,4 +1,4 @@
--- To take out what is listed under a prefix and passes a test, one row after another.
+-- To take out what is listed under a prefix up to another key, one row after another.
 use Rattle.std.specs.Prelude.{◌≡◌, ◌&&◌, List, [], ◌∷◌, nat_eq, Bool, true, false, cond, if◌then◌else◌, Option, Some, None, filter}
 use Rattle.std.specs.Ordering.{eq_by_cmp, is_le}
 use Rattle.std.specs.FinMap.{get, remove, entries, find, get-remove, get-entries}
@@ -9,18 +9,11 @@ use Rattle.broker_types.specs.Text.{Text, text_cmp}
 use Rattle.records.specs.declared.kind.Kind.{Kind}
 use Rattle.records.specs.declared.row.Row.{Row}
 use Rattle.records.specs.Kind.{RowKey, key_cmp, is_of_kind}
-use Rattle.records.specs.Transaction.{Rows, rows_under}
+use Rattle.records.specs.Transaction.{Rows, rows_upto}
 use Rattle.records.specs.Table.{table_of}
 use Rattle.records.specs.KeyLaws.{key_cmp_total, key_cmp_exact}
+use Rattle.records.specs.UnderLaws.{without_listed}
 use Rattle.kv2.specs.SecretRows.{without_upto}
-
-abbrev pub passes : Text → RowKey × Row → Bool
-passes last e = is_le (text_cmp e.0.1 last)
-
--- the rows without those of a list that are not above the last
-abbrev pub without_passing : Text → Rows → List (RowKey × Row) → Rows
-without_passing last rows [] = rows
-without_passing last rows (e ∷ es) = without_passing last (if passes last e then remove rows e.0 else rows) es
 
 abbrev unless : Option Row → Option Row → Option Row
 unless None o = o
@@ -30,20 +23,14 @@ gone : (o : Option Row) → unless o None ≡ None
 gone None = refl
 gone (Some r) = refl
 
-get-without : (last : Text) (rows : Rows) (es : List (RowKey × Row)) (q : RowKey) → get (without_passing last rows es) q
-    ≡ unless (find key_cmp q (filter (passes last) es)) (get rows q)
-get-without last rows [] q = refl
-get-without last rows (e ∷ es) q =
-    get-without last (if passes last e then remove rows e.0 else rows) es q
-    ∙ elim (passes last e) as (λ b. unless (find key_cmp q (filter (passes last) es)) (get (if b then remove rows e.0 else rows) q)
-    ≡ unless (find key_cmp q (cond b (e ∷ filter (passes last) es) (filter (passes last) es))) (get rows q)) [
-      | true ↦ ap (unless (find key_cmp q (filter (passes last) es))) (get-remove key_cmp_total rows e.0 q) ∙ met (eq_by_cmp key_cmp q e.0)
-      | false ↦ refl
-    ]
+get-without : (rows : Rows) (es : List (RowKey × Row)) (q : RowKey) → get (without_listed rows es) q ≡ unless (find key_cmp q es) (get rows q)
+get-without rows [] q = refl
+get-without rows (e ∷ es) q =
+    get-without (remove rows e.0) es q ∙ ap (unless (find key_cmp q es)) (get-remove key_cmp_total rows e.0 q)
+    ∙ met (eq_by_cmp key_cmp q e.0)
   where
-    met : (b : Bool) → unless (find key_cmp q (filter (passes last) es)) (cond b None (get rows q))
-        ≡ unless (cond b (Some e.1) (find key_cmp q (filter (passes last) es))) (get rows q)
-    met true = gone (find key_cmp q (filter (passes last) es))
+    met : (b : Bool) → unless (find key_cmp q es) (cond b None (get rows q)) ≡ unless (cond b (Some e.1) (find key_cmp q es)) (get rows q)
+    met true = gone (find key_cmp q es)
     met false = refl
 
 taken : (a b : Bool) (o : Option Row) → unless (cond b (cond a o None) None) o ≡ (if a && b then None else o)
@@ -60,12 +47,12 @@ abbrev within : Text → RowKey → Bool
 within last x = is_le (text_cmp x.1 last)
 
 pub table_of-without_upto : (rows : Rows) (kind : Kind) (prefix last : Text)
-    → table_of (without_passing last rows (rows_under rows kind prefix)) ≡ without_upto (table_of rows) kind prefix last
+    → table_of (without_listed rows (rows_upto rows kind prefix last)) ≡ without_upto (table_of rows) kind prefix last
 table_of-without_upto rows kind prefix last = λ i k q. at k q i
   where
-    at : (k : Kind) (q : Text) → get (without_passing last rows (rows_under rows kind prefix)) (k, q) ≡ without_upto (table_of rows) kind prefix last k q
+    at : (k : Kind) (q : Text) → get (without_listed rows (rows_upto rows kind prefix last)) (k, q) ≡ without_upto (table_of rows) kind prefix last k q
     at k q =
-        get-without last rows (rows_under rows kind prefix) (k, q)
+        get-without rows (rows_upto rows kind prefix last) (k, q)
         ∙ ap (λ o. unless o (get rows (k, q))) (
         find-where_key key_cmp (within last) (k, q) (λ x e. ap (within last) (sym (key_cmp_exact (k, q) x e))) (filter
         (λ e. under kind prefix e.0) (entries rows))

@@ -13,7 +13,7 @@ ghost use Rattle.kv2.specs.Secrets as secrets;
 
 use crate::keys::secret_name;
 use broker_types::{Fault, TextBuf};
-use records::{Kind, RecordsTx, children_of};
+use records::{Kind, RecordsTx, list_children};
 use std::alloc::{AllocError, Global};
 
 /// How the names of the secrets of a folder begin: the mount, a slash and the folder with its slash. The empty
@@ -45,6 +45,5 @@ pub fn list<T: RecordsTx>(
     ensures call { IsReading (T.seen tx.old) (T.seen tx.new) result IsMemoryOrStorage }
 {
     let name = folder_name(alloc, mount, path)?;
-    let listed = tx.under(Kind::KvKey, name.as_str())?;
-    Ok(children_of(alloc, &listed, name.as_str())?)
+    list_children(alloc, tx, Kind::KvKey, name.as_str())
 }

@@ -19,11 +19,9 @@ fn remove_upto<T: RecordsTx>(tx: &mut T, kind: Kind, prefix: &str, last: &str) -
         ≡ rows.without_upto (table (T.seen tx.old)) kind prefix.now last.now) }
     ensures call { IsCall (T.seen tx.old) (T.seen tx.new) result IsMemoryOrStorage }
 {
-    let list = tx.under(kind, prefix)?;
+    let list = tx.under_upto(kind, prefix, last)?;
     for entry in &list {
-        if entry.key.as_str().cmp(last).is_le() {
-            tx.remove(entry.kind, entry.key.as_str())?;
-        }
+        tx.remove(entry.kind, entry.key.as_str())?;
     }
     Ok(())
 }

@@ -1,11 +1,10 @@
 -- What a database that was there before has.
-use Rattle.std.proofs.Common.{◌≡◌, inl, inr, None, IsTrue, Ok, Err, Result, List, [], map, length, refl, sym, ap, subst, ◌∙◌, arith}
+use Rattle.std.proofs.Common.{◌≡◌, inl, inr, None, IsTrue, Ok, Err, Result, List, [], map, refl, sym, ap, subst, ◌∙◌}
 use Rattle.std.specs.FinMap.{empty, from_entries}
 use Rattle.std.specs.Prelude.{IfOk}
 use Rattle.sqlite.specs.Order.{Row}
 use Rattle.sqlite.specs.Effect.{Database}
 use Rattle.sqlite.specs.Listing.{understood}
-use Rattle.sqlite.specs.Schema.{Schema}
 use Rattle.sqlite.specs.Start.{FindsIn}
 use Rattle.sqlite.specs.Recovery.{Image}
 use Rattle.sqlite.specs.State.{State, IsLive, IsUnchanged, Opens, Shown}

@@ -1,5 +1,5 @@
 -- What the statements by prefix that have another bound show.
-use Rattle.std.proofs.Common.{◌≡◌, ℕ, Bool, true, false, cond, ◌&&◌, ◌==◌, nat_eq, List, [], ◌∷◌, map, take, Option, Some, ◌≤◌, suc, refl, sym, ap, ◌∙◌, arith}
+use Rattle.std.proofs.Common.{◌≡◌, ℕ, Bool, true, false, cond, ◌&&◌, nat_eq, List, [], ◌∷◌, map, take, Option, Some, ◌≤◌, zero, suc, refl, sym, ap, ◌∙◌, arith}
 use lib.Dec.{T}
 use Rattle.std.specs.Prelude.{filter}
 use Rattle.std.specs.List.{list_all, starts_with}
@@ -20,22 +20,20 @@ use Rattle.sqlite.specs.Ops.{binary, is_true, from_truth}
 use Rattle.sqlite_value.specs.Order.{value_cmp}
 use Rattle.sqlite_value.proofs.OrderLemmas.{value_cmp-Text}
 use Rattle.broker_types.specs.Text.{Text, text_cmp}
-use Rattle.records.specs.declared.kind.Kind.{Kind}
 use Rattle.records.specs.declared.row.Row.{Row as Fields}
-use Rattle.records.specs.Kind.{RowKey as Key, key_cmp, is_of_kind}
+use Rattle.records.specs.Kind.{RowKey as Key, key_cmp, kind_number, is_of_kind}
 use Rattle.records.specs.KeyLaws.{same_kind}
-use Rattle.records.specs.ListedLaws.{cmp-both}
-use Rattle.records.specs.Transaction.{rows_under, rows_from, rows_upto}
+use Rattle.records.specs.Transaction.{rows_from, rows_upto}
 use Rattle.records_sql.specs.Bounds.{IsAbove, IsLater}
 use Rattle.records_sql.specs.Table.{Kept, stored, are_apart, entry_in}
-use Rattle.records_sql.specs.Texts.{under_params, from_params, upto_params}
+use Rattle.records_sql.specs.Texts.{from_params, upto_params}
 use Rattle.records_sql.proofs.Texts.{under_tests, upto_tests, entry_project, by_key}
 use Rattle.records_sql.proofs.QueryLemmas.{IsFound}
-use Rattle.records_sql.proofs.KeptLemmas.{and_left, and_right, map_of}
+use Rattle.records_sql.proofs.KeptLemmas.{and_left, map_of}
 use Rattle.records_sql.proofs.ListLemmas.{first_T, second_T, sorted_filter}
 use Rattle.records_sql.proofs.ReadLemmas.{is_true_is}
 use Rattle.records_sql.proofs.ShownLemmas.{key_listed}
-use Rattle.records_sql.proofs.UnderLemmas.{and_true, kind_test, not_below, may_be_under, under_tests_are, bound_test, under_bound, is_below, twice}
+use Rattle.records_sql.proofs.UnderLemmas.{and_true, kind_test, not_below, may_be_under, under_tests_are, under_bound, is_below, twice}
 
 -- ---- what begins with a prefix comes before what is above it and does not
 
@@ -85,15 +83,21 @@ module _ (q : Key) where
   less_is Equal h = absurd h
   less_is Greater h = absurd h
 
+  -- keys of the kind are in the order of their texts
+  by_text : (x y : Key) → is_of_kind q.0 x ≡ true → is_of_kind q.0 y ≡ true → key_cmp x y ≡ text_cmp x.1 y.1
+  by_text x y is_x is_y =
+      (λ i. key_cmp (same_kind x.0 q.0 is_x i, x.1) (same_kind y.0 q.0 is_y i, y.1))
+      ∙ ap (λ o. ordering_then o (text_cmp x.1 y.1)) (tied_itself nat_cmp_total (kind_number q.0))
+
   none_begin : (e : Key × Fields) (es : List (Key × Fields)) → Low e → AllLow es → begins e ≡ false → T (below_all key_cmp e.0 es) → filter begins es ≡ []
   none_begin e [] low all out up = refl
   none_begin e (f ∷ es) low all out up =
-      let next : text_cmp e.0.1 f.0.1 ≡ Less = sym (cmp-both q.0 e.0.0 f.0.0 e.0.1 f.0.1 low.0 all.0.0) ∙ less_is _ (first_T _ _ up) in
+      let next : text_cmp e.0.1 f.0.1 ≡ Less = sym (by_text e.0 f.0 low.0 all.0.0) ∙ less_is _ (first_T _ _ up) in
       let gone : begins f ≡ false = no_more q.1 e.0.1 f.0.1 low.1 out next in
       ap (λ b. cond b (f ∷ filter begins es) (filter begins es)) gone ∙ none_begin e es low all.1 out (second_T _ _ up)
 
   none_taken : (n : ℕ) (es : List (Key × Fields)) → filter begins es ≡ [] → filter begins (take n es) ≡ []
-  none_taken 0 es none = refl
+  none_taken zero es none = refl
   none_taken (suc n) [] none = refl
   none_taken (suc n) (e ∷ es) none =
       elim (begins e) as (λ b. cond b (e ∷ filter begins es) (filter begins es) ≡ [] → cond b (e ∷ filter begins (take n es)) (filter begins (take n es)) ≡ []) [
@@ -103,7 +107,7 @@ module _ (q : Key) where
 
   -- so the first that begin with it are among the first
   first_begin : (n : ℕ) (es : List (Key × Fields)) → AllLow es → T (is_sorted key_cmp es) → filter begins (take n es) ≡ take n (filter begins es)
-  first_begin 0 es low sorted = refl
+  first_begin zero es low sorted = refl
   first_begin (suc n) [] low sorted = refl
   first_begin (suc n) (e ∷ es) low sorted =
       elim (begins e) as (λ b. begins e ≡ b → cond b (e ∷ filter begins (take n es)) (filter begins (take n es)) ≡ take (suc n) (cond b (e ∷ filter begins es) (filter begins es))) [
@@ -135,11 +139,10 @@ module _ (q : Key) where
     abbrev not_before : Key × Fields → Bool
     not_before e = is_ge (text_cmp e.0.1 from)
 
-    both : Key × Fields → Bool
+    abbrev both : Key × Fields → Bool
     both e = is_under e && not_before e
 
     one_way : (e : Key × Fields) → (may_be e && begins e) ≡ both e
-    unfolding both
     one_way e = elim (starts_with nat_eq e.0.1 q.1) as
         (λ b. starts_with nat_eq e.0.1 q.1 ≡ b → (may_be e && b) ≡ ((is_of_kind q.0 e.0 && b) && is_ge (text_cmp e.0.1 from))) [
           | true ↦ λ h. inside h (is_of_kind q.0 e.0)
@@ -193,11 +196,10 @@ module _ (q : Key) where
     abbrev not_after : Key × Fields → Bool
     not_after e = is_le (text_cmp e.0.1 last)
 
-    both_upto : Key × Fields → Bool
+    abbrev both_upto : Key × Fields → Bool
     both_upto e = under_it e && not_after e
 
     upto_way : (e : Key × Fields) → (may_be_upto e && begins e) ≡ both_upto e
-    unfolding both_upto
     upto_way e = elim (starts_with nat_eq e.0.1 q.1) as
         (λ b. starts_with nat_eq e.0.1 q.1 ≡ b → (may_be_upto e && b) ≡ ((is_of_kind q.0 e.0 && b) && is_le (text_cmp e.0.1 last))) [
           | true ↦ λ h. inside h (is_of_kind q.0 e.0)

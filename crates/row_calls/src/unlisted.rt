@@ -3,12 +3,12 @@
 use broker_types::{Fault, Moment};
 use records::{Entry, Kind, ListTx, RecordsTx, Row};
 
-/// A transaction in memory whose `under` fails as `Storage`. What is answered over it has listed nothing.
+/// A transaction in memory whose lists under a prefix fail as `Storage`. What is answered over it has listed nothing.
 #[derive(Drop)]
 pub struct Unlisted {
     /// The transaction that is asked for all else.
     pub tx: ListTx,
-    /// Whether `under` has been called.
+    /// Whether a list under a prefix was asked for.
     pub was_listed: bool,
 }
 
@@ -32,6 +32,27 @@ impl RecordsTx for Unlisted {
     }
 
     fn under(&mut self, _kind: Kind, _prefix: &str) -> Result<Vec<Entry>, Fault> {
+        self.was_listed = true;
+        Err(Fault::Storage)
+    }
+
+    fn under_from(
+        &mut self,
+        _kind: Kind,
+        _prefix: &str,
+        _from: &str,
+        _count: u32,
+    ) -> Result<Vec<Entry>, Fault> {
+        self.was_listed = true;
+        Err(Fault::Storage)
+    }
+
+    fn under_upto(
+        &mut self,
+        _kind: Kind,
+        _prefix: &str,
+        _last: &str,
+    ) -> Result<Vec<Entry>, Fault> {
         self.was_listed = true;
         Err(Fault::Storage)
     }

@@ -1,7 +1,7 @@
-use Rattle.std.proofs.Common.{[], ap, sym, ◌∙◌}
+use Rattle.std.proofs.Common.{[], ap, ◌∙◌}
+use Rattle.std.proofs.lemmas.Result.{IfOk-weaker}
 use Rattle.records.specs.declared.kind.Kind.TheVariants as kind
 use Rattle.records.specs.Children.{folder, children, keys_under}
-use Rattle.records.specs.Transaction.{rows_under}
 use Rattle.cubbyhole.specs.Cubbyhole.{paths}
 use Rattle.cubbyhole.specs.Objects.{object_key}
 use Rattle.cubbyhole.proofs.ObjectsListed.{key_joined, paths_name}
@@ -10,15 +10,14 @@ use Rattle.cubbyhole.proofs.reading.list.Goals as goal
 pub returns-clause-found : goal.returns-clause-found
 returns-clause-found g c honest =
     let rows = (g.T.RecordsTx.seen c.args.tx.now).rows in
-    c.in_ok-children_of.ensures.set rows kind.Cubby
-    (c.deref.ensures.value ∙ c.in_ok-listed.ensures.listed honest ∙ ap (rows_under rows kind.Cubby) (c.as_str.ensures.value ∙ sym c.as_str-2.ensures.value))
-    ∙ ap (λ p. children p (keys_under rows kind.Cubby p)) (c.as_str-2.ensures.value ∙ c.in_ok-key.ensures)
+    IfOk-weaker c.list_children.result _ _
+    (λ names e. e ∙ ap (λ p. children p (keys_under rows kind.Cubby p)) (c.as_str.ensures.value ∙ c.in_ok-key.ensures))
+    (c.list_children.ensures.set honest)
 
 pub returns-clause-told : goal.returns-clause-told
 returns-clause-told g c honest b told len =
     let rows = (g.T.RecordsTx.seen c.args.tx.now).rows in
     let t = c.args.token.now in
     let path = c.args.path.now in
-    c.in_ok-children_of.ensures.named rows kind.Cubby (object_key t []) (folder path) (paths b t)
-    (c.deref.ensures.value ∙ c.in_ok-listed.ensures.listed honest ∙ ap (rows_under rows kind.Cubby) (c.as_str.ensures.value ∙ sym c.as_str-2.ensures.value))
-    (c.as_str-2.ensures.value ∙ c.in_ok-key.ensures ∙ key_joined t (folder path)) (paths_name rows b t told len)
+    c.list_children.ensures.named honest (object_key t []) (folder path) (paths b t)
+    (c.as_str.ensures.value ∙ c.in_ok-key.ensures ∙ key_joined t (folder path)) (paths_name rows b t told len)
