@@ -1,6 +1,6 @@
 //! What goes with tokens that ended, and the end of a caller that has spent its last use.
 
-ghost use Rattle.std.specs.Prelude.{◌≡◌, ⊥, false, Option, None, Some, IfOk, IfErr, OnOk};
+ghost use Rattle.std.specs.Prelude.{◌≡◌, false, Option, None, Some, IfOk, IfErr, OnOk};
 ghost use Rattle.std.specs.Option.{option_map_or};
 ghost use Rattle.broker_types.specs.Broker.{Broker};
 ghost use Rattle.broker_types.specs.Fault.{IsMemoryOrStorage, IsNotBadStart};
