@@ -1,5 +1,5 @@
 -- From the rows of the caller and of its policies to what it may ask.
-use Rattle.std.specs.Prelude.{◌≡◌, Bool, false, List, Option, Some, None, option_map, Result}
+use Rattle.std.specs.Prelude.{◌≡◌, Any, Bool, false, List, Option, Some, None, option_map, Result}
 use Rattle.std.specs.Option.{option_map_or}
 use Rattle.std.proofs.Common.{refl, sym, ◌∙◌, ap, subst}
 use Rattle.std.proofs.lemmas.Option.{none-some, same_Some}
@@ -15,6 +15,7 @@ use Rattle.records.specs.Transaction.{Rows}
 use Rattle.mounts.specs.Route.{Route, route_of}
 use Rattle.policies.specs.Grants.{rules_of}
 use Rattle.policies.specs.PolicyLaws.{readable_policies}
+use Rattle.policies.specs.PolicyRows.{IsUnreadable}
 use Rattle.policies.specs.Rules.{Rules}
 use Rattle.policies.specs.declared.capability.Capability.{Capability}
 use Rattle.broker_model.specs.Capabilities as capabilities
@@ -30,6 +31,13 @@ pub rules_before : (old new : Rows) (names own : List Text) (v : Verb) (rules : 
     → AreRulesAt new names v rules → AreRulesAt old own v rules
 rules_before old new names own v rules same_rows same_names are =
     subst (λ rows. AreRulesAt rows own v rules) same_rows (subst (λ ns. AreRulesAt new ns v rules) same_names are)
+
+-- and so are those of the policies that cannot be read
+pub unread_before : (old new : Rows) (names own : List Text) → new ≡ old → names ≡ own
+    → Any (IsUnreadable (table_of new)) names → Any (IsUnreadable (table_of old)) own
+unread_before old new names own same_rows same_names any =
+    subst (λ (rows : Rows). Any (IsUnreadable (table_of rows)) own) same_rows
+    (subst (λ (ns : List Text). Any (IsUnreadable (table_of new)) ns) same_names any)
 
 -- what they allow, the rows allow
 pub allowed_by : (rows : Rows) (names : List Text) (verb : Verb) (path : Text) (asked : Capability) (rules : Rules) (v : Bool)

@@ -1,12 +1,91 @@
-use Rattle.std.specs.Prelude.{Some, None}
+use Rattle.std.specs.FinMap as map
+use Rattle.std.specs.Prelude.{◌≡◌, Option, Some, None}
 use Rattle.std.proofs.Common.{refl, sym, ap, ◌∙◌, subst}
-use Rattle.std.proofs.lemmas.Option.{none-some}
+use Rattle.std.proofs.lemmas.Option.{none-some, same_Some}
+use Rattle.broker_types.specs.Text.{Text}
+use Rattle.records.specs.Ranges.{IsTokenInRange}
+use Rattle.records.specs.Table.{table_of}
+use Rattle.records.specs.TableLaws.{table_of-injective}
+use Rattle.records.specs.TokenEntry.{TokenEntry}
+use Rattle.records.specs.Transaction.{Rows}
 use Rattle.records.specs.ValueLaws.{none_of}
+use Rattle.records.specs.declared.kind.Kind.TheVariants as kind
+use Rattle.token_tree.specs.SpentLaws.{nothing_spent}
+use Rattle.token_tree.specs.TokenRows.{SpendsUse}
+use Rattle.broker_model.specs.Order.{Outcome, denied, for_caller}
+use Rattle.broker_rows.specs.Caller.{Caller}
+use Rattle.broker_rows.specs.RepresentingLaws.{still_represented}
 use Rattle.broker.specs.Stages.{IsCaller, SpendsAsCaller}
+use Rattle.broker.proofs.Serving.{entry_called, nothing_called}
 use Rattle.broker.proofs.order.caller.find_caller.Goals as goal
 
+-- ---- there is no client token
+
 pub returns-in_default-clause-found : goal.returns-in_default-clause-found
-returns-in_default-clause-found g c honest = ?
+returns-in_default-clause-found g c honest =
+    let none = none_of c.args.ask.now.token c.in_default.not-Some in
+    (λ t is. absurd (none-some _ (sym none ∙ is)), refl)
 
 pub returns-in_default-clause-told : goal.returns-in_default-clause-told
-returns-in_default-clause-told g c honest b st = ?
+returns-in_default-clause-told g c honest b st =
+    let rows = (g.T.RecordsTx.seen c.args.tx.now).rows in
+    subst (λ o. IsCaller b o rows None) (sym (none_of c.args.ask.now.token c.in_default.not-Some)) (b, (λ go. refl), st)
+
+-- ---- it is that of no token
+
+nothing_changes : (t : Text) (old new : Rows) (left : Option TokenEntry) → left ≡ None → SpendsUse t (table_of old) (table_of new) left
+    → (map.get old (kind.Token, t) ≡ None) × (new ≡ old)
+nothing_changes t old new left none spends =
+    let spent = nothing_spent t (table_of old) (table_of new) (subst (SpendsUse t (table_of old) (table_of new)) none spends) in
+    (spent.0, table_of-injective new old spent.1)
+
+pub returns-in_default-2-clause-found : goal.returns-in_default-2-clause-found
+returns-in_default-2-clause-found g c honest =
+    let seen = g.T.RecordsTx.seen in
+    let new = (seen c.spend.new.tx).rows in
+    let t = c.as_str-token.result.now in
+    let same = nothing_changes t (seen c.args.tx.now).rows new c.in_ok-known.field-0 (none_of _ c.in_default-2.not-Some)
+    (c.in_ok-known.ensures.rows honest) in (
+      λ u is. subst (λ q. map.get new (kind.Token, q) ≡ None)
+          (same_Some _ _ (ap Some c.as_str-token.ensures ∙ sym c.in-Some.is ∙ is))
+          (ap (λ (rows : Rows). map.get rows (kind.Token, t)) same.1 ∙ same.0),
+      same.1,
+    )
+
+pub returns-in_default-2-clause-told : goal.returns-in_default-2-clause-told
+returns-in_default-2-clause-told g c honest b st =
+    let seen = g.T.RecordsTx.seen in
+    let old = (seen c.args.tx.now).rows in
+    let new = (seen c.spend.new.tx).rows in
+    let t = c.as_str-token.result.now in
+    let none = none_of _ c.in_default-2.not-Some in
+    let same = nothing_changes t old new c.in_ok-known.field-0 none (c.in_ok-known.ensures.rows honest) in (
+      b,
+      subst (λ o. (go : Text → Outcome) → for_caller b o go ≡ denied b) (sym (c.in-Some.is ∙ ap Some (sym c.as_str-token.ensures)))
+          (nothing_called b t st (sym none ∙ c.in_ok-known.ensures.left honest b st)),
+      still_represented b old new same.1 st,
+    )
+
+-- ---- it is that of the caller
+
+pub returns-clause-found : goal.returns-clause-found
+returns-clause-found g c honest =
+    let seen = g.T.RecordsTx.seen in (
+      c.in-Some.is ∙ ap Some (sym c.as_str-token.ensures),
+      subst (SpendsUse c.as_str-token.result.now (table_of (seen c.args.tx.now).rows) (table_of (seen c.spend.new.tx).rows)) c.in-Some-2.is
+          (c.in_ok-known.ensures.rows honest),
+    )
+
+pub returns-clause-told : goal.returns-clause-told
+returns-clause-told g c honest b st =
+    let t = c.as_str-token.result.now in
+    let left = sym c.in-Some-2.is ∙ c.in_ok-known.ensures.left honest b st in (
+      subst (λ o. (go : Text → Outcome) → for_caller b o go ≡ go t) (sym (c.in-Some.is ∙ ap Some (sym c.as_str-token.ensures)))
+          (entry_called b t c.in-Some-2.known st left),
+      left,
+      c.in_ok-known.ensures.told honest b st,
+    )
+
+pub returns-clause-in_range : goal.returns-clause-in_range
+returns-clause-in_range g c x is =
+    subst (λ (y : Caller). IsTokenInRange y.known) (same_Some _ _ is) (c.in_ok-known.ensures.in_range c.in-Some-2.known c.in-Some-2.is)
