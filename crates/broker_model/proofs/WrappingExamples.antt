@@ -1,5 +1,5 @@
 -- The part of responses that wait, computed.
-use Rattle.std.specs.Prelude.{◌≡◌, ℕ, List, [], ◌∷◌, Bool, true, false, Option, Some, None, Ok, Err, codes}
+use Rattle.std.specs.Prelude.{◌≡◌, [], true, false, Option, Some, None, Ok, Err, codes}
 use Rattle.std.proofs.Common.{refl}
 use Rattle.broker_types.specs.Text.{Text, same}
 use Rattle.broker_types.specs.declared.ask.Ask.{Ask}

@@ -12,6 +12,7 @@ use Rattle.broker_types.specs.Spending.{drop_waiting}
 use Rattle.broker_types.specs.declared.refusal.Refusal.{Refusal}
 use Rattle.broker_types.specs.declared.refusal.Refusal.TheVariants as refusal
 use Rattle.broker_types.specs.declared.refusal.Reason.TheVariants as reason
+use Rattle.broker_types.specs.declared.reply.Reply.{Reply}
 use Rattle.wrapping.specs.Wrapping as wrapping
 use Rattle.wrapping.specs.Wrapping.{moved}
 use Rattle.api_json.specs.Objects.{waiting_object}
@@ -43,6 +44,10 @@ found b meant = some_or (refusal.BadRequest reason.InvalidWrappingToken) (found_
 
 -- ---- the part
 
+-- the reply that shows the response without its text
+abbrev pub shown : Names → FoundResponse → Reply
+shown names f = plain_reply names.request (waiting_object f.response.path f.response.created f.response.ttl)
+
 -- the response moves to the wrapping token of the request's words, which is made at the clock
 abbrev pub rewrapped : Broker → Names → FoundResponse → Done
 rewrapped b names f =
@@ -71,8 +76,7 @@ abbrev pub act_on_wrappings : Broker → Names → WrappingCommand → Result Do
 act_on_wrappings b names (command.Wrap text) = Ok (plainly (reply (plain_reply names.request text) None) b)
 act_on_wrappings b names (command.LookUp meant) = do
   f ← found b meant
-  Ok (plainly
-  (reply (plain_reply names.request (waiting_object f.response.path f.response.created f.response.ttl)) None) b)
+  Ok (plainly (reply (shown names f) None) b)
 act_on_wrappings b names (command.Rewrap meant) = do
   f ← found b meant
   Ok (rewrapped b names f)
