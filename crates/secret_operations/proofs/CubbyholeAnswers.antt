@@ -1,15 +1,26 @@
--- From the rows that an edit of a cubbyhole left to the broker that they represent.
-use Rattle.std.specs.Prelude.{Option}
-use Rattle.std.proofs.Common.{refl}
+-- From the rows that an edit of a cubbyhole left to the broker that they represent; and how a list ends.
+use Rattle.std.specs.Prelude.{◌≡◌, ◌==◌, ℕ, List, [], ◌∷◌, length, not, Bool, true, false, Option, None, Result, Ok, Err}
+use Rattle.std.proofs.Common.{arith, refl, sym, ap, subst}
+use Rattle.std.proofs.lemmas.Bool.Decides.{nat_tests}
 use Rattle.broker_types.specs.Text.{Text}
 use Rattle.broker_types.specs.Broker.{Broker}
+use Rattle.broker_types.specs.Names.{Names}
+use Rattle.broker_types.specs.Operation.{reply, plainly, Done}
+use Rattle.broker_types.specs.Refuse.{◌>>=◌, unless}
 use Rattle.broker_types.specs.Sound.{IsPathText, IsObjectText}
+use Rattle.broker_types.specs.declared.refusal.Refusal.{Refusal}
+use Rattle.broker_types.specs.declared.refusal.Refusal.TheVariants as refusal
+use Rattle.broker_types.specs.declared.request_error.RequestError.{RequestError}
+use Rattle.broker_types.specs.declared.request_error.RequestError.TheVariants.{Refused}
 use Rattle.records.specs.Parts.{Tells}
 use Rattle.records.specs.Table.{table_of}
 use Rattle.records.specs.Transaction.{Rows}
 use Rattle.cubbyhole.specs.Cubbyhole.{write, delete}
 use Rattle.cubbyhole.specs.SoundLaws.{write_sound, delete_sound}
 use Rattle.broker_model.specs.Forms.{forms}
+use Rattle.broker_model.specs.parts.Lists.{are_none, list_reply, listed}
+use Rattle.broker_rows.specs.declared.answered.Answered.{Answered}
+use Rattle.broker_rows.specs.Operating.{ActsAs}
 use Rattle.broker_rows.specs.Representing.{Represents}
 use Rattle.broker_rows.specs.RepresentingLaws.{everything}
 
@@ -32,3 +43,24 @@ represents-delete {who} b old new t path st tells =
       sound = delete_sound forms who b t st.sound path;
       served = record { none_waits = st.served.none_waits };
     }
+
+-- ---- a list
+
+-- names are none if their number is 0, and else some
+pub none_by_number : (names : List Text) (n : ℕ) → n ≡ length names → are_none names ≡ (n == 0)
+none_by_number [] n e = sym (ap (λ k. k == 0) e)
+none_by_number (name ∷ names) n e = let some : (n == 0) ≡ false = grind (arith, nat_tests) in sym some
+
+module _ (b : Broker) (rows : Rows) (who : Option Text) (names : Names) (children : List Text) where
+  -- what the list says of the names, if whether there are none is v
+  abbrev listed_if : Bool → Result Done Refusal
+  listed_if v = unless (not v) refusal.NotFound >>= (λ some. Ok (plainly (reply (list_reply names.request children) None) b))
+
+  -- the answer that shows them
+  pub acts_listed : (result : Result Answered RequestError) → are_none children ≡ false
+      → ActsAs who b rows result (Ok (plainly (reply (list_reply names.request children) None) b)) → ActsAs who b rows result (listed b names children)
+  acts_listed result some acts = subst (λ v. ActsAs who b rows result (listed_if v)) (sym some) acts
+
+  -- 404 where there are none
+  pub acts_unlisted : are_none children ≡ true → Represents who rows b → ActsAs who b rows (Err (Refused refusal.NotFound)) (listed b names children)
+  acts_unlisted none st = subst (λ v. ActsAs who b rows (Err (Refused refusal.NotFound)) (listed_if v)) (sym none) (refl, st)
