@@ -1,7 +1,8 @@
-use Rattle.std.specs.Prelude.{◌≡◌, Any, List, Some, true, false}
+use Rattle.std.specs.Prelude.{◌≢◌, Any, List, None, Some, true, false}
 use Rattle.std.proofs.Common.{rules, sym, ◌∙◌, ap, subst}
 use Rattle.std.proofs.lemmas.Option.{same_Some}
 use Rattle.std.proofs.lemmas.Result.{err_from_is_err_and}
+use Rattle.broker_types.specs.Map.{get}
 use Rattle.broker_types.specs.Text.{Text}
 use Rattle.records.specs.CallLaws.{fault_then, honest_before}
 use Rattle.records.specs.Ranges.{IsTokenInRange}
@@ -10,12 +11,11 @@ use Rattle.records.specs.Transaction.{IsHonest}
 use Rattle.api_json.specs.Kept.{is_object}
 use Rattle.policies.specs.Grants.{rules_of}
 use Rattle.policies.specs.PolicyRows.{IsUnreadable}
-use Rattle.broker_model.specs.Capabilities.{asked_by}
-use Rattle.broker_model.specs.Permission.{permits}
-use Rattle.broker_rows.specs.Caller.{AreRulesAt, Caller, IsCallerAt, IsCallerOf}
+use Rattle.broker_model.specs.Capabilities.{asked_by, has_stored}
+use Rattle.broker_rows.specs.Caller.{AreRulesAt, Caller}
 use Rattle.broker_rows.specs.Representing.{Represents}
 use Rattle.broker_rows.specs.RepresentingLaws.{named_policies_there, still_represented}
-use Rattle.broker.specs.PermittedRows.{IsPermittedAt, has_row}
+use Rattle.broker.specs.PermittedRows.{has_row}
 use Rattle.broker.proofs.Permitted.{allowed_by, permitted_told, rules_before, unread_before}
 use Rattle.broker.proofs.Serving.{entry_here}
 use Rattle.broker.proofs.order.permission.permitted.Goals as goal
@@ -35,33 +35,37 @@ pub returns-clause-told : goal.returns-clause-told
 returns-clause-told g c honest b st caller routed =
     let seen = g.T.RecordsTx.seen in
     let old = (seen c.args.tx.now).rows in
-    let who : Caller = record { token = c.caller.inside.token.now; known = c.caller.inside.known } in
+    let verb = c.args.verb in
+    let path = c.args.path.now in
+    let who = c.args.caller.now in
     let mid = honest_before (seen c.capability.new.tx) (seen c.rules_of.new.tx) _ c.in_ok-rules.ensures.call.goes_on honest in
-    let begins = subst (λ (x : Caller). Represents (Some x.token) old b) (sym c.caller.view_is) st in
-    let here : IsCallerOf b who = subst (IsCallerOf b) (sym c.caller.view_is) caller in
-    let still = still_represented b old (seen c.capability.new.tx).rows (c.in_ok-asked.ensures.call.same mid) begins in
-    let names = c.deref.ensures.value ∙ (λ i. (c.caller-inside.view_is i).known.policies) in
+    let token = (λ i. (c.caller-inside.view_is i).token.now) ∙ ap (λ (x : Caller). x.token) c.caller.view_is in
+    let names = c.deref.ensures.value ∙ (λ i. (c.caller-inside.view_is i).known.policies) ∙ ap (λ (x : Caller). x.known.policies) c.caller.view_is in
+    let still = still_represented b old (seen c.capability.new.tx).rows (c.in_ok-asked.ensures.call.same mid) st in
     let said = c.in_ok-rules.ensures.told honest b.policies (named_policies_there b (seen c.capability.new.tx).rows c.deref.result.now still)
-    ∙ ap (λ (ns : List Text). rules_of b.policies ns c.args.verb) names in
-    subst (λ (x : Caller). true ≡ permits b (Some x.token) c.args.verb c.args.path.now) c.caller.view_is
-    (permitted_told b who c.args.verb c.args.path.now c.args.found.now c.in_ok-asked.asked c.in_ok-rules.rules true here routed
-    (c.in_ok-asked.ensures.told mid b begins (entry_here b who here)) said c.if-not-may.ensures)
+    ∙ ap (λ (ns : List Text). rules_of b.policies ns verb) names in
+    let asks = c.in_ok-asked.ensures.told mid b (subst (λ (t : Text). Represents (Some t) old b) (sym token) st)
+    (subst (λ (t : Text). get b.tokens t ≢ None) (sym token) (entry_here b who caller))
+    ∙ ap (λ (t : Text). asked_by (has_stored b t) verb c.args.found.now) token in
+    permitted_told b who verb path c.args.found.now c.in_ok-asked.asked c.in_ok-rules.rules true caller routed asks said c.if-not-may.ensures
 
 pub returns-then-not-may-clause-told : goal.returns-then-not-may-clause-told
 returns-then-not-may-clause-told g c honest b st caller routed =
     let seen = g.T.RecordsTx.seen in
     let old = (seen c.args.tx.now).rows in
-    let who : Caller = record { token = c.caller.inside.token.now; known = c.caller.inside.known } in
+    let verb = c.args.verb in
+    let path = c.args.path.now in
+    let who = c.args.caller.now in
     let mid = honest_before (seen c.capability.new.tx) (seen c.rules_of.new.tx) _ c.in_ok-rules.ensures.call.goes_on honest in
-    let begins = subst (λ (x : Caller). Represents (Some x.token) old b) (sym c.caller.view_is) st in
-    let here : IsCallerOf b who = subst (IsCallerOf b) (sym c.caller.view_is) caller in
-    let still = still_represented b old (seen c.capability.new.tx).rows (c.in_ok-asked.ensures.call.same mid) begins in
-    let names = c.deref.ensures.value ∙ (λ i. (c.caller-inside.view_is i).known.policies) in
+    let token = (λ i. (c.caller-inside.view_is i).token.now) ∙ ap (λ (x : Caller). x.token) c.caller.view_is in
+    let names = c.deref.ensures.value ∙ (λ i. (c.caller-inside.view_is i).known.policies) ∙ ap (λ (x : Caller). x.known.policies) c.caller.view_is in
+    let still = still_represented b old (seen c.capability.new.tx).rows (c.in_ok-asked.ensures.call.same mid) st in
     let said = c.in_ok-rules.ensures.told honest b.policies (named_policies_there b (seen c.capability.new.tx).rows c.deref.result.now still)
-    ∙ ap (λ (ns : List Text). rules_of b.policies ns c.args.verb) names in
-    subst (λ (x : Caller). false ≡ permits b (Some x.token) c.args.verb c.args.path.now) c.caller.view_is
-    (permitted_told b who c.args.verb c.args.path.now c.args.found.now c.in_ok-asked.asked c.in_ok-rules.rules false here routed
-    (c.in_ok-asked.ensures.told mid b begins (entry_here b who here)) said c.if-not-may.ensures)
+    ∙ ap (λ (ns : List Text). rules_of b.policies ns verb) names in
+    let asks = c.in_ok-asked.ensures.told mid b (subst (λ (t : Text). Represents (Some t) old b) (sym token) st)
+    (subst (λ (t : Text). get b.tokens t ≢ None) (sym token) (entry_here b who caller))
+    ∙ ap (λ (t : Text). asked_by (has_stored b t) verb c.args.found.now) token in
+    permitted_told b who verb path c.args.found.now c.in_ok-asked.asked c.in_ok-rules.rules false caller routed asks said c.if-not-may.ensures
 
 -- ---- by the rows
 
@@ -71,20 +75,25 @@ returns-clause-found g c honest at mount known routed =
     let old = (seen c.args.tx.now).rows in
     let verb = c.args.verb in
     let path = c.args.path.now in
-    let who : Caller = record { token = c.caller.inside.token.now; known = c.caller.inside.known } in
+    let who = c.args.caller.now in
     let mid = honest_before (seen c.capability.new.tx) (seen c.rules_of.new.tx) _ c.in_ok-rules.ensures.call.goes_on honest in
-    let names = c.deref.ensures.value ∙ (λ i. (c.caller-inside.view_is i).known.policies) in
+    let token = (λ i. (c.caller-inside.view_is i).token.now) ∙ ap (λ (x : Caller). x.token) c.caller.view_is in
+    let names = c.deref.ensures.value ∙ (λ i. (c.caller-inside.view_is i).known.policies) ∙ ap (λ (x : Caller). x.known.policies) c.caller.view_is in
     let rules = rules_before old (seen c.capability.new.tx).rows c.deref.result.now who.known.policies verb c.in_ok-rules.rules
     (c.in_ok-asked.ensures.call.same mid) names (record { readable = c.in_ok-rules.ensures.readable honest; told = c.in_ok-rules.ensures.told honest }) in
-    let range = subst (λ (x : Caller). IsTokenInRange x.known) (sym c.caller.view_is) c.requires in
-    subst (λ (x : Caller). IsPermittedAt old x.token verb path true) c.caller.view_is (record {
+    record {
       entry = Some who.known;
-      in_range = λ e is. subst IsTokenInRange (same_Some _ _ is) range;
-      token = subst (IsCallerAt old) (sym c.caller.view_is) at;
+      in_range = λ e is. subst IsTokenInRange (same_Some _ _ is) c.requires;
+      token = at;
       asked = c.in_ok-asked.asked;
-      asks = (mount, known, c.in_ok-asked.ensures.found mid ∙ ap (asked_by (has_row old who.token) verb) routed);
+      asks = (
+        mount,
+        known,
+        c.in_ok-asked.ensures.found mid ∙ ap (λ (t : Text). asked_by (has_row old t) verb c.args.found.now) token
+            ∙ ap (asked_by (has_row old who.token) verb) routed,
+      );
       allowed = allowed_by old who.known.policies verb path c.in_ok-asked.asked c.in_ok-rules.rules true rules c.if-not-may.ensures;
-    })
+    }
 
 pub returns-then-not-may-clause-found : goal.returns-then-not-may-clause-found
 returns-then-not-may-clause-found g c honest at mount known routed =
@@ -92,31 +101,35 @@ returns-then-not-may-clause-found g c honest at mount known routed =
     let old = (seen c.args.tx.now).rows in
     let verb = c.args.verb in
     let path = c.args.path.now in
-    let who : Caller = record { token = c.caller.inside.token.now; known = c.caller.inside.known } in
+    let who = c.args.caller.now in
     let mid = honest_before (seen c.capability.new.tx) (seen c.rules_of.new.tx) _ c.in_ok-rules.ensures.call.goes_on honest in
-    let names = c.deref.ensures.value ∙ (λ i. (c.caller-inside.view_is i).known.policies) in
+    let token = (λ i. (c.caller-inside.view_is i).token.now) ∙ ap (λ (x : Caller). x.token) c.caller.view_is in
+    let names = c.deref.ensures.value ∙ (λ i. (c.caller-inside.view_is i).known.policies) ∙ ap (λ (x : Caller). x.known.policies) c.caller.view_is in
     let rules = rules_before old (seen c.capability.new.tx).rows c.deref.result.now who.known.policies verb c.in_ok-rules.rules
     (c.in_ok-asked.ensures.call.same mid) names (record { readable = c.in_ok-rules.ensures.readable honest; told = c.in_ok-rules.ensures.told honest }) in
-    let range = subst (λ (x : Caller). IsTokenInRange x.known) (sym c.caller.view_is) c.requires in
-    subst (λ (x : Caller). IsPermittedAt old x.token verb path false) c.caller.view_is (record {
+    record {
       entry = Some who.known;
-      in_range = λ e is. subst IsTokenInRange (same_Some _ _ is) range;
-      token = subst (IsCallerAt old) (sym c.caller.view_is) at;
+      in_range = λ e is. subst IsTokenInRange (same_Some _ _ is) c.requires;
+      token = at;
       asked = c.in_ok-asked.asked;
-      asks = (mount, known, c.in_ok-asked.ensures.found mid ∙ ap (asked_by (has_row old who.token) verb) routed);
+      asks = (
+        mount,
+        known,
+        c.in_ok-asked.ensures.found mid ∙ ap (λ (t : Text). asked_by (has_row old t) verb c.args.found.now) token
+            ∙ ap (asked_by (has_row old who.token) verb) routed,
+      );
       allowed = allowed_by old who.known.policies verb path c.in_ok-asked.asked c.in_ok-rules.rules false rules c.if-not-may.ensures;
-    })
+    }
 
 pub returns-clause-rules : goal.returns-clause-rules
 returns-clause-rules g c honest =
     let seen = g.T.RecordsTx.seen in
     let old = (seen c.args.tx.now).rows in
     let mid = honest_before (seen c.capability.new.tx) (seen c.rules_of.new.tx) _ c.in_ok-rules.ensures.call.goes_on honest in
-    let names = c.deref.ensures.value ∙ (λ i. (c.caller-inside.view_is i).known.policies) in
-    let rules = rules_before old (seen c.capability.new.tx).rows c.deref.result.now c.caller.inside.known.policies c.args.verb c.in_ok-rules.rules
+    let names = c.deref.ensures.value ∙ (λ i. (c.caller-inside.view_is i).known.policies) ∙ ap (λ (x : Caller). x.known.policies) c.caller.view_is in
+    let rules = rules_before old (seen c.capability.new.tx).rows c.deref.result.now c.args.caller.now.known.policies c.args.verb c.in_ok-rules.rules
     (c.in_ok-asked.ensures.call.same mid) names (record { readable = c.in_ok-rules.ensures.readable honest; told = c.in_ok-rules.ensures.told honest }) in
-    λ x is. subst (AreRulesAt old c.args.caller.now.known.policies c.args.verb) (same_Some _ _ is)
-    (subst (λ (y : Caller). AreRulesAt old y.known.policies c.args.verb c.in_ok-rules.rules) c.caller.view_is rules)
+    λ x is. subst (AreRulesAt old c.args.caller.now.known.policies c.args.verb) (same_Some _ _ is) rules
 
 pub returns-in_err-rules-clause-call : goal.returns-in_err-rules-clause-call
 returns-in_err-rules-clause-call g c =
