@@ -394,7 +394,8 @@ def cubbyhole_lists(run):
         elif way < 10:
             path = run.pick(*paths)
             run.call("DELETE", f"cubbyhole/{path}" + run.pick("", "", "/"), token=token)
-            run.call(run.pick("LIST", "LIST", "GET"), run.pick("cubbyhole", "cubbyhole", f"cubbyhole/{path}"), token=token)
+            place = run.pick("cubbyhole", "cubbyhole", f"cubbyhole/{path}")
+            run.call(run.pick("LIST", "LIST", "GET"), place, token=token)
         elif way == 10:
             run.call(run.pick("DELETE", "PUT", "GET"), place, run.pick(None, '{"a":1}', "{"), token)
         else:
