@@ -37,6 +37,19 @@ plain_reply request payload =
       wrap_info = None;
     }
 
+-- a reply with no more than a wrapping token
+abbrev pub wrap_reply : Text → Text → Reply
+wrap_reply request info =
+    record {
+      auth = None;
+      payload = None;
+      lease_duration = 0;
+      lease_id = [];
+      renewable = false;
+      request_id = request;
+      wrap_info = Some info;
+    }
+
 -- a reply with a lease, which can be renewed, by its id and the seconds to its end
 abbrev pub lease_reply : Text → Text → ℕ → Option Text → Reply
 lease_reply request lease_id seconds payload =

@@ -44,7 +44,7 @@ pub use parsed::{Body, Tree};
 pub use policy_bodies::policy_text;
 pub use policy_objects::policy_object;
 pub use reading::read_body;
-pub use reply::{lease_reply, plain_reply, reply_text};
+pub use reply::{lease_reply, plain_reply, reply_text, wrap_reply};
 pub use secret_bodies::{
     MountSettings, SecretWrite, mount_settings, secret_write, version_number, versions,
 };

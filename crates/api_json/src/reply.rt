@@ -1,6 +1,6 @@
 //! The bodies of replies.
 ghost use Rattle.std.specs.Prelude.{◌≡◌, IfOk};
-ghost use Rattle.api_json.specs.Reply.{reply_text, plain_reply, lease_reply};
+ghost use Rattle.api_json.specs.Reply.{reply_text, plain_reply, wrap_reply, lease_reply};
 
 use crate::name::Name;
 use crate::printing::ObjectText;
@@ -41,6 +41,21 @@ pub fn plain_reply(alloc: Global, request: &str, payload: TextBuf) -> Result<Rep
         renewable: false,
         request_id: TextBuf::copied(alloc, request)?,
         wrap_info: None,
+    })
+}
+
+/// A reply with no more than a wrapping token, the compact text of an object. The only error is running out of memory.
+pub fn wrap_reply(alloc: Global, request: &str, info: TextBuf) -> Result<Reply, AllocError>
+    ensures { IfOk result (λ r. r ≡ wrap_reply request.now info) }
+{
+    Ok(Reply {
+        auth: None,
+        payload: None,
+        lease_duration: 0,
+        lease_id: TextBuf::new(String::new(alloc)),
+        renewable: false,
+        request_id: TextBuf::copied(alloc, request)?,
+        wrap_info: Some(info),
     })
 }
 

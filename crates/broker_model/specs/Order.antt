@@ -33,7 +33,7 @@ use Rattle.broker_types.specs.declared.refusal.Refusal.TheVariants as refusal
 use Rattle.broker_types.specs.declared.refusal.Reason.TheVariants as reason
 use Rattle.broker_types.specs.declared.refusal.Denial.TheVariants as denial
 use Rattle.api_json.specs.Objects.{wrap_object}
-use Rattle.api_json.specs.Reply.{reply_text}
+use Rattle.api_json.specs.Reply.{reply_text, wrap_reply}
 use Rattle.api_json.specs.declared.wrapping_objects.WrapObject.{WrapObject}
 use Rattle.broker_model.specs.Responses.{ok, no_content, not_found}
 use Rattle.broker_model.specs.Request.{Request}
@@ -97,19 +97,6 @@ wrap_of t w made =
 abbrev pub wrap_info : Text → Waiting → Option Text → Text
 wrap_info t w made = wrap_object (wrap_of t w made)
 
--- a reply with nothing but a wrapping token
-abbrev pub info_reply : Text → Text → Reply
-info_reply request info =
-    record {
-      auth = None;
-      payload = None;
-      lease_duration = 0;
-      lease_id = [];
-      renewable = false;
-      request_id = request;
-      wrap_info = Some info;
-    }
-
 -- the reply, as it waits under its wrapping token
 abbrev pub kept_entry : Broker → Text → ℕ → Names → Reply → Waiting
 kept_entry b path ttl names r =
@@ -129,7 +116,7 @@ wrap b path ttl names d r made =
     let token = token_text names.wrapping_token in
     record {
       done = record {
-        answered = reply (info_reply names.request (wrap_info token entry made)) None;
+        answered = reply (wrap_reply names.request (wrap_info token entry made)) None;
         next = record d.next { waiting = put d.next.waiting token entry };
         taken = names.wrapping_token ∷ names.wrapping_accessor ∷ d.taken;
         handed = d.handed;

@@ -10,7 +10,7 @@ use api_json::{
     lease_reply, mount_creation, mount_settings, mounts_object, plain_reply, policy_object,
     policy_text, read_body, reply_text, role_object, role_settings, secret_object, secret_write,
     settings_object, token, token_creation, token_object, token_renewal, valid_object,
-    version_object, versions, waiting_object, wrap_object, wrapping_token,
+    version_object, versions, waiting_object, wrap_object, wrap_reply, wrapping_token,
 };
 use broker_types::{Field, Moment, Reason, Refusal, Reply, RequestError, TextBuf};
 use std::alloc::{AllocError, AllocGlobal, Global};
@@ -691,11 +691,8 @@ fn printed_mounts(rt: HostRuntime) -> Result<(), Fail> {
 
 /// A reply that is wrapped.
 fn wrapped(alloc: Global) -> Result<Reply, AllocError> {
-    let wrap_info = text(alloc, "{\"ttl\":5}")?;
-    let mut reply = plain(alloc, "")?;
-    reply.payload = None;
-    reply.wrap_info = Some(wrap_info);
-    Ok(reply)
+    let info = text(alloc, "{\"ttl\":5}")?;
+    wrap_reply(alloc, "00000000-0000-0000-0000-000000000020", info)
 }
 
 #[test]

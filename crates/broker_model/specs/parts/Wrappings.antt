@@ -16,8 +16,8 @@ use Rattle.broker_types.specs.declared.reply.Reply.{Reply}
 use Rattle.wrapping.specs.Wrapping as wrapping
 use Rattle.wrapping.specs.Wrapping.{moved}
 use Rattle.api_json.specs.Objects.{waiting_object}
-use Rattle.api_json.specs.Reply.{plain_reply}
-use Rattle.broker_model.specs.Order.{wrap_info, info_reply}
+use Rattle.api_json.specs.Reply.{plain_reply, wrap_reply}
+use Rattle.broker_model.specs.Order.{wrap_info}
 use Rattle.broker_model.specs.declared.commands.WrappingCommand.{WrappingCommand}
 use Rattle.broker_model.specs.declared.commands.WrappingCommand.TheVariants as command
 use Rattle.broker_model.specs.parts.WrappingCommands.{wrapping_names}
@@ -55,7 +55,7 @@ rewrapped b names f =
     record {
       answered =
           reply
-          (info_reply names.request (wrap_info token (moved names.wrapping_accessor b.clock f.response) None)) None;
+          (wrap_reply names.request (wrap_info token (moved names.wrapping_accessor b.clock f.response) None)) None;
       next = wrapping.rewrap b f.token token names.wrapping_accessor b.clock;
       taken = wrapping_names names;
       handed = None;
