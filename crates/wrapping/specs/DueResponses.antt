@@ -47,7 +47,8 @@ IsDamagedDue now rows = AreReadableDue now rows → ⊥
 -- the table without the rows of the wrapping tokens, and of the accessors that these tell
 abbrev pub without_responses : List Text → Table → Table
 without_responses tokens rows kind.Waiting q = if has tokens q then None else rows kind.Waiting q
-without_responses tokens rows kind.Accessor q = if is_told kind.Waiting tokens rows q then None else rows kind.Accessor q
+without_responses tokens rows kind.Accessor q =
+    if is_told kind.Waiting tokens rows q then None else rows kind.Accessor q
 without_responses tokens rows k q = rows k q
 
 -- The rows of wrapping tokens that are due were read, and are gone with those of the accessors that they tell. No other
