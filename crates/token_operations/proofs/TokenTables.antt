@@ -69,7 +69,7 @@ module _ {who : Option Text} (b : Broker) (t : Text) (old mid : Rows) (ended : L
 
 -- ---- rows of cubbyholes and leases that stay
 
-module _ {who : Option Text} (b : Broker) (us : Tokens) (alike : (t path : Text) → object_row us t path ≡ object_row b.tokens t path)
+module _ (b : Broker) (us : Tokens) (alike : (t path : Text) → object_row us t path ≡ object_row b.tokens t path)
     (same : (t lease_id : Text) → lease_of (record b { tokens = us }) t lease_id ≡ lease_of b t lease_id) where
   same_cubbyholes : (k : Kind) (q : Text) → of_cubbyholes k ≡ true → rows_of b k q ≡ rows_of (record b { tokens = us }) k q
   unfolding rows_of
@@ -78,7 +78,7 @@ module _ {who : Option Text} (b : Broker) (us : Tokens) (alike : (t path : Text)
   same_cubbyholes _ q h = absurd (false≢true h)
 
   -- tokens that have the same cubbyholes and leases, where nothing else has changed
-  pub rows_alike : (old new : Rows) → Represents who old b → Tells of_tokens (table_of new) (record b { tokens = us })
+  pub rows_alike : {who : Option Text} (old new : Rows) → Represents who old b → Tells of_tokens (table_of new) (record b { tokens = us })
       → KeepsOthers of_tokens (table_of old) (table_of new) → table_of new ≡ rows_of (record b { tokens = us })
   rows_alike old new st tells others =
       other_tokens b us (table_of old) (table_of new) st.rows tells
