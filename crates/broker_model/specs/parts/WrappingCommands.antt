@@ -1,5 +1,5 @@
--- What the routes under `sys/wrapping/` will mean: which command a body is, which wrapping token is meant, and what each
--- command needs (Vault's documentation, "/sys/wrapping").
+-- What the routes under `sys/wrapping/` will mean: which command a body is, which wrapping token is meant, what each
+-- command needs, and which requests will be open (Vault's documentation, "/sys/wrapping").
 use Rattle.std.specs.Prelude.{ℕ, ◌==◌, ◌||◌, ◌&&◌, List, [], ◌∷◌, length, Bool, true, false, Option, Some, None}
 use Rattle.std.specs.Prelude.{Result, Ok, Err, codes}
 use Rattle.std.specs.Option.{option_map_or}
