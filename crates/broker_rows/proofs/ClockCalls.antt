@@ -1,5 +1,5 @@
 -- The clock's row: from the rows to the broker.
-use Rattle.std.specs.Prelude.{◌≡◌, ◌≤◌, ℕ, [], Bool, true, false, if◌then◌else◌, Some, None}
+use Rattle.std.specs.Prelude.{◌≡◌, ◌≤◌, ℕ, [], true, false, if◌then◌else◌, Some, None}
 use Rattle.std.specs.FinMap as map
 use Rattle.std.proofs.Common.{refl, sym, ◌∙◌, ap, subst}
 use Rattle.broker_types.specs.Broker.{Broker}

@@ -46,6 +46,12 @@ pub record HasEnded (b : Broker) (t : Text) : Type 0 where
   pub gone : get b.tokens t ≡ None
   pub not_waiting : get b.waiting t ≡ None
 
+-- a lease that ended: its identifier and its credential were given out, and no token has a lease with either any more
+pub record LeaseHasEnded (b : Broker) (lease_id credential : Text) : Type 0 where
+  pub used : IsUsed b (lease_identifier lease_id)
+  pub credential_used : IsUsed b credential
+  pub gone : (t j : Text) (l : Lease) → lease_of b t j ≡ Some l → (j ≢ lease_id) × (l.credential ≢ credential)
+
 -- a wrapping token that was taken out: it was given out, and nothing waits under it any more
 pub record IsTakenOut (b : Broker) (t : Text) : Type 0 where
   pub used : IsUsed b (token_identifier t)

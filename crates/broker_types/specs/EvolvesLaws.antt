@@ -5,7 +5,7 @@ use Rattle.broker_types.specs.Text.{Text}
 use Rattle.broker_types.specs.Map.{get}
 use Rattle.broker_types.specs.Broker.{Broker}
 use Rattle.broker_types.specs.Places.{token_identifier, lease_identifier}
-use Rattle.broker_types.specs.Evolves.{Evolves, IsNew}
+use Rattle.broker_types.specs.Evolves.{Evolves, IsNew, LeaseHasEnded}
 use Rattle.broker_types.specs.OptionLaws.{found_or_not}
 
 -- what is new later was new before
@@ -45,5 +45,20 @@ evolves_trans b c d e f = record {
       | inr fresh ↦ inr (subst (λ i. IsNew b i) (sym v.3) fresh)
     ]
     | inr fresh ↦ inr (new_before b c w.origin e fresh)
+  ];
+}
+
+-- a lease that has ended does not come back: a later one was there before, or its identifiers are new
+pub ended_lease_stays : (b c : Broker) (lease_id credential : Text) → Evolves b c → LeaseHasEnded b lease_id credential
+    → LeaseHasEnded c lease_id credential
+ended_lease_stays b c lease_id credential e h = record {
+  used = e.used (lease_identifier lease_id) h.used;
+  credential_used = e.used credential h.credential_used;
+  gone = λ t j l is. elim (e.leases t j l is) [
+    | inl k ↦ let apart = h.gone t j k.0 k.1 in (apart.0, (λ same. apart.1 (k.2 ∙ same)))
+    | inr fresh ↦ (
+      (λ same. h.used (subst (λ i. IsNew b (lease_identifier i)) same fresh.0)),
+      (λ same. h.credential_used (subst (λ i. IsNew b i) same fresh.1)),
+    )
   ];
 }

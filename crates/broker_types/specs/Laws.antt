@@ -10,7 +10,7 @@ use Rattle.broker_types.specs.Lineage.{without_descendants}
 use Rattle.broker_types.specs.Lineage.{without_parent}
 use Rattle.broker_types.specs.Broker as broker
 use Rattle.broker_types.specs.Broker.{Broker, Waiting}
-use Rattle.broker_types.specs.Evolves.{Evolves, OriginIsGone, HasEnded, IsTakenOut}
+use Rattle.broker_types.specs.Evolves.{Evolves, OriginIsGone, HasEnded, IsTakenOut, LeaseHasEnded}
 use Rattle.broker_types.specs.Sound.{Forms, SoundIdentifiers, SoundWaiting, Sound}
 use Rattle.broker_types.specs.Spending.{spend, end_spent, drop_waiting}
 use Rattle.broker_types.specs.First.{default_policy, first_broker}
@@ -182,6 +182,12 @@ GoneOriginStaysGone = (b c : Broker) (origin : Text) → Evolves b c → OriginI
 -- a token that ended is never a token again
 abbrev pub EndedStaysEnded : Type 0
 EndedStaysEnded = (b c : Broker) (t : Text) → Evolves b c → HasEnded b t → HasEnded c t
+
+-- nor is a lease that ended a lease again
+abbrev pub EndedLeaseStaysEnded : Type 0
+EndedLeaseStaysEnded =
+    (b c : Broker) (lease_id credential : Text) → Evolves b c → LeaseHasEnded b lease_id credential
+    → LeaseHasEnded c lease_id credential
 
 -- a wrapping token that was taken out never waits again
 abbrev pub TakenOutStaysOut : Type 0

@@ -15,7 +15,8 @@ ghost use Rattle.broker_types.specs.Laws.{SpendEvolves, EndSpentEvolves, DropWai
 ghost use Rattle.broker_types.specs.Laws.{RevokeEnds, RevokeOrphanEnds, ExpiryEnds, EndSpentEnds};
 ghost use Rattle.broker_types.specs.Laws.{DroppedIsTakenOut, DroppedOriginIsGone};
 ghost use Rattle.broker_types.specs.Laws.{EvolvesFromItself, EvolvingIsTransitive};
-ghost use Rattle.broker_types.specs.Laws.{GoneOriginStaysGone, EndedStaysEnded, TakenOutStaysOut};
+ghost use Rattle.broker_types.specs.Laws.{GoneOriginStaysGone, EndedStaysEnded, EndedLeaseStaysEnded};
+ghost use Rattle.broker_types.specs.Laws.{TakenOutStaysOut};
 
 /// A law: the lineage of a token is the token and the lineage of its parent; so a token is under
 /// itself, and under is transitive (Vault's documentation, "Tokens", token hierarchies).
@@ -106,12 +107,13 @@ pub fn dropping_takes_out()
     ensures origin_gone { DroppedOriginIsGone }
 {}
 
-/// A law: a token that has ended, an origin that is gone and a wrapping token that was taken out stay so in
+/// A law: a token or a lease that has ended, an origin that is gone and a wrapping token that was taken out stay so in
 /// each broker that evolves from this one.
 pub fn evolving_lasts()
     ensures itself { EvolvesFromItself }
     ensures transitive { EvolvingIsTransitive }
     ensures origin_gone { GoneOriginStaysGone }
     ensures ended { EndedStaysEnded }
+    ensures lease_ended { EndedLeaseStaysEnded }
     ensures taken_out { TakenOutStaysOut }
 {}
