@@ -14,8 +14,10 @@ struct Line(&'static str, &'static [(Verb, Operation)], &'static [Verb]);
 
 const NONE: &[(Verb, Operation)] = &[];
 
-const OF_CUBBYHOLES: &[(Verb, Operation)] =
-    &[(List, Operation::Cubbyholes(CubbyholeOperation::List))];
+const OF_CUBBYHOLES: &[(Verb, Operation)] = &[(
+    List,
+    Operation::Cubbyholes(CubbyholeOperation::List),
+)];
 
 const IN_CUBBYHOLES: &[(Verb, Operation)] = &[
     (Get, Operation::Cubbyholes(CubbyholeOperation::Read)),
