@@ -1,5 +1,5 @@
 -- What a command reads: what an ask means, whether it may be asked, and the rows when it is carried out.
-use Rattle.std.specs.Prelude.{◌≡◌, ◌⊎◌, ◌&&◌, ◌||◌, not, ℕ, List, [], ◌∷◌, Bool, true, false, cond}
+use Rattle.std.specs.Prelude.{◌≡◌, ◌⊎◌, ◌&&◌, ◌||◌, not, List, [], ◌∷◌, Bool, true, false, cond}
 use Rattle.std.specs.Prelude.{if◌then◌else◌, Option, Some, None, option_map, Result, Ok, Err, IfOk, OnOk, ⊤}
 use Rattle.std.specs.FinMap.{find}
 use Rattle.std.specs.Ordering.{is_eq}
@@ -39,12 +39,12 @@ use Rattle.broker_model.specs.Order.{permission_denied}
 use Rattle.cubbyhole.specs.Objects.{object_key}
 use Rattle.token_tree.specs.TokenRows.{ChangesToken, spent_entry, with_entry}
 use Rattle.broker_rows.specs.EndingLaws.{leaves_others}
-use Rattle.broker_rows.specs.Ending.{EndsCaller, Expires, EndsBelow, IsSpentAt}
+use Rattle.broker_rows.specs.Ending.{EndsCaller, EndsBelow, IsSpentAt}
 use Rattle.broker_rows.specs.ReadableRow.{IsReadableObject}
 use Rattle.broker_rows.specs.ReadableLaws.{unspent_gone}
 use Rattle.broker.proofs.Routes.{known_still}
 use Rattle.broker.specs.PermittedRows.{IsPermittedAt}
-use Rattle.broker.specs.Answering.{AreAtCommand, Asks, IsForbidden, IsCarriedOutOrForbidden}
+use Rattle.broker.specs.Answering.{Asks, IsForbidden, IsCarriedOutOrForbidden}
 use Rattle.broker.specs.Answering.{MayBeDone}
 
 -- ---- what an ask means

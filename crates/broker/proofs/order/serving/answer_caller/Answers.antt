@@ -1,15 +1,20 @@
-use Rattle.std.specs.Prelude.{◌⊎◌}
-use Rattle.std.proofs.Common.{Some, Err, Result, rules, inl}
+use Rattle.std.specs.Prelude.{◌⊎◌, IfOk, OnOk, Ok}
+use Rattle.std.proofs.Common.{Some, Err, Result, ap, rules, inl, subst, sym}
 use Rattle.std.proofs.lemmas.Result.{IfOk-weaker}
 use Rattle.broker_types.specs.Names.{names_of}
+use Rattle.broker_types.specs.Text.{Text}
 use Rattle.broker_types.specs.declared.refusal.Refusal.{Refusal}
 use Rattle.broker_types.specs.declared.request_error.RequestError.TheVariants.{Refused}
 use Rattle.broker_types.specs.declared.answer.Answer.{Answer}
 use Rattle.records.specs.CallLaws.{fault_goes_on, honest_before}
-use Rattle.broker_model.specs.Order.{Wrapped}
+use Rattle.broker_model.specs.Order.{Wrapped, finish}
 use Rattle.broker_model.specs.Serving.{served}
+use Rattle.broker_rows.specs.Caller.{Caller}
+use Rattle.broker_rows.specs.Ending.{EndsCaller}
+use Rattle.broker_rows.specs.Representing.{Gives}
 use Rattle.broker_rows.specs.declared.answered.Answered.{Answered}
 use Rattle.broker.specs.Answering.{IsForbidden, MayBeDone}
+use Rattle.broker.specs.Stages.{HasServed}
 use Rattle.broker.proofs.CommandReads.{may_served, may_refused, ok_with}
 use Rattle.broker.proofs.order.serving.answer_caller.Goals as goal
 
@@ -17,21 +22,26 @@ pub returns-in-Ok-clause-told : goal.returns-in-Ok-clause-told
 returns-in-Ok-clause-told g c honest b begins =
     let seen = g.T.RecordsTx.seen in
     let caller = c.args.caller.token in
+    let t = ap (λ (x : Caller). x.token) c.caller.view_is in
     let left = honest_before (seen c.serve.new.tx) (seen c.finish.new.tx) _ c.finish.ensures.call.goes_on honest in
     let m : Result Wrapped Refusal = served b caller (names_of c.args.context.now.words) c.args.ask.now in
-    c.finish.ensures.told honest b m (c.in-Ok.ensures.told left b begins)
+    subst (λ (who : Text). IfOk c.finish.result (λ a. Gives a (seen c.finish.new.tx).rows (finish b (Some who) m))) t
+    (c.finish.ensures.told honest b m (subst (λ (who : Text). HasServed (Some who) (seen c.serve.new.tx).rows b (Ok c.in-Ok.answered) m) (sym t)
+    (c.in-Ok.ensures.told left b begins)))
 
 pub returns-in-Ok-clause-safely : goal.returns-in-Ok-clause-safely
 returns-in-Ok-clause-safely g c =
     let seen = g.T.RecordsTx.seen in
     let caller = c.args.caller.token in
+    let t = ap (λ (x : Caller). x.token) c.caller.view_is in
     record {
       room = c.finish.ensures.room;
       listed = c.finish.ensures.listed;
       wants = λ honest b begins.
           let left = honest_before (seen c.serve.new.tx) (seen c.finish.new.tx) _ c.finish.ensures.call.goes_on honest in
           let m : Result Wrapped Refusal = served b caller (names_of c.args.context.now.words) c.args.ask.now in
-          c.finish.ensures.wants honest b m (c.in-Ok.ensures.told left b begins);
+          c.finish.ensures.wants honest b m (subst (λ (who : Text). HasServed (Some who) (seen c.serve.new.tx).rows b (Ok c.in-Ok.answered) m) (sym t)
+          (c.in-Ok.ensures.told left b begins));
       goes_on = search rules;
     }
 
@@ -39,23 +49,30 @@ pub returns-in-Err-Refused-clause-told : goal.returns-in-Err-Refused-clause-told
 returns-in-Err-Refused-clause-told g c honest b begins =
     let seen = g.T.RecordsTx.seen in
     let caller = c.args.caller.token in
+    let t = ap (λ (x : Caller). x.token) c.caller.view_is in
     let left = honest_before (seen c.serve.new.tx) (seen c.finish-in-Err-Refused.new.tx) _ c.finish-in-Err-Refused.ensures.call.goes_on honest in
     let m : Result Wrapped Refusal = served b caller (names_of c.args.context.now.words) c.args.ask.now in
-    c.finish-in-Err-Refused.ensures.told honest b m
-    (rw c.in-Err-Refused.field-0-is at (c.in-Err-Refused.ensures.told left b begins))
+    let refused : HasServed (Some caller) (seen c.serve.new.tx).rows b (Err c.in-Err-Refused.refusal) m =
+    rw c.in-Err-Refused.field-0-is at (c.in-Err-Refused.ensures.told left b begins) in
+    subst (λ (who : Text). IfOk c.finish-in-Err-Refused.result (λ a. Gives a (seen c.finish-in-Err-Refused.new.tx).rows (finish b (Some who) m))) t
+    (c.finish-in-Err-Refused.ensures.told honest b m
+    (subst (λ (who : Text). HasServed (Some who) (seen c.serve.new.tx).rows b (Err c.in-Err-Refused.refusal) m) (sym t) refused))
 
 pub returns-in-Err-Refused-clause-safely : goal.returns-in-Err-Refused-clause-safely
 returns-in-Err-Refused-clause-safely g c =
     let seen = g.T.RecordsTx.seen in
     let caller = c.args.caller.token in
+    let t = ap (λ (x : Caller). x.token) c.caller.view_is in
     record {
       room = c.finish-in-Err-Refused.ensures.room;
       listed = c.finish-in-Err-Refused.ensures.listed;
       wants = λ honest b begins.
           let left = honest_before (seen c.serve.new.tx) (seen c.finish-in-Err-Refused.new.tx) _ c.finish-in-Err-Refused.ensures.call.goes_on honest in
           let m : Result Wrapped Refusal = served b caller (names_of c.args.context.now.words) c.args.ask.now in
+          let refused : HasServed (Some caller) (seen c.serve.new.tx).rows b (Err c.in-Err-Refused.refusal) m =
+          rw c.in-Err-Refused.field-0-is at (c.in-Err-Refused.ensures.told left b begins) in
           c.finish-in-Err-Refused.ensures.wants honest b m
-          (rw c.in-Err-Refused.field-0-is at (c.in-Err-Refused.ensures.told left b begins));
+          (subst (λ (who : Text). HasServed (Some who) (seen c.serve.new.tx).rows b (Err c.in-Err-Refused.refusal) m) (sym t) refused);
       goes_on = search rules;
     }
 
@@ -73,11 +90,12 @@ pub returns-in-Ok-clause-readable : goal.returns-in-Ok-clause-readable
 returns-in-Ok-clause-readable g c honest there =
     let seen = g.T.RecordsTx.seen in
     let caller = c.args.caller.token in
+    let t = ap (λ (x : Caller). x.token) c.caller.view_is in
     let old = (seen c.args.tx.now).rows in
     let left = honest_before (seen c.serve.new.tx) (seen c.finish.new.tx) _ c.finish.ensures.call.goes_on honest in
     let done = (seen c.serve.new.tx).rows in
     let may = may_served old done caller c.args.ask.now c.in-Ok.answered (c.in-Ok.ensures.readable left there) in
-    let ends = c.finish.ensures.rows honest in
+    let ends = subst (λ (who : Text). OnOk c.finish.result (EndsCaller who done (seen c.finish.new.tx).rows)) t (c.finish.ensures.rows honest) in
     IfOk-weaker c.finish.result _ _ (λ a told. inl (record { may = may; done = done; ends = told.0 }))
     (ok_with _ _ c.finish.result ends c.finish.ensures.room)
 
@@ -85,6 +103,7 @@ pub returns-in-Err-Refused-clause-readable : goal.returns-in-Err-Refused-clause-
 returns-in-Err-Refused-clause-readable g c honest there =
     let seen = g.T.RecordsTx.seen in
     let caller = c.args.caller.token in
+    let t = ap (λ (x : Caller). x.token) c.caller.view_is in
     let ask = c.args.ask.now in
     let old = (seen c.args.tx.now).rows in
     let done = (seen c.serve.new.tx).rows in
@@ -92,7 +111,7 @@ returns-in-Err-Refused-clause-readable g c honest there =
     let left = honest_before (seen c.serve.new.tx) (seen c.finish-in-Err-Refused.new.tx) _ c.finish-in-Err-Refused.ensures.call.goes_on honest in
     let found : MayBeDone old caller ask ⊎ IsForbidden {A = Answered} old done caller ask (Err (Refused c.in-Err-Refused.refusal)) =
     rw c.in-Err-Refused.field-0-is at (c.in-Err-Refused.ensures.readable left there) in
-    let ends = c.finish-in-Err-Refused.ensures.rows honest in
+    let ends = subst (λ (who : Text). OnOk c.finish-in-Err-Refused.result (EndsCaller who done final)) t (c.finish-in-Err-Refused.ensures.rows honest) in
     IfOk-weaker c.finish-in-Err-Refused.result _ _
     (λ a told. may_refused old done caller ask final c.in-Err-Refused.refusal a found told.1 told.0)
     (ok_with _ _ c.finish-in-Err-Refused.result ends c.finish-in-Err-Refused.ensures.refused)
