@@ -3,8 +3,10 @@ use Rattle.std.specs.Prelude.{◌≡◌, ◌≢◌, ◌⊎◌, ℕ, List, [], �
 use Rattle.std.specs.List.{list_any}
 use Rattle.std.specs.Option.{option_map_or}
 use Rattle.std.proofs.Common.{refl, sym, ◌∙◌, ap, subst, inl, inr}
+use Rattle.std.proofs.lemmas.Bool.{false≢true}
 use Rattle.std.proofs.lemmas.Option.{none-some, same_Some}
 use Rattle.broker_types.specs.Text.{Text, same}
+use Rattle.broker_types.specs.TextLaws.{same_true}
 use Rattle.broker_types.specs.Map.{Map, get}
 use Rattle.broker_types.specs.Broker.{Broker, Waiting}
 use Rattle.broker_types.specs.Evolves.{Evolves, IsNew, IsTakenOut, OriginIsGone, WaitedBefore}
@@ -31,7 +33,7 @@ use Rattle.broker_model.specs.Order.{IsProper, counted, kept_entry, wrap}
 use Rattle.broker_model.specs.Laws.{AreWrappingNames}
 use Rattle.broker_model.specs.declared.commands.WrappingCommand.{WrappingCommand}
 use Rattle.broker_model.specs.declared.commands.WrappingCommand.TheVariants as command
-use Rattle.broker_model.specs.parts.WrappingCommands.{wrapping_names, wrapping_traits}
+use Rattle.broker_model.specs.parts.WrappingCommands.{token_meant, is_own, wrapping_names, wrapping_traits}
 use Rattle.broker_model.specs.parts.Wrappings.{FoundResponse, found_under, found, rewrapped, handed_out, act_on_wrappings}
 use Rattle.broker_model.proofs.NewIdentifiers.{new_still, two_of}
 use Rattle.broker_model.proofs.Operations.{shown_proper}
@@ -180,6 +182,19 @@ module _ (b : Broker) (names : Names) where
   pub looks_up : (meant : Option Text) (d : Done) → act_on_wrappings b names (command.LookUp meant) ≡ Ok d → d.next ≡ b
   looks_up meant d e =
       let f = ok_step (found b meant) _ d e in sym (ap (λ (d : Done). d.next) (ok_inj f.2))
+
+-- ---- which wrapping token is meant
+
+-- a text that the client token is, which the body names and which is not empty
+named_is : (t : Text) (client : Option Text) → option_map_or (same t) client false ≡ true → Some t ≡ client
+named_is t None h = absurd (false≢true h)
+named_is t (Some c) h = ap Some (same_true t c h)
+
+-- what is the client token's own is the client token
+pub own_meant : (client named : Option Text) → is_own client named ≡ true → token_meant client named ≡ client
+own_meant client None h = refl
+own_meant client (Some []) h = refl
+own_meant client (Some (c ∷ t)) h = named_is (c ∷ t) client h
 
 -- ---- the wrapping of a reply
 

@@ -29,7 +29,7 @@ use Rattle.broker_model.specs.Order.{IsProper, counted, kept_entry, wrap}
 use Rattle.broker_model.specs.Step.{traits}
 use Rattle.broker_model.specs.declared.commands.WrappingCommand.{WrappingCommand}
 use Rattle.broker_model.specs.declared.commands.WrappingCommand.TheVariants as command
-use Rattle.broker_model.specs.parts.WrappingCommands.{wrapping_names, wrapping_traits}
+use Rattle.broker_model.specs.parts.WrappingCommands.{token_meant, is_own, wrapping_names, wrapping_traits}
 use Rattle.broker_model.specs.parts.Wrappings.{act_on_wrappings}
 
 -- ---- operations
@@ -91,6 +91,10 @@ abbrev pub LookUpChangesNothing : Type 0
 LookUpChangesNothing =
     (b : Broker) (names : Names) (meant : Option Text) (d : Done)
     → act_on_wrappings b names (command.LookUp meant) ≡ Ok d → d.next ≡ b
+
+-- the wrapping token that an open unwrap or rewrap means is the client token
+abbrev pub OwnIsMeant : Type 0
+OwnIsMeant = (client named : Option Text) → is_own client named ≡ true → token_meant client named ≡ client
 
 -- ---- the wrapping of a reply
 

@@ -13,7 +13,7 @@
 --
 -- A refusal at any step keeps the clock, what the clock ended, the response that step 2 removed and the use of step 3
 -- (with step 9), and nothing else.
-use Rattle.std.specs.Prelude.{◌≡◌, ◌≢◌, ◌⊎◌, ℕ, List, [], ◌∷◌, Bool, false, not, ◌&&◌, ◌||◌, nat_lt, if◌then◌else◌}
+use Rattle.std.specs.Prelude.{◌≡◌, ◌≢◌, ◌⊎◌, ℕ, List, [], ◌∷◌, Bool, not, ◌&&◌, ◌||◌, nat_lt, if◌then◌else◌}
 use Rattle.std.specs.Prelude.{Option, Some, None, Result, Ok, Err, is_some}
 use Rattle.broker_types.specs.Text.{Text}
 use Rattle.broker_types.specs.Map.{get, put, without}

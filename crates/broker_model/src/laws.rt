@@ -6,6 +6,7 @@ ghost use Rattle.broker_model.specs.Laws.{OperationsAreProper, MeansBelowCubbyho
 ghost use Rattle.broker_model.specs.Laws.{IsAlwaysThere};
 ghost use Rattle.broker_model.specs.Laws.{WrappingCommandsAreProper, WrappingCommandsKeepSoundness};
 ghost use Rattle.broker_model.specs.Laws.{RewrapMoves, UnwrapTakesOut, WrapChangesNothing, LookUpChangesNothing};
+ghost use Rattle.broker_model.specs.Laws.{OwnIsMeant};
 ghost use Rattle.broker_model.specs.Laws.{WrappingKeepsSoundness, WrappingEvolves, WrappingAddsOne};
 
 use mounts::{patterns_are_found_by_form, tables_are_in_order};
@@ -20,7 +21,8 @@ pub fn operations_are_proper()
 /// A law: a command on responses that wait gives out its own identifiers or none, hands out only what waited until
 /// then, makes no response begin to wait, lets the broker evolve, and leaves a sound broker sound. A response that is
 /// wrapped anew moves to a new wrapping token, and the old one is taken out; so is that of a response that is handed
-/// out, whose text is the answer. The others change nothing (Vault's documentation, "/sys/wrapping").
+/// out, whose text is the answer. The others change nothing. An open unwrap or rewrap means the client token (Vault's
+/// documentation, "/sys/wrapping").
 pub fn wrapping_commands_are_proper()
     ensures proper { WrappingCommandsAreProper }
     ensures sound { WrappingCommandsKeepSoundness }
@@ -28,6 +30,7 @@ pub fn wrapping_commands_are_proper()
     ensures taken_out { UnwrapTakesOut }
     ensures wrapped { WrapChangesNothing }
     ensures shown { LookUpChangesNothing }
+    ensures own { OwnIsMeant }
 {}
 
 /// A law: when the reply of an operation is wrapped, it is the only response that begins to wait; a sound broker stays

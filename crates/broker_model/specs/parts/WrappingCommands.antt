@@ -1,6 +1,6 @@
 -- What the routes under `sys/wrapping/` will mean: which command a body is, which wrapping token is meant, what each
 -- command needs, and which requests will be open (Vault's documentation, "/sys/wrapping").
-use Rattle.std.specs.Prelude.{ℕ, ◌==◌, ◌||◌, ◌&&◌, List, [], ◌∷◌, length, Bool, true, false, Option, Some, None}
+use Rattle.std.specs.Prelude.{ℕ, ◌||◌, ◌&&◌, List, [], ◌∷◌, Bool, true, false, Option, Some, None}
 use Rattle.std.specs.Prelude.{Result, Ok, Err, codes}
 use Rattle.std.specs.Option.{option_map_or}
 use Rattle.serde_json.specs.Data.{object}
@@ -66,7 +66,8 @@ wrapping_traits (command.Unwrap t) = record { own = λ names. []; may_wrap = fal
 -- whether the client token itself is meant: the body names no other
 abbrev pub is_own : Option Text → Option Text → Bool
 is_own client None = true
-is_own client (Some t) = length t == 0 || option_map_or (same t) client false
+is_own client (Some []) = true
+is_own client (Some (c ∷ t)) = option_map_or (same (c ∷ t)) client false
 
 -- the same of what a body names; one that cannot be read names no token
 abbrev pub is_own_if_read : Option Text → Result (Option Text) Refusal → Bool

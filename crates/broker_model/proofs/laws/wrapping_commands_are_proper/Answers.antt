@@ -1,4 +1,4 @@
-use Rattle.broker_model.proofs.WrappingProper.{acts, leave, moves, takes_out, wraps_alone, looks_up}
+use Rattle.broker_model.proofs.WrappingProper.{acts, leave, moves, takes_out, wraps_alone, looks_up, own_meant}
 use Rattle.broker_model.proofs.laws.wrapping_commands_are_proper.Goals as goal
 
 pub returns-clause-proper : goal.returns-clause-proper
@@ -18,3 +18,6 @@ returns-clause-wrapped c = wraps_alone
 
 pub returns-clause-shown : goal.returns-clause-shown
 returns-clause-shown c = looks_up
+
+pub returns-clause-own : goal.returns-clause-own
+returns-clause-own c = own_meant
