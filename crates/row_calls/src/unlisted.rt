@@ -47,12 +47,7 @@ impl RecordsTx for Unlisted {
         Err(Fault::Storage)
     }
 
-    fn under_upto(
-        &mut self,
-        _kind: Kind,
-        _prefix: &str,
-        _last: &str,
-    ) -> Result<Vec<Entry>, Fault> {
+    fn under_upto(&mut self, _kind: Kind, _prefix: &str, _last: &str) -> Result<Vec<Entry>, Fault> {
         self.was_listed = true;
         Err(Fault::Storage)
     }
