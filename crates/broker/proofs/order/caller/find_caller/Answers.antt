@@ -15,7 +15,7 @@ use Rattle.token_tree.specs.TokenRows.{SpendsUse}
 use Rattle.broker_model.specs.Order.{Outcome, denied, for_caller}
 use Rattle.broker_rows.specs.Caller.{Caller}
 use Rattle.broker_rows.specs.RepresentingLaws.{still_represented}
-use Rattle.broker.specs.Stages.{IsCaller, SpendsAsCaller}
+use Rattle.broker.specs.Stages.{IsCaller}
 use Rattle.broker.proofs.Serving.{entry_called, nothing_called}
 use Rattle.broker.proofs.order.caller.find_caller.Goals as goal
 
