@@ -2,7 +2,7 @@
 
 use crate::start::{NOT_FOUND, PERMISSION_DENIED, asked, expect, first_rows, moment, words};
 use broker::handle;
-use broker_types::Status::{BadRequest, Forbidden, MethodNotAllowed, NoContent, Success};
+use broker_types::Status::{BadRequest, Forbidden, NoContent, Success};
 use broker_types::Verb::{Get, List, Write};
 use broker_types::{Answer, Bytes, Status, TextBuf, TokenText, Verb, id_text};
 use leases::issue;
@@ -20,8 +20,6 @@ const KEPT: &str = "cubbyhole/a";
 const GIVEN: &str =
     "{\"auth\":null,\"data\":{\"k\":1},\"lease_duration\":0,\"lease_id\":\"\",\"renewable\":false,\
     \"request_id\":\"00000000-0000-0000-0000-000000000020\",\"warnings\":null,\"wrap_info\":null}\n";
-
-const UNSUPPORTED: &str = "{\"errors\":[\"unsupported operation\"]}\n";
 
 const UNPARSED: &str = "{\"errors\":[\"failed to parse JSON input\"]}\n";
 
@@ -198,7 +196,7 @@ fn ends_by_the_clock(rt: HostRuntime) -> Result<(), Fail> {
     )
 }
 
-/// Refused requests (404, 405, 400 and 403) spend a use too.
+/// Refused requests (404, of a list without names too, 400 and 403) spend a use.
 #[test]
 fn refused_requests_spend_uses(rt: HostRuntime) -> Result<(), Fail> {
     let mut tx = tree(rt.alloc())?;
@@ -216,8 +214,8 @@ fn refused_requests_spend_uses(rt: HostRuntime) -> Result<(), Fail> {
             ),
             (
                 Request(0, 0xf, List, KEPT, ""),
-                MethodNotAllowed,
-                UNSUPPORTED,
+                Status::NotFound,
+                NOT_FOUND,
                 ALL,
             ),
             (Request(0, 0xf, Write, KEPT, "{"), BadRequest, UNPARSED, ALL),
