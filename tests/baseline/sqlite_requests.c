@@ -92,23 +92,25 @@ static void identify(char text[37], unsigned long long place, int offset)
              low & 0xffffffffffffull);
 }
 
-/* What is done before and after every request of the root token. */
+/* What is done before and after every request of the root token. The clock is written when it moves. */
 static void begin_request(const char *root, const char *mount)
 {
+    static time_t clock;
+    time_t now = time(NULL);
     run(begin);
     must_get(CLOCK, "");
-    put_row(CLOCK, "", "", 0, 9);
-    sqlite3_bind_int64(due, 1, time(NULL));
+    if (now != clock)
+        put_row(CLOCK, "", "", 0, 9);
+    clock = now;
+    sqlite3_bind_int64(due, 1, now);
     run(due);
-    must_get(TOKEN, root);
     must_get(TOKEN, root);
     if (mount)
         must_get(MOUNT, mount);
 }
 
-static void permit(const char *root)
+static void permit(void)
 {
-    must_get(TOKEN, root);
     got(POLICY, "root");
 }
 
@@ -121,7 +123,7 @@ static void end_request(const char *root)
 static void read_secret(const char *root, const char *key, const char *version)
 {
     begin_request(root, "secret");
-    permit(root);
+    permit();
     must_get(KV_KEY, key);
     must_get(KV_VERSION, version);
     end_request(root);
@@ -131,7 +133,7 @@ static void write_secret(const char *root, const char *key, const char *version)
 {
     begin_request(root, "secret");
     must_get(KV_KEY, key);
-    permit(root);
+    permit();
     must_get(MOUNT, "secret");
     must_get(KV_KEY, key);
     put_row(KV_VERSION, version, "", 0, 43);
@@ -142,7 +144,7 @@ static void write_secret(const char *root, const char *key, const char *version)
 static void look_up_token(const char *root, const char *token)
 {
     begin_request(root, NULL);
-    permit(root);
+    permit();
     must_get(TOKEN, token);
     end_request(root);
 }
@@ -150,10 +152,11 @@ static void look_up_token(const char *root, const char *token)
 static void create_token(const char *root, const char *token, const char *accessor)
 {
     begin_request(root, NULL);
-    permit(root);
+    permit();
     got(USED, token + 4);
     got(USED, accessor);
-    permit(root);
+    must_get(TOKEN, root);
+    permit();
     put_row(TOKEN, token, root, (long long)time(NULL) + 2764800, 93);
     put_row(ACCESSOR, accessor, token, 0, 9);
     put_row(USED, accessor, "", 0, 1);
