@@ -76,7 +76,7 @@ KINDS = {"read": read, "look_up": look_up, "write": write, "create": creation}
 
 def asked(kind, many, requests):
     """How many requests of a kind are sent: of those that add rows no more than there are secrets or tokens."""
-    return requests if kind in ("read", "look_up") else min(requests, many)
+    return requests if kind in ("read", "look_up", "list") else min(requests, many)
 
 
 def lines(kind, many, requests):

@@ -3,7 +3,8 @@
 
     python3 load_serve.py PROGRAM MANY REQUESTS [--db [FOLDER]] [--kinds KIND..] [--runs N]
 
-KIND is `read`, `write` (of secrets), `create` or `look_up` (of tokens). The broker has MANY secrets of one version, and
+KIND is `read`, `write` (of secrets), `create` or `look_up` (of tokens), or `list`: of the folder that has all secrets
+in another one, and so one name. It is measured only if it is named. The broker has MANY secrets of one version, and
 as many tokens. Then REQUESTS requests of each kind are sent on one connection, each when the reply to the one before is
 there, and each reply has to be 200; `read`, `write` and `look_up` spread over all. There are at most MANY writes and
 creations, so that no secret has more than two versions. It is done N times (3 if not given), each with a broker of its
@@ -48,6 +49,8 @@ class Asked:
             return request("GET", secret, token)
         if kind == "write":
             return request("POST", secret, token, SECRET)
+        if kind == "list":
+            return request("LIST", "secret/metadata/", token)
         if kind == "create":
             return request("POST", "auth/token/create", token, '{"policies":["default"]}')
         return request("POST", "auth/token/lookup", token, f'{{"token":"{self.tokens[number]}"}}')
@@ -142,7 +145,7 @@ def main():
     parser.add_argument("program")
     parser.add_argument("many", type=int)
     parser.add_argument("requests", type=int)
-    parser.add_argument("--kinds", choices=["read", "look_up", "write", "create"], nargs="+",
+    parser.add_argument("--kinds", choices=["read", "look_up", "write", "create", "list"], nargs="+",
                         default=["read", "look_up", "write", "create"])
     parser.add_argument("--runs", type=int, default=3)
     parser.add_argument("--db", nargs="?", const=tempfile.gettempdir())
