@@ -19,6 +19,7 @@ use Rattle.api_json.specs.Printing as printing
 use Rattle.api_json.specs.Reply.{reply_text}
 use Rattle.broker_model.specs.Act.{act}
 use Rattle.broker_model.specs.Command.{Command, on_cubbyhole, on_token, on_secret, on_policy}
+use Rattle.broker_model.specs.Command.{on_mount, on_lease, on_issued}
 use Rattle.broker_model.specs.Order.{wrap_info, wraps, wrap_200, Wrapped, unwrapped}
 use Rattle.broker_model.specs.Permission.{permits}
 use Rattle.broker_model.specs.Step.{traits, request_of}
@@ -42,12 +43,18 @@ wraps_with_ttl a (on_cubbyhole path command) = refl
 wraps_with_ttl a (on_token command) = refl
 wraps_with_ttl a (on_secret place command) = refl
 wraps_with_ttl a (on_policy name command) = refl
+wraps_with_ttl a (on_mount name command) = refl
+wraps_with_ttl a (on_lease prefix command) = refl
+wraps_with_ttl a (on_issued place command) = refl
 
 not_without : (a : Ask) (command : Command) → wraps permits traits act (request_of a) command ≡ false
 not_without a (on_cubbyhole path command) = refl
 not_without a (on_token command) = refl
 not_without a (on_secret place command) = refl
 not_without a (on_policy name command) = refl
+not_without a (on_mount name command) = refl
+not_without a (on_lease prefix command) = refl
+not_without a (on_issued place command) = refl
 
 -- the reply r to a request for the path `p`, wrapped under `w` with the accessor `x`
 wrapped_in : Names → Reply → Wrapped

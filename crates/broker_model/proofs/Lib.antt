@@ -2,6 +2,9 @@ pub mod AclPolicyProper
 pub mod CubbyholeProper
 pub mod CubbyholeRoutes
 pub mod Examples
+pub mod IssuedProper
+pub mod LeaseProper
+pub mod MountProper
 pub mod NewIdentifiers
 pub mod Operations
 pub mod SecretProper

@@ -17,7 +17,7 @@ use Rattle.kv2.specs.SoundLaws.{write_is, write_evolves, secrets_evolve, setting
 use Rattle.broker_model.specs.Order.{IsProper}
 use Rattle.broker_model.specs.declared.commands.SecretCommand.{SecretCommand}
 use Rattle.broker_model.specs.declared.commands.SecretCommand.TheVariants as command
-use Rattle.broker_model.specs.parts.SecretCommands.{Place}
+use Rattle.broker_model.specs.parts.Place.{Place}
 use Rattle.broker_model.specs.parts.SecretReplies.{object_left, version_reply, version_answered, written_reply}
 use Rattle.broker_model.specs.parts.Secrets.{act_on_secrets, settings, read, write, metadata}
 use Rattle.broker_model.proofs.Operations.{shown_proper, silent_proper, missing_proper, changed_proper, listed_proper}

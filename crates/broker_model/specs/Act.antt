@@ -6,8 +6,12 @@ use Rattle.broker_types.specs.Names.{Names}
 use Rattle.broker_types.specs.Operation.{Done}
 use Rattle.broker_types.specs.declared.refusal.Refusal.{Refusal}
 use Rattle.broker_model.specs.Command.{Command, on_cubbyhole, on_token, on_secret, on_policy}
+use Rattle.broker_model.specs.Command.{on_mount, on_lease, on_issued}
 use Rattle.broker_model.specs.parts.Cubbyholes.{act_on_cubbyhole}
 use Rattle.broker_model.specs.parts.AclPolicies.{act_on_policies}
+use Rattle.broker_model.specs.parts.Issued.{act_on_issued}
+use Rattle.broker_model.specs.parts.Leases.{act_on_leases}
+use Rattle.broker_model.specs.parts.Mounts.{act_on_mounts}
 use Rattle.broker_model.specs.parts.Secrets.{act_on_secrets}
 use Rattle.broker_model.specs.parts.Tokens.{act_on_tokens}
 use Rattle.broker_model.specs.Order.{permission_denied}
@@ -18,6 +22,9 @@ act_for b c names (on_cubbyhole path command) = act_on_cubbyhole b c names path 
 act_for b c names (on_token command) = act_on_tokens b c names command
 act_for b c names (on_secret place command) = act_on_secrets b names place command
 act_for b c names (on_policy name command) = act_on_policies b names name command
+act_for b c names (on_mount name command) = act_on_mounts b names name command
+act_for b c names (on_lease prefix command) = act_on_leases b names prefix command
+act_for b c names (on_issued place command) = act_on_issued b c names place command
 
 -- without a caller nothing of this is done
 abbrev pub act : Broker → Option Text → Names → Command → Result Done Refusal

@@ -5,7 +5,7 @@ use Rattle.broker_types.specs.Text.{Text}
 use Rattle.broker_types.specs.Map.{get}
 use Rattle.broker_types.specs.Broker.{Broker, Mount, Waiting}
 use Rattle.broker_types.specs.Evolves.{Evolves, IsNew, IsTakenOut, OriginIsGone, WaitedBefore}
-use Rattle.broker_types.specs.Names.{Names}
+use Rattle.broker_types.specs.Names.{Names, names_of}
 use Rattle.broker_types.specs.Operation.{Done, kept_text}
 use Rattle.broker_types.specs.Sound.{Forms, Sound, SoundIdentifiers, SoundWaiting, IsIdentifier, IsSoundWaiting}
 use Rattle.broker_types.specs.TokenText.{token_text}
@@ -15,6 +15,7 @@ use Rattle.broker_types.specs.declared.ask.Verb.TheVariants as verb
 use Rattle.broker_types.specs.declared.refusal.Refusal.TheVariants as refusal
 use Rattle.broker_types.specs.declared.reply.Reply.{Reply}
 use Rattle.broker_types.specs.declared.status.Methods.{Methods}
+use Rattle.broker_types.specs.declared.words.Words.{Words}
 use Rattle.records.specs.Table.{Table}
 use Rattle.mounts.specs.Forms.{are_bytes}
 use Rattle.mounts.specs.MountRows.{IsKnownAt}
@@ -37,9 +38,9 @@ use Rattle.broker_model.specs.parts.Wrappings.{act_on_wrappings}
 -- each operation gives out its own identifiers alone, and lets the broker evolve
 abbrev pub OperationsAreProper : Type 0
 OperationsAreProper =
-    (b : Broker) (caller : Option Text) (names : Names) (command : Command) (d : Done)
-    → are_new b.used ((traits command).own names) ≡ true → act b caller names command ≡ Ok d
-    → IsProper b ((traits command).own names) d
+    (b : Broker) (caller : Option Text) (words : Words) (command : Command) (d : Done)
+    → are_new b.used ((traits command).own (names_of words)) ≡ true → act b caller (names_of words) command ≡ Ok d
+    → IsProper b ((traits command).own (names_of words)) d
 
 -- the names of a new wrapping token and of its accessor are identifiers
 pub record AreWrappingNames (names : Names) : Type 0 where

@@ -6,8 +6,12 @@ use Rattle.broker_types.specs.declared.words.Words.{Words}
 use Rattle.broker_model.specs.Request.{Request}
 use Rattle.broker_types.specs.Names.{names_of}
 use Rattle.broker_model.specs.Command.{Command, on_cubbyhole, on_token, on_secret, on_policy, command_of}
+use Rattle.broker_model.specs.Command.{on_mount, on_lease, on_issued}
 use Rattle.broker_model.specs.parts.Cubbyholes.{cubbyhole_traits}
 use Rattle.broker_model.specs.parts.AclPolicyCommands.{policy_traits}
+use Rattle.broker_model.specs.parts.Issued.{issued_traits}
+use Rattle.broker_model.specs.parts.Leases.{lease_traits}
+use Rattle.broker_model.specs.parts.Mounts.{mount_traits}
 use Rattle.broker_model.specs.parts.SecretCommands.{secret_traits}
 use Rattle.broker_model.specs.parts.TokenCommands.{token_traits}
 use Rattle.broker_model.specs.Act.{act}
@@ -20,6 +24,9 @@ traits (on_cubbyhole path command) = cubbyhole_traits command
 traits (on_token command) = token_traits command
 traits (on_secret place command) = secret_traits command
 traits (on_policy name command) = policy_traits command
+traits (on_mount name command) = mount_traits command
+traits (on_lease prefix command) = lease_traits command
+traits (on_issued place command) = issued_traits command
 
 -- so far no wrap TTL is read, and no request is open
 abbrev pub request_of : Ask → Request Command

@@ -2,7 +2,11 @@ pub mod AclPolicies
 pub mod AclPolicyCommands
 pub mod Bodies
 pub mod Cubbyholes
+pub mod Issued
+pub mod Leases
 pub mod Lists
+pub mod Mounts
+pub mod Place
 pub mod SecretCommands
 pub mod SecretReplies
 pub mod Secrets

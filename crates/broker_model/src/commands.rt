@@ -2,7 +2,10 @@
 //! beside it.
 
 use crate::making::Making;
-use api_json::{Counts, MountSettings, SecretWrite, TokenCreation, TokenRenewal};
+use api_json::{
+    Counts, LeaseRenewal, MountCreation, MountSettings, RoleSettings, SecretWrite, TokenCreation,
+    TokenRenewal,
+};
 use broker_types::{Seconds, TextBuf};
 
 /// What an operation does with the caller's cubbyhole, at a path (Vault's documentation, "Cubbyhole secrets engine
@@ -85,6 +88,45 @@ pub enum PolicyCommand {
     Set(TextBuf),
     /// Deletes a policy.
     Remove,
+}
+
+/// What an operation does with mounts, at the name of one (Vault's documentation, "/sys/mounts").
+#[derive(Drop)]
+pub enum MountCommand {
+    /// Lists all mounts, whatever the name is.
+    List,
+    /// Enables a mount.
+    Enable(MountCreation),
+    /// Disables a mount, with all that is kept there.
+    Disable,
+}
+
+/// What an operation does with leases, below a prefix (Vault's documentation, "/sys/leases").
+#[derive(Drop)]
+pub enum LeaseCommand {
+    /// Shows the lease of an id, whatever the prefix is.
+    LookUp(TextBuf),
+    /// Gives a lease another end.
+    Renew(LeaseRenewal),
+    /// Ends the lease of an id.
+    Revoke(TextBuf),
+    /// Ends the leases whose ids begin with the prefix and a slash.
+    RevokeUnder,
+}
+
+/// What an operation does with roles and credentials, at the place of a role (this project's engine).
+#[derive(Drop)]
+pub enum IssuedCommand {
+    /// Shows the role.
+    ShowRole,
+    /// Sets the role, in place of the one that is there.
+    SetRole(RoleSettings),
+    /// Removes the role.
+    RemoveRole,
+    /// Issues a credential of the role, with a lease of the caller's token.
+    Issue,
+    /// Says whether the lease of a credential still stands, whatever the place is.
+    Verify(TextBuf),
 }
 
 /// What an operation does with responses that wait. All but the first name the wrapping token that is meant, if one is

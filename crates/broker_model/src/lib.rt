@@ -6,7 +6,10 @@ mod commands;
 mod laws;
 mod making;
 
-pub use commands::{CubbyholeCommand, PolicyCommand, SecretCommand, TokenCommand, WrappingCommand};
+pub use commands::{
+    CubbyholeCommand, IssuedCommand, LeaseCommand, MountCommand, PolicyCommand, SecretCommand,
+    TokenCommand, WrappingCommand,
+};
 pub use laws::{
     cubbyholes_are_routed, operations_are_proper, wrapping_commands_are_proper, wrapping_is_proper,
 };

@@ -1,5 +1,5 @@
 -- What an operation starts from, and how it ends (this project's definition).
-use Rattle.std.specs.Prelude.{◌≡◌, ◌≢◌, List, true, Option, Some, None, Result}
+use Rattle.std.specs.Prelude.{◌≡◌, ◌≢◌, List, Bool, true, false, Option, Some, None, Result}
 use Rattle.broker_types.specs.Broker.{Broker}
 use Rattle.broker_types.specs.Map.{get}
 use Rattle.broker_types.specs.Name.{is_mount_name}
@@ -13,8 +13,8 @@ use Rattle.broker_types.specs.declared.request_error.RequestError.{RequestError}
 use Rattle.records.specs.Transaction.{Seen, Rows, IsHonest}
 use Rattle.mounts.specs.Route.{Route}
 use Rattle.mounts.specs.Table.{takes_parameter}
-use Rattle.mounts.specs.declared.operation.Operation.TheVariants.{Secrets}
-use Rattle.mounts.specs.declared.operation.SecretOperation.{SecretOperation}
+use Rattle.mounts.specs.declared.operation.Operation.{Operation}
+use Rattle.mounts.specs.declared.operation.Operation.TheVariants.{Secrets, Issued}
 use Rattle.broker_rows.specs.Caller.{Caller, IsCallerOf}
 use Rattle.broker_rows.specs.Context.{Context}
 use Rattle.broker_rows.specs.Representing.{Represents}
@@ -32,10 +32,16 @@ pub record BeginsBy (c : Caller) (x : Context) (rows : Rows) (b : Broker) : Type
   pub begins : Begins (Some c.token) x rows b
   pub caller : IsCallerOf b c
 
+-- whether the operation is one of an engine, whose mounts have rows
+abbrev pub is_of_engine : Operation → Bool
+is_of_engine (Secrets operation) = true
+is_of_engine (Issued operation) = true
+is_of_engine _ = false
+
 -- what an operation takes from its route is of the form that it asks for
 pub record IsWellFormed (r : Route) : Type 0 where
   pub parameter : takes_parameter r.operation ≡ true → is_path r.parameter ≡ true
-  pub mount : (op : SecretOperation) → r.operation ≡ Secrets op → is_mount_name r.mount ≡ true
+  pub mount : is_of_engine r.operation ≡ true → is_mount_name r.mount ≡ true
 
 -- the code's answer beside what is done to the broker b: where that is refused, the rows represent b
 abbrev pub ActsAs : Option Text → Broker → Rows → Result Answered RequestError → Result Done Refusal → Type 0

@@ -18,7 +18,7 @@ use Rattle.policies.specs.PolicyRows as policies
 use Rattle.kv2.specs.SecretRows.{IsRead}
 use Rattle.kv2.specs.Secrets.{secret_name}
 use Rattle.kv2.specs.declared.secret_version.FoundVersion.{FoundVersion}
-use Rattle.broker_model.specs.parts.SecretCommands.{Place}
+use Rattle.broker_model.specs.parts.Place.{Place}
 
 -- the row at the path of t's cubbyhole is that of some object, or there is none
 abbrev pub IsReadableObject : Rows → Text → Text → Type 0

@@ -1,24 +1,36 @@
 -- Which rows a command reads, and that none of them is damaged (this project's definition). A row that a command only
 -- writes or takes away is not read, nor is one of which only the key, the owner or the end is looked at. The route has
 -- read the row of the mount before; it counts here only for commands that need the settings of the mount.
-use Rattle.std.specs.Prelude.{Option, Some, None, ⊤}
+use Rattle.std.specs.Prelude.{◌≡◌, ◌≢◌, [], All, Option, Some, None, Ok, ⊤}
 use Rattle.broker_types.specs.Text.{Text}
 use Rattle.records.specs.KeyEntry.{KeyEntry}
+use Rattle.records.specs.declared.kind.Kind.TheVariants as kind
 use Rattle.records.specs.Table.{table_of}
-use Rattle.records.specs.Transaction.{Rows}
+use Rattle.records.specs.Transaction.{Rows, rows_under}
+use Rattle.leases.specs.Endings.{AreReadable, is_named, is_under}
+use Rattle.leases.specs.LeaseRows.{IsReadableLease, IsReadableCredential}
+use Rattle.leases.specs.RoleRows.{IsReadableRole}
+use Rattle.mounts.specs.MountRows.{IsMountRow}
+use Rattle.mounts.specs.Mounts.{may_go}
 use Rattle.kv2.specs.Metadata.{Metadata}
 use Rattle.kv2.specs.SecretRows as kv2
 use Rattle.kv2.specs.Secrets.{secret_name}
 use Rattle.token_tree.specs.Accessors.{AreAccessorRows, IsFoundAt}
 use Rattle.broker_model.specs.declared.commands.CubbyholeCommand.{CubbyholeCommand}
 use Rattle.broker_model.specs.declared.commands.CubbyholeCommand.TheVariants as cubbyhole
+use Rattle.broker_model.specs.declared.commands.IssuedCommand.{IssuedCommand}
+use Rattle.broker_model.specs.declared.commands.IssuedCommand.TheVariants as issued
+use Rattle.broker_model.specs.declared.commands.LeaseCommand.{LeaseCommand}
+use Rattle.broker_model.specs.declared.commands.LeaseCommand.TheVariants as lease
+use Rattle.broker_model.specs.declared.commands.MountCommand.{MountCommand}
+use Rattle.broker_model.specs.declared.commands.MountCommand.TheVariants as mount
 use Rattle.broker_model.specs.declared.commands.PolicyCommand.{PolicyCommand}
 use Rattle.broker_model.specs.declared.commands.PolicyCommand.TheVariants as policy
 use Rattle.broker_model.specs.declared.commands.SecretCommand.{SecretCommand}
 use Rattle.broker_model.specs.declared.commands.SecretCommand.TheVariants as secret
 use Rattle.broker_model.specs.declared.commands.TokenCommand.{TokenCommand}
 use Rattle.broker_model.specs.declared.commands.TokenCommand.TheVariants as token
-use Rattle.broker_model.specs.parts.SecretCommands.{Place}
+use Rattle.broker_model.specs.parts.Place.{Place}
 use Rattle.broker_rows.specs.ReadableRow.{IsReadableObject, IsReadablePolicy, IsReadableSecret, IsReadableToken}
 use Rattle.broker_rows.specs.ReadableRow.{IsReadableDescent, IsReadableAlone}
 
@@ -93,3 +105,32 @@ AreReadablePolicies rows name policy.List = ⊤
 AreReadablePolicies rows name policy.Show = IsReadablePolicy rows name
 AreReadablePolicies rows name (policy.Set _) = ⊤
 AreReadablePolicies rows name policy.Remove = ⊤
+
+-- ---- mounts
+
+-- A list reads the rows of all mounts. A mount that is disabled takes the leases below its name with it, if it may go and
+-- is there.
+abbrev pub AreReadableMounts : Rows → Text → MountCommand → Type 0
+AreReadableMounts rows name mount.List = All (λ e. IsMountRow e.1) (rows_under rows kind.Mount [])
+AreReadableMounts rows name (mount.Enable asked) = ⊤
+AreReadableMounts rows name mount.Disable =
+    may_go name ≡ Ok tt → table_of rows kind.Mount name ≢ None → AreReadable (is_under name) (table_of rows)
+
+-- ---- leases
+
+-- what is revoked is read, since the row of a lease names that of its credential
+abbrev pub AreReadableLeases : Rows → Text → LeaseCommand → Type 0
+AreReadableLeases rows prefix (lease.LookUp id) = IsReadableLease (table_of rows) id
+AreReadableLeases rows prefix (lease.Renew asked) = IsReadableLease (table_of rows) asked.lease_id
+AreReadableLeases rows prefix (lease.Revoke id) = AreReadable (is_named id) (table_of rows)
+AreReadableLeases rows prefix lease.RevokeUnder = AreReadable (is_under prefix) (table_of rows)
+
+-- ---- issued credentials
+
+-- what is issued is that of a role, and a credential is that of a lease
+abbrev pub AreReadableIssued : Rows → Place → IssuedCommand → Type 0
+AreReadableIssued rows p issued.ShowRole = IsReadableRole (table_of rows) p.mount p.path
+AreReadableIssued rows p (issued.SetRole asked) = ⊤
+AreReadableIssued rows p issued.RemoveRole = ⊤
+AreReadableIssued rows p issued.Issue = IsReadableRole (table_of rows) p.mount p.path
+AreReadableIssued rows p (issued.Verify credential) = IsReadableCredential (table_of rows) credential

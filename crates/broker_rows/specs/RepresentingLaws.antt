@@ -8,8 +8,10 @@ use Rattle.broker_types.specs.MapLaws.{get-change}
 use Rattle.broker_types.specs.OptionLaws.{found_or_not}
 use Rattle.broker_types.specs.Places.{lease_of}
 use Rattle.broker_types.specs.Text.{Text, same}
+use Rattle.broker_types.specs.Sound.{Sound}
 use Rattle.broker_types.specs.Token.{Token}
 use Rattle.records.specs.CubbyKeyLaws.{length-token}
+use Rattle.records.specs.PartLaws.{AgreeOutside, joined_rows}
 use Rattle.records.specs.Parts.{Part, Tells, KeepsOthers, of_tokens, of_leases, of_mounts, of_policies}
 use Rattle.records.specs.Rows.{token_len}
 use Rattle.records.specs.Table.{Table, table_of}
@@ -40,6 +42,16 @@ tells_part part b rows st k q _ = ap (λ (t : Table). t k q) st.rows
 -- every kind of rows
 abbrev pub everything : Part
 everything k = true
+
+-- rows of one part have changed, and represent the broker that they tell, in which the same responses wait
+pub represents_next : {who : Option Text} (part : Part) (b c : Broker) (old new : Rows) → Represents who old b
+    → Sound forms who c → c.waiting ≡ b.waiting → AgreeOutside part b c → Tells part (table_of new) c
+    → KeepsOthers part (table_of old) (table_of new) → Represents who new c
+represents_next part b c old new st sound waits agree tells keeps = record {
+  rows = joined_rows part (table_of old) (table_of new) b c st.rows tells keeps agree;
+  sound = sound;
+  served = record { none_waits = waits ∙ st.served.none_waits };
+}
 
 -- rows that represent a broker represent its tokens
 pub represents_tokens : {who : Option Text} (b : Broker) (rows : Rows) → Represents who rows b

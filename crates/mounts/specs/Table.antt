@@ -7,7 +7,14 @@ use Rattle.mounts.specs.declared.mount_type.MountType.{MountType}
 use Rattle.mounts.specs.declared.mount_type.MountType.TheVariants as mount
 use Rattle.mounts.specs.declared.operation.Operation.{Operation}
 use Rattle.mounts.specs.declared.operation.Operation.TheVariants.{Cubbyholes, Tokens, Secrets, Policies}
+use Rattle.mounts.specs.declared.operation.Operation.TheVariants.{Mounts, Leases, Issued}
 use Rattle.mounts.specs.declared.operation.CubbyholeOperation.TheVariants as cubbyhole
+use Rattle.mounts.specs.declared.operation.IssuedOperation.{IssuedOperation}
+use Rattle.mounts.specs.declared.operation.IssuedOperation.TheVariants as issued
+use Rattle.mounts.specs.declared.operation.LeaseOperation.{LeaseOperation}
+use Rattle.mounts.specs.declared.operation.LeaseOperation.TheVariants as lease
+use Rattle.mounts.specs.declared.operation.MountOperation.{MountOperation}
+use Rattle.mounts.specs.declared.operation.MountOperation.TheVariants as mounting
 use Rattle.mounts.specs.declared.operation.TokenOperation.TheVariants as token
 use Rattle.mounts.specs.declared.operation.PolicyOperation.{PolicyOperation}
 use Rattle.mounts.specs.declared.operation.PolicyOperation.TheVariants as policy
@@ -32,7 +39,14 @@ route_rows mount.Token =
     ∷ on verb.List (codes "token/accessors") (Tokens token.ListAccessors)
     ∷ []
 route_rows mount.System =
-    on verb.List (codes "policies/acl") (Policies policy.List)
+    on verb.Write (codes "leases/lookup") (Leases lease.LookUp)
+    ∷ on verb.Write (codes "leases/renew") (Leases lease.Renew)
+    ∷ on verb.Write (codes "leases/revoke") (Leases lease.Revoke)
+    ∷ on verb.Write (codes "leases/revoke-prefix/{*path}") (Leases lease.RevokeUnder)
+    ∷ on verb.Get (codes "mounts") (Mounts mounting.List)
+    ∷ on verb.Write (codes "mounts/{name}") (Mounts mounting.Enable)
+    ∷ on verb.Delete (codes "mounts/{name}") (Mounts mounting.Disable)
+    ∷ on verb.List (codes "policies/acl") (Policies policy.List)
     ∷ on verb.Get (codes "policies/acl/{name}") (Policies policy.Show)
     ∷ on verb.Write (codes "policies/acl/{name}") (Policies policy.Set)
     ∷ on verb.Delete (codes "policies/acl/{name}") (Policies policy.Remove)
@@ -58,7 +72,13 @@ route_rows mount.Kv =
     ∷ on verb.List (codes "metadata/{*path}") (Secrets secret.List)
     ∷ on verb.Delete (codes "metadata/{*path}") (Secrets secret.Remove)
     ∷ []
-route_rows mount.Issued = []
+route_rows mount.Issued =
+    on verb.Get (codes "roles/{name}") (Issued issued.ShowRole)
+    ∷ on verb.Write (codes "roles/{name}") (Issued issued.SetRole)
+    ∷ on verb.Delete (codes "roles/{name}") (Issued issued.RemoveRole)
+    ∷ on verb.Get (codes "creds/{name}") (Issued issued.Issue)
+    ∷ on verb.Write (codes "verify") (Issued issued.Verify)
+    ∷ []
 
 -- whether the operation needs the path of a secret
 abbrev pub takes_path : SecretOperation → Bool
@@ -74,6 +94,27 @@ takes_name policy.Show = true
 takes_name policy.Set = true
 takes_name policy.Remove = true
 
+-- whether the operation needs the name of a mount
+abbrev pub takes_mount : MountOperation → Bool
+takes_mount mounting.List = false
+takes_mount mounting.Enable = true
+takes_mount mounting.Disable = true
+
+-- whether the operation needs a prefix of leases
+abbrev pub takes_prefix : LeaseOperation → Bool
+takes_prefix lease.LookUp = false
+takes_prefix lease.Renew = false
+takes_prefix lease.Revoke = false
+takes_prefix lease.RevokeUnder = true
+
+-- whether the operation needs the name of a role
+abbrev pub takes_role : IssuedOperation → Bool
+takes_role issued.ShowRole = true
+takes_role issued.SetRole = true
+takes_role issued.RemoveRole = true
+takes_role issued.Issue = true
+takes_role issued.Verify = false
+
 -- whether the operation needs what a path has in place of the parameter; a list of the whole mount has none
 abbrev pub takes_parameter : Operation → Bool
 takes_parameter (Cubbyholes cubbyhole.Read) = true
@@ -83,3 +124,6 @@ takes_parameter (Cubbyholes cubbyhole.Delete) = true
 takes_parameter (Tokens operation) = false
 takes_parameter (Secrets operation) = takes_path operation
 takes_parameter (Policies operation) = takes_name operation
+takes_parameter (Mounts operation) = takes_mount operation
+takes_parameter (Leases operation) = takes_prefix operation
+takes_parameter (Issued operation) = takes_role operation

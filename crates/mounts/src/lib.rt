@@ -18,6 +18,7 @@ pub use listing::{NamedMount, list};
 pub use mount_type::MountType;
 pub use mounting::{disable, enable};
 pub use operation::{
-    CubbyholeOperation, Operation, PolicyOperation, Route, SecretOperation, TokenOperation,
+    CubbyholeOperation, IssuedOperation, LeaseOperation, MountOperation, Operation,
+    PolicyOperation, Route, SecretOperation, TokenOperation,
 };
 pub use routing::route;

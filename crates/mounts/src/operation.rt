@@ -13,6 +13,12 @@ pub enum Operation {
     Secrets(SecretOperation),
     /// On policies.
     Policies(PolicyOperation),
+    /// On mounts.
+    Mounts(MountOperation),
+    /// On leases.
+    Leases(LeaseOperation),
+    /// On the roles and the credentials of a mount.
+    Issued(IssuedOperation),
 }
 
 /// What is done with a path of the caller's cubbyhole (Vault's documentation, "Cubbyhole secrets engine
@@ -96,6 +102,45 @@ pub enum PolicyOperation {
     Set,
     /// A policy is deleted.
     Remove,
+}
+
+/// What is done with mounts (Vault's documentation, "/sys/mounts").
+#[derive(Clone, Copy, Debug, PartialEq, Eq)]
+pub enum MountOperation {
+    /// All mounts are listed.
+    List,
+    /// A mount is enabled.
+    Enable,
+    /// A mount is disabled, with all that is kept there.
+    Disable,
+}
+
+/// What is done with leases (Vault's documentation, "/sys/leases").
+#[derive(Clone, Copy, Debug, PartialEq, Eq)]
+pub enum LeaseOperation {
+    /// A lease is shown.
+    LookUp,
+    /// A lease gets another end.
+    Renew,
+    /// A lease ends.
+    Revoke,
+    /// The leases below a prefix end.
+    RevokeUnder,
+}
+
+/// What is done with the roles and the credentials of a mount that issues them (this project's engine).
+#[derive(Clone, Copy, Debug, PartialEq, Eq)]
+pub enum IssuedOperation {
+    /// A role is shown.
+    ShowRole,
+    /// A role is set, in place of the one of its name.
+    SetRole,
+    /// A role is removed.
+    RemoveRole,
+    /// A credential of a role is issued, with a lease.
+    Issue,
+    /// Whether the lease of a credential still stands.
+    Verify,
 }
 
 /// Where a request goes.

@@ -6,9 +6,12 @@ ghost use Rattle.mounts.specs.RouteRow.{rows_in};
 ghost use Rattle.mounts.specs.Table as table;
 
 use crate::mount_type::MountType;
-use crate::operation::Operation::{Cubbyholes, Policies, Secrets, Tokens};
+use crate::operation::Operation::{
+    Cubbyholes, Issued, Leases, Mounts, Policies, Secrets, Tokens,
+};
 use crate::operation::{
-    CubbyholeOperation, Operation, PolicyOperation, SecretOperation, TokenOperation,
+    CubbyholeOperation, IssuedOperation, LeaseOperation, MountOperation, Operation,
+    PolicyOperation, SecretOperation, TokenOperation,
 };
 use broker_types::Verb::{self, Delete, Get, List, Write};
 
@@ -60,6 +63,17 @@ const TOKEN: &[RouteRow] = &[
 ];
 
 const SYSTEM: &[RouteRow] = &[
+    RouteRow(Write, "leases/lookup", Leases(LeaseOperation::LookUp)),
+    RouteRow(Write, "leases/renew", Leases(LeaseOperation::Renew)),
+    RouteRow(Write, "leases/revoke", Leases(LeaseOperation::Revoke)),
+    RouteRow(
+        Write,
+        "leases/revoke-prefix/{*path}",
+        Leases(LeaseOperation::RevokeUnder),
+    ),
+    RouteRow(Get, "mounts", Mounts(MountOperation::List)),
+    RouteRow(Write, "mounts/{name}", Mounts(MountOperation::Enable)),
+    RouteRow(Delete, "mounts/{name}", Mounts(MountOperation::Disable)),
     RouteRow(List, "policies/acl", Policies(PolicyOperation::List)),
     RouteRow(Get, "policies/acl/{name}", Policies(PolicyOperation::Show)),
     RouteRow(Write, "policies/acl/{name}", Policies(PolicyOperation::Set)),
@@ -105,7 +119,13 @@ const KV: &[RouteRow] = &[
     RouteRow(Delete, "metadata/{*path}", Secrets(SecretOperation::Remove)),
 ];
 
-const ISSUED: &[RouteRow] = &[];
+const ISSUED: &[RouteRow] = &[
+    RouteRow(Get, "roles/{name}", Issued(IssuedOperation::ShowRole)),
+    RouteRow(Write, "roles/{name}", Issued(IssuedOperation::SetRole)),
+    RouteRow(Delete, "roles/{name}", Issued(IssuedOperation::RemoveRole)),
+    RouteRow(Get, "creds/{name}", Issued(IssuedOperation::Issue)),
+    RouteRow(Write, "verify", Issued(IssuedOperation::Verify)),
+];
 
 /// The rows of a type of mounts.
 pub(crate) fn route_rows(mount_type: MountType) -> &'static [RouteRow]

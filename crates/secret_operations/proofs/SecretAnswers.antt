@@ -26,7 +26,7 @@ use Rattle.kv2.specs.SoundLaws.{write_is, write_sound}
 use Rattle.kv2.specs.declared.secret_version.FoundVersion.{FoundVersion}
 use Rattle.kv2.specs.declared.secret_version.WrittenVersion.{WrittenVersion}
 use Rattle.broker_model.specs.Forms.{forms}
-use Rattle.broker_model.specs.parts.SecretCommands.{Place}
+use Rattle.broker_model.specs.parts.Place.{Place}
 use Rattle.broker_model.specs.parts.SecretReplies.{object_left, version_reply, version_answered, written_reply}
 use Rattle.broker_model.specs.parts.Secrets.{write}
 use Rattle.broker_rows.specs.Representing.{Represents}

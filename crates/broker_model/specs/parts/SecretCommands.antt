@@ -1,7 +1,6 @@
 -- What the routes of a mount of secrets mean: which command a body or a version is (Vault's documentation, "KV secrets
 -- engine - version 2 (API)").
 use Rattle.std.specs.Prelude.{ℕ, List, [], true, false, Result, Ok}
-use Rattle.broker_types.specs.Text.{Text}
 use Rattle.broker_types.specs.Refuse.{◌>>=◌}
 use Rattle.broker_types.specs.declared.refusal.Refusal.{Refusal}
 use Rattle.mounts.specs.declared.operation.SecretOperation.{SecretOperation}
@@ -11,15 +10,6 @@ use Rattle.broker_model.specs.Order.{Traits}
 use Rattle.broker_model.specs.declared.commands.SecretCommand.{SecretCommand}
 use Rattle.broker_model.specs.declared.commands.SecretCommand.TheVariants as command
 use Rattle.broker_model.specs.parts.Bodies.{read_as}
-
--- where a secret is: its mount, and its path there; or a folder, whose path is empty for the whole mount
-pub record Place : Type 0 where
-  pub mount : Text
-  pub path : Text
-
--- the place of a mount and a path
-abbrev pub at : Text → Text → Place
-at mount path = record { mount = mount; path = path }
 
 -- GET of `data/PATH`, by the version that the query asks for
 abbrev pub read_meant : List ℕ → Result SecretCommand Refusal

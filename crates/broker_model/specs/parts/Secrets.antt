@@ -13,7 +13,7 @@ use Rattle.api_json.specs.declared.secret_bodies.MountSettings.{MountSettings}
 use Rattle.broker_model.specs.declared.commands.SecretCommand.{SecretCommand}
 use Rattle.broker_model.specs.declared.commands.SecretCommand.TheVariants as command
 use Rattle.broker_model.specs.parts.Lists.{listed}
-use Rattle.broker_model.specs.parts.SecretCommands.{Place}
+use Rattle.broker_model.specs.parts.Place.{Place}
 use Rattle.broker_model.specs.parts.SecretReplies.{settings_reply, version_answered, written_reply, metadata_reply}
 
 -- ---- settings

@@ -1,7 +1,7 @@
 use Rattle.std.proofs.Common.{◌≡◌, true, ap, sym, subst}
 use Rattle.broker_types.specs.Name.{is_mount_name}
 use Rattle.broker_types.specs.Path.{is_path}
-use Rattle.broker_model.specs.parts.SecretCommands.{Place}
+use Rattle.broker_model.specs.parts.Place.{Place}
 use Rattle.secret_operations.specs.Paths.{needs_path}
 use Rattle.secret_operations.proofs.secrets.act_on_secrets.Goals as goal
 
