@@ -14,9 +14,11 @@ use Rattle.token_tree.specs.TokenRows.{ChangesToken, spent_entry}
 use Rattle.mounts.specs.MountRows.{IsKnownAt}
 use Rattle.mounts.specs.Route.{Route, cut, route_at}
 use Rattle.broker_model.specs.Command.{Command, on_cubbyhole, on_token, on_secret, on_policy, command_for}
+use Rattle.broker_model.specs.Command.{on_mount, on_lease, on_issued}
 use Rattle.broker_model.specs.Order.{permission_denied}
 use Rattle.broker_rows.specs.Ending.{EndsCaller, Expires}
 use Rattle.broker_rows.specs.Reads.{AreReadableObjects, AreReadableTokens, AreReadableSecrets, AreReadablePolicies}
+use Rattle.broker_rows.specs.Reads.{AreReadableMounts, AreReadableLeases, AreReadableIssued}
 use Rattle.broker.specs.PermittedRows.{IsPermittedAt, IsToldForbidden}
 
 -- ---- what an ask means
@@ -27,6 +29,9 @@ IsReadableCommand rows caller (on_cubbyhole path command) = AreReadableObjects r
 IsReadableCommand rows caller (on_token command) = AreReadableTokens rows caller command
 IsReadableCommand rows caller (on_secret place command) = AreReadableSecrets rows place command
 IsReadableCommand rows caller (on_policy name command) = AreReadablePolicies rows name command
+IsReadableCommand rows caller (on_mount name command) = AreReadableMounts rows name command
+IsReadableCommand rows caller (on_lease prefix command) = AreReadableLeases rows prefix command
+IsReadableCommand rows caller (on_issued place command) = AreReadableIssued rows place command
 
 -- The ask means this command: what is at the first segment of its path is known, and by that the route and the command
 -- are found.

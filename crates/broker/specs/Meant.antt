@@ -3,13 +3,15 @@ use Rattle.std.specs.Prelude.{◌≡◌, true, ⊤}
 use Rattle.broker_types.specs.Name.{is_mount_name}
 use Rattle.broker_types.specs.Path.{is_path}
 use Rattle.broker_model.specs.Command as model
-use Rattle.broker_model.specs.Command.{on_cubbyhole, on_token, on_secret, on_policy}
+use Rattle.broker_model.specs.Command.{on_cubbyhole, on_token, on_secret, on_policy, on_mount, on_lease, on_issued}
 use Rattle.secret_operations.specs.InRange.{IsCubbyholeCommandInRange, IsSecretCommandInRange}
+use Rattle.secret_operations.specs.InRange.{IsIssuedCommandInRange}
 use Rattle.secret_operations.specs.Paths.{needs_path, needs_object_path}
 use Rattle.system_operations.specs.InRange.{IsPolicyCommandInRange}
 use Rattle.token_operations.specs.TokenRanges.{IsTokenCommandInRange}
 use Rattle.broker.specs.declared.command.Command.{Command}
 use Rattle.broker.specs.declared.command.Command.TheVariants.{OnCubbyhole, OnToken, OnSecret, OnPolicy}
+use Rattle.broker.specs.declared.command.Command.TheVariants.{OnMount, OnLease, OnIssued}
 
 -- the command, in the words of the definition
 abbrev pub meant : Command → model.Command
@@ -17,6 +19,9 @@ meant (OnCubbyhole path command) = on_cubbyhole path.now command
 meant (OnToken command) = on_token command
 meant (OnSecret place command) = on_secret place command
 meant (OnPolicy name command) = on_policy name.now command
+meant (OnMount name command) = on_mount name.now command
+meant (OnLease prefix command) = on_lease prefix.now command
+meant (OnIssued place command) = on_issued place command
 
 -- where it acts is of the form that it asks for
 abbrev pub IsWellPlaced : model.Command → Type 0
@@ -25,6 +30,9 @@ IsWellPlaced (on_token command) = ⊤
 IsWellPlaced (on_secret place command) =
     (is_mount_name place.mount ≡ true) × (needs_path command ≡ true → is_path place.path ≡ true)
 IsWellPlaced (on_policy name command) = ⊤
+IsWellPlaced (on_mount name command) = ⊤
+IsWellPlaced (on_lease prefix command) = ⊤
+IsWellPlaced (on_issued place command) = is_mount_name place.mount ≡ true
 
 -- what it brings can be kept
 abbrev pub IsInRange : model.Command → Type 0
@@ -32,3 +40,6 @@ IsInRange (on_cubbyhole path command) = IsCubbyholeCommandInRange command
 IsInRange (on_token command) = IsTokenCommandInRange command
 IsInRange (on_secret place command) = IsSecretCommandInRange command
 IsInRange (on_policy name command) = IsPolicyCommandInRange command
+IsInRange (on_mount name command) = ⊤
+IsInRange (on_lease prefix command) = ⊤
+IsInRange (on_issued place command) = IsIssuedCommandInRange command

@@ -8,12 +8,17 @@ ghost use Rattle.broker_model.specs.Step.{traits};
 ghost use Rattle.broker_rows.specs.Operating.{IsWellFormed};
 ghost use Rattle.broker.specs.Meant.{meant, IsInRange, IsWellPlaced};
 
-use broker_model::{CubbyholeCommand, PolicyCommand, SecretCommand, TokenCommand};
+use broker_model::{
+    CubbyholeCommand, IssuedCommand, LeaseCommand, MountCommand, PolicyCommand, SecretCommand,
+    TokenCommand,
+};
 use broker_types::{Ask, RequestError, TextBuf, Words};
 use mounts::{Operation, Route};
-use secret_operations::{Place, read_cubbyhole_command, read_secret_command};
+use secret_operations::{
+    Place, read_cubbyhole_command, read_issued_command, read_secret_command,
+};
 use std::alloc::{AllocError, Global};
-use system_operations::read_policy_command;
+use system_operations::{read_lease_command, read_mount_command, read_policy_command};
 use token_operations::read_token_command;
 
 /// The commands, part by part.
@@ -27,6 +32,12 @@ pub(crate) enum Command<'r> {
     OnSecret(Place<'r>, SecretCommand),
     /// At the name of a policy.
     OnPolicy(&'r str, PolicyCommand),
+    /// At the name of a mount.
+    OnMount(&'r str, MountCommand),
+    /// On leases, below a prefix.
+    OnLease(&'r str, LeaseCommand),
+    /// At the place of a role.
+    OnIssued(Place<'r>, IssuedCommand),
 }
 
 /// Reads what an ask of this route means. What its body or its version brings is refused with 400, if it is wrong. The
@@ -64,6 +75,22 @@ pub(crate) fn read_command<'r>(
             let command = read_policy_command(alloc, operation, body)?;
             Ok(Command::OnPolicy(parameter, command))
         }
+        Operation::Mounts(operation) => {
+            let command = read_mount_command(alloc, operation, body)?;
+            Ok(Command::OnMount(parameter, command))
+        }
+        Operation::Leases(operation) => {
+            let command = read_lease_command(alloc, operation, body)?;
+            Ok(Command::OnLease(parameter, command))
+        }
+        Operation::Issued(operation) => {
+            let command = read_issued_command(alloc, operation, body)?;
+            let place = Place {
+                mount: route.mount,
+                path: parameter,
+            };
+            Ok(Command::OnIssued(place, command))
+        }
     }
 }
 
@@ -77,6 +104,7 @@ pub(crate) fn own_identifiers(
 {
     match command {
         Command::OnToken(command) => token_operations::own_identifiers(alloc, words, command),
+        Command::OnIssued(_, command) => secret_operations::own_identifiers(alloc, words, command),
         _ => Ok(Vec::new(alloc)),
     }
 }
