@@ -1,11 +1,11 @@
 //! What an ask means: a command, with where it acts.
 
-ghost use Rattle.std.specs.Prelude.{◌≡◌, IfOk};
+ghost use Rattle.std.specs.Prelude.{IfOk};
 ghost use Rattle.broker_types.specs.Names.{names_of};
 ghost use Rattle.api_json.specs.Reads.{IsReadAs};
 ghost use Rattle.broker_model.specs.Command.{command_for};
 ghost use Rattle.broker_model.specs.Step.{traits};
-ghost use Rattle.broker_rows.specs.Operating.{IsWellFormed};
+ghost use Rattle.broker_rows.specs.Operating.{ArePrinted, IsWellFormed};
 ghost use Rattle.broker.specs.Meant.{meant, IsInRange, IsWellPlaced};
 
 use broker_model::{
@@ -94,13 +94,13 @@ pub(crate) fn read_command<'r>(
     }
 }
 
-/// The identifiers that a command needs, which have to be new. It fails if memory runs out.
+/// The identifiers that a command needs, which have to be new, as they are printed. It fails if memory runs out.
 pub(crate) fn own_identifiers(
     alloc: Global,
     words: &Words,
     command: &Command<'_>,
 ) -> Result<Vec<TextBuf>, AllocError>
-    ensures { IfOk result (λ identifiers. identifiers.items ≡ (traits (meant command.now)).own (names_of words.now)) }
+    ensures { IfOk result (λ own. ArePrinted own.items ((traits (meant command.now)).own (names_of words.now))) }
 {
     match command {
         Command::OnToken(command) => token_operations::own_identifiers(alloc, words, command),

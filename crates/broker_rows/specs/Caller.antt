@@ -1,4 +1,4 @@
--- The caller of a request (this project's definition).
+-- The caller of a request, and what it may ask with (this project's definition).
 use Rattle.std.specs.Prelude.{◌≡◌, All, List, Some, option_map}
 use Rattle.broker_types.specs.Broker.{Broker}
 use Rattle.broker_types.specs.Map.{Map, get}
@@ -30,3 +30,12 @@ IsCallerOf b c = Some c.known ≡ option_map token_entry (get b.tokens c.token)
 pub record AreRulesAt (rows : Rows) (names : List Text) (v : Verb) (rules : Rules) : Type 0 where
   pub readable : All (IsReadable (table_of rows)) names
   pub told : (policies : Map Text) → ArePoliciesAt (table_of rows) names policies → rules ≡ rules_of policies names v
+
+-- a caller that may ask, and what its policies say
+pub record Asker : Type 0 where
+  pub caller : Caller
+  pub rules : Rules
+
+-- the rows of the caller's policies say so, for the verb that it asks with
+abbrev pub AreItsRules : Rows → Asker → Type 0
+AreItsRules rows a = (v : Verb) × AreRulesAt rows a.caller.known.policies v a.rules

@@ -1,11 +1,12 @@
 -- What an operation starts from, and how it ends (this project's definition).
-use Rattle.std.specs.Prelude.{◌≡◌, ◌≢◌, List, Bool, true, false, Option, Some, None, Result}
+use Rattle.std.specs.Prelude.{◌≡◌, ◌≢◌, All, List, Bool, true, false, Option, Some, None, Result}
 use Rattle.broker_types.specs.Broker.{Broker}
 use Rattle.broker_types.specs.Map.{get}
 use Rattle.broker_types.specs.Name.{is_mount_name}
 use Rattle.broker_types.specs.Operation.{Done}
 use Rattle.broker_types.specs.Path.{is_path}
 use Rattle.broker_types.specs.RequestError.{Ends}
+use Rattle.broker_types.specs.Sound.{IsIdentifier}
 use Rattle.broker_types.specs.Text.{Text}
 use Rattle.broker_types.specs.Used.{are_new}
 use Rattle.broker_types.specs.declared.refusal.Refusal.{Refusal}
@@ -31,6 +32,11 @@ pub record Begins (who : Option Text) (x : Context) (rows : Rows) (b : Broker) :
 pub record BeginsBy (c : Caller) (x : Context) (rows : Rows) (b : Broker) : Type 0 where
   pub begins : Begins (Some c.token) x rows b
   pub caller : IsCallerOf b c
+
+-- the identifiers that were printed for an operation, which asks for these
+pub record ArePrinted (own asked : List Text) : Type 0 where
+  pub are : own ≡ asked
+  pub good : All IsIdentifier own
 
 -- whether the operation is one of an engine, whose mounts have rows
 abbrev pub is_of_engine : Operation → Bool

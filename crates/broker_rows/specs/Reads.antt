@@ -54,7 +54,7 @@ IfNamed P (Some t) = P t
 abbrev pub IsReadableName : Rows → (Text → Type 0) → Text → Type 0
 IsReadableName rows P accessor = (found : Option Text) × IsFoundAt (table_of rows) accessor found × IfNamed P found
 
--- A creation reads the row of the caller and those of its policies, as the permission to ask for it has done before.
+-- A creation goes by the row of the caller and those of its policies, which the permission to ask for it has read.
 abbrev pub AreReadableTokens : Rows → Text → TokenCommand → Type 0
 AreReadableTokens rows caller (token.Create making asked) = ⊤
 AreReadableTokens rows caller (token.LookUp t) = IsReadableToken rows t

@@ -1,3 +1,4 @@
+use policies::Rules;
 use records::TokenRecord;
 use std::marker::Model;
 
@@ -16,4 +17,21 @@ impl<'r> Model for Caller<'r> {
     ghost Value = { spec.Caller };
 
     ghost view = { λ c. record { token = c.token.now; known = c.known } };
+}
+
+/// Who asks: a caller that may, and what its policies say.
+#[derive(Drop)]
+pub struct Asker<'r> {
+    /// The caller.
+    pub caller: Caller<'r>,
+    /// What its policies say, as it was read when it was permitted to ask.
+    pub rules: Rules,
+}
+
+impl<'r> Model for Asker<'r> {
+    ghost use Rattle.broker_rows.specs.Caller as spec;
+
+    ghost Value = { spec.Asker };
+
+    ghost view = { λ a. record { caller = a.caller; rules = a.rules } };
 }

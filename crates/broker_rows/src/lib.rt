@@ -14,7 +14,7 @@ mod spending;
 mod start;
 
 pub use answered::Answered;
-pub use caller::Caller;
+pub use caller::{Asker, Caller};
 pub use context::Context;
 pub use ending::{end_spent, leave_nothing};
 pub use expiry::expire;

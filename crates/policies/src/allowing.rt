@@ -10,11 +10,19 @@ ghost use Rattle.policies.specs.Places as spec;
 use crate::capability::{Capability, Word, is_deny, is_grant};
 use crate::pattern::place;
 use crate::rule::{Rule, Rules};
+use broker_types::Verb;
 
 /// Whether a caller's rules allow a capability at a path: of the patterns that match the path, the first one that a
 /// rule is about decides. It takes no memory (Vault's documentation, "Policies", policy syntax and capabilities).
 pub fn allows(rules: &Rules, path: &str, capability: Capability) -> bool
     ensures { result ≡ allows rules.now path.now capability }
+{
+    allows_with(rules, rules.verb, path, capability)
+}
+
+/// The same of a path that is asked for with a verb, whichever the rules were read for.
+pub fn allows_with(rules: &Rules, verb: Verb, path: &str, capability: Capability) -> bool
+    ensures { result ≡ allows (record rules.now { verb = verb }) path.now capability }
 {
     if rules.is_root {
         return true;
@@ -25,7 +33,7 @@ pub fn allows(rules: &Rules, path: &str, capability: Capability) -> bool
         denied: false,
     };
     for rule in &rules.rules {
-        best = best.or(place(rules.verb, path, &rule.pattern), rule, capability);
+        best = best.or(place(verb, path, &rule.pattern), rule, capability);
     }
     best.allows()
 }

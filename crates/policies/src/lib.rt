@@ -12,7 +12,7 @@ mod pattern;
 mod reading;
 mod rule;
 
-pub use allowing::allows;
+pub use allowing::{allows, allows_with};
 pub use capability::{Capability, Word};
 pub use gathering::rules_of;
 pub use keeping::{delete, get, set};

@@ -111,13 +111,21 @@ fn children_of_a_token_that_ends_alone_are_orphans(rt: HostRuntime) -> Result<()
     Ok(())
 }
 
+/// Gives the token `low` another end.
+fn renew_low(alloc: Global, tx: &mut ListTx) -> Result<(), Fault> {
+    if let Some(low) = find(alloc, tx, "low")? {
+        renew(alloc, tx, "low", low, Due::at(200))?;
+    }
+    Ok(())
+}
+
 #[test]
 fn uses_and_ends(rt: HostRuntime) -> Result<(), Fail> {
     let alloc = rt.alloc();
     let mut tx = tree(alloc)?;
     assert!(rt; spend(alloc, &mut tx, "low")?.is_some_and(|left| left.uses_left == Some(1)));
     assert!(rt; spend(alloc, &mut tx, "not")?.is_none());
-    renew(alloc, &mut tx, "low", Due::at(200))?;
+    renew_low(alloc, &mut tx)?;
     assert!(rt;
         find(alloc, &mut tx, "low")?.is_some_and(|x| x.uses_left == Some(1)
             && x.ends == Due::new(200))

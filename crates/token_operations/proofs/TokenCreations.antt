@@ -1,39 +1,37 @@
 -- A creation beside its definition: what is refused, and what is made.
-use Rattle.std.specs.Prelude.{◌≡◌, ◌≢◌, ◌||◌, List, [], ◌∷◌, Bool, true}
-use Rattle.std.specs.Prelude.{false, if◌then◌else◌, Option, Some, None, option_map, Result, Ok, Err, ⊤}
-use Rattle.std.specs.Prelude.{All}
-use Rattle.std.specs.Option.{option_map_or}
+use Rattle.std.specs.Prelude.{◌≡◌, ◌≢◌, ◌||◌, All, List, [], ◌∷◌, Bool, true}
+use Rattle.std.specs.Prelude.{false, if◌then◌else◌, Option, Some, None, Result, Ok, Err, ⊤}
 use Rattle.std.specs.List.{AllByRecursion}
-use Rattle.std.proofs.Common.{sym, ◌∙◌, ap, subst}
+use Rattle.std.proofs.Common.{sym, ◌∙◌, ap}
 use Rattle.std.proofs.lemmas.List.Elements.{All-nil, All-cons}
 use Rattle.std.proofs.lemmas.Option.{none-some, same_Some}
 use Rattle.broker_types.specs.Broker.{Broker}
-use Rattle.broker_types.specs.Map.{get}
+use Rattle.broker_types.specs.Map.{Map, get}
 use Rattle.broker_types.specs.Names.{Names}
 use Rattle.broker_types.specs.Operation.{Done}
-use Rattle.broker_types.specs.OptionLaws.{mapped_none}
 use Rattle.broker_types.specs.Refuse.{◌>>=◌, some_or}
 use Rattle.broker_types.specs.Text.{Text}
 use Rattle.broker_types.specs.Token.{Token}
 use Rattle.broker_types.specs.declared.refusal.Refusal.{Refusal}
+use Rattle.broker_types.specs.declared.ask.Verb.{Verb}
 use Rattle.broker_types.specs.declared.ask.Verb.TheVariants as verb
 use Rattle.broker_types.specs.declared.refusal.Denial.TheVariants as denial
 use Rattle.broker_types.specs.declared.refusal.Refusal.TheVariants as refusal
-use Rattle.records.specs.Ranges.{IsTokenInRange}
-use Rattle.records.specs.Reading.{IsSomeIn}
 use Rattle.records.specs.Table.{table_of}
 use Rattle.records.specs.TokenEntry.{TokenEntry, token_entry}
 use Rattle.records.specs.Transaction.{Rows}
-use Rattle.token_tree.specs.TokenRows.{IsTokenAt}
 use Rattle.api_json.specs.declared.token_bodies.TokenCreation.{TokenCreation}
-use Rattle.policies.specs.Grants.{grants}
-use Rattle.policies.specs.PolicyRows.{IsReadable}
+use Rattle.policies.specs.Allows.{allows}
+use Rattle.policies.specs.Grants.{grants, rules_of}
+use Rattle.policies.specs.PolicyLaws.{readable_policies}
+use Rattle.policies.specs.PolicyRows.{ArePoliciesAt}
+use Rattle.policies.specs.Rules.{Rules}
 use Rattle.policies.specs.declared.capability.Capability.TheVariants.{Sudo}
 use Rattle.broker_model.specs.declared.making.Making.{Making}
 use Rattle.broker_model.specs.parts.TokenCreation.{makes_orphans, making_path, is_privileged, new_policies, may_make}
 use Rattle.broker_model.specs.parts.TokenCreation.{new_parent, new_token}
 use Rattle.broker_model.specs.parts.Tokens.{create, create_with, made}
-use Rattle.broker_rows.specs.ReadableRow.{HasReadablePolicies}
+use Rattle.broker_rows.specs.Caller.{AreRulesAt}
 use Rattle.token_operations.specs.Sudo.{IsSudoAt}
 use Rattle.token_operations.specs.TokenEntries.{token_told}
 use Rattle.token_operations.specs.TokenRanges.{IsTextPair}
@@ -52,33 +50,34 @@ parent_named c making asked parent is named empty = by (makes_orphans making || 
     by true e = none-some _ e
     by false e = named (same_Some _ _ e)
 
--- the rows of a token's policies that were read, where no row has changed since the token was
-pub readable_by : (old new : Rows) (t u : Text) (o : Option TokenEntry) (e : TokenEntry) (names : List Text) → u ≡ t → new ≡ old
-    → IsSomeIn IsTokenInRange o → IsTokenAt (table_of old) u o → o ≡ Some e → names ≡ e.policies → All (IsReadable (table_of new)) names
-    → HasReadablePolicies old t
-readable_by old new t u o e names at same range token some named all =
-    let own = named ∙ sym (ap (λ (p : Option TokenEntry). option_map_or (λ (x : TokenEntry). x.policies) p []) some) in
-    subst (HasReadablePolicies old) at (
-      o,
-      range,
-      token,
-      subst (All (IsReadable (table_of old))) own (subst (λ rows. All (IsReadable (table_of rows)) names) same all),
-    )
+-- ---- what rules allow
 
--- what the rows say of policies once the caller is found, they say before of its own
-pub sudo_before : (old new : Rows) (names own : List Text) (path : Text) (v : Bool) → new ≡ old → names ≡ own → IsSudoAt new names path v
-    → IsSudoAt old own path v
-sudo_before old new names own path v same named sudo =
-    subst (λ rows. IsSudoAt rows own path v) same (subst (λ ns. IsSudoAt new ns path v) named sudo)
+-- rules that the rows of policies say allow `sudo` for a write as the policies do, whichever verb they were read for
+pub sudo_told : (rows : Rows) (names : List Text) (v : Verb) (rules : Rules) (policies : Map Text) (path : Text) (p : Bool)
+    → AreRulesAt rows names v rules → ArePoliciesAt (table_of rows) names policies
+    → p ≡ allows (record rules { verb = verb.Write }) path Sudo → p ≡ grants policies names verb.Write path Sudo
+unfolding rules_of
+sudo_told rows names v rules policies path p are known is =
+    is ∙ ap (λ (rs : Rules). allows (record rs { verb = verb.Write }) path Sudo) (are.told policies known)
+
+-- so the rows decide
+pub sudo_at : (rows : Rows) (names : List Text) (v : Verb) (rules : Rules) (path : Text) (p : Bool) → AreRulesAt rows names v rules
+    → p ≡ allows (record rules { verb = verb.Write }) path Sudo → IsSudoAt rows names path p
+sudo_at rows names v rules path p are is =
+    let policies = readable_policies (table_of rows) names are.readable in
+    record {
+      policies = policies.0;
+      known = policies.1;
+      readable = are.readable;
+      is = sudo_told rows names v rules policies.0 path p are policies.1 is;
+    }
+
+-- ---- what is made
 
 module _ (b : Broker) (c : Text) (names : Names) (making : Making) (asked : TokenCreation) where
   abbrev made_by : Option Token → Result Done Refusal
   made_by o = some_or (refusal.Forbidden denial.BadToken) o >>= (λ x. create_with b c x names making (is_privileged b (making_path making) x)
       (new_policies (is_privileged b (making_path making) x) x asked) asked)
-
-  -- a caller that has no row is refused
-  pub create_unknown : None ≡ option_map token_entry (get b.tokens c) → create b c names making asked ≡ Err (refusal.Forbidden denial.BadToken)
-  create_unknown none = ap made_by (mapped_none token_entry (get b.tokens c) (sym none))
 
   module _ (x : Token) (here : get b.tokens c ≡ Some x) where
     abbrev privileged : Bool

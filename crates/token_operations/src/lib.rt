@@ -2,6 +2,7 @@
 #![tactic(auto)]
 
 mod acting;
+mod copying;
 mod creation;
 mod identifiers;
 mod lookup;

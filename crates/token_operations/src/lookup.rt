@@ -1,23 +1,28 @@
 //! Look-up of tokens.
 
-ghost use Rattle.std.specs.Prelude.{[], Ok, Option};
+ghost use Rattle.std.specs.Prelude.{◌≡◌, [], IfOk, None, Ok, Option};
 ghost use Rattle.broker_types.specs.Fault.{IsNotBadStart};
 ghost use Rattle.broker_types.specs.Names.{names_of};
+ghost use Rattle.broker_types.specs.Operation as operation;
 ghost use Rattle.broker_types.specs.Text.{Text};
+ghost use Rattle.records.specs.Calls.{OnAnswer, IsRequestCall};
+ghost use Rattle.records.specs.Ranges.{IsTokenInRange};
 ghost use Rattle.records.specs.Transaction.{IsHonest};
 ghost use Rattle.token_tree.specs.Accessors.{AreAccessorRows};
-ghost use Rattle.records.specs.Calls.{OnAnswer, IsRequestCall};
+ghost use Rattle.broker_model.specs.parts.TokenReplies.{token_reply};
 ghost use Rattle.broker_model.specs.parts.Tokens as part;
+ghost use Rattle.broker_rows.specs.Done.{answered_of};
 ghost use Rattle.broker_rows.specs.Operating.{Performs};
 ghost use Rattle.broker_rows.specs.ReadableRow.{IsReadableToken};
 ghost use Rattle.broker_rows.specs.Reads.{IsReadableName};
 
+use crate::copying::copied_token;
 use crate::shown::looked_up;
 use api_json::{keys_object, token_object};
-use broker_rows::{Answered, Context};
+use broker_rows::{Answered, Caller, Context};
 use broker_types::{Denial, Reason, Refusal, RequestError};
-use records::RecordsTx;
-use std::alloc::Global;
+use records::{RecordsTx, TokenRecord};
+use std::alloc::{AllocError, Global};
 use token_tree::{accessors, find, find_accessor};
 
 /// Shows a token under an id. One that is not there is 403 `bad token`.
@@ -39,9 +44,37 @@ pub(crate) fn look_up<T: RecordsTx>(
     let Some(found) = find(alloc, tx, token)? else {
         return Err(RequestError::Refused(Refusal::Forbidden(Denial::BadToken)));
     };
+    Ok(shown(alloc, context, found, id)?)
+}
+
+/// Shows the caller's token, by what is known of it.
+pub(crate) fn look_up_self(
+    alloc: Global,
+    context: &Context<'_>,
+    caller: &Caller<'_>,
+) -> Result<Answered, AllocError>
+    requires { IsTokenInRange caller.now.known }
+    ensures { IfOk result (λ a. answered_of a ≡ operation.reply
+        (token_reply (names_of context.now.words).request context.now.clock caller.now.token caller.now.known) None) }
+{
+    let known = copied_token(alloc, &caller.known)?;
+    shown(alloc, context, known, caller.token)
+}
+
+/// Shows a token that was found under an id.
+fn shown(
+    alloc: Global,
+    context: &Context<'_>,
+    found: TokenRecord,
+    id: &str,
+) -> Result<Answered, AllocError>
+    requires { IsTokenInRange found }
+    ensures { IfOk result (λ a. answered_of a ≡ operation.reply
+        (token_reply (names_of context.now.words).request context.now.clock id.now found) None) }
+{
     let token = looked_up(alloc, found, context.clock, id)?;
     let object = token_object(alloc, &token)?;
-    Ok(Answered::shown(alloc, context, object)?)
+    Answered::shown(alloc, context, object)
 }
 
 /// Shows the token of an accessor, without its text. An accessor of none is 400 `invalid accessor`.

@@ -60,7 +60,11 @@ fn given_policies(
 }
 
 /// Adds copies of texts.
-fn copy_each(alloc: Global, copies: &mut Vec<TextBuf>, texts: &[TextBuf]) -> Result<(), AllocError>
+pub(crate) fn copy_each(
+    alloc: Global,
+    copies: &mut Vec<TextBuf>,
+    texts: &[TextBuf],
+) -> Result<(), AllocError>
     ensures { OnOk result (copies.new.items ≡ copies.old.items ++ texts.now) }
 {
     for text in texts {

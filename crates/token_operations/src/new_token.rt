@@ -168,7 +168,7 @@ pub(crate) fn new_record(
 }
 
 /// Copies of names and texts.
-fn copied_pairs(
+pub(crate) fn copied_pairs(
     alloc: Global,
     pairs: &[(TextBuf, TextBuf)],
 ) -> Result<Vec<(TextBuf, TextBuf)>, AllocError>

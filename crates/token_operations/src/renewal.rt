@@ -1,19 +1,23 @@
 //! Renewal of tokens.
 
-ghost use Rattle.std.specs.Prelude.{◌≡◌, [], Option};
+ghost use Rattle.std.specs.Prelude.{◌≡◌, [], Option, Some, option_map};
+ghost use Rattle.broker_types.specs.Broker.{Broker};
 ghost use Rattle.broker_types.specs.Fault.{IsNotBadStart};
+ghost use Rattle.broker_types.specs.Map.{get};
 ghost use Rattle.broker_types.specs.Names.{names_of};
 ghost use Rattle.broker_types.specs.Text.{Text};
 ghost use Rattle.records.specs.Ranges.{IsTokenInRange};
+ghost use Rattle.records.specs.TokenEntry.{token_entry};
 ghost use Rattle.records.specs.Transaction.{IsHonest};
 ghost use Rattle.records.specs.Calls.{OnAnswer, IsRequestCall};
 ghost use Rattle.broker_model.specs.parts.Tokens as part;
-ghost use Rattle.broker_rows.specs.Operating.{Performs};
+ghost use Rattle.broker_rows.specs.Operating.{ActsAs, Begins, Performs, PerformsBy};
 ghost use Rattle.broker_rows.specs.ReadableRow.{IsReadableToken};
 
 use crate::LONGEST_TTL;
+use crate::copying::copied_token;
 use crate::shown::auth_reply;
-use broker_rows::{Answered, Context};
+use broker_rows::{Answered, Caller, Context};
 use broker_types::{Denial, Moment, Reason, Refusal, RequestError, Seconds, id_text};
 use records::{Due, RecordsTx, TokenRecord};
 use std::alloc::Global;
@@ -36,17 +40,51 @@ pub(crate) fn renew<T: RecordsTx>(
         → OnAnswer result (IsReadableToken (T.seen tx.old).rows token.now) }
     ensures call { IsRequestCall (T.seen tx.old) (T.seen tx.new) result IsNotBadStart }
 {
-    let Some(mut found) = find(alloc, tx, token)? else {
+    let Some(found) = find(alloc, tx, token)? else {
         return Err(RequestError::Refused(Refusal::Forbidden(Denial::BadToken)));
     };
+    renew_found(alloc, tx, context, token, found, increment)
+}
+
+/// Gives the caller's token its new end, by what is known of it.
+pub(crate) fn renew_self<T: RecordsTx>(
+    alloc: Global,
+    tx: &mut T,
+    context: &Context<'_>,
+    caller: &Caller<'_>,
+    increment: Seconds,
+) -> Result<Answered, RequestError>
+    requires { IsTokenInRange caller.now.known }
+    ensures told { PerformsBy caller.now context.now [] (T.seen tx.old) (T.seen tx.new)
+        (λ b. part.renew b (names_of context.now.words) caller.now.token increment) result }
+    ensures call { IsRequestCall (T.seen tx.old) (T.seen tx.new) result IsNotBadStart }
+{
+    let known = copied_token(alloc, &caller.known)?;
+    renew_found(alloc, tx, context, caller.token, known, increment)
+}
+
+/// Gives a token that was found its new end.
+fn renew_found<T: RecordsTx>(
+    alloc: Global,
+    tx: &mut T,
+    context: &Context<'_>,
+    token: &str,
+    found: TokenRecord,
+    increment: Seconds,
+) -> Result<Answered, RequestError>
+    requires { IsTokenInRange found }
+    ensures told { IsHonest (T.seen tx.new) → (who : Option Text) (b : Broker)
+        → Begins who context.now (T.seen tx.old).rows b → Some found ≡ option_map token_entry (get b.tokens token.now)
+        → ActsAs who b (T.seen tx.new).rows result (part.renew b (names_of context.now.words) token.now increment) }
+    ensures call { IsRequestCall (T.seen tx.old) (T.seen tx.new) result IsNotBadStart }
+{
     if found.ends.is_none() {
         return Err(RequestError::Refused(Refusal::BadRequest(Reason::TokenNotRenewable)));
     }
     let ends = new_end(context.clock, &found, increment);
-    renew_token(alloc, tx, token, ends)?;
-    found.ends = Some(ends);
+    let renewed = renew_token(alloc, tx, token, found, ends)?;
     let request = id_text(alloc, context.words.0[0])?;
-    Ok(Answered::Given(auth_reply(alloc, request.as_str(), context.clock, token, found)?))
+    Ok(Answered::Given(auth_reply(alloc, request.as_str(), context.clock, token, renewed)?))
 }
 
 /// The new end of a token that has one.

@@ -20,7 +20,7 @@ ghost use Rattle.records.specs.RowForms.{entry_row};
 ghost use Rattle.records.specs.Table.{with_row, table};
 ghost use Rattle.records.specs.TokenEntry.{token_entry};
 ghost use Rattle.records.specs.Transaction.{IsHonest};
-ghost use Rattle.token_tree.specs.TokenRows.{IsTokenAt, IsDamagedToken, ChangesToken, SpendsUse, with_created};
+ghost use Rattle.token_tree.specs.TokenRows.{IsTokenAt, IsDamagedToken, SpendsUse, with_created};
 ghost use Rattle.token_tree.specs.TokenRows.{renewed_entry};
 ghost use Rattle.token_tree.specs.Tokens as tokens;
 ghost use Rattle.token_tree.specs.Tokens.{RepresentsTokens, with_token};
@@ -139,23 +139,26 @@ pub fn spend<T: RecordsTx>(
     Ok(Some(record))
 }
 
-/// Gives a token another end, which is no further ahead than ends are set. An unknown text changes nothing. It fails
-/// as `Damaged` if the row of the token is not one, and also if memory runs out or the storage fails (Vault's
-/// documentation, "Tokens", renew).
-pub fn renew<T: RecordsTx>(alloc: Global, tx: &mut T, token: &str, ends: Due) -> Result<(), Fault>
-    requires { IsEnd ends }
-    ensures rows { IsHonest (T.seen tx.new)
-        → OnOk result (ChangesToken token.now (renewed_entry ends) (table (T.seen tx.old)) (table (T.seen tx.new))) }
+/// Gives a token that was found another end, which is no further ahead than ends are set, and answers what its row says
+/// then. It fails only if memory runs out or the storage fails (Vault's documentation, "Tokens", renew).
+pub fn renew<T: RecordsTx>(
+    alloc: Global,
+    tx: &mut T,
+    token: &str,
+    mut found: TokenRecord,
+    ends: Due,
+) -> Result<TokenRecord, Fault>
+    requires near { IsEnd ends }
+    requires in_range { IsTokenInRange found }
+    ensures rows { IsHonest (T.seen tx.new) → OnOk result (table (T.seen tx.new)
+        ≡ with_row (table (T.seen tx.old)) kind.Token token.now (entry_row (renewed_entry ends found))) }
     ensures told { OfEachBroker RepresentsTokens (T.seen tx.old) (T.seen tx.new) (λ b.
-        OnOk result (Tells of_tokens (table (T.seen tx.new)) (tokens.renew b token.now ends))) }
-    ensures wants { OfEachBroker RepresentsTokens (T.seen tx.old) (T.seen tx.new)
-        (λ b. IfErr result IsMemoryOrStorage) }
-    ensures call { IsChange (KeepsOthers of_tokens) (T.seen tx.old) (T.seen tx.new) result
-        (IsReadFault (IsHonest (T.seen tx.new) → IsDamagedToken (table (T.seen tx.old)) token.now)) }
+        Some found ≡ option_map token_entry (get b.tokens token.now)
+        → OnOk result (Tells of_tokens (table (T.seen tx.new)) (tokens.renew b token.now ends))) }
+    ensures renewed { IfOk result (λ renewed. renewed ≡ renewed_entry ends found) }
+    ensures call { IsChange (KeepsOthers of_tokens) (T.seen tx.old) (T.seen tx.new) result IsMemoryOrStorage }
 {
-    let Some(mut record) = find(alloc, tx, token)? else {
-        return Ok(());
-    };
-    record.ends = Some(ends);
-    rewrite(alloc, tx, token, &record)
+    found.ends = Some(ends);
+    rewrite(alloc, tx, token, &found)?;
+    Ok(found)
 }

@@ -14,8 +14,8 @@ ghost use Rattle.broker_model.specs.Act as model;
 ghost use Rattle.broker_model.specs.Order as order;
 ghost use Rattle.broker_model.specs.Serving.{operated, served};
 ghost use Rattle.broker_model.specs.Step.{traits};
-ghost use Rattle.broker_rows.specs.Caller.{IsCallerAt};
-ghost use Rattle.broker_rows.specs.Operating.{Begins, BeginsBy, Performs};
+ghost use Rattle.broker_rows.specs.Caller.{AreItsRules, IsCallerAt};
+ghost use Rattle.broker_rows.specs.Operating.{ArePrinted, BeginsBy, PerformsBy};
 ghost use Rattle.broker_rows.specs.Representing.{Represents, Gives};
 ghost use Rattle.broker.specs.Answering.{IsReadableCommand, IsForbidden, IsCarriedOutOrForbidden, MayBeDone};
 ghost use Rattle.broker.specs.Meant.{meant, IsInRange, IsWellPlaced};
@@ -27,8 +27,8 @@ use crate::command::{Command, own_identifiers, read_command};
 use crate::order::finishing::finish;
 use crate::order::permission::permitted;
 use crate::order::routing::find_route;
-use broker_rows::{Answered, Caller, Context, are_new};
-use broker_types::{Answer, Ask, Fault, Refusal, RequestError};
+use broker_rows::{Answered, Asker, Caller, Context, are_new};
+use broker_types::{Answer, Ask, Fault, Refusal, RequestError, TextBuf};
 use records::RecordsTx;
 use secret_operations::{act_on_cubbyholes, act_on_issued, act_on_secrets};
 use std::alloc::Global;
@@ -90,62 +90,71 @@ fn serve<T: RecordsTx>(
 {
     let path = ask.path.as_str();
     let found = find_route(alloc, tx, ask.verb, path)?;
-    if permitted(alloc, tx, &caller, ask.verb, path, &found)?.is_none() {
+    let Some(rules) = permitted(alloc, tx, &caller, ask.verb, path, &found)? else {
         return Err(RequestError::Refused(PERMISSION_DENIED));
-    }
+    };
     let command = read_command(alloc, ask, &found?)?;
-    operate(alloc, tx, context, caller.token, command)
+    operate(alloc, tx, context, &Asker { caller, rules }, command)
 }
 
-/// Does what a command means, if the identifiers that it needs are new. No reply is wrapped so far.
+/// Does what a command means, if the identifiers that it needs are new. They are printed here, once. No reply is wrapped
+/// so far.
 fn operate<T: RecordsTx>(
     alloc: Global,
     tx: &mut T,
     context: &Context<'_>,
-    caller: &str,
+    asker: &Asker<'_>,
     command: Command<'_>,
 ) -> Result<Answered, RequestError>
-    requires { IsInRange (meant command) }
+    requires in_range { IsInRange (meant command) }
+    requires known { IsTokenInRange asker.now.caller.known }
     ensures told { IsWellPlaced (meant command.entry) → IsHonest (T.seen tx.new) → (b : Broker)
-        → Begins (Some caller.now) context.now (T.seen tx.old).rows b → (ask : asked.Ask)
-        → Ends (IsServed (Some caller.now) (T.seen tx.new).rows) (Represents (Some caller.now) (T.seen tx.new).rows b)
-        result (operated b (Some caller.now) (names_of context.now.words) ask (meant command.entry)) }
+        → AreItsRules (T.seen tx.old).rows asker.now → BeginsBy asker.now.caller context.now (T.seen tx.old).rows b
+        → (ask : asked.Ask) → Ends (IsServed (Some asker.now.caller.token) (T.seen tx.new).rows)
+        (Represents (Some asker.now.caller.token) (T.seen tx.new).rows b)
+        result (operated b (Some asker.now.caller.token) (names_of context.now.words) ask (meant command.entry)) }
 
-    // Whatever the rows are: it is neither answered nor refused if a row that the command reads is damaged.
-    ensures readable { IsHonest (T.seen tx.new)
-        → OnAnswer result (IsReadableCommand (T.seen tx.old).rows caller.now (meant command.entry)) }
+    // Whatever the rows are: it is neither answered nor refused if a row that the command reads is damaged. That of the
+    // caller was read before.
+    ensures readable { IsHonest (T.seen tx.new) → IsCallerAt (T.seen tx.old).rows asker.now.caller
+        → OnAnswer result (IsReadableCommand (T.seen tx.old).rows asker.now.caller.token (meant command.entry)) }
     ensures call { IsRequestCall (T.seen tx.old) (T.seen tx.new) result IsNotBadStart }
 {
-    let identifiers = own_identifiers(alloc, context.words, &command)?;
-    if !are_new(tx, &identifiers)? {
+    let own = own_identifiers(alloc, context.words, &command)?;
+    if !are_new(tx, &own)? {
         return Err(RequestError::Refused(Refusal::IdentifierUsed));
     }
-    act(alloc, tx, context, caller, command)
+    act(alloc, tx, context, asker, &own, command)
 }
 
-/// Carries out a command of the caller.
+/// Carries out a command of the caller who asks.
 fn act<T: RecordsTx>(
     alloc: Global,
     tx: &mut T,
     context: &Context<'_>,
-    caller: &str,
+    asker: &Asker<'_>,
+    own: &[TextBuf],
     command: Command<'_>,
 ) -> Result<Answered, RequestError>
-    requires { IsInRange (meant command) }
-    ensures told { IsWellPlaced (meant command.entry) → Performs (Some caller.now) context.now
+    requires in_range { IsInRange (meant command) }
+    requires known { IsTokenInRange asker.now.caller.known }
+    requires own { ArePrinted own.now ((traits (meant command)).own (names_of context.now.words)) }
+    ensures told { IsWellPlaced (meant command.entry) → AreItsRules (T.seen tx.old).rows asker.now
+        → PerformsBy asker.now.caller context.now
         ((traits (meant command.entry)).own (names_of context.now.words)) (T.seen tx.old) (T.seen tx.new)
-        (λ b. model.act b (Some caller.now) (names_of context.now.words) (meant command.entry)) result }
+        (λ b. model.act b (Some asker.now.caller.token) (names_of context.now.words) (meant command.entry)) result }
 
-    // Whatever the rows are: it is neither answered nor refused if a row that the command reads is damaged.
-    ensures readable { IsHonest (T.seen tx.new)
-        → OnAnswer result (IsReadableCommand (T.seen tx.old).rows caller.now (meant command.entry)) }
+    // Whatever the rows are: it is neither answered nor refused if a row that the command reads is damaged. That of the
+    // caller was read before.
+    ensures readable { IsHonest (T.seen tx.new) → IsCallerAt (T.seen tx.old).rows asker.now.caller
+        → OnAnswer result (IsReadableCommand (T.seen tx.old).rows asker.now.caller.token (meant command.entry)) }
     ensures call { IsRequestCall (T.seen tx.old) (T.seen tx.new) result IsNotBadStart }
 {
     match command {
         Command::OnCubbyhole(path, command) => {
-            act_on_cubbyholes(alloc, tx, context, caller, path, command)
+            act_on_cubbyholes(alloc, tx, context, asker.caller.token, path, command)
         }
-        Command::OnToken(command) => act_on_tokens(alloc, tx, context, caller, command),
+        Command::OnToken(command) => act_on_tokens(alloc, tx, context, asker, own, command),
         Command::OnSecret(place, command) => act_on_secrets(alloc, tx, context, &place, command),
         Command::OnPolicy(name, command) => act_on_policies(alloc, tx, context, name, command),
         Command::OnMount(name, command) => act_on_mounts(alloc, tx, context, name, command),

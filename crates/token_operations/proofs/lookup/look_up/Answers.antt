@@ -1,13 +1,9 @@
-use Rattle.std.specs.Prelude.{◌≡◌, Err, None}
-use Rattle.std.proofs.Common.{sym, ap, ◌∙◌}
+use Rattle.std.specs.Prelude.{Err}
+use Rattle.std.proofs.Common.{ap, ◌∙◌}
 use Rattle.std.proofs.lemmas.Result.{err_from_is_err_and}
 use Rattle.broker_types.specs.Names.{names_of}
-use Rattle.broker_types.specs.Operation.{reply}
 use Rattle.records.specs.ValueLaws.{none_of}
 use Rattle.broker_model.specs.Forms.{forms}
-use Rattle.broker_rows.specs.Context.{Context}
-use Rattle.api_json.specs.Reply.{plain_reply}
-use Rattle.api_json.specs.Objects.{token_object}
 use Rattle.broker_rows.specs.RepresentingLaws.{represents_tokens, still_represented}
 use Rattle.token_operations.proofs.TokenLookups.{acts_look_up, acts_unknown}
 use Rattle.token_operations.proofs.lookup.look_up.Goals as goal
@@ -32,13 +28,10 @@ returns-clause-told g c who honest b starts fresh =
     let seen = g.T.RecordsTx.seen in
     let rows = (seen c.args.tx.now).rows in
     let known = c.args.context.now in
-    let clock : b.clock ≡ c.context.inside.clock = starts.clock ∙ sym (ap (λ (x : Context). x.clock) c.context.view_is) in
     acts_look_up b (seen c.find.new.tx).rows who c.args.token.now c.args.id.now (names_of known.words) c.in_ok-found.field-0
     (still_represented b rows (seen c.find.new.tx).rows (c.in_ok-found.ensures.call.same honest) starts.represents)
     (c.in_ok-found.ensures.told honest forms b (represents_tokens b rows starts.represents))
-    c.context.inside.clock c.in-Some.found _ clock c.in-Some.is
-    (c.in_ok-shown.ensures
-    ∙ ap (λ o. reply (plain_reply (names_of known.words).request o) None) (c.in_ok-object.ensures ∙ ap token_object c.in_ok-token.ensures))
+    known.clock c.in-Some.found _ starts.clock c.in-Some.is c.in_ok-shown.ensures
 
 pub returns-in_default-clause-readable : goal.returns-in_default-clause-readable
 returns-in_default-clause-readable g c honest =

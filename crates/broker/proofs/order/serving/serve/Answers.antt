@@ -1,10 +1,10 @@
-use Rattle.std.specs.Prelude.{is_some, not}
+use Rattle.std.specs.Prelude.{is_some}
 use Rattle.std.proofs.Common.{◌≡◌, Some, Err, true, false, refl, sym, ap, ◌∙◌, subst, inl, inr}
 use Rattle.std.proofs.lemmas.Result.{err_from_is_err_and}
 use Rattle.records.specs.CallLaws.{honest_before, on_answer_weaker}
 use Rattle.records.specs.Calls.{OnAnswer}
 use Rattle.records.specs.Transaction.{Rows}
-use Rattle.records.specs.ValueLaws.{ok_inj}
+use Rattle.records.specs.ValueLaws.{none_of, ok_inj}
 use Rattle.broker_types.specs.declared.request_error.RequestError.TheVariants.{Refused}
 use Rattle.broker_types.specs.Names.{names_of}
 use Rattle.broker_types.specs.RequestError.{Ends}
@@ -33,32 +33,32 @@ returns-in_err-found-clause-told g c honest b starts =
     rw (p.1 ∙ ap Err p.2)
     (c.in_err-found.ensures.wants honest b.mounts (mounts_there b (g.T.RecordsTx.seen c.args.tx.now).rows starts.begins.represents))
 
-pub returns-then-is_none-clause-told : goal.returns-then-is_none-clause-told
-returns-then-is_none-clause-told g c honest b starts =
+pub returns-in_default-clause-told : goal.returns-in_default-clause-told
+returns-in_default-clause-told g c honest b starts =
     let seen = g.T.RecordsTx.seen in
     let old = (seen c.args.tx.now).rows in
     let caller = c.args.caller.token in
     let ask = c.args.ask.now in
-    let mid = honest_before (seen c.find_route.new.tx) (seen c.permitted.new.tx) _ c.in_ok-permitted.ensures.call.goes_on honest in
+    let mid = honest_before (seen c.find_route.new.tx) (seen c.permitted.new.tx) _ c.in_ok-rules.ensures.call.goes_on honest in
     let still = still_represented b old (seen c.find_route.new.tx).rows (c.in_ok-found.ensures.call.same mid) starts.begins.represents in
-    let told = c.in_ok-permitted.ensures.told honest b still starts.caller (c.in_ok-found.ensures.told mid b.mounts (mounts_there b old starts.begins.represents)) in
+    let told = c.in_ok-rules.ensures.told honest b still starts.caller (c.in_ok-found.ensures.told mid b.mounts (mounts_there b old starts.begins.represents)) in
     let forbidden : permits b (Some caller) ask.verb ask.path ≡ false =
-    (λ i. permits b (Some caller) ask.verb (sym c.as_str-path.ensures.text i)) ∙ sym told ∙ (c.is_none.ensures ∙ ap not c.if-is_none.true) in
+    (λ i. permits b (Some caller) ask.verb (sym c.as_str-path.ensures.text i)) ∙ sym told ∙ ap is_some (none_of _ c.in_default.not-Some) in
     not_served b caller (names_of c.args.context.now.words) ask (seen c.permitted.new.tx).rows forbidden
-    (still_represented b (seen c.find_route.new.tx).rows (seen c.permitted.new.tx).rows (c.in_ok-permitted.ensures.call.same honest) still)
+    (still_represented b (seen c.find_route.new.tx).rows (seen c.permitted.new.tx).rows (c.in_ok-rules.ensures.call.same honest) still)
 
-pub returns-then-is_none-clause-readable : goal.returns-then-is_none-clause-readable
-returns-then-is_none-clause-readable g c honest at =
+pub returns-in_default-clause-readable : goal.returns-in_default-clause-readable
+returns-in_default-clause-readable g c honest at =
     let seen = g.T.RecordsTx.seen in
     let old = (seen c.args.tx.now).rows in
     let ask = c.args.ask.now in
-    let mid = honest_before (seen c.find_route.new.tx) (seen c.permitted.new.tx) _ c.in_ok-permitted.ensures.call.goes_on honest in
+    let mid = honest_before (seen c.find_route.new.tx) (seen c.permitted.new.tx) _ c.in_ok-rules.ensures.call.goes_on honest in
     let readable = c.in_ok-found.ensures.readable mid in
     let forbidden = permitted_before old (seen c.find_route.new.tx).rows c.args.caller.token c.args.caller.token
-    c.as_str-path.result.now ask.path ask.verb c.in_ok-found.found (is_some c.in_ok-permitted.field-0) false (c.in_ok-found.ensures.call.same mid) refl
-    c.as_str-path.ensures.text (c.is_none.ensures ∙ ap not c.if-is_none.true) readable (c.in_ok-found.ensures.found mid readable.0 readable.1)
-    (c.in_ok-permitted.ensures.found honest (caller_still (seen c.args.tx.now).rows (seen c.find_route.new.tx).rows c.args.caller (c.in_ok-found.ensures.call.same mid) at)) in
-    inr (record { refused = refl; forbidden = forbidden; same = c.in_ok-permitted.ensures.call.same honest ∙ c.in_ok-found.ensures.call.same mid })
+    c.as_str-path.result.now ask.path ask.verb c.in_ok-found.found (is_some c.in_ok-rules.field-0) false (c.in_ok-found.ensures.call.same mid) refl
+    c.as_str-path.ensures.text (ap is_some (none_of _ c.in_default.not-Some)) readable (c.in_ok-found.ensures.found mid readable.0 readable.1)
+    (c.in_ok-rules.ensures.found honest (caller_still (seen c.args.tx.now).rows (seen c.find_route.new.tx).rows c.args.caller (c.in_ok-found.ensures.call.same mid) at)) in
+    inr (record { refused = refl; forbidden = forbidden; same = c.in_ok-rules.ensures.call.same honest ∙ c.in_ok-found.ensures.call.same mid })
 
 pub returns-in_err-found-2-clause-told : goal.returns-in_err-found-2-clause-told
 returns-in_err-found-2-clause-told g c honest b starts =
@@ -68,17 +68,17 @@ returns-in_err-found-2-clause-told g c honest b starts =
     let ask = c.args.ask.now in
     let names = names_of c.args.context.now.words in
     let p = err_from_is_err_and c.from_residual-in_err-found-2.result c.from_residual-in_err-found-2.ensures.1 in
-    let mid = honest_before (seen c.find_route.new.tx) (seen c.permitted.new.tx) _ c.in_ok-permitted.ensures.call.goes_on honest in
+    let mid = honest_before (seen c.find_route.new.tx) (seen c.permitted.new.tx) _ c.in_ok-rules.ensures.call.goes_on honest in
     let still = still_represented b old (seen c.find_route.new.tx).rows (c.in_ok-found.ensures.call.same mid) starts.begins.represents in
     let routed = c.in_ok-found.ensures.told mid b.mounts (mounts_there b old starts.begins.represents) in
-    let told = c.in_ok-permitted.ensures.told honest b still starts.caller routed in
+    let told = c.in_ok-rules.ensures.told honest b still starts.caller routed in
     let permitted : permits b (Some caller) ask.verb ask.path ≡ true =
-    (λ i. permits b (Some caller) ask.verb (sym c.as_str-path.ensures.text i)) ∙ sym told ∙ (c.is_none.ensures ∙ ap not c.if-is_none.false) in
+    (λ i. permits b (Some caller) ask.verb (sym c.as_str-path.ensures.text i)) ∙ sym told ∙ ap is_some c.in-Some.is in
     rw (p.1 ∙ ap Err p.2)
     (served_permitted b caller names ask (seen c.permitted.new.tx).rows (Err (Refused c.in_err-found-2.field-0.0)) permitted
     (served_nowhere b caller names ask (seen c.permitted.new.tx).rows c.in_err-found-2.field-0.0 c.as_str-path.result.now
     c.as_str-path.ensures.text (sym c.in_err-found-2.was ∙ routed)
-    (still_represented b (seen c.find_route.new.tx).rows (seen c.permitted.new.tx).rows (c.in_ok-permitted.ensures.call.same honest) still)))
+    (still_represented b (seen c.find_route.new.tx).rows (seen c.permitted.new.tx).rows (c.in_ok-rules.ensures.call.same honest) still)))
 
 pub returns-in_err-found-2-clause-readable : goal.returns-in_err-found-2-clause-readable
 returns-in_err-found-2-clause-readable g c honest at =
@@ -87,12 +87,12 @@ returns-in_err-found-2-clause-readable g c honest at =
     let ask = c.args.ask.now in
     let path = c.as_str-path.result.now in
     let p = err_from_is_err_and c.from_residual-in_err-found-2.result c.from_residual-in_err-found-2.ensures.1 in
-    let mid = honest_before (seen c.find_route.new.tx) (seen c.permitted.new.tx) _ c.in_ok-permitted.ensures.call.goes_on honest in
+    let mid = honest_before (seen c.find_route.new.tx) (seen c.permitted.new.tx) _ c.in_ok-rules.ensures.call.goes_on honest in
     let readable = c.in_ok-found.ensures.readable mid in
     let permitted = permitted_before old (seen c.find_route.new.tx).rows c.args.caller.token c.args.caller.token
-    path ask.path ask.verb c.in_ok-found.found (is_some c.in_ok-permitted.field-0) true (c.in_ok-found.ensures.call.same mid) refl
-    c.as_str-path.ensures.text (c.is_none.ensures ∙ ap not c.if-is_none.false) readable (c.in_ok-found.ensures.found mid readable.0 readable.1)
-    (c.in_ok-permitted.ensures.found honest (caller_still (seen c.args.tx.now).rows (seen c.find_route.new.tx).rows c.args.caller (c.in_ok-found.ensures.call.same mid) at)) in
+    path ask.path ask.verb c.in_ok-found.found (is_some c.in_ok-rules.field-0) true (c.in_ok-found.ensures.call.same mid) refl
+    c.as_str-path.ensures.text (ap is_some c.in-Some.is) readable (c.in_ok-found.ensures.found mid readable.0 readable.1)
+    (c.in_ok-rules.ensures.found honest (caller_still (seen c.args.tx.now).rows (seen c.find_route.new.tx).rows c.args.caller (c.in_ok-found.ensures.call.same mid) at)) in
     let nothing = λ (command : Command) (asks : Asks old ask command).
     no_route old ask command path c.in_err-found-2.field-0.0 (IsReadableCommand old c.args.caller.token command) c.as_str-path.ensures.text asks
     (sym c.in_err-found-2.was ∙ c.in_ok-found.ensures.found mid asks.mount (known_by old ask command path c.as_str-path.ensures.text asks)) in
@@ -111,13 +111,13 @@ returns-in_err-command-clause-told g c honest b starts =
     let caller = c.args.caller.token in
     let ask = c.args.ask.now in
     let names = names_of c.args.context.now.words in
-    let mid = honest_before (seen c.find_route.new.tx) (seen c.permitted.new.tx) _ c.in_ok-permitted.ensures.call.goes_on honest in
+    let mid = honest_before (seen c.find_route.new.tx) (seen c.permitted.new.tx) _ c.in_ok-rules.ensures.call.goes_on honest in
     let still = still_represented b old (seen c.find_route.new.tx).rows (c.in_ok-found.ensures.call.same mid) starts.begins.represents in
     let routed = c.in_ok-found.ensures.told mid b.mounts (mounts_there b old starts.begins.represents) in
-    let told = c.in_ok-permitted.ensures.told honest b still starts.caller routed in
+    let told = c.in_ok-rules.ensures.told honest b still starts.caller routed in
     let permitted : permits b (Some caller) ask.verb ask.path ≡ true =
-    (λ i. permits b (Some caller) ask.verb (sym c.as_str-path.ensures.text i)) ∙ sym told ∙ (c.is_none.ensures ∙ ap not c.if-is_none.false) in
-    let then = still_represented b (seen c.find_route.new.tx).rows new (c.in_ok-permitted.ensures.call.same honest) still in
+    (λ i. permits b (Some caller) ask.verb (sym c.as_str-path.ensures.text i)) ∙ sym told ∙ ap is_some c.in-Some.is in
+    let then = still_represented b (seen c.find_route.new.tx).rows new (c.in_ok-rules.ensures.call.same honest) still in
     let p = err_from_is_err_and c.from_residual-in_err-command.result c.from_residual-in_err-command.ensures.1 in
     rw (p.1 ∙ ap Err p.2)
     (served_permitted b caller names ask new (Err c.in_err-command.field-0.0) permitted
@@ -133,11 +133,11 @@ returns-in_err-command-clause-readable g c honest at =
     let ask = c.args.ask.now in
     let path = c.as_str-path.result.now in
     let route = c.in_ok-found-2.field-0 in
-    let mid = honest_before (seen c.find_route.new.tx) (seen c.permitted.new.tx) _ c.in_ok-permitted.ensures.call.goes_on honest in
+    let mid = honest_before (seen c.find_route.new.tx) (seen c.permitted.new.tx) _ c.in_ok-rules.ensures.call.goes_on honest in
     let readable = c.in_ok-found.ensures.readable mid in
     let permitted = permitted_before old (seen c.find_route.new.tx).rows caller caller path ask.path ask.verb
-    c.in_ok-found.found (is_some c.in_ok-permitted.field-0) true (c.in_ok-found.ensures.call.same mid) refl c.as_str-path.ensures.text (c.is_none.ensures ∙ ap not c.if-is_none.false)
-    readable (c.in_ok-found.ensures.found mid readable.0 readable.1) (c.in_ok-permitted.ensures.found honest (caller_still (seen c.args.tx.now).rows (seen c.find_route.new.tx).rows c.args.caller (c.in_ok-found.ensures.call.same mid) at)) in
+    c.in_ok-found.found (is_some c.in_ok-rules.field-0) true (c.in_ok-found.ensures.call.same mid) refl c.as_str-path.ensures.text (ap is_some c.in-Some.is)
+    readable (c.in_ok-found.ensures.found mid readable.0 readable.1) (c.in_ok-rules.ensures.found honest (caller_still (seen c.args.tx.now).rows (seen c.find_route.new.tx).rows c.args.caller (c.in_ok-found.ensures.call.same mid) at)) in
     let p = err_from_is_err_and c.from_residual-in_err-command.result c.from_residual-in_err-command.ensures.1 in
     rw (p.1 ∙ ap Err p.2)
     (on_no_command Answered (command_for route ask) c.in_err-command.field-0.0 c.in_err-command.ensures.reads
@@ -159,13 +159,13 @@ returns-clause-told g c honest b starts =
     let names = names_of c.args.context.now.words in
     let route = c.in_ok-found-2.field-0 in
     let later = honest_before (seen c.permitted.new.tx) (seen c.operate.new.tx) _ c.operate.ensures.call.goes_on honest in
-    let mid = honest_before (seen c.find_route.new.tx) (seen c.permitted.new.tx) _ c.in_ok-permitted.ensures.call.goes_on later in
+    let mid = honest_before (seen c.find_route.new.tx) (seen c.permitted.new.tx) _ c.in_ok-rules.ensures.call.goes_on later in
     let still = still_represented b old (seen c.find_route.new.tx).rows (c.in_ok-found.ensures.call.same mid) starts.begins.represents in
-    let then = still_represented b (seen c.find_route.new.tx).rows (seen c.permitted.new.tx).rows (c.in_ok-permitted.ensures.call.same later) still in
+    let then = still_represented b (seen c.find_route.new.tx).rows (seen c.permitted.new.tx).rows (c.in_ok-rules.ensures.call.same later) still in
     let routed = c.in_ok-found.ensures.told mid b.mounts (mounts_there b old starts.begins.represents) in
-    let told = c.in_ok-permitted.ensures.told later b still starts.caller routed in
+    let told = c.in_ok-rules.ensures.told later b still starts.caller routed in
     let permitted : permits b (Some caller) ask.verb ask.path ≡ true =
-    (λ i. permits b (Some caller) ask.verb (sym c.as_str-path.ensures.text i)) ∙ sym told ∙ (c.is_none.ensures ∙ ap not c.if-is_none.false) in
+    (λ i. permits b (Some caller) ask.verb (sym c.as_str-path.ensures.text i)) ∙ sym told ∙ ap is_some c.in-Some.is in
     let found = sym c.in_ok-found-2.was ∙ routed in
     let formed : IsWellFormed route = record {
       parameter = λ takes. c.in_ok-found.ensures.parameter c.as_str-path.ensures.good route takes c.in_ok-found-2.was;
@@ -191,12 +191,12 @@ returns-clause-readable g c honest at =
     let path = c.as_str-path.result.now in
     let route = c.in_ok-found-2.field-0 in
     let later = honest_before (seen c.permitted.new.tx) (seen c.operate.new.tx) _ c.operate.ensures.call.goes_on honest in
-    let mid = honest_before (seen c.find_route.new.tx) (seen c.permitted.new.tx) _ c.in_ok-permitted.ensures.call.goes_on later in
-    let same = c.in_ok-permitted.ensures.call.same later ∙ c.in_ok-found.ensures.call.same mid in
+    let mid = honest_before (seen c.find_route.new.tx) (seen c.permitted.new.tx) _ c.in_ok-rules.ensures.call.goes_on later in
+    let same = c.in_ok-rules.ensures.call.same later ∙ c.in_ok-found.ensures.call.same mid in
     let readable = c.in_ok-found.ensures.readable mid in
     let permitted = permitted_before old (seen c.find_route.new.tx).rows caller caller path ask.path ask.verb
-    c.in_ok-found.found (is_some c.in_ok-permitted.field-0) true (c.in_ok-found.ensures.call.same mid) refl c.as_str-path.ensures.text (c.is_none.ensures ∙ ap not c.if-is_none.false)
-    readable (c.in_ok-found.ensures.found mid readable.0 readable.1) (c.in_ok-permitted.ensures.found later (caller_still (seen c.args.tx.now).rows (seen c.find_route.new.tx).rows c.args.caller (c.in_ok-found.ensures.call.same mid) at)) in
+    c.in_ok-found.found (is_some c.in_ok-rules.field-0) true (c.in_ok-found.ensures.call.same mid) refl c.as_str-path.ensures.text (ap is_some c.in-Some.is)
+    readable (c.in_ok-found.ensures.found mid readable.0 readable.1) (c.in_ok-rules.ensures.found later (caller_still (seen c.args.tx.now).rows (seen c.find_route.new.tx).rows c.args.caller (c.in_ok-found.ensures.call.same mid) at)) in
     on_answer_weaker c.operate.result
     (λ read. inl (record {
       permitted = permitted;

@@ -1,0 +1,17 @@
+use Rattle.std.specs.Prelude.{None}
+use Rattle.std.proofs.Common.{◌≡◌, ap, ◌∙◌}
+use Rattle.std.proofs.lemmas.Result.{IfOk-weaker}
+use Rattle.broker_types.specs.Names.{names_of}
+use Rattle.broker_types.specs.Operation.{reply}
+use Rattle.api_json.specs.Objects.{token_object}
+use Rattle.api_json.specs.Reply.{plain_reply}
+use Rattle.broker_model.specs.parts.TokenReplies.{looked_up}
+use Rattle.broker_rows.specs.Context.{Context}
+use Rattle.token_operations.proofs.lookup.shown.Goals as goal
+
+pub returns : goal.returns
+returns c =
+    let token = c.in_ok-token.ensures ∙ ap (λ (x : Context). looked_up x.clock c.args.id.now c.args.found) c.context.view_is in
+    IfOk-weaker c.shown.result _ _
+    (λ a is. is ∙ ap (λ o. reply (plain_reply (names_of c.args.context.now.words).request o) None) (c.in_ok-object.ensures ∙ ap token_object token))
+    c.shown.ensures

@@ -1,0 +1,45 @@
+use Rattle.std.specs.Prelude.{Ok, Some, is_some, not}
+use Rattle.std.proofs.Common.{refl, sym, ap, ◌∙◌, subst}
+use Rattle.broker_types.specs.Names.{names_of}
+use Rattle.broker_types.specs.Sound.{IsEnd}
+use Rattle.records.specs.TokenEntry.{TokenEntry}
+use Rattle.token_tree.specs.TokenRows.{renewed_entry}
+use Rattle.broker_model.specs.Forms.{forms}
+use Rattle.broker_model.specs.parts.TokenReplies.{auth_reply}
+use Rattle.broker_model.specs.parts.Tokens.{renew}
+use Rattle.broker_rows.specs.Context.{Context}
+use Rattle.broker_rows.specs.Operating.{ActsAs}
+use Rattle.broker_rows.specs.declared.answered.Answered.TheVariants.{Given}
+use Rattle.broker_rows.specs.RepresentingLaws.{represents_tokens}
+use Rattle.token_operations.proofs.TokenRenewals.{acts_endless, acts_renewed, new_end_near}
+use Rattle.token_operations.proofs.TokenTables.{represents-renewed}
+use Rattle.token_operations.proofs.renewal.renew_found.Goals as goal
+
+pub returns-then-is_none-clause-told : goal.returns-then-is_none-clause-told
+returns-then-is_none-clause-told g c honest who b starts here =
+    acts_endless b (g.T.RecordsTx.seen c.args.tx.now).rows who c.args.token.now (names_of c.args.context.now.words) c.args.increment
+    (Some c.args.found) here c.args.found starts.represents refl
+    (ap (λ (e : TokenEntry). is_some e.ends) (sym c.found.view_is) ∙ c.is_none.ensures ∙ ap not c.if-is_none.true)
+
+pub returns-clause-told : goal.returns-clause-told
+unfolding names_of
+returns-clause-told g c honest who b starts here =
+    let seen = g.T.RecordsTx.seen in
+    let old = (seen c.args.tx.now).rows in
+    let new = (seen c.renew.new.tx).rows in
+    let t = c.args.token.now in
+    let asked = c.args.increment in
+    let ends = c.new_end-ends.result in
+    let now = c.context.inside.clock in
+    let st = starts.represents in
+    subst (λ (x : Context). ActsAs who b new (Ok (Given c.in_ok-auth_reply.field-0)) (renew b (names_of x.words) t asked)) c.context.view_is
+    (acts_renewed b new who t (names_of c.context.inside.words.now) asked (Some c.args.found) here
+    c.as_str.result.now now ends c.args.found c.in_ok-auth_reply.field-0
+    (sym (c.as_str.ensures.value ∙ c.in_ok-request.ensures)) (starts.clock ∙ sym (ap (λ (x : Context). x.clock) c.context.view_is)) refl
+    (ap (λ (e : TokenEntry). is_some e.ends) (sym c.found.view_is) ∙ c.is_none.ensures ∙ ap not c.if-is_none.false) c.new_end-ends.ensures
+    (c.in_ok-auth_reply.ensures
+    ∙ ap (auth_reply c.as_str.result.now now t) (c.in_ok-renewed.ensures.renewed ∙ ap (renewed_entry ends) c.found.view_is))
+    (represents-renewed b t ends old new st
+    (subst IsEnd (sym c.new_end-ends.ensures) (new_end_near now asked c.args.found c.requires))
+    (c.in_ok-renewed.ensures.told honest forms b (represents_tokens b old st) (ap Some c.found.view_is ∙ here))
+    (c.in_ok-renewed.ensures.call.others honest)))
