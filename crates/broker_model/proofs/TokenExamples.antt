@@ -16,6 +16,7 @@ use Rattle.broker_types.specs.TokenText.{token_text}
 use Rattle.broker_types.specs.Token.{Token}
 use Rattle.broker_types.specs.Broker.{Broker}
 use Rattle.broker_types.specs.Names.{Names}
+use Rattle.broker_types.specs.Spending.{drop_waiting}
 use Rattle.broker_types.specs.Operation.{nothing, plainly}
 use Rattle.broker_types.specs.Time.{civil, day_from_year, day_from_month}
 use Rattle.broker_types.specs.LineageLaws.{revoke_unknown}
@@ -43,6 +44,7 @@ use Rattle.broker_model.specs.parts.TokenReplies.{seconds_left, looked_up, auth_
 use Rattle.mounts.specs.declared.operation.TokenOperation.TheVariants as operation
 use Rattle.broker_model.specs.declared.commands.TokenCommand.TheVariants as command
 use Rattle.broker_model.specs.parts.TokenCommands.{token_command}
+use Rattle.wrapping.specs.ResponseLaws.{drop_unknown}
 use Rattle.broker_model.specs.parts.Tokens.{act_on_tokens, made, look_up, new_end, revoke, revoke_alone}
 
 -- ---- times
@@ -246,9 +248,18 @@ makes names = rw (get-put_self empty root_text (root_token 1000 (id 2))) refl
 unknown : (b : Broker) (names : Names) (t id : Text) → get b.tokens t ≡ None → look_up b names t id ≡ Err (refusal.Forbidden denial.BadToken)
 unknown b names t id none = rw none refl
 
--- a text that is no token, as the empty one, ends nothing
-ends_nothing : (b : Broker) (t : Text) → get b.tokens t ≡ None → revoke b t ≡ plainly nothing b
-ends_nothing b t none = ap (λ ts. plainly nothing (record b { tokens = ts })) (revoke_unknown b.tokens t none)
+-- a text that is neither a token nor a wrapping token, as the empty one, ends nothing
+ends_nothing : (b : Broker) (t : Text) → get b.tokens t ≡ None → get b.waiting t ≡ None → revoke b t ≡ plainly nothing b
+ends_nothing b t none bare =
+    ap (λ ts. plainly nothing (drop_waiting (record b { tokens = ts }) t)) (revoke_unknown b.tokens t none)
+    ∙ ap (plainly nothing) (drop_unknown b t bare)
 
-ends_none_alone : (b : Broker) (t : Text) → ParentsExist b.tokens → get b.tokens t ≡ None → revoke_alone b t ≡ plainly nothing b
-ends_none_alone b t parents none = ap (λ ts. plainly nothing (record b { tokens = ts })) (orphan_unknown b.tokens t parents none)
+ends_none_alone : (b : Broker) (t : Text) → ParentsExist b.tokens → get b.tokens t ≡ None → get b.waiting t ≡ None
+    → revoke_alone b t ≡ plainly nothing b
+ends_none_alone b t parents none bare =
+    ap (λ ts. plainly nothing (drop_waiting (record b { tokens = ts }) t)) (orphan_unknown b.tokens t parents none)
+    ∙ ap (plainly nothing) (drop_unknown b t bare)
+
+-- and a wrapping token ends alone
+ends_wrapping : (b : Broker) (t : Text) → get b.tokens t ≡ None → revoke b t ≡ plainly nothing (drop_waiting b t)
+ends_wrapping b t none = ap (λ ts. plainly nothing (drop_waiting (record b { tokens = ts }) t)) (revoke_unknown b.tokens t none)

@@ -1,17 +1,22 @@
 -- The part of tokens: what its commands give out, and that they let a broker evolve.
 use Rattle.std.specs.Prelude.{◌≡◌, ℕ, [], true, is_some, Ok}
-use Rattle.std.proofs.Common.{refl, subst, inr}
+use Rattle.std.proofs.Common.{refl, subst, inl, inr}
 use Rattle.broker_types.specs.Text.{Text}
 use Rattle.broker_types.specs.Map.{empty}
 use Rattle.broker_types.specs.Token.{Token}
 use Rattle.broker_types.specs.TokenText.{token_text}
+use Rattle.broker_types.specs.Broker as broker
 use Rattle.broker_types.specs.Broker.{Broker}
 use Rattle.broker_types.specs.Evolves.{Evolves, IsNew}
+use Rattle.broker_types.specs.EvolvesLaws.{evolves_trans}
+use Rattle.broker_types.specs.MapLaws.{without_is}
 use Rattle.broker_types.specs.Names.{Names}
-use Rattle.broker_types.specs.Operation.{Done}
+use Rattle.broker_types.specs.Operation.{Done, nothing, plainly}
 use Rattle.broker_types.specs.Refuse.{unless}
 use Rattle.broker_types.specs.RefuseLaws.{ok_step}
 use Rattle.broker_types.specs.RemovalLaws.{revoke_evolves, revoke_orphan_evolves}
+use Rattle.broker_types.specs.Spending.{drop_waiting}
+use Rattle.broker_types.specs.SpendingLaws.{drop_evolves}
 use Rattle.broker_types.specs.Used.{are_new}
 use Rattle.broker_types.specs.UsedLaws.{first_new}
 use Rattle.broker_types.specs.declared.refusal.Refusal.TheVariants as refusal
@@ -31,8 +36,8 @@ use Rattle.broker_model.specs.parts.TokenCreation.{making_path, is_privileged, m
 use Rattle.broker_model.specs.parts.TokenCreation.{new_parent}
 use Rattle.broker_model.specs.parts.TokenReplies.{auth_reply}
 use Rattle.broker_model.specs.parts.Tokens.{act_on_tokens, known, named, made, create, look_up, renew, new_end, revoke}
-use Rattle.broker_model.specs.parts.Tokens.{revoke_alone}
-use Rattle.broker_model.proofs.Operations.{shown_proper, changed_proper, silent_proper, waits_still}
+use Rattle.broker_model.specs.parts.Tokens.{revoke_alone, holder}
+use Rattle.broker_model.proofs.Operations.{shown_proper, changed_proper, waits_still}
 
 -- ---- creation
 
@@ -81,11 +86,25 @@ renew_proper b names t increment d e =
     (changed_proper b (tree.renew b t next) (auth_reply names.request b.clock t (token_entry (with_end next x.0))) refl refl
     (renew_evolves b t next))
 
+-- tokens that end leave what waits as it is, and then the response of t is dropped
+dropped_proper : (b next : Broker) (t : Text) → next.used ≡ b.used → next.waiting ≡ b.waiting → Evolves b next
+    → IsProper b [] (plainly nothing (drop_waiting next t))
+dropped_proper b next t used waits evolves = record {
+  used = used;
+  gives_own = inl refl;
+  none_at_204 = λ _. refl;
+  none_at_404 = λ r e. absurd (cc);
+  hands_out = λ o e. absurd (cc);
+  keeps_text = λ t e. absurd (cc);
+  none_born = λ q w is. waits_still b next waits q w (without_is next.waiting t q w is).1;
+  evolves = evolves_trans b next (drop_waiting next t) evolves (drop_evolves next t);
+}
+
 revoke_proper : (b : Broker) (t : Text) → IsProper b [] (revoke b t)
-revoke_proper b t = silent_proper b _ refl refl (revoke_evolves b t)
+revoke_proper b t = dropped_proper b (broker.revoke b t) t refl refl (revoke_evolves b t)
 
 revoke_alone_proper : (b : Broker) (t : Text) → IsProper b [] (revoke_alone b t)
-revoke_alone_proper b t = silent_proper b _ refl refl (revoke_orphan_evolves b t)
+revoke_alone_proper b t = dropped_proper b (broker.revoke_orphan b t) t refl refl (revoke_orphan_evolves b t)
 
 -- ---- the part
 
@@ -103,7 +122,7 @@ acts b c names (command.RenewSelf increment) d new e = renew_proper b names c in
 acts b c names (command.Revoke t) d new e = subst (IsProper b []) (ok_inj e) (revoke_proper b t)
 acts b c names (command.RevokeOrphan t) d new e = subst (IsProper b []) (ok_inj e) (revoke_alone_proper b t)
 acts b c names (command.RevokeAccessor accessor) d new e =
-    let t = ok_step (named b accessor) _ d e in
+    let t = ok_step (holder b accessor) _ d e in
     subst (IsProper b []) (ok_inj t.2) (revoke_proper b t.0)
 acts b c names command.RevokeSelf d new e = subst (IsProper b []) (ok_inj e) (revoke_proper b c)
 acts b c names command.ListAccessors d new e = subst (IsProper b []) (ok_inj e) (shown_proper b _)

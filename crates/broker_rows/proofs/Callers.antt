@@ -21,7 +21,7 @@ use Rattle.records.specs.Table.{Table, table_of}
 use Rattle.records.specs.TokenEntry.{TokenEntry, token_entry}
 use Rattle.records.specs.Transaction.{Rows}
 use Rattle.broker_model.specs.Forms.{forms}
-use Rattle.broker_rows.specs.Representing.{AsServed, Represents}
+use Rattle.broker_rows.specs.Representing.{Represents}
 use Rattle.broker_rows.specs.EndingLaws.{no_token, is_object, is_elsewhere, other_tokens}
 use Rattle.broker_rows.specs.RepresentingLaws.{leases_still, changed_leases}
 
@@ -56,7 +56,6 @@ module _ (b : Broker) (c : Text) where
         (leases_still b (spend b c) old new st others (changed_leases b c one_less (λ x. refl)))
         (λ k q h. others k q (is_elsewhere k h).0);
     sound = spend_sound forms b c st.sound;
-    served = record { none_waits = st.served.none_waits };
   }
 
 -- ---- a caller that has spent its last use ends
@@ -76,7 +75,6 @@ module _ (b : Broker) (c : Text) (old : Rows) (st : Represents (Some c) old b) w
       record {
         rows = ap table_of same_rows ∙ st.rows ∙ ap rows_of (sym ends);
         sound = end_spent_sound forms (Some c) b st.sound;
-        served = subst AsServed (sym ends) st.served;
       }
 
 -- ---- whether a caller has spent its last use

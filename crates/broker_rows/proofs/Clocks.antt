@@ -1,16 +1,18 @@
--- The broker at a later moment, as long as no response waits.
-use Rattle.std.specs.Prelude.{◌≡◌, ◌≤◌, ℕ, max, nat_lt, [], Bool, true, false, cond, None}
+-- The broker at a later moment.
+use Rattle.std.specs.Prelude.{◌≡◌, ◌≤◌, ℕ, max, nat_lt, [], false, None}
 use Rattle.std.specs.Option.{option_map_or}
-use Rattle.std.specs.FinMap.{get-empty}
-use Rattle.std.proofs.Common.{refl, sym, ◌∙◌, ap}
-use Rattle.broker_types.specs.Text.{Text, text_cmp}
-use Rattle.broker_types.specs.Map.{Map, get, empty, keep}
+use Rattle.std.proofs.Common.{refl, sym, ◌∙◌, ap, subst}
+use Rattle.broker_types.specs.Map.{get}
 use Rattle.broker_types.specs.Moment.{greatest_moment}
 use Rattle.broker_types.specs.Lineage.{alive_at}
-use Rattle.broker_types.specs.Broker.{Broker, at_moment, waiting_ends}
+use Rattle.broker_types.specs.Broker.{Broker}
+use Rattle.broker_types.specs.FewerLaws.{AreFewer, IsLess, fewer_sound, tree_of}
 use Rattle.broker_types.specs.FieldLaws.{sound_with}
+use Rattle.broker_types.specs.RemovalLaws.{at_moment_sound}
+use Rattle.broker_types.specs.SearchLaws.{kept_get}
 use Rattle.broker_types.specs.Sound.{Sound}
-use Rattle.broker_types.specs.MapLaws.{get-keep, same_map}
+use Rattle.broker_types.specs.Token.{Lease}
+use Rattle.broker_types.specs.TreeLaws.{alive_is}
 use Rattle.broker_model.specs.Forms.{forms}
 use Rattle.records.specs.declared.kind.Kind.TheVariants as kind
 use Rattle.records.specs.ClockLaws.{with_clock, rows-with_clock}
@@ -18,18 +20,7 @@ use Rattle.records.specs.Table.{table_of, with_row}
 use Rattle.records.specs.Transaction.{Rows}
 use Rattle.records.specs.RowForms.{clock_row}
 use Rattle.token_tree.specs.Tokens.{without_expired}
-use Rattle.broker_rows.specs.Representing.{AsServed, Represents}
-
-kept_empty : {X : Type 0} (p : Text → Bool) (m : Map X) → m ≡ empty → keep p m ≡ m
-kept_empty p m e = same_map (keep p m) m (λ q. get-keep p m q ∙ ap (λ n. cond (p q) (get n q) None) e ∙ none (p q) q ∙ sym (ap (λ n. get n q) e))
-  where
-    none : {X : Type 0} (b : Bool) (q : Text) → cond b (get (empty {X = X} {R = text_cmp}) q) None ≡ get (empty {X = X} {R = text_cmp}) q
-    none true q = refl
-    none false q = sym (get-empty text_cmp q)
-
-module _ (b : Broker) (s : AsServed b) where
-  pub served-with_clock : (n : ℕ) → AsServed (with_clock b n)
-  served-with_clock n = record { none_waits = s.none_waits }
+use Rattle.broker_rows.specs.Representing.{Represents}
 
 pub sound-with_clock : (b : Broker) (n : ℕ) → Sound forms None b → n ≤ greatest_moment → Sound forms None (with_clock b n)
 sound-with_clock b n s h = sound_with b n b.secrets b.mounts b.roles b.policies forms None s h s.secrets s.mounts s.roles s.policies
@@ -41,14 +32,23 @@ represents-with_clock b old new n st within e =
     record {
       rows = e ∙ ap (λ t. with_row t kind.Clock [] (clock_row n)) st.rows ∙ sym (rows-with_clock b n);
       sound = sound-with_clock b n st.sound within;
-      served = served-with_clock b st.served n;
     }
 
--- what has expired at the clock is what has ended at the moment
-pub expired_is : (b : Broker) (m : ℕ) → AsServed b → without_expired (with_clock b (max b.clock m)) (max b.clock m) ≡ at_moment b m
-expired_is b m s = λ i.
-    record b {
-      clock = max b.clock m;
-      tokens = alive_at (max b.clock m) b.tokens;
-      waiting = sym (kept_empty (λ t. option_map_or (λ w. nat_lt (max b.clock m) (waiting_ends w)) (get b.waiting t) false) b.waiting s.none_waits) i;
-    }
+-- what has not expired was there, with no lease that is new
+alive_fewer : (b : Broker) (now : ℕ) → AreFewer b.tokens (alive_at now b.tokens)
+alive_fewer b now q y e =
+    let x = alive_is now b.tokens q y e in
+    (x.0, x.1, subst (IsLess x.0) (sym x.3) (record {
+      same_accessor = refl;
+      fewer_leases = λ lease_id l f.
+          (kept_get (λ id. option_map_or (λ (l : Lease). nat_lt now l.ends) (get x.0.leases id) false) x.0.leases lease_id l f).0;
+    }))
+
+-- a sound broker of which tokens and leases have expired, and no response yet, is sound
+pub expired_tokens_sound : (b : Broker) (m : ℕ) → Sound forms None b → m ≤ greatest_moment
+    → Sound forms None (without_expired (with_clock b (max b.clock m)) (max b.clock m))
+expired_tokens_sound b m sound within =
+    let now = max b.clock m in
+    let s = at_moment_sound forms None b sound m within in
+    fewer_sound forms None None b sound now (alive_at now b.tokens) b.waiting s.clock (tree_of forms None None _ s) (alive_fewer b now)
+    (λ t w e. e) s.tokens.each s.unspent

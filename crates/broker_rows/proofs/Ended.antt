@@ -109,5 +109,4 @@ module _ {who after : Option Text} (b : Broker) (us : Tokens) (ended : List Text
           leaves_others ended rest new leaves k q apart.1 ∙ e.ends.others k q (neither (of_cubbyholes k) (of_leases k) apart.1).1
           ∙ e.others k q apart.0);
       sound = e.sound;
-      served = record { none_waits = e.represents.served.none_waits };
     }

@@ -6,7 +6,6 @@ use Rattle.broker_types.specs.Text.{Text}
 use Rattle.broker_types.specs.Moment.{greatest_moment}
 use Rattle.broker_types.specs.Token.{Token}
 use Rattle.broker_types.specs.Broker.{Broker, at_moment}
-use Rattle.broker_types.specs.RemovalLaws.{at_moment_sound}
 use Rattle.broker_types.specs.Sound.{Sound}
 use Rattle.broker_types.specs.TreeLaws.{alive_is}
 use Rattle.broker_types.specs.Lineage.{alive_at}
@@ -15,7 +14,8 @@ use Rattle.records.specs.declared.row.Row.{Row}
 use Rattle.records.specs.ClockLaws.{with_clock}
 use Rattle.records.specs.DueRows.{AreDue}
 use Rattle.records.specs.Kind.{RowKey}
-use Rattle.records.specs.Parts.{Tells, KeepsOthers, of_tokens}
+use Rattle.records.specs.PartLaws.{rows_of-other_waiting}
+use Rattle.records.specs.Parts.{Tells, KeepsOthers, of_tokens, of_leases, of_waiting}
 use Rattle.records.specs.Table.{table_of}
 use Rattle.records.specs.Transaction.{Rows}
 use Rattle.token_tree.specs.Tokens.{AreEnded, without_expired}
@@ -25,22 +25,28 @@ use Rattle.leases.specs.Laws.{AreLeft}
 use Rattle.leases.specs.Leases.{live}
 use Rattle.leases.specs.LeftLaws.{all_readable, expire_too}
 use Rattle.leases.specs.Removed.{AreStillDue}
+use Rattle.wrapping.specs.DueResponses as wrapping
+use Rattle.wrapping.specs.SoundLaws.{ends_sound}
+use Rattle.wrapping.specs.Wrapping.{without_ended}
 use Rattle.broker_model.specs.Forms.{forms}
+use Rattle.broker_rows.specs.Ending.{LeavesNothing}
+use Rattle.broker_rows.specs.EndingLaws.{leaves_others}
 use Rattle.broker_rows.specs.Left.{HaveEnded}
 use Rattle.broker_rows.specs.Representing.{Represents}
-use Rattle.broker_rows.specs.RepresentingLaws.{represents_leases}
-use Rattle.broker_rows.proofs.Clocks.{expired_is}
+use Rattle.broker_rows.specs.RepresentingLaws.{represents_leases, represents_next}
+use Rattle.broker_rows.proofs.Clocks.{expired_tokens_sound}
 
 module _ (b : Broker) (m n : ℕ) (first old : Rows) (st : Represents None first b) (is : n ≡ max b.clock m)
     (later : Represents None old (with_clock b n)) where
   -- the clock is that of the moment, and so what has expired at the clock is what has ended at the moment
-  pub expired_then : without_expired (with_clock b n) n ≡ at_moment b m
-  expired_then = ap (λ k. without_expired (with_clock b k) k) is ∙ expired_is b m st.served
+  expired_then : without_ended (without_expired (with_clock b n) n) n ≡ at_moment b m
+  expired_then = ap (λ k. without_ended (without_expired (with_clock b k) k) k) is
 
   expired_sound : Sound forms None (without_expired (with_clock b n) n)
   expired_sound =
       let within : max b.clock m ≤ greatest_moment = subst (λ k. k ≤ greatest_moment) is later.sound.clock in
-      subst (Sound forms None) (sym expired_then) (at_moment_sound forms None b st.sound m (le_trans (le-max_right b.clock m) within))
+      subst (λ k. Sound forms None (without_expired (with_clock b k) k)) (sym is)
+      (expired_tokens_sound b m st.sound (le_trans (le-max_right b.clock m) within))
 
   -- what has come to its end by then is swept: tokens, and then leases
   pub swept_left : (mid rest : Rows) (ended : List Text) → AreEnded (with_clock b n) (without_expired (with_clock b n) n) ended
@@ -70,6 +76,16 @@ module _ (b : Broker) (m n : ℕ) (first old : Rows) (st : Represents None first
   pub due_readable : (mid : Rows) → KeepsOthers of_tokens (table_of old) (table_of mid) → AreReadable (leases.has_come n) (table_of mid)
   due_readable mid others = all_readable (leases.has_come n) (table_of mid) (with_clock b n) (represents_leases (with_clock b n) old mid later others)
 
+  -- and then responses
+  pub responses_swept : (left new : Rows) → Represents None left (without_expired (with_clock b n) n)
+      → Tells of_waiting (table_of new) (without_ended (without_expired (with_clock b n) n) n)
+      → KeepsOthers of_waiting (table_of left) (table_of new) → Represents None new (at_moment b m)
+  responses_swept left new rest tells keeps =
+      let c = without_expired (with_clock b n) n in
+      subst (Represents None new) expired_then
+      (represents_next of_waiting c (without_ended c n) left new rest (ends_sound forms None c rest.sound n)
+      (rows_of-other_waiting c (without_ended c n).waiting) tells keeps)
+
 -- the list of what is due, once tokens have ended
 pub still_due : (timed asked mid : Rows) (n : ℕ) (list : List (RowKey × Row)) → AreDue timed n list → asked ≡ timed
     → KeepsOthers of_tokens (table_of asked) (table_of mid) → AreStillDue n list (table_of mid)
@@ -77,4 +93,16 @@ still_due timed asked mid n list due same others = record {
   asked = timed;
   due = due;
   same = λ q. others kind.Lease q refl ∙ ap (λ (r : Rows). table_of r kind.Lease q) same;
+}
+
+-- and once leases have, and nothing is left of the tokens
+pub due_yet : (timed asked mid live left : Rows) (n : ℕ) (list : List (RowKey × Row)) (ended : List Text) → AreDue timed n list
+    → asked ≡ timed → KeepsOthers of_tokens (table_of asked) (table_of mid) → KeepsOthers of_leases (table_of mid) (table_of live)
+    → LeavesNothing ended live left → wrapping.AreStillDue n list (table_of left)
+due_yet timed asked mid live left n list ended due same tokens leases leaves = record {
+  asked = timed;
+  due = due;
+  same = λ t.
+      leaves_others ended live left leaves kind.Waiting t refl ∙ leases kind.Waiting t refl ∙ tokens kind.Waiting t refl
+      ∙ ap (λ (r : Rows). table_of r kind.Waiting t) same;
 }

@@ -62,7 +62,6 @@ first_represented rows moment v w now fits_v fits_w differ is =
     record {
       rows = is;
       sound = first_sound forms moment v w now fits_v fits_w differ first_policy;
-      served = record { none_waits = refl };
     }
 
 -- the rows that a start puts represent the first broker

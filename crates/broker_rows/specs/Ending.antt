@@ -8,7 +8,7 @@ use Rattle.broker_types.specs.Text.{Text}
 use Rattle.broker_types.specs.Broker.{Broker}
 use Rattle.records.specs.declared.kind.Kind.TheVariants as kind
 use Rattle.records.specs.Children.{has}
-use Rattle.records.specs.Parts.{Part, of_clock, of_cubbyholes, of_leases, of_tokens_and_theirs}
+use Rattle.records.specs.Parts.{Part, of_clock, of_cubbyholes, of_leases, of_tokens_and_theirs, of_waiting}
 use Rattle.records.specs.Ranges.{IsTokenInRange}
 use Rattle.records.specs.Reading.{IsSomeIn}
 use Rattle.records.specs.Rows.{token_len}
@@ -24,14 +24,16 @@ use Rattle.cubbyhole.specs.Laws.{without_cubbyholes}
 use Rattle.cubbyhole.specs.Objects.{object_key}
 use Rattle.leases.specs.Endings as leases
 use Rattle.leases.specs.Endings.{EndsLeases, are_owned}
+use Rattle.wrapping.specs.DueResponses.{Sweeps}
+use Rattle.wrapping.specs.WaitingRows.{Drops}
 
 -- what belongs to tokens: their cubbyholes and their leases
 abbrev pub of_belongings : Part
 of_belongings k = of_cubbyholes k || of_leases k
 
--- the clock, and tokens with all that goes with them
+-- the clock, tokens with all that goes with them, and responses that wait
 abbrev pub of_expired : Part
-of_expired k = of_clock k || of_tokens_and_theirs k
+of_expired k = of_clock k || of_tokens_and_theirs k || of_waiting k
 
 -- each of the texts is as long as a token
 abbrev pub AreTokenLong : List Text → Type 0
@@ -77,6 +79,24 @@ pub record EndsOne (t : Text) (old new : Rows) : Type 0 where
   pub ends : EndsAlone t old ended left
   pub leaves : LeavesNothing ended left new
 
+-- ---- a response that is dropped, whatever the rows are
+
+-- The response that waits under t, if one does, was read. Its rows are gone, and no other row has changed.
+abbrev pub DropsResponse : Text → Rows → Rows → Type 0
+DropsResponse t old new = (dropped : Bool) × Drops t (table_of old) dropped (table_of new)
+
+-- t was revoked: the token with all below it, and what belonged to them; and then the wrapping token
+pub record Revokes (t : Text) (old new : Rows) : Type 0 where
+  pub left : Rows
+  pub ends : EndsBelow t old left
+  pub drops : DropsResponse t left new
+
+-- t was revoked alone: the token with what belonged to it, and then the wrapping token
+pub record RevokesOne (t : Text) (old new : Rows) : Type 0 where
+  pub left : Rows
+  pub ends : EndsOne t old left
+  pub drops : DropsResponse t left new
+
 -- ---- the clock and what ends by it, whatever the rows are
 
 -- the clock's row was that of some moment, and now it is that of the later of this moment and the given one
@@ -87,18 +107,20 @@ pub record Advances (moment now : ℕ) (old new : Rows) : Type 0 where
   pub later : now ≡ max clock moment
   pub is : table_of new ≡ with_row (table_of old) kind.Clock [] (clock_row now)
 
--- The clock has moved on, and what has come to its end by then has ended: tokens with all below them, and leases. The
--- rows of these were read, and are gone with those of accessors and of credentials, and with what belonged to the
--- tokens. No other row has changed.
+-- The clock has moved on, and what has come to its end by then has ended: tokens with all below them, leases, and
+-- responses that wait. The rows of these were read, and are gone with those of accessors and of credentials, and with
+-- what belonged to the tokens. No other row has changed.
 pub record Expires (moment now : ℕ) (old new : Rows) : Type 0 where
   pub timed : Rows
   pub swept : Rows
   pub live : Rows
+  pub left : Rows
   pub ended : List Text
   pub advances : Advances moment now old timed
   pub ends : EndsDescent (has_come now) timed ended swept
   pub due : EndsLeases (leases.has_come now) (table_of swept) (table_of live)
-  pub leaves : LeavesNothing ended live new
+  pub leaves : LeavesNothing ended live left
+  pub responses : Sweeps now (table_of left) (table_of new)
 
 -- ---- a caller that has spent its last use, whatever the rows are
 

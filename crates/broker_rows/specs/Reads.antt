@@ -33,6 +33,8 @@ use Rattle.broker_model.specs.declared.commands.TokenCommand.TheVariants as toke
 use Rattle.broker_model.specs.parts.Place.{Place}
 use Rattle.broker_rows.specs.ReadableRow.{IsReadableObject, IsReadablePolicy, IsReadableSecret, IsReadableToken}
 use Rattle.broker_rows.specs.ReadableRow.{IsReadableDescent, IsReadableAlone}
+use Rattle.wrapping.specs.AccessorRows as wrapping
+use Rattle.wrapping.specs.WaitingRows.{IsReadableWaiting}
 
 -- ---- cubbyholes
 
@@ -54,6 +56,26 @@ IfNamed P (Some t) = P t
 abbrev pub IsReadableName : Rows → (Text → Type 0) → Text → Type 0
 IsReadableName rows P accessor = (found : Option Text) × IsFoundAt (table_of rows) accessor found × IfNamed P found
 
+-- what a revocation of t reads: the rows of the token t, of all below it and of their leases, and that of the wrapping
+-- token t
+abbrev pub IsReadableRevoked : Rows → Text → Type 0
+IsReadableRevoked rows t = IsReadableDescent rows t × IsReadableWaiting (table_of rows) t
+
+-- the same of one token alone
+abbrev pub IsReadableRevokedAlone : Rows → Text → Type 0
+IsReadableRevokedAlone rows t = IsReadableAlone rows t × IsReadableWaiting (table_of rows) t
+
+-- What a revocation by an accessor reads: what that of the token reads which it names; or, if it names none, the row of
+-- the wrapping token that it names.
+abbrev pub IsReadableHolder : Rows → Text → Option Text → Type 0
+IsReadableHolder rows accessor None = wrapping.IsReadableName (table_of rows) accessor
+IsReadableHolder rows accessor (Some t) = IsReadableRevoked rows t
+
+-- and before that the row of the accessor
+abbrev pub IsReadableByAccessor : Rows → Text → Type 0
+IsReadableByAccessor rows accessor =
+    (found : Option Text) × IsFoundAt (table_of rows) accessor found × IsReadableHolder rows accessor found
+
 -- A creation goes by the row of the caller and those of its policies, which the permission to ask for it has read.
 abbrev pub AreReadableTokens : Rows → Text → TokenCommand → Type 0
 AreReadableTokens rows caller (token.Create making asked) = ⊤
@@ -62,10 +84,10 @@ AreReadableTokens rows caller (token.LookUpAccessor a) = IsReadableName rows (Is
 AreReadableTokens rows caller token.LookUpSelf = IsReadableToken rows caller
 AreReadableTokens rows caller (token.Renew asked) = IsReadableToken rows asked.token
 AreReadableTokens rows caller (token.RenewSelf increment) = IsReadableToken rows caller
-AreReadableTokens rows caller (token.Revoke t) = IsReadableDescent rows t
-AreReadableTokens rows caller (token.RevokeOrphan t) = IsReadableAlone rows t
-AreReadableTokens rows caller (token.RevokeAccessor a) = IsReadableName rows (IsReadableDescent rows) a
-AreReadableTokens rows caller token.RevokeSelf = IsReadableDescent rows caller
+AreReadableTokens rows caller (token.Revoke t) = IsReadableRevoked rows t
+AreReadableTokens rows caller (token.RevokeOrphan t) = IsReadableRevokedAlone rows t
+AreReadableTokens rows caller (token.RevokeAccessor a) = IsReadableByAccessor rows a
+AreReadableTokens rows caller token.RevokeSelf = IsReadableRevoked rows caller
 AreReadableTokens rows caller token.ListAccessors = AreAccessorRows rows
 
 -- ---- secrets

@@ -1,7 +1,6 @@
 -- Which rows represent which broker (this project's definition).
 use Rattle.std.specs.Prelude.{◌≡◌, Option, None}
 use Rattle.broker_types.specs.Text.{Text}
-use Rattle.broker_types.specs.Map.{empty}
 use Rattle.broker_types.specs.Broker.{Broker}
 use Rattle.broker_types.specs.Sound.{Sound}
 use Rattle.broker_types.specs.Answer.{response_of}
@@ -12,16 +11,11 @@ use Rattle.records.specs.Transaction.{Rows}
 use Rattle.records.specs.Table.{table_of}
 use Rattle.records.specs.Rows.{rows_of}
 
--- What the requests served so far can leave: everything of every form, but no waiting responses.
-pub record AsServed (b : Broker) : Type 0 where
-  pub none_waits : b.waiting ≡ empty
-
 -- The rows are those of the broker, which is sound, but for the caller who may have spent its last use: none between
--- two requests. And it is one that the requests served so far can leave.
+-- two requests.
 pub record Represents (who : Option Text) (kept : Rows) (b : Broker) : Type 0 where
   pub rows : table_of kept ≡ rows_of b
   pub sound : Sound forms who b
-  pub served : AsServed b
 
 -- the answer is the response of the outcome, and the rows represent its next broker
 pub record Gives (a : Answer) (rows : Rows) (o : Outcome) : Type 0 where

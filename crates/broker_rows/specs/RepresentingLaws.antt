@@ -1,18 +1,21 @@
 -- Laws of rows that represent a broker.
 use Rattle.std.proofs.Common.{refl, sym, ◌∙◌, ap, subst, inl, inr}
+use Rattle.std.proofs.lemmas.Bool.{false≢true}
 use Rattle.std.specs.Prelude.{◌≡◌, Bool, true, false, if◌then◌else◌, Option, Some, None, option_map, option_and_then}
 use Rattle.std.specs.Prelude.{◌≢◌, List, length}
 use Rattle.broker_types.specs.Broker.{Broker}
 use Rattle.broker_types.specs.Map.{get, change}
 use Rattle.broker_types.specs.MapLaws.{get-change}
 use Rattle.broker_types.specs.OptionLaws.{found_or_not}
-use Rattle.broker_types.specs.Places.{lease_of}
+use Rattle.broker_types.specs.Places.{Place, token, wrapping_token, token_identifier, lease_of, OnePlaceEach}
+use Rattle.broker_types.specs.Spending.{drop_waiting}
+use Rattle.broker_types.specs.SpendingLaws.{drop_sound}
 use Rattle.broker_types.specs.Text.{Text, same}
 use Rattle.broker_types.specs.Sound.{Sound}
 use Rattle.broker_types.specs.Token.{Token}
 use Rattle.records.specs.CubbyKeyLaws.{length-token}
-use Rattle.records.specs.PartLaws.{AgreeOutside, joined_rows}
-use Rattle.records.specs.Parts.{Part, Tells, KeepsOthers, of_tokens, of_leases, of_mounts, of_policies}
+use Rattle.records.specs.PartLaws.{AgreeOutside, joined_rows, rows_of-other_waiting}
+use Rattle.records.specs.Parts.{Part, Tells, KeepsOthers, of_tokens, of_leases, of_waiting, of_mounts, of_policies}
 use Rattle.records.specs.Rows.{token_len}
 use Rattle.records.specs.Table.{Table, table_of}
 use Rattle.records.specs.Transaction.{Rows}
@@ -20,6 +23,7 @@ use Rattle.token_tree.specs.Tokens.{RepresentsTokens}
 use Rattle.leases.specs.LeaseRows.{RepresentsLeases}
 use Rattle.leases.specs.LeftLaws.{same_rows}
 use Rattle.leases.specs.TellLaws.{token_of}
+use Rattle.wrapping.specs.WaitingRows.{RepresentsWaiting}
 use Rattle.mounts.specs.MountRows.{AreMounts}
 use Rattle.mounts.specs.TellLaws.{mounts_told}
 use Rattle.policies.specs.PolicyLaws.{told_at}
@@ -43,14 +47,13 @@ tells_part part b rows st k q _ = ap (λ (t : Table). t k q) st.rows
 abbrev pub everything : Part
 everything k = true
 
--- rows of one part have changed, and represent the broker that they tell, in which the same responses wait
+-- rows of one part have changed, and represent the broker that they tell, which is sound
 pub represents_next : {who : Option Text} (part : Part) (b c : Broker) (old new : Rows) → Represents who old b
-    → Sound forms who c → c.waiting ≡ b.waiting → AgreeOutside part b c → Tells part (table_of new) c
+    → Sound forms who c → AgreeOutside part b c → Tells part (table_of new) c
     → KeepsOthers part (table_of old) (table_of new) → Represents who new c
-represents_next part b c old new st sound waits agree tells keeps = record {
+represents_next part b c old new st sound agree tells keeps = record {
   rows = joined_rows part (table_of old) (table_of new) b c st.rows tells keeps agree;
   sound = sound;
-  served = record { none_waits = waits ∙ st.served.none_waits };
 }
 
 -- rows that represent a broker represent its tokens
@@ -61,6 +64,41 @@ represents_tokens b rows st = record {
   one_place = st.sound.identifiers.one_place;
   tells = tells_part of_tokens b rows st;
 }
+
+-- the responses that wait in it
+pub represents_waiting : {who : Option Text} (b : Broker) (rows : Rows) → Represents who rows b
+    → RepresentsWaiting (table_of rows) b
+represents_waiting b rows st = record {
+  sound = st.sound.waiting;
+  one_place = st.sound.identifiers.one_place;
+  tells = tells_part of_waiting b rows st;
+}
+
+-- and where one was dropped, the broker without it
+pub represents_dropped : {who : Option Text} (b : Broker) (t : Text) (old new : Rows) → Represents who old b
+    → Tells of_waiting (table_of new) (drop_waiting b t) → KeepsOthers of_waiting (table_of old) (table_of new)
+    → Represents who new (drop_waiting b t)
+represents_dropped {who} b t old new st tells keeps =
+    represents_next of_waiting b (drop_waiting b t) old new st (drop_sound b t forms who st.sound)
+    (rows_of-other_waiting b (drop_waiting b t).waiting) tells keeps
+
+abbrev is_wrapping : Place → Bool
+is_wrapping (wrapping_token t) = true
+is_wrapping _ = false
+
+-- what is a token is no wrapping token
+pub one_kind : (b : Broker) (t : Text) → OnePlaceEach b → get b.tokens t ≢ None → get b.waiting t ≡ None
+one_kind b t one here = elim (found_or_not (get b.waiting t)) [
+  | inl none ↦ none
+  | inr w ↦ elim (found_or_not (get b.tokens t)) [
+    | inl none ↦ absurd (here none)
+    | inr x ↦
+        let both : token t ≡ wrapping_token t =
+        one (token t) (wrapping_token t) (token_identifier t) (ap (option_map (λ _. token_identifier t)) x.1)
+        (ap (option_map (λ _. token_identifier t)) w.1) in
+        absurd (false≢true (ap is_wrapping both))
+  ]
+]
 
 -- and its leases, also where rows of tokens alone have changed since
 pub represents_leases : {who : Option Text} (b : Broker) (old new : Rows) → Represents who old b

@@ -20,9 +20,10 @@ use std::alloc::Global;
 
 /// Moves the clock on to the moment, unless it is later already, and answers it. Each token that has come to its end by
 /// then ends with all below it, and so does each lease; what belonged to the tokens goes (Vault's documentation,
-/// "Tokens", and "Lease, renew, and revoke"). It is asked once what is due, for all of these. It fails with
-/// `BadStart` if the clock has no row, with `Memory` if memory runs out, with `Storage` if the transaction's storage
-/// failed, and with `Damaged` if a row that it asks for cannot be read.
+/// "Tokens", and "Lease, renew, and revoke"). So does each response whose wrapping token has come to its end
+/// ("Response wrapping"). It is asked once what is due, for all of these. It fails with `BadStart` if the clock has no
+/// row, with `Memory` if memory runs out, with `Storage` if the transaction's storage failed, and with `Damaged` if a
+/// row that it asks for cannot be read.
 pub fn expire<T: RecordsTx>(alloc: Global, tx: &mut T, moment: Moment) -> Result<Moment, Fault>
     ensures told { IsHonest (T.seen tx.new) → (b : Broker) → Represents None (T.seen tx.old).rows b
         → IfOk result (λ now. (now ≡ (at_moment b moment).clock)
@@ -39,7 +40,7 @@ pub fn expire<T: RecordsTx>(alloc: Global, tx: &mut T, moment: Moment) -> Result
     ensures kept { IsHonest (T.seen tx.new)
         → OnOk result (KeepsDamaged (T.seen tx.old).rows (T.seen tx.new).rows) }
 
-    // No row changes but those of the clock, of tokens and of what belongs to them.
+    // No row changes but those of the clock, of tokens and of what belongs to them, and of responses that wait.
     ensures call { IsChange (KeepsOthers of_expired) (T.seen tx.old) (T.seen tx.new) result (λ _. ⊤) }
 {
     let now = advance_clock(alloc, tx, moment)?;
@@ -47,6 +48,7 @@ pub fn expire<T: RecordsTx>(alloc: Global, tx: &mut T, moment: Moment) -> Result
     let ended = token_tree::end_due(alloc, tx, &due, now)?;
     leases::end_due(tx, &due)?;
     leave_nothing(alloc, tx, &ended)?;
+    wrapping::drop_due(tx, &due)?;
     Ok(now)
 }
 

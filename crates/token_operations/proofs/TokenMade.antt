@@ -31,7 +31,6 @@ use Rattle.broker_rows.specs.Representing.{Represents}
 use Rattle.broker_rows.specs.Done.{IsDone}
 use Rattle.broker_rows.specs.declared.answered.Answered.TheVariants.{Made}
 use Rattle.broker_rows.specs.RepresentingLaws.{tokens_long}
-use Rattle.token_operations.proofs.TokenSound.{IsLeft, served_tokens}
 use Rattle.token_operations.proofs.TokenTables.{represents-created}
 
 -- ---- the rows of identifiers
@@ -63,16 +62,10 @@ module _ (b : Broker) (t : Text) (x : Token) (mid new : Table)
   marks_keep : KeepsOthers of_used mid new
   marks_keep k q h = ap (λ (table : Table). table k q) is ∙ marks_outside k q h
 
--- ---- what is left
+-- ---- what is made
 
 module _ {who : Option Text} (b : Broker) (names : Names) (x : Token) (old mid new : Rows) (st : Represents who old b)
     (can : MayBeMade forms b (token_text names.token) x) (bare : x.cubbyhole ≡ empty) (named : x.accessor ≡ names.accessor) where
-  left : IsLeft forms who (created b (token_text names.token) x)
-  left = record {
-    sound = create_sound b (token_text names.token) x forms who st.sound can;
-    served = served_tokens b (put b.tokens (token_text names.token) x) (use_up b.used (names.token ∷ x.accessor ∷ [])) st.served;
-  }
-
   -- the token was made, both identifiers were marked, and the reply shows it
   pub made_done : Tells of_tokens (table_of mid) (with_token b (token_text names.token) x) → KeepsOthers of_tokens (table_of old) (table_of mid)
       → table_of new ≡ with_row (with_row (table_of mid) kind.Used x.accessor used_row) kind.Used names.token used_row
@@ -81,7 +74,8 @@ module _ {who : Option Text} (b : Broker) (names : Names) (x : Token) (old mid n
   made_done tells others marks r a shown given = (
     λ i. operation.reply (shown i) (Some ((given ∙ named) i)),
     subst (λ i. Represents who new (record (with_token b (token_text names.token) x) { used = use_up b.used (names.token ∷ i ∷ []) })) named
-        (represents-created b (token_text names.token) x old st can mid new bare left tells others
+        (represents-created b (token_text names.token) x old st can mid new bare
+        (create_sound b (token_text names.token) x forms who st.sound can) tells others
         (marks_told b (token_text names.token) x (table_of mid) (table_of new) marks
         (λ q. others kind.Used q refl ∙ ap (λ (table : Table). table kind.Used q) st.rows))
         (marks_keep b (token_text names.token) x (table_of mid) (table_of new) marks)),

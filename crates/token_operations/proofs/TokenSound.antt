@@ -34,7 +34,6 @@ use Rattle.broker_model.specs.parts.TokenCreation.{makes_orphans}
 use Rattle.broker_model.specs.parts.TokenCreation.{new_token, new_parent, or_longest, asked_ttl, has_no_end, use_limit}
 use Rattle.broker_model.specs.parts.Tokens.{known, revoke}
 use Rattle.broker_model.specs.parts.Tokens.{revoke_alone}
-use Rattle.broker_rows.specs.Representing.{AsServed}
 use Rattle.broker_rows.specs.Done.{counted}
 use Rattle.broker_model.specs.parts.TokenCommands.{token_names}
 use Rattle.token_operations.specs.TokenRanges.{IsInRange, AreTokenNames}
@@ -108,17 +107,6 @@ new_unspent n = by (n == 0) refl
     by true is e = none-some _ e
     by false is e = false≢true (sym is ∙ ap (λ k. k == 0) (same_Some _ _ e))
 
--- ---- what is left
-
--- sound, but for the caller who, and one that the requests served so far can leave
-pub record IsLeft (forms : Forms) (who : Option Text) (b : Broker) : Type 0 where
-  pub sound : Sound forms who b
-  pub served : AsServed b
-
--- what the requests served so far can leave is so with any tokens
-pub served_tokens : (b : Broker) (us : Tokens) (used : Map ⊤) → AsServed b → AsServed (record b { tokens = us; used = used })
-served_tokens b us used s = record { none_waits = s.none_waits }
-
 -- ---- by creation
 
 -- the policies of a sound token
@@ -150,25 +138,4 @@ module _ (forms : Forms) (who : Option Text) (b : Broker) (sound : Sound forms w
     parent = λ p e. parent_stands c (makes_orphans making || asked.no_parent) p here e;
     no_lease = refl;
     unspent = new_unspent asked.num_uses;
-  }
-
--- ---- by the other commands
-
-module _ (forms : Forms) (who : Option Text) (b : Broker) (left : IsLeft forms who b) where
-  pub left_by_revocation : (t : Text) → IsLeft forms who (counted (revoke b t))
-  left_by_revocation t = record {
-    sound = revoke_sound forms who b left.sound t;
-    served = served_tokens b (without_descendants b.tokens t) b.used left.served;
-  }
-
-  pub left_by_one_revocation : (t : Text) → IsLeft forms who (counted (revoke_alone b t))
-  left_by_one_revocation t = record {
-    sound = revoke_orphan_sound forms who b left.sound t;
-    served = served_tokens b (without_parent b.tokens t) b.used left.served;
-  }
-
-  pub left_by_renewal : (t : Text) (ends : ℕ) → IsEnd ends → IsLeft forms who (tree.renew b t ends)
-  left_by_renewal t ends near = record {
-    sound = renew_sound forms who b t ends left.sound near;
-    served = served_tokens b (change b.tokens t (with_end ends)) b.used left.served;
   }

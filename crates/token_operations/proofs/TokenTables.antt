@@ -1,7 +1,7 @@
 -- The part of tokens: from rows that a call on tokens left to the broker that they represent.
 use Rattle.std.specs.Prelude.{◌≡◌, ◌+◌, ℕ, List, Bool, true, false, cond, if◌then◌else◌, Option, Some, None, option_map, option_and_then, take, drop}
 use Rattle.std.specs.FinMap.{get-empty}
-use Rattle.std.proofs.Common.{refl, sym, ◌∙◌, ap}
+use Rattle.std.proofs.Common.{refl, sym, ◌∙◌, ap, subst}
 use Rattle.std.proofs.lemmas.Bool.{false≢true}
 use Rattle.broker_types.specs.Text.{Text, text_cmp, same}
 use Rattle.broker_types.specs.Map.{get, put, empty, change}
@@ -11,29 +11,30 @@ use Rattle.broker_types.specs.TreeLaws.{orphaned_is}
 use Rattle.broker_types.specs.Lineage.{without_descendants, without_parent}
 use Rattle.broker_types.specs.Places.{token, token_identifier, lease_of}
 use Rattle.broker_types.specs.Token.{Token, Tokens}
-use Rattle.broker_types.specs.Broker.{Broker, revoke, revoke_orphan}
-use Rattle.broker_types.specs.Sound.{IsEnd}
+use Rattle.broker_types.specs.Broker.{Broker, Waiting, revoke, revoke_orphan}
+use Rattle.broker_types.specs.RemovalLaws.{revoke_sound, revoke_orphan_sound}
+use Rattle.broker_types.specs.Sound.{IsEnd, Sound}
 use Rattle.records.specs.declared.kind.Kind.{Kind}
 use Rattle.records.specs.declared.kind.Kind.TheVariants as kind
 use Rattle.records.specs.PartLaws.{joined_rows, rows_of-other_used}
 use Rattle.records.specs.Parts.{Tells, KeepsOthers, of_tokens, of_cubbyholes, of_used}
-use Rattle.records.specs.RowForms.{cubby_row}
+use Rattle.records.specs.Ranges.{IsWaitingInRange}
+use Rattle.records.specs.Reading.{IsRowOf}
+use Rattle.records.specs.RowForms.{cubby_row, waiting_row}
 use Rattle.records.specs.Rows.{rows_of, token_len, has_slash, object_row}
 use Rattle.records.specs.Table.{Table, table_of}
 use Rattle.records.specs.Transaction.{Rows}
+use Rattle.token_tree.specs.SoundLaws.{renew_sound}
 use Rattle.token_tree.specs.Tokens.{AreEnded, MayBeMade, created, with_token, with_end, renew}
 use Rattle.broker_model.specs.Forms.{forms}
 use Rattle.leases.specs.LeftLaws.{go_with_tokens, nothing_ends}
+use Rattle.wrapping.specs.WaitingRows.{IsReadableWaiting}
+use Rattle.broker_rows.specs.Ending.{LeavesNothing}
 use Rattle.broker_rows.specs.Left.{HaveEnded}
 use Rattle.broker_rows.specs.LeftLaws.{revoked_left}
 use Rattle.broker_rows.specs.Representing.{Represents}
-use Rattle.broker_rows.specs.EndingLaws.{no_token, is_object, is_elsewhere, other_tokens}
+use Rattle.broker_rows.specs.EndingLaws.{leaves_others, no_token, is_object, is_elsewhere, other_tokens}
 use Rattle.broker_rows.specs.RepresentingLaws.{leases_still, changed_leases}
-use Rattle.token_operations.proofs.TokenSound.{IsLeft, left_by_revocation, left_by_one_revocation, left_by_renewal}
-
--- rows that represent a broker, which is sound then, and one that the requests served so far can leave
-pub left_before : {who : Option Text} (b : Broker) (rows : Rows) → Represents who rows b → IsLeft forms who b
-left_before b rows st = record { sound = st.sound; served = st.served }
 
 -- ---- tokens that end
 
@@ -43,29 +44,34 @@ module _ {who : Option Text} (b : Broker) (t : Text) (old mid : Rows) (ended : L
   pub has_revoked : AreEnded b (revoke b t) ended → Tells of_tokens (table_of mid) (revoke b t)
       → HaveEnded who who b (without_descendants b.tokens t) ended mid
   has_revoked are tells =
-      revoked_left b t old mid ended st (left_by_revocation forms who b (left_before b old st) t).sound are tells others
+      revoked_left b t old mid ended st (revoke_sound forms who b st.sound t) are tells others
 
   -- a token was revoked alone: those that are left have their cubbyholes and their leases
   pub has_revoked_alone : AreEnded b (revoke_orphan b t) ended → Tells of_tokens (table_of mid) (revoke_orphan b t)
       → HaveEnded who who b (without_parent b.tokens t) ended mid
-  has_revoked_alone are tells =
-      let left = left_by_one_revocation forms who b (left_before b old st) t in
-      record {
-        old = old;
-        mid = mid;
-        represents = st;
-        are = are;
-        keep = λ q y is. let x = orphaned_is b.tokens t q y is in (x.0, x.1, ap (λ (z : Token). z.cubbyhole) x.2);
-        sound = left.sound;
-        tells = tells;
-        others = others;
-        due = λ q row. false;
-        ends = nothing_ends (table_of mid);
-        leaves = go_with_tokens b (without_parent b.tokens t) ended (record {
-          exact = are.exact;
-          kept = λ q y is. let x = orphaned_is b.tokens t q y is in (x.0, x.1, ap (λ (z : Token). z.leases) x.2);
-        });
-      }
+  has_revoked_alone are tells = record {
+    old = old;
+    mid = mid;
+    represents = st;
+    are = are;
+    keep = λ q y is. let x = orphaned_is b.tokens t q y is in (x.0, x.1, ap (λ (z : Token). z.cubbyhole) x.2);
+    sound = revoke_orphan_sound forms who b st.sound t;
+    tells = tells;
+    others = others;
+    due = λ q row. false;
+    ends = nothing_ends (table_of mid);
+    leaves = go_with_tokens b (without_parent b.tokens t) ended (record {
+      exact = are.exact;
+      kept = λ q y is. let x = orphaned_is b.tokens t q y is in (x.0, x.1, ap (λ (z : Token). z.leases) x.2);
+    });
+  }
+
+-- a row of a response that can be read once they have can be read before
+pub response_still : (ended : List Text) (t : Text) (old mid left : Rows) → KeepsOthers of_tokens (table_of old) (table_of mid)
+    → LeavesNothing ended mid left → IsReadableWaiting (table_of left) t → IsReadableWaiting (table_of old) t
+response_still ended t old mid left others leaves readable =
+    subst (λ o. (w : Option Waiting) × IsRowOf IsWaitingInRange waiting_row o w)
+    (leaves_others ended mid left leaves kind.Waiting t refl ∙ others kind.Waiting t refl) readable
 
 -- ---- rows of cubbyholes and leases that stay
 
@@ -104,12 +110,10 @@ objects_renewed ts t ends q path =
 pub represents-renewed : {who : Option Text} (b : Broker) (t : Text) (ends : ℕ) (old new : Rows) → Represents who old b → IsEnd ends
     → Tells of_tokens (table_of new) (renew b t ends) → KeepsOthers of_tokens (table_of old) (table_of new) → Represents who new (renew b t ends)
 represents-renewed {who} b t ends old new st near tells others =
-    let left = left_by_renewal forms who b (left_before b old st) t ends near in
     record {
       rows = rows_alike b (change b.tokens t (with_end ends)) (objects_renewed b.tokens t ends)
           (changed_leases b t (with_end ends) (λ x. refl)) old new st tells others;
-      sound = left.sound;
-      served = left.served;
+      sound = renew_sound forms who b t ends st.sound near;
     }
 
 -- ---- a creation
@@ -149,15 +153,14 @@ module _ {who : Option Text} (b : Broker) (t : Text) (x : Token) (old : Rows) (s
           absurd (st.sound.identifiers.all_used (token t) (token_identifier t) (ap (option_map (λ (z : Token). token_identifier t)) is) can.token_is_new)
 
   -- a token was made, without a cubbyhole, and then its identifiers were marked as used
-  pub represents-created : (mid new : Rows) → x.cubbyhole ≡ empty → IsLeft forms who (created b t x)
+  pub represents-created : (mid new : Rows) → x.cubbyhole ≡ empty → Sound forms who (created b t x)
       → Tells of_tokens (table_of mid) (with_token b t x) → KeepsOthers of_tokens (table_of old) (table_of mid)
       → Tells of_used (table_of new) (created b t x) → KeepsOthers of_used (table_of mid) (table_of new) → Represents who new (created b t x)
-  represents-created mid new bare left tells others marks kept =
+  represents-created mid new bare sound tells others marks kept =
       let made = rows_alike b (put b.tokens t x) (objects_made b.tokens t x absent bare) (leases_made b t x absent can.no_lease)
       old mid st tells others in
       record {
         rows = joined_rows of_used (table_of mid) (table_of new) (with_token b t x) (created b t x) made marks kept
             (rows_of-other_used (with_token b t x) (created b t x).used);
-        sound = left.sound;
-        served = left.served;
+        sound = sound;
       }

@@ -1,6 +1,7 @@
 -- The part of tokens: what the commands of the routes under `auth/token/` do to the maps (Vault's documentation, "Token
--- auth method (API)"). No response waits so far: `revoke`, `revoke_alone` and `revoke_named` end no wrapping tokens.
+-- auth method (API)").
 use Rattle.std.specs.Prelude.{ℕ, ◌+◌, ◌==◌, min, List, [], Bool, Some, None, is_some, Result, Ok, if◌then◌else◌}
+use Rattle.std.specs.Option.{option_map_or}
 use Rattle.broker_types.specs.Text.{Text}
 use Rattle.broker_types.specs.Map.{get}
 use Rattle.broker_types.specs.Limits.{longest_ttl}
@@ -11,12 +12,14 @@ use Rattle.broker_types.specs.Broker as broker
 use Rattle.broker_types.specs.Broker.{Broker}
 use Rattle.broker_types.specs.Operation.{nothing, reply, plainly, Done}
 use Rattle.broker_types.specs.Refuse.{◌>>=◌, some_or, unless}
+use Rattle.broker_types.specs.Spending.{drop_waiting}
 use Rattle.broker_types.specs.declared.refusal.Refusal.{Refusal}
 use Rattle.broker_types.specs.declared.refusal.Refusal.TheVariants as refusal
 use Rattle.broker_types.specs.declared.refusal.Reason.TheVariants as reason
 use Rattle.broker_types.specs.declared.refusal.Denial.TheVariants as denial
 use Rattle.records.specs.TokenEntry.{TokenEntry, token_entry}
 use Rattle.token_tree.specs.Tokens as tree
+use Rattle.wrapping.specs.Wrapping as wrapping
 use Rattle.api_json.specs.Objects.{keys_object}
 use Rattle.api_json.specs.Reply.{plain_reply}
 use Rattle.api_json.specs.declared.token_bodies.TokenCreation.{TokenCreation}
@@ -103,18 +106,25 @@ renew b names t increment = do
 
 -- ---- revocation
 
--- the token t ends, with all under it; an unknown text changes nothing
+-- The token t ends, with all under it, and the wrapping token t with the response that waits under it (Vault's
+-- documentation, "Response wrapping"). It is one of the two or neither, so an unknown text changes nothing.
 abbrev pub revoke : Broker → Text → Done
-revoke b t = plainly nothing (broker.revoke b t)
+revoke b t = plainly nothing (drop_waiting (broker.revoke b t) t)
 
--- the token t ends alone: its children have no parent then; an unknown text changes nothing
+-- the same of a token alone: its children have no parent then
 abbrev pub revoke_alone : Broker → Text → Done
-revoke_alone b t = plainly nothing (broker.revoke_orphan b t)
+revoke_alone b t = plainly nothing (drop_waiting (broker.revoke_orphan b t) t)
 
--- the token of the accessor ends, with all under it
+-- the token or the wrapping token of an accessor; an accessor of neither is 400 `invalid accessor`
+abbrev pub holder : Broker → Text → Result Text Refusal
+holder b accessor =
+    some_or (refusal.BadRequest reason.InvalidAccessor)
+    (option_map_or Some (tree.find_accessor b accessor) (wrapping.find_accessor b accessor))
+
+-- what has the accessor is revoked
 abbrev pub revoke_named : Broker → Text → Result Done Refusal
 revoke_named b accessor = do
-  t ← named b accessor
+  t ← holder b accessor
   Ok (revoke b t)
 
 -- ---- the part
