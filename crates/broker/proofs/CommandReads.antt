@@ -1,5 +1,5 @@
 -- What a command reads: what an ask means, whether it may be asked, and the rows when it is carried out.
-use Rattle.std.specs.Prelude.{◌≡◌, ◌⊎◌, ◌&&◌, ◌||◌, not, List, [], ◌∷◌, Bool, true, false, cond}
+use Rattle.std.specs.Prelude.{◌≡◌, ◌≢◌, ◌⊎◌, ◌&&◌, ◌||◌, not, List, [], ◌∷◌, Bool, true, false, cond}
 use Rattle.std.specs.Prelude.{if◌then◌else◌, Option, Some, None, option_map, Result, Ok, Err, IfOk, OnOk, ⊤}
 use Rattle.std.specs.FinMap.{find}
 use Rattle.std.specs.Ordering.{is_eq}
@@ -7,9 +7,9 @@ use Rattle.std.proofs.Common.{refl, sym, ◌∙◌, ap, subst, inl, inr}
 use Rattle.std.proofs.lemmas.Bool.{true≢false}
 use Rattle.std.proofs.lemmas.Option.{none-some}
 use Rattle.broker_types.specs.Text.{Text, text_cmp, same}
-use Rattle.broker_types.specs.TextLaws.{same_true, same-text_cmp}
+use Rattle.broker_types.specs.TextLaws.{same_self, same_true, same-text_cmp}
 use Rattle.broker_types.specs.Answer.{response_of, refused}
-use Rattle.broker_types.specs.Broker.{Mount}
+use Rattle.broker_types.specs.Broker.{Mount, Waiting}
 use Rattle.broker_types.specs.RequestError.{EndsRefused}
 use Rattle.broker_types.specs.declared.answer.Answer.{Answer}
 use Rattle.broker_types.specs.declared.ask.Ask.{Ask}
@@ -17,15 +17,16 @@ use Rattle.broker_types.specs.declared.ask.Verb.{Verb}
 use Rattle.broker_types.specs.declared.refusal.Refusal.{Refusal}
 use Rattle.broker_types.specs.declared.request_error.RequestError.{RequestError}
 use Rattle.broker_types.specs.declared.request_error.RequestError.TheVariants.{Refused, Fault as Given}
+use Rattle.records.specs.declared.kind.Kind.{Kind}
 use Rattle.records.specs.declared.kind.Kind.TheVariants as kind
 use Rattle.records.specs.declared.row.Row.{Row}
 use Rattle.records.specs.Children.{has}
 use Rattle.records.specs.Kind.{RowKey}
 use Rattle.records.specs.ListedLaws.{named, find-listed}
-use Rattle.records.specs.Parts.{KeepsOthers, of_tokens}
+use Rattle.records.specs.Parts.{KeepsOthers, of_tokens, of_waiting}
 use Rattle.records.specs.RowForms.{entry_row}
 use Rattle.api_json.specs.Reads.{IsReadErr}
-use Rattle.records.specs.Table.{Table, table_of}
+use Rattle.records.specs.Table.{Table, table_of, without_row}
 use Rattle.records.specs.TableLaws.{with_row_keeps}
 use Rattle.records.specs.TokenEntry.{TokenEntry}
 use Rattle.records.specs.Transaction.{Rows, rows_under}
@@ -37,15 +38,17 @@ use Rattle.mounts.specs.Route.{Route, cut, route_at}
 use Rattle.broker_model.specs.Command.{Command, command_for}
 use Rattle.broker_model.specs.Order.{permission_denied}
 use Rattle.cubbyhole.specs.Objects.{object_key}
-use Rattle.token_tree.specs.TokenRows.{ChangesToken, spent_entry, with_entry}
+use Rattle.token_tree.specs.TokenRows.{ChangesToken, IsTokenAt, SpendsUse, spent_entry, with_entry}
+use Rattle.wrapping.specs.WaitingRows.{IsWaitingAt, without_entry}
 use Rattle.broker_rows.specs.EndingLaws.{leaves_others}
-use Rattle.broker_rows.specs.Ending.{EndsCaller, EndsBelow, IsSpentAt}
+use Rattle.broker_rows.specs.Ending.{DropsResponse, EndsCaller, EndsBelow, IsSpentAt}
 use Rattle.broker_rows.specs.ReadableRow.{IsReadableObject}
 use Rattle.broker_rows.specs.ReadableLaws.{unspent_gone}
 use Rattle.broker.proofs.Routes.{known_still}
 use Rattle.broker.specs.PermittedRows.{IsPermittedAt}
 use Rattle.broker.specs.Answering.{Asks, IsForbidden, IsCarriedOutOrForbidden}
 use Rattle.broker.specs.Answering.{MayBeDone}
+use Rattle.broker.specs.Stages.{DropsClient}
 
 -- ---- what an ask means
 
@@ -192,3 +195,33 @@ permitted_before old new t u path q verb found v w same_rows at same_path is rea
 pub asks_spent : (old new : Rows) (t : Text) (a : Ask) (c : Command) → ChangesToken t spent_entry (table_of old) (table_of new) → Asks old a c
     → Asks new a c
 asks_spent old new t a c spent asks = asks_still old new a c (others_unspent old new t spent kind.Mount (cut a.path).0 refl) asks
+
+-- who has spent a use had a row
+pub spender_here : (t : Text) (old new : Table) (known : TokenEntry) → SpendsUse t old new (Some known) → old kind.Token t ≢ None
+spender_here t old new known spends none = by spends.changes.entry spends.changes.was spends.told
+  where
+    by : (o : Option TokenEntry) → IsTokenAt old t o → Some known ≡ option_map spent_entry o → ⊥
+    by None at told = none-some _ (sym told)
+    by (Some e) at told = none-some _ (sym none ∙ at)
+
+-- a client token that is dropped leaves the rows of other kinds
+pub client_keeps : (token : Option Text) (old new : Rows) → DropsClient token old new → KeepsOthers of_waiting (table_of old) (table_of new)
+client_keeps None old new same k q h = ap (λ (rows : Rows). table_of rows k q) same
+client_keeps (Some t) old new drops k q h = ap (λ (z : Table). z k q) drops.1.is ∙ taken_out drops.0 k h
+  where
+    taken_out : (w : Option Waiting) (k : Kind) → of_waiting k ≡ false → without_entry (table_of old) t w k q ≡ table_of old k q
+    taken_out None k h = refl
+    taken_out (Some w) kind.Waiting h = absurd (true≢false h)
+    taken_out (Some w) kind.Accessor h = absurd (true≢false h)
+    taken_out (Some w) _ h = refl
+
+-- and has no row as a wrapping token then
+pub response_gone : (t : Text) (old new : Rows) → DropsResponse t old new → table_of new kind.Waiting t ≡ None
+response_gone t old new drops = by drops.0 drops.1.was drops.1.is
+  where
+    by : (w : Option Waiting) → IsWaitingAt (table_of old) t w → table_of new ≡ without_entry (table_of old) t w
+        → table_of new kind.Waiting t ≡ None
+    by None was is = ap (λ (z : Table). z kind.Waiting t) is ∙ was.row
+    by (Some w) was is =
+        ap (λ (z : Table). z kind.Waiting t) is
+        ∙ ap (λ v. if v then None else without_row (table_of old) kind.Accessor w.accessor kind.Waiting t) (same_self t)

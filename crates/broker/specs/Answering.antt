@@ -20,6 +20,7 @@ use Rattle.broker_rows.specs.Ending.{EndsCaller, Expires}
 use Rattle.broker_rows.specs.Reads.{AreReadableObjects, AreReadableTokens, AreReadableSecrets, AreReadablePolicies}
 use Rattle.broker_rows.specs.Reads.{AreReadableMounts, AreReadableLeases, AreReadableIssued}
 use Rattle.broker.specs.PermittedRows.{IsPermittedAt, IsToldForbidden}
+use Rattle.broker.specs.Stages.{DropsClient}
 
 -- ---- what an ask means
 
@@ -44,11 +45,12 @@ pub record Asks (rows : Rows) (a : Ask) (command : Command) : Type 0 where
 
 -- ---- when the rows are read
 
--- the rows when a command of the token t is carried out: tokens have expired, and t has spent a use
+-- the rows when a command of the token t is carried out: what was due has ended, t is there, and has spent a use
 pub record AreAtCommand (moment : ℕ) (t : Text) (old rows : Rows) : Type 0 where
   pub now : ℕ
   pub expired : Rows
   pub expires : Expires moment now old expired
+  pub here : map.get expired (kind.Token, t) ≢ None
   pub spends : ChangesToken t spent_entry (table_of expired) (table_of rows)
 
 -- ---- a caller that may not ask
@@ -75,7 +77,7 @@ pub record IsCarriedOut (rows new : Rows) (t : Text) (ask : Ask) : Type 0 where
 abbrev pub IsCarriedOutOrForbidden : Rows → Rows → Text → Ask → Response → Type 0
 IsCarriedOutOrForbidden rows new t ask r = IsCarriedOut rows new t ask ⊎ IsToldForbidden rows new t ask r
 
--- once tokens have expired and t has spent a use, it is told that it may not ask
+-- once what was due has ended and t has spent a use, it is told that it may not ask
 abbrev pub IsForbiddenThen : ℕ → Text → Rows → Rows → Ask → Response → Type 0
 IsForbiddenThen moment t old new ask r =
     (rows : Rows) × AreAtCommand moment t old rows × IsToldForbidden rows new t ask r
@@ -91,13 +93,15 @@ pub record IsAskedBy (moment : ℕ) (t : Text) (old new : Rows) (ask : Ask) (r :
   pub at : AreAtCommand moment t old rows
   pub done : IsCarriedOutOrForbidden rows new t ask r
 
--- The response is 403 `permission denied`: once tokens have expired, there is no token that the client token names, if
--- there is a client token at all. Nothing else was done.
+-- The response is 403 `permission denied`: once what was due has ended, there is no token that the client token names,
+-- if there is a client token at all. If it is a wrapping token, its response was dropped. Nothing else was done.
 pub record IsDenied (moment : ℕ) (token : Option Text) (r : Response) (old new : Rows) : Type 0 where
   pub response : r ≡ refused permission_denied
   pub nobody : (t : Text) → token ≡ Some t → map.get new (kind.Token, t) ≡ None
   pub now : ℕ
-  pub expires : Expires moment now old new
+  pub expired : Rows
+  pub expires : Expires moment now old expired
+  pub drops : DropsClient token expired new
 
 -- the client token is that of a token, which may ask or not; or the ask is denied, since there is no such token
 abbrev pub IsAnsweredBy : ℕ → Rows → Rows → Ask → Response → Type 0

@@ -14,6 +14,7 @@ use Rattle.records.specs.Transaction.{Rows}
 use Rattle.token_tree.specs.TokenRows.{SpendsUse}
 use Rattle.broker_model.specs.Order.{Outcome, Wrapped, for_caller, denied}
 use Rattle.broker_rows.specs.Caller.{Caller, IsCallerOf}
+use Rattle.broker_rows.specs.Ending.{DropsResponse}
 use Rattle.broker_rows.specs.Representing.{Represents}
 use Rattle.broker_rows.specs.declared.answered.Answered.{Answered}
 use Rattle.broker_rows.specs.Done.{IsDone}
@@ -27,12 +28,19 @@ IsCaller b token rows (Some c) =
 IsCaller b token rows None =
     (c : Broker) × ((go : Text → Outcome) → for_caller b token go ≡ denied c) × Represents None rows c
 
--- The caller is the client token, and has spent a use; or no row has changed, and there is none of the client token.
+-- The response that waits under the client token, if there is a client token and one does, was read. Its rows are gone,
+-- and no other row has changed.
+abbrev pub DropsClient : Option Text → Rows → Rows → Type 0
+DropsClient None old new = new ≡ old
+DropsClient (Some t) old new = DropsResponse t old new
+
+-- The caller is the client token, and has spent a use; or there is no row of a token of the client token, and then it is
+-- dropped as a wrapping token.
 abbrev pub SpendsAsCaller : Option Text → Rows → Rows → Option Caller → Type 0
 SpendsAsCaller token old new (Some c) =
     (token ≡ Some c.token) × SpendsUse c.token (table_of old) (table_of new) (Some c.known)
 SpendsAsCaller token old new None =
-    ((t : Text) → token ≡ Some t → map.get new (kind.Token, t) ≡ None) × (new ≡ old)
+    ((t : Text) → token ≡ Some t → map.get new (kind.Token, t) ≡ None) × DropsClient token old new
 
 -- what the row of the caller says can be kept, if there is a caller
 abbrev pub IsCallerInRange : Option Caller → Type 0

@@ -1,7 +1,7 @@
 -- The rows of the first broker.
 use Rattle.std.specs.Prelude.{◌≡◌, ◌≢◌, ◌≤◌, ◌<◌, ◌^◌, ℕ, List, [], ◌∷◌, codes, None}
 use Rattle.std.specs.FinMap as map
-use Rattle.std.proofs.Common.{refl, sym, ◌∙◌, ap}
+use Rattle.std.proofs.Common.{sym, ◌∙◌, ap}
 use Rattle.broker_types.specs.Text.{Text, text_cmp}
 use Rattle.broker_types.specs.Map.{empty, entries}
 use Rattle.broker_types.specs.Identifier.{id}

@@ -5,7 +5,7 @@ use Rattle.std.specs.FinMap as map
 use Rattle.std.specs.Option.{option_map_or}
 use Rattle.broker_types.specs.Sound.{IsMoment}
 use Rattle.broker_types.specs.Text.{Text}
-use Rattle.broker_types.specs.Broker.{Broker}
+use Rattle.broker_types.specs.Broker.{Broker, Waiting}
 use Rattle.records.specs.declared.kind.Kind.TheVariants as kind
 use Rattle.records.specs.Children.{has}
 use Rattle.records.specs.Parts.{Part, of_clock, of_cubbyholes, of_leases, of_tokens_and_theirs, of_waiting}
@@ -25,7 +25,7 @@ use Rattle.cubbyhole.specs.Objects.{object_key}
 use Rattle.leases.specs.Endings as leases
 use Rattle.leases.specs.Endings.{EndsLeases, are_owned}
 use Rattle.wrapping.specs.DueResponses.{Sweeps}
-use Rattle.wrapping.specs.WaitingRows.{Drops}
+use Rattle.wrapping.specs.WaitingRows.{TakesOut}
 
 -- what belongs to tokens: their cubbyholes and their leases
 abbrev pub of_belongings : Part
@@ -83,7 +83,7 @@ pub record EndsOne (t : Text) (old new : Rows) : Type 0 where
 
 -- The response that waits under t, if one does, was read. Its rows are gone, and no other row has changed.
 abbrev pub DropsResponse : Text → Rows → Rows → Type 0
-DropsResponse t old new = (dropped : Bool) × Drops t (table_of old) dropped (table_of new)
+DropsResponse t old new = (w : Option Waiting) × TakesOut t (table_of old) w (table_of new)
 
 -- t was revoked: the token with all below it, and what belonged to them; and then the wrapping token
 pub record Revokes (t : Text) (old new : Rows) : Type 0 where

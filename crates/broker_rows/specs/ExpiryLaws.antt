@@ -104,6 +104,15 @@ module _ (moment now : ℕ) (old expired : Rows) (e : Expires moment now old exp
   at_token t =
       left_alone_then kind.Token t refl ∙ swept_alone kind.Token t refl ∙ ap (λ (z : Table). z kind.Token t) e.ends.rows
 
+  -- so a text that had no row of a token has none
+  pub no_token_yet : (t : Text) → table_of old kind.Token t ≡ None → table_of expired kind.Token t ≡ None
+  no_token_yet t none =
+      at_token t
+      ∙ elim (has e.ended t) as (λ v. (if v then None else table_of e.timed kind.Token t) ≡ None) [
+        | true ↦ refl
+        | false ↦ clock_alone kind.Token t refl ∙ none
+      ]
+
   -- the cubbyhole of a token that is left is as it was
   pub objects_before : HasTokenKeys old → KeepsCubbyholes old expired
   objects_before keys t path here =
@@ -147,16 +156,7 @@ module _ (moment now : ℕ) (old expired : Rows) (e : Expires moment now old exp
       ap (λ (z : Table). z kind.Waiting t) e.responses.rows
       ∙ ap (λ o. if has e.responses.ended t then None else o) (responses_before t)
 
-  -- so a text that had no row of a response has none
-  pub no_response_yet : (t : Text) → table_of old kind.Waiting t ≡ None → table_of expired kind.Waiting t ≡ None
-  no_response_yet t none =
-      at_response t
-      ∙ elim (has e.responses.ended t) as (λ v. (if v then None else table_of old kind.Waiting t) ≡ None) [
-        | true ↦ refl
-        | false ↦ none
-      ]
-
-  -- and a row of a response that can be read then could be read before, and so could that of a response that ended
+  -- so a row of a response that can be read then could be read before, and so could that of a response that ended
   pub response_before : (t : Text) → IsReadableWaiting (table_of expired) t → IsReadableWaiting (table_of old) t
   response_before t readable =
       elim (has e.responses.ended t) as (λ v. has e.responses.ended t ≡ v → IsReadableWaiting (table_of old) t) [

@@ -1,7 +1,6 @@
 //! The clock of a request, and what has ended by it.
 
 ghost use Rattle.std.specs.Prelude.{◌≡◌, ⊤, max, None, IfOk, IfErr, OnOk};
-ghost use Rattle.std.specs.FinMap as map;
 ghost use Rattle.broker_types.specs.Broker.{Broker, at_moment};
 ghost use Rattle.broker_types.specs.Fault.{IsMemoryOrStorage};
 ghost use Rattle.records.specs.Calls.{IsChange};

@@ -6,3 +6,5 @@
 mod start;
 #[cfg(test)]
 mod tree;
+#[cfg(test)]
+mod waiting;

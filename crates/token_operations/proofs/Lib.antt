@@ -1,3 +1,4 @@
+pub mod Holders
 pub mod Named
 pub mod TokenChecks
 pub mod TokenCreations

@@ -1,23 +1,21 @@
 -- What commands on tokens leave: a sound broker, and one that the requests served so far can leave.
-use Rattle.std.specs.Prelude.{◌≡◌, ◌≢◌, ◌≤◌, ◌<◌, ◌^◌, ◌+◌, ◌==◌, ◌||◌, ◌&&◌, ℕ, min, List, Bool, All, ⊤, true, false, not, if◌then◌else◌}
+use Rattle.std.specs.Prelude.{◌≡◌, ◌≢◌, ◌≤◌, ◌<◌, ◌^◌, ◌+◌, ◌==◌, ◌||◌, ◌&&◌, ℕ, min, List, Bool, All, true, false, not, if◌then◌else◌}
 use Rattle.std.specs.Prelude.{Option, Some, None, is_none, Ok}
 use Rattle.std.proofs.Common.{refl, sym, ◌∙◌, ap, subst, arith, lt_of_le_of_lt}
 use Rattle.std.proofs.Math.Nat.{le_trans, min-le_left, min-le_right}
 use Rattle.std.proofs.lemmas.Bool.{false≢true, and_parts}
 use Rattle.std.proofs.lemmas.Option.{none-some, same_Some}
 use Rattle.broker_types.specs.Text.{Text, same}
-use Rattle.broker_types.specs.Map.{Map, get, change}
+use Rattle.broker_types.specs.Map.{get}
 use Rattle.broker_types.specs.MapLaws.{no_entry}
 use Rattle.broker_types.specs.Moment.{greatest_moment}
 use Rattle.broker_types.specs.Limits.{longest_ttl}
-use Rattle.broker_types.specs.Lineage.{without_descendants, without_parent}
 use Rattle.broker_types.specs.Names.{Names}
 use Rattle.broker_types.specs.OptionLaws.{is_nothing}
-use Rattle.broker_types.specs.Token.{Token, Tokens}
+use Rattle.broker_types.specs.Token.{Token}
 use Rattle.broker_types.specs.TokenText.{token_text}
 use Rattle.broker_types.specs.Broker.{Broker}
 use Rattle.broker_types.specs.Refuse.{some_or}
-use Rattle.broker_types.specs.RemovalLaws.{revoke_sound, revoke_orphan_sound}
 use Rattle.broker_types.specs.Sound.{Forms, Sound, IsSoundToken, IsEnd, IsShortText}
 use Rattle.broker_types.specs.Used.{are_new}
 use Rattle.broker_types.specs.TextLaws.{same_self}
@@ -26,15 +24,11 @@ use Rattle.broker_types.specs.declared.refusal.Denial.TheVariants as denial
 use Rattle.broker_types.specs.declared.refusal.Refusal.TheVariants as refusal
 use Rattle.api_json.specs.declared.token_bodies.TokenCreation.{TokenCreation}
 use Rattle.records.specs.ValueLaws.{ok_inj}
-use Rattle.token_tree.specs.SoundLaws.{renew_sound}
-use Rattle.token_tree.specs.Tokens.{MayBeMade, with_end}
-use Rattle.token_tree.specs.Tokens as tree
+use Rattle.token_tree.specs.Tokens.{MayBeMade}
 use Rattle.broker_model.specs.declared.making.Making.{Making}
 use Rattle.broker_model.specs.parts.TokenCreation.{makes_orphans}
 use Rattle.broker_model.specs.parts.TokenCreation.{new_token, new_parent, or_longest, asked_ttl, has_no_end, use_limit}
-use Rattle.broker_model.specs.parts.Tokens.{known, revoke}
-use Rattle.broker_model.specs.parts.Tokens.{revoke_alone}
-use Rattle.broker_rows.specs.Done.{counted}
+use Rattle.broker_model.specs.parts.Tokens.{known}
 use Rattle.broker_model.specs.parts.TokenCommands.{token_names}
 use Rattle.token_operations.specs.TokenRanges.{IsInRange, AreTokenNames}
 use Rattle.token_operations.proofs.TokenPolicies.{ArePolicies, IsPolicyName, each_listed, few_listed}

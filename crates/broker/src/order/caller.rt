@@ -12,9 +12,12 @@ use broker_rows::{Caller, spend};
 use broker_types::{Ask, Fault};
 use records::RecordsTx;
 use std::alloc::Global;
+use wrapping::drop_token;
 
-/// The caller of an ask: its client token, if there is such a token, which spends a use. No response waits for one so
-/// far.
+/// The caller of an ask: its client token, if there is such a token, which spends a use. If it is a wrapping token
+/// instead, the response that waits under it is dropped, and there is no caller (Vault's documentation, "Response
+/// wrapping": a wrapping token is good for one use). The token is looked for first, so that a request of one pays for no
+/// second look-up; no text is both.
 pub(crate) fn find_caller<'a, T: RecordsTx>(
     alloc: Global,
     tx: &mut T,
@@ -25,7 +28,8 @@ pub(crate) fn find_caller<'a, T: RecordsTx>(
     ensures wants { IsHonest (T.seen tx.new) → (b : Broker) → Represents None (T.seen tx.old).rows b
         → IfErr result IsMemoryOrStorage }
 
-    // Whatever the rows are: the row of the client token can be read, if it is there, and says the caller's entry.
+    // Whatever the rows are: the row of the client token can be read, if it is there, and says the caller's entry. If it
+    // is not, that of the wrapping token can be read, if this is there, and is gone then.
     ensures found { IsHonest (T.seen tx.new)
         → IfOk result (SpendsAsCaller ask.now.token (T.seen tx.old).rows (T.seen tx.new).rows) }
     ensures in_range { IfOk result IsCallerInRange }
@@ -36,6 +40,7 @@ pub(crate) fn find_caller<'a, T: RecordsTx>(
     };
     let token = token.as_str();
     let Some(known) = spend(alloc, tx, token)? else {
+        drop_token(alloc, tx, token)?;
         return Ok(None);
     };
     Ok(Some(Caller { token, known }))

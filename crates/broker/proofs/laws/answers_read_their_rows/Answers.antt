@@ -2,7 +2,7 @@ use Rattle.std.specs.Prelude.{◌≡◌, ◌≢◌, ◌⊎◌, ℕ, true, false,
 use Rattle.std.proofs.Common.{refl, sym, ap, ◌∙◌, subst, inl, inr}
 use Rattle.std.proofs.lemmas.Bool.{true≢false}
 use Rattle.std.proofs.lemmas.Option.{none-some, same_Some}
-use Rattle.broker_types.specs.Answer.{Response}
+use Rattle.broker_types.specs.Answer.{Response, refused}
 use Rattle.broker_types.specs.Broker.{Mount}
 use Rattle.broker_types.specs.Text.{Text}
 use Rattle.broker_types.specs.declared.ask.Ask.{Ask}
@@ -18,15 +18,18 @@ use Rattle.mounts.specs.declared.operation.CubbyholeOperation.TheVariants as cub
 use Rattle.mounts.specs.declared.operation.Operation.TheVariants.{Cubbyholes}
 use Rattle.broker_model.specs.Command.{command_by, on_cubbyhole}
 use Rattle.broker_model.specs.declared.commands.CubbyholeCommand.TheVariants as commands
-use Rattle.broker_rows.specs.Ending.{HasTokenKeys, IsSpentAt}
+use Rattle.wrapping.specs.WaitingRows.{IsReadableWaiting}
+use Rattle.broker_model.specs.Order.{permission_denied}
+use Rattle.broker_rows.specs.Ending.{DropsResponse, HasTokenKeys, IsSpentAt}
 use Rattle.broker_rows.specs.ReadableLaws.{readable_before, readable_gone, unspent_gone}
 use Rattle.broker_rows.specs.ReadableRow.{IsReadableObject, IsReadableToken}
-use Rattle.broker_rows.specs.ExpiryLaws.{damaged_before, mount_before, objects_before}
+use Rattle.broker_rows.specs.ExpiryLaws.{damaged_before, mount_before, no_token_yet, objects_before, response_before}
 use Rattle.broker.specs.PermittedRows.{IsAllowedFor, IsPermittedAt}
 use Rattle.broker.specs.Answering.{AreAtCommand, Asks, IsAnsweredBy, IsAskedBy, IsCarriedOutOrForbidden, IsDenied}
 use Rattle.broker.specs.Answering.{IsForbiddenThen, MayBeDone}
 use Rattle.broker.proofs.CommandReads.{asks_spent, asks_still, ended_or_unspent, forbidden_or, objects_unspent}
-use Rattle.broker.proofs.CommandReads.{others_unspent}
+use Rattle.broker.proofs.CommandReads.{client_keeps, others_unspent, response_gone}
+use Rattle.broker.specs.Stages.{DropsClient}
 use Rattle.broker.proofs.Routes.{readable_still}
 use Rattle.broker.proofs.laws.answers_read_their_rows.Goals as goal
 
@@ -102,11 +105,25 @@ module _ (moment : ℕ) (t : Text) (old new : Rows) (ask : Ask) (response : Resp
       let asked = asker by.0 is by.1 in
       let spent = asked.at.spends in
       damaged_before moment asked.at.now old asked.at.expired asked.at.expires t (spent.entry, spent.in_range, spent.was)
-  by_caller is (inr denied) = damaged_before moment denied.now old new denied.expires t (readable_gone new t (denied.nobody t is))
+  by_caller is (inr denied) =
+      let gone = sym (client_keeps ask.token denied.expired new denied.drops kind.Token t refl) ∙ denied.nobody t is in
+      damaged_before moment denied.now old denied.expired denied.expires t (readable_gone denied.expired t gone)
 
   by_end : ask.token ≡ Some t → IsAnsweredBy moment old new ask response → IsSpentAt new t false
   by_end is (inl by) = let asked = asker by.0 is by.1 in ended_then asked.rows asked.done
   by_end is (inr denied) = unspent_gone new t (denied.nobody t is)
+
+  by_response : ask.token ≡ Some t → table_of old kind.Token t ≡ None → IsAnsweredBy moment old new ask response
+      → (response ≡ refused permission_denied) × IsReadableWaiting (table_of old) t × (table_of new kind.Waiting t ≡ None)
+  by_response is none (inl by) =
+      let asked = asker by.0 is by.1 in
+      absurd (asked.at.here (no_token_yet moment asked.at.now old asked.at.expired asked.at.expires t none))
+  by_response is none (inr denied) =
+      let drops : DropsResponse t denied.expired new = subst (λ o. DropsClient o denied.expired new) is denied.drops in (
+        denied.response,
+        response_before moment denied.now old denied.expired denied.expires t (drops.0, drops.1.was),
+        response_gone t denied.expired new drops,
+      )
 
 -- an ask of nobody is not asked by a token
 by_nobody : (moment : ℕ) (old new : Rows) (ask : Ask) (response : Response) → ask.token ≡ None → IsAnsweredBy moment old new ask response
@@ -125,6 +142,9 @@ returns-clause-caller c = λ moment t old new ask response. by_caller moment t o
 
 pub returns-clause-ends : goal.returns-clause-ends
 returns-clause-ends c = λ moment t old new ask response. by_end moment t old new ask response
+
+pub returns-clause-response : goal.returns-clause-response
+returns-clause-response c = λ moment t old new ask response. by_response moment t old new ask response
 
 pub returns-clause-nobody : goal.returns-clause-nobody
 returns-clause-nobody c = λ moment old new ask response. by_nobody moment old new ask response

@@ -1,14 +1,14 @@
-use Rattle.std.specs.Prelude.{Ok, Err, Some}
+use Rattle.std.specs.Prelude.{Err, Some}
 use Rattle.std.proofs.Common.{sym, ap, ◌∙◌, subst}
 use Rattle.std.proofs.lemmas.Result.{err_from_is_err_and}
 use Rattle.records.specs.CallLaws.{honest_before, on_answer_weaker}
+use Rattle.records.specs.Table.{table_of}
 use Rattle.records.specs.Transaction.{Rows}
+use Rattle.wrapping.specs.AccessorRows as wrapping
 use Rattle.broker_model.specs.Forms.{forms}
-use Rattle.broker_model.specs.parts.Tokens.{revoke}
-use Rattle.broker_rows.specs.ReadableRow.{IsReadableDescent}
-use Rattle.broker_rows.specs.Reads.{IfNamed}
+use Rattle.broker_rows.specs.Reads.{IsReadableHolder, IsReadableRevoked}
 use Rattle.broker_rows.specs.RepresentingLaws.{represents_tokens, still_represented}
-use Rattle.token_operations.proofs.Named.{acts_on_named, acts_on_none}
+use Rattle.token_operations.proofs.Holders.{acts_on_holder}
 use Rattle.token_operations.proofs.revocation.revoke_accessor.Goals as goal
 
 pub returns-in_err-token-clause-told : goal.returns-in_err-token-clause-told
@@ -22,9 +22,9 @@ returns-in_default-clause-told g c honest who b st =
     let seen = g.T.RecordsTx.seen in
     let rows = (seen c.args.tx.now).rows in
     let new = (seen c.find_accessor.new.tx).rows in
-    let told = c.in_ok-token.ensures.told honest forms b (represents_tokens b rows st) in
-    acts_on_none who b new c.args.accessor.now (λ t. Ok (revoke b t)) (sym told ∙ c.in_default.is)
-    (still_represented b rows new (c.in_ok-token.ensures.call.same honest) st)
+    let mid = honest_before (seen c.find_accessor.new.tx) (seen c.revoke_wrapping.new.tx) _ c.revoke_wrapping.ensures.call.goes_on honest in
+    let told = c.in_ok-token.ensures.told mid forms b (represents_tokens b rows st) in
+    c.revoke_wrapping.ensures.told honest who b (still_represented b rows new (c.in_ok-token.ensures.call.same mid) st) (sym told ∙ c.in_default.is)
 
 pub returns-clause-told : goal.returns-clause-told
 returns-clause-told g c honest who b st =
@@ -32,14 +32,23 @@ returns-clause-told g c honest who b st =
     let rows = (seen c.args.tx.now).rows in
     let mid = honest_before (seen c.find_accessor.new.tx) (seen c.revoke.new.tx) _ c.revoke.ensures.call.goes_on honest in
     let told = c.in_ok-token.ensures.told mid forms b (represents_tokens b rows st) in
-    acts_on_named who b (seen c.revoke.new.tx).rows c.args.accessor.now (λ t. Ok (revoke b t))
+    acts_on_holder who b (seen c.revoke.new.tx).rows c.args.accessor.now
     c.as_str.result.now c.revoke.result (sym told ∙ c.in-Some.is ∙ ap Some (sym c.as_str.ensures))
     (c.revoke.ensures.told honest who b (still_represented b rows (seen c.find_accessor.new.tx).rows (c.in_ok-token.ensures.call.same mid) st))
 
 pub returns-in_default-clause-readable : goal.returns-in_default-clause-readable
 returns-in_default-clause-readable g c honest =
-    let rows = (g.T.RecordsTx.seen c.args.tx.now).rows in
-    (c.in_ok-token.field-0, c.in_ok-token.ensures.found honest, subst (IfNamed (IsReadableDescent rows)) (sym c.in_default.is) tt)
+    let seen = g.T.RecordsTx.seen in
+    let rows = (seen c.args.tx.now).rows in
+    let mid = honest_before (seen c.find_accessor.new.tx) (seen c.revoke_wrapping.new.tx) _ c.revoke_wrapping.ensures.call.goes_on honest in
+    on_answer_weaker c.revoke_wrapping.result
+    (λ readable. (
+      c.in_ok-token.field-0,
+      c.in_ok-token.ensures.found mid,
+      subst (IsReadableHolder rows c.args.accessor.now) (sym c.in_default.is)
+          (subst (λ (z : Rows). wrapping.IsReadableName (table_of z) c.args.accessor.now) (c.in_ok-token.ensures.call.same mid) readable),
+    ))
+    (c.revoke_wrapping.ensures.readable honest)
 
 pub returns-clause-readable : goal.returns-clause-readable
 returns-clause-readable g c honest =
@@ -51,7 +60,7 @@ returns-clause-readable g c honest =
     (λ readable. (
       c.in_ok-token.field-0,
       c.in_ok-token.ensures.found mid,
-      subst (IfNamed (IsReadableDescent rows)) (sym is)
-          (subst (λ (z : Rows). IsReadableDescent z c.as_str.result.now) (c.in_ok-token.ensures.call.same mid) readable),
+      subst (IsReadableHolder rows c.args.accessor.now) (sym is)
+          (subst (λ (z : Rows). IsReadableRevoked z c.as_str.result.now) (c.in_ok-token.ensures.call.same mid) readable),
     ))
     (c.revoke.ensures.readable honest)
