@@ -95,8 +95,8 @@ fn list<T: RecordsTx>(
     ensures call { IsRequestCall (T.seen tx.old) (T.seen tx.new) result IsNotBadStart }
 {
     let mounts = mounts::list(alloc, tx)?;
-    let shown = all_shown(alloc, &mounts)?;
-    let object = mounts_object(alloc, &shown)?;
+    let objects = all_shown(alloc, &mounts)?;
+    let object = mounts_object(alloc, &objects)?;
     Ok(Answered::shown(alloc, context, object)?)
 }
 
