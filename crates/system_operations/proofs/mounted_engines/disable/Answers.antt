@@ -30,15 +30,15 @@ returns-in_err-was_there-clause-told g c who x honest b starts fresh =
     (mounts.disabled b.mounts name) c.in_err-was_there.field-0.0
     (c.in_err-was_there.ensures.told honest b.mounts (mounts_there b old st)))
 
-pub returns-then-not-branch-clause-told : goal.returns-then-not-branch-clause-told
-returns-then-not-branch-clause-told g c who x honest b starts fresh =
+pub returns-then-not-was_there-clause-told : goal.returns-then-not-was_there-clause-told
+returns-then-not-was_there-clause-told g c who x honest b starts fresh =
     let seen = g.T.RecordsTx.seen in
     let old = (seen c.args.tx.now).rows in
     let new = (seen c.disable.new.tx).rows in
     let name = c.args.name.now in
     let st = starts.represents in
     acts_absent b who old new st name
-    (subst (λ was. EndsOk (IsDisabled b who old new st name) was (mounts.disabled b.mounts name)) c.if-not-branch.true
+    (subst (λ was. EndsOk (IsDisabled b who old new st name) was (mounts.disabled b.mounts name)) c.if-not-was_there.true
     (c.in_ok-was_there.ensures.told honest b.mounts (mounts_there b old st)))
     (c.in_ok-was_there.ensures.call.others honest)
 
@@ -52,7 +52,7 @@ returns-clause-told g c who x honest b starts fresh =
     let name = c.args.name.now in
     let st = starts.represents in
     let gone = is_gone b who old mid st name
-    (subst (λ was. EndsOk (IsDisabled b who old mid st name) was (mounts.disabled b.mounts name)) c.if-not-branch.false
+    (subst (λ was. EndsOk (IsDisabled b who old mid st name) was (mounts.disabled b.mounts name)) c.if-not-was_there.false
     (c.in_ok-was_there.ensures.told asked b.mounts (mounts_there b old st)))
     (c.in_ok-was_there.ensures.call.others asked) in
     acts_disabled b who old mid st name new gone
@@ -67,7 +67,7 @@ returns-in_err-drop_kept-clause-told g c who x honest b starts fresh =
     let name = c.args.name.now in
     let st = starts.represents in
     let gone = is_gone b who old mid st name
-    (subst (λ was. EndsOk (IsDisabled b who old mid st name) was (mounts.disabled b.mounts name)) c.if-not-branch.false
+    (subst (λ was. EndsOk (IsDisabled b who old mid st name) was (mounts.disabled b.mounts name)) c.if-not-was_there.false
     (c.in_ok-was_there.ensures.told asked b.mounts (mounts_there b old st)))
     (c.in_ok-was_there.ensures.call.others asked) in
     let p = err_from_is_err_and c.from_residual-in_err-drop_kept.result c.from_residual-in_err-drop_kept.ensures.1 in
@@ -84,15 +84,15 @@ returns-in_err-was_there-clause-readable g c honest =
     (refused_readable old name (AreReadable (is_under name) old) _ c.in_err-was_there.field-0.0
     (c.in_err-was_there.ensures.rows honest))
 
-pub returns-then-not-branch-clause-readable : goal.returns-then-not-branch-clause-readable
-returns-then-not-branch-clause-readable g c honest go there =
+pub returns-then-not-was_there-clause-readable : goal.returns-then-not-was_there-clause-readable
+returns-then-not-was_there-clause-readable g c honest go there =
     let seen = g.T.RecordsTx.seen in
     let old = table_of (seen c.args.tx.now).rows in
     let new = table_of (seen c.disable.new.tx).rows in
     let name = c.args.name.now in
     absent_readable old name (AreReadable (is_under name) old) new
     (subst (λ was. EndsOk (λ was next. (was ≡ is_some (old kind.Mount name)) × (new ≡ next)) was (rows.disabled old name))
-    c.if-not-branch.true (c.in_ok-was_there.ensures.rows honest)) go there
+    c.if-not-was_there.true (c.in_ok-was_there.ensures.rows honest)) go there
 
 pub returns-clause-readable : goal.returns-clause-readable
 returns-clause-readable g c honest go there =
