@@ -1,9 +1,9 @@
 use Rattle.std.proofs.Common.{◌≡◌, Err, refl, ap, subst, ◌∙◌}
-use Rattle.std.specs.Prelude.{◌≢◌, None, is_some, if◌then◌else◌}
-use Rattle.std.proofs.lemmas.Result.{err_from_is_err_and, on_ok_weaker}
+use Rattle.std.specs.Prelude.{is_some, if◌then◌else◌}
+use Rattle.std.proofs.lemmas.Result.{err_from_is_err_and}
 use Rattle.broker_types.specs.Map.{get}
 use Rattle.broker_types.specs.Operation.{nothing, plainly}
-use Rattle.broker_types.specs.RequestError.{EndsOk, EndsErr}
+use Rattle.broker_types.specs.RequestError.{EndsOk}
 use Rattle.leases.specs.Endings.{AreReadable, is_under}
 use Rattle.mounts.specs.Mounts as mounts
 use Rattle.mounts.specs.MountRows as rows

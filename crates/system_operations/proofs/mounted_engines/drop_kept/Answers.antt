@@ -1,5 +1,5 @@
 use Rattle.std.proofs.Common.{refl, ◌∙◌}
-use Rattle.std.proofs.lemmas.Result.{err_from_is_err_and, on_ok_weaker}
+use Rattle.std.proofs.lemmas.Result.{on_ok_weaker}
 use Rattle.kv2.specs.Secrets.{drop_mount}
 use Rattle.leases.specs.Endings.{is_under}
 use Rattle.leases.specs.Roles.{drop_roles}
