@@ -1,1 +1,2 @@
 pub mod AclPolicyAnswers
+pub mod LeaseAnswers
