@@ -1,6 +1,6 @@
 -- Leases: from what the rows tell to what the commands answer, and to the brokers that are left.
-use Rattle.std.specs.Prelude.{◌≡◌, ◌-◌, ℕ, Option, None, Result, Ok, Err, ⊤}
-use Rattle.std.proofs.Common.{refl, ◌∙◌, ap, subst}
+use Rattle.std.specs.Prelude.{◌≡◌, ◌-◌, ℕ, false, Option, None, Result, Ok, Err, ⊤}
+use Rattle.std.proofs.Common.{refl, sym, ◌∙◌, ap, subst}
 use Rattle.std.proofs.lemmas.Bool.{true≢false}
 use Rattle.broker_types.specs.Broker.{Broker}
 use Rattle.broker_types.specs.Map.{change}
@@ -38,18 +38,12 @@ use Rattle.broker_rows.specs.declared.answered.Answered.TheVariants.{Nothing, Gi
 
 -- ---- errors
 
--- what holds of an error of a call holds of the same error of another call
-pub on_error : {A B : Type 0} (P : Type 0) (e : RequestError) → OnAnswer {A = A} (Err e) P
-    → OnAnswer {A = B} (Err e) P
-on_error P (Refused r) p = p
-on_error P (Fault f) p = p
-
 -- what holds if a call was refused holds of its refusal
-pub with_refusal : {A Y : Type 0} (P : Type 0) (m : Result Y Refusal) (e : RequestError) → EndsErr ⊤ e m
+pub with_refusal : (A : Type 0) {Y : Type 0} (P : Type 0) (m : Result Y Refusal) (e : RequestError) → EndsErr ⊤ e m
     → OnAnswer {A = A} (Err e) P → EndsErr P e m
-with_refusal P (Ok y) (Refused r) h p = absurd h
-with_refusal P (Err x) (Refused r) h p = (h.0, p)
-with_refusal P m (Fault f) h p = h
+with_refusal A P (Ok y) (Refused r) h p = absurd h
+with_refusal A P (Err x) (Refused r) h p = (h.0, p)
+with_refusal A P m (Fault f) h p = h
 
 -- ---- what the commands leave
 
@@ -79,16 +73,19 @@ module _ (b : Broker) (who : Option Text) (old new : Rows) (st : Represents who 
   -- ---- look-up
 
   -- a lease that was found is shown
-  pub acts_shown : (names : Names) (lease_id : Text) (now : ℕ) (times : Times) (a : Code.Answered) → new ≡ old
-      → b.clock ≡ now → EndsOk (λ times l. times ≡ times_of l) times (leases.lookup b lease_id)
+  pub acts_shown : (names : Names) (asked lease_id : Text) (now : ℕ) (times : Times) (a : Code.Answered)
+      → asked ≡ lease_id → new ≡ old → b.clock ≡ now
+      → EndsOk (λ times l. times ≡ times_of l) times (leases.lookup b asked)
       → answered_of a ≡ reply (plain_reply names.request (lease_object (part.shown now lease_id times))) None
       → ActsAs who b new (Ok a) (part.look_up b names lease_id)
-  acts_shown names lease_id now times a same clock told is = by (leases.lookup b lease_id) told
+  acts_shown names asked lease_id now times a named same clock told is =
+      by (leases.lookup b lease_id)
+      (subst (λ q. EndsOk (λ times l. times ≡ times_of l) times (leases.lookup b q)) named told)
     where
       by : (m : Result Lease Refusal) → EndsOk (λ times l. times ≡ times_of l) times m
           → ActsAs who b new (Ok a) (m >>= (λ l. Ok (shown_of b names lease_id l)))
       by (Ok l) e = (
-        is ∙ (λ i. reply (plain_reply names.request (lease_object (part.shown (clock (~ i)) lease_id (e i)))) None),
+        is ∙ (λ i. reply (plain_reply names.request (lease_object (part.shown (sym clock i) lease_id (e i)))) None),
         still_represented b old new same st,
       )
       by (Err r) e = absurd e
@@ -96,12 +93,15 @@ module _ (b : Broker) (who : Option Text) (old new : Rows) (st : Represents who 
   -- ---- renewal
 
   -- a lease that was renewed has its new end, and the reply the seconds to it
-  pub acts_renewed : (names : Names) (lease_id : Text) (increment ends : ℕ) (r : Reply)
+  pub acts_renewed : (names : Names) (asked lease_id : Text) (increment ends : ℕ) (r : Reply) → asked ≡ lease_id
       → EndsOk (λ ends next. (ends ≡ next.ends) × Tells of_leases (table_of new) next.next) ends
-      (leases.renew b lease_id increment) → KeepsOtherLeases lease_id (table_of old) (table_of new)
+      (leases.renew b asked increment) → KeepsOtherLeases asked (table_of old) (table_of new)
       → r ≡ lease_reply names.request lease_id (ends - b.clock) None
       → ActsAs who b new (Ok (Given r)) (part.renew b names lease_id increment)
-  acts_renewed names lease_id increment ends r told keeps is = by (leases.lookup b lease_id) told
+  acts_renewed names asked lease_id increment ends r named told keeps is =
+      by (leases.lookup b lease_id)
+      (subst (λ q. EndsOk (λ ends next. (ends ≡ next.ends) × Tells of_leases (table_of new) next.next) ends
+      (leases.renew b q increment)) named told)
     where
       next : Lease → Result Renewed Refusal
       next l = Ok (record { ends = renewed_end b.clock increment l; next = with_renewed b lease_id increment })
@@ -114,7 +114,7 @@ module _ (b : Broker) (who : Option Text) (old new : Rows) (st : Represents who 
         represents_next of_leases b (with_renewed b lease_id increment) old new st
             (renew_sound b lease_id increment forms who st.sound) refl
             (shows_in_leases b (λ t m. change m lease_id (renewed b.clock increment))) e.1
-            (others_kept lease_id (table_of old) (table_of new) keeps),
+            (others_kept asked (table_of old) (table_of new) keeps),
       )
       by (Err x) e = absurd e
 

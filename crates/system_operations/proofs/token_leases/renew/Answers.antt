@@ -3,6 +3,7 @@ use Rattle.std.proofs.Common.{ap, refl, subst, sym, ◌∙◌}
 use Rattle.std.proofs.lemmas.Result.{err_from_is_err_and}
 use Rattle.api_json.specs.Reply.{lease_reply}
 use Rattle.broker_types.specs.Names.{names_of}
+use Rattle.broker_types.specs.RequestError.{EndsErr}
 use Rattle.leases.specs.Leases as leases
 use Rattle.broker_model.specs.Forms.{forms}
 use Rattle.broker_model.specs.parts.Leases as part
@@ -26,7 +27,8 @@ returns-in_err-ends-clause-told g c who honest b starts fresh =
     rw (p.1 ∙ ap Err p.2)
     (acts_refused b who old new st (leases.renew b asked.lease_id asked.increment) (renewed_of b names asked.lease_id)
     c.in_err-ends.field-0.0
-    (c.in_err-ends.ensures.told honest forms b (represents_leases b old old st (λ k q h. refl)) (sym clock)))
+    (subst (λ q. EndsErr (new ≡ old) c.in_err-ends.field-0.0 (leases.renew b q asked.increment)) c.as_str.ensures
+    (c.in_err-ends.ensures.told honest forms b (represents_leases b old old st (λ k q h. refl)) (sym clock))))
 
 pub returns-clause-told : goal.returns-clause-told
 unfolding names_of
@@ -41,10 +43,11 @@ returns-clause-told g c who =
     let new = (seen c.renew.new.tx).rows in
     let st = starts.represents in
     let names = names_of c.context.inside.words.now in
-    let ends = c.in_ok-ends.field-0 in
-    acts_renewed b who old new st names asked.lease_id asked.increment ends c.in_ok-lease_reply.field-0
+    let ends = c.in_ok-ends.ends in
+    acts_renewed b who old new st names c.as_str.result.now asked.lease_id asked.increment ends
+    c.in_ok-lease_reply.field-0 c.as_str.ensures
     (c.in_ok-ends.ensures.told honest forms b (represents_leases b old old st (λ k q h. refl)) (sym starts.clock))
     (c.in_ok-ends.ensures.call.others honest)
     (c.in_ok-lease_reply.ensures
-    ∙ (λ i. lease_reply ((c.as_str.ensures.value ∙ c.in_ok-request.ensures) i) asked.lease_id (c.seconds_left.ensures i) None)
+    ∙ (λ i. lease_reply ((c.as_str-2.ensures.value ∙ c.in_ok-request.ensures) i) asked.lease_id (c.seconds_left-seconds.ensures i) None)
     ∙ ap (λ now. lease_reply names.request asked.lease_id (ends - now) None) (sym starts.clock)))
