@@ -1,2 +1,3 @@
 pub mod AclPolicyAnswers
+pub mod LeaseAnswers
 pub mod MountAnswers
