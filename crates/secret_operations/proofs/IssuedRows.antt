@@ -43,7 +43,7 @@ use Rattle.leases.specs.IssuedLaws.{issue_sound, identifier_of_id, new_lease_sou
 use Rattle.leases.specs.Laws.{MayBeIssued, issued}
 use Rattle.leases.specs.Leases.{issue}
 use Rattle.leases.specs.Roles as roles
-use Rattle.leases.specs.Roles.{Issued, role_name, lease_id, new_lease, is_last_use, creds}
+use Rattle.leases.specs.Roles.{Issued, IssuedLease, role_name, lease_id, new_lease, is_last_use, creds}
 use Rattle.leases.specs.SoundLaws.{shows_in_leases}
 use Rattle.broker_model.specs.Forms.{forms}
 use Rattle.broker_rows.specs.Caller.{Caller, IsCallerOf}
@@ -115,7 +115,7 @@ some_of : {X : Type 0} (e : Refusal) (o : Option X) (x : X) → some_or e o ≡ 
 some_of e None x h = no_ok h
 some_of e (Some y) x h = ap Some (ok_inj h)
 
-module _ (b : Broker) (who : Option Text) (sound : Sound forms who b) (c mount name identifier credential : Text) (is_mount : is_mount_name mount ≡ true)
+module _ (b : Broker) (c : Text) (sound : Sound forms (Some c) b) (mount name identifier credential : Text) (is_mount : is_mount_name mount ≡ true)
     (good : IsIdentifier identifier) (good_too : IsIdentifier credential) (new : are_new b.used (identifier ∷ credential ∷ []) ≡ true)
     (here : get b.tokens c ≢ None) where
   abbrev id : Text
@@ -152,12 +152,12 @@ module _ (b : Broker) (who : Option Text) (sound : Sound forms who b) (c mount n
 
   -- ---- what is left
 
-  module _ (old mid new_rows : Rows) (st : Represents who old b) (keeps : KeepsOthers of_leases (table_of old) (table_of mid))
+  module _ (old mid new_rows : Rows) (st : Represents (Some c) old b) (keeps : KeepsOthers of_leases (table_of old) (table_of mid))
       (marks : table_of new_rows ≡ with_row (with_row (table_of mid) kind.Used credential used_row) kind.Used identifier used_row) where
     -- the lease was made, and both identifiers were marked
     represents-issued : (r : Role) → roles.role b mount name ≡ Some r
         → Tells of_leases (table_of mid) (issue b c id (new_lease b.clock r credential))
-        → Represents who new_rows (record (issue b c id (new_lease b.clock r credential)) { used = use_up b.used (identifier ∷ credential ∷ []) })
+        → Represents (Some c) new_rows (record (issue b c id (new_lease b.clock r credential)) { used = use_up b.used (identifier ∷ credential ∷ []) })
     represents-issued r is tells =
         let l = new_lease b.clock r credential in
         let may = may_be_issued r is in
@@ -170,12 +170,31 @@ module _ (b : Broker) (who : Option Text) (sound : Sound forms who b) (c mount n
               (marks_told next identifier credential (table_of mid) (table_of new_rows) marks (λ q. ap (λ (t : Table). t kind.Used q) made))
               (marks_keep next identifier credential (table_of mid) (table_of new_rows) marks)
               (rows_of-other_used next (use_up b.used (identifier ∷ credential ∷ [])));
-          sound = subst (λ i. Sound forms who (record next { used = use_up b.used (i ∷ credential ∷ []) })) ends_with
-              (issue_sound b c id l forms who st.sound may (subst IsIdentifier (sym ends_with) good));
+          sound = subst (λ i. Sound forms (Some c) (record next { used = use_up b.used (i ∷ credential ∷ []) })) ends_with
+              (issue_sound b c id l forms (Some c) st.sound may (subst IsIdentifier (sym ends_with) good));
           served = record { none_waits = st.served.none_waits };
         }
 
-    -- the lease that the call on the rows made is that of the broker
-    pub leased : (t : Text × ℕ) → EndsOk (λ x (i : Issued). (x ≡ (i.lease_id, i.lease.ttl)) × Tells of_leases (table_of mid) i.next) t
-        (creds b c mount name identifier credential) → EndsOk (IsLeasedBy t) tt (creds b c mount name identifier credential)
-    leased t ends = ?
+    -- so what a call on leases has made is issued
+    pub leased : (l : Text × ℕ) → EndsOk (λ x (i : Issued). (x ≡ (i.lease_id, i.lease.ttl)) × Tells of_leases (table_of mid) i.next) l
+        (creds b c mount name identifier credential)
+        → EndsOk (IsLeased c new_rows identifier credential) l (creds b c mount name identifier credential)
+    leased l ends = by (creds b c mount name identifier credential) refl ends
+      where
+        by : (m : Result Issued Refusal) → creds b c mount name identifier credential ≡ m
+            → EndsOk (λ x (i : Issued). (x ≡ (i.lease_id, i.lease.ttl)) × Tells of_leases (table_of mid) i.next) l m
+            → EndsOk (IsLeased c new_rows identifier credential) l m
+        by (Err r) is h = absurd h
+        by (Ok i) is h =
+            let x = ok_step (roles.issued (roles.role b mount name) (is_last_use b c) b.clock mount name identifier credential) _ i is in
+            let r = ok_step (some_or refusal.NotFound (roles.role b mount name)) _ x.0 x.1 in
+            let lasts = ok_step (unless (not (is_last_use b c)) (refusal.BadRequest reason.LastUseTakesLease)) _ x.0 r.2 in
+            let there = some_of refusal.NotFound (roles.role b mount name) r.0 r.1 in
+            let same =
+            ap (λ (x : IssuedLease). record { lease_id = x.lease_id; lease = x.lease; next = issue b c x.lease_id x.lease }) (ok_inj lasts.2)
+            ∙ ok_inj x.2 in
+            (
+              h.0,
+              subst (λ (i : Issued). Represents (Some c) new_rows (record i.next { used = use_up i.next.used (identifier ∷ credential ∷ []) })) same
+                  (represents-issued r.0 there (subst (λ (i : Issued). Tells of_leases (table_of mid) i.next) (sym same) h.1)),
+            )
