@@ -45,6 +45,9 @@ module _ (b : Broker) (who : Option Text) (old new : Rows) (st : Represents who 
   abbrev set : Result Broker Refusal
   set = roles.set_role b mount name (record { ttl = asked.ttl; max_ttl = asked.max_ttl })
 
+  abbrev replaced : Broker
+  replaced = record b { roles = put b.roles (role_name mount name) (record { ttl = asked.ttl; max_ttl = asked.max_ttl }) }
+
   abbrev silently : Result Broker Refusal → Result Done Refusal
   silently m = m >>= (λ next. Ok (plainly nothing next))
 
@@ -69,7 +72,7 @@ module _ (b : Broker) (who : Option Text) (old new : Rows) (st : Represents who 
           let named = ok_step (unless (is_name name) (refusal.BadRequest reason.InvalidName)) _ next is in
           let same = ok_inj named.2 in
           subst (λ next. Represents who new next) same
-          (represents_next of_roles b _ old new st (subst (λ next. Sound forms who next) (sym same) sound) refl (rows_of-other_roles b _)
+          (represents_next of_roles b replaced old new st (subst (λ next. Sound forms who next) (sym same) sound) refl (rows_of-other_roles b replaced.roles)
           (subst (λ next. Tells of_roles (table_of new) next) (sym same) tells) keeps)
 
       by : (m : Result Broker Refusal) → set ≡ m → EndsOk (λ (_ : ⊤) next. Tells of_roles (table_of new) next) tt m
@@ -105,3 +108,9 @@ module _ (b : Broker) (c : Text) (new : Rows) (names : Names) (p : Place) where
       by (Err r) h = absurd h
       by (Ok i) h =
           (answered ∙ ap (λ (l : Text × ℕ). reply (lease_reply names.request l.0 l.1 (Some (credential_object names.credential))) None) h.0, h.1)
+
+-- what follows from a refusal
+pub ends_weaker : {Y P Q : Type 0} → (P → Q) → (e : RequestError) (m : Result Y Refusal) → EndsErr P e m → EndsErr Q e m
+ends_weaker f (Refused r) (Ok y) h = absurd h
+ends_weaker f (Refused r) (Err x) h = (h.0, f h.1)
+ends_weaker f (Fault g) m h = h

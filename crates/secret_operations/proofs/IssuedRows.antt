@@ -36,11 +36,11 @@ use Rattle.records.specs.Rows.{rows_of}
 use Rattle.records.specs.SplitLaws.{split-lacking}
 use Rattle.records.specs.Splits.{slash, split_once, lacks}
 use Rattle.records.specs.Table.{Table, table_of, with_row}
-use Rattle.records.specs.TokenEntry.{token_entry}
+use Rattle.records.specs.TokenEntry.{TokenEntry, token_entry}
 use Rattle.records.specs.Transaction.{Rows}
 use Rattle.records.specs.ValueLaws.{ok_inj}
 use Rattle.leases.specs.IssuedLaws.{issue_sound, identifier_of_id, new_lease_sound}
-use Rattle.leases.specs.Laws.{MayBeIssued, issued}
+use Rattle.leases.specs.Laws.{MayBeIssued}
 use Rattle.leases.specs.Leases.{issue}
 use Rattle.leases.specs.Roles as roles
 use Rattle.leases.specs.Roles.{Issued, IssuedLease, role_name, lease_id, new_lease, is_last_use, creds}
@@ -107,7 +107,7 @@ last_use b c is = by (get b.tokens c.token) is
     by : (o : Option Token) → Some c.known ≡ option_map token_entry o
         → option_map_or (λ n. n == 0) c.known.uses_left false ≡ option_map_or (λ (x : Token). option_map_or (λ n. n == 0) x.uses_left false) o false
     by None h = absurd (none-some _ (sym h))
-    by (Some x) h = ap (λ (e : _). option_map_or (λ n. n == 0) e.uses_left false) (same_Some _ _ h)
+    by (Some x) h = ap (λ (e : TokenEntry). option_map_or (λ n. n == 0) e.uses_left false) (same_Some _ _ h)
 
 -- ---- a lease that may be made
 
@@ -175,6 +175,10 @@ module _ (b : Broker) (c : Text) (sound : Sound forms (Some c) b) (mount name id
           served = record { none_waits = st.served.none_waits };
         }
 
+    -- what is issued by a lease
+    abbrev given : IssuedLease → Issued
+    given x = record { lease_id = x.lease_id; lease = x.lease; next = issue b c x.lease_id x.lease }
+
     -- so what a call on leases has made is issued
     pub leased : (l : Text × ℕ) → EndsOk (λ x (i : Issued). (x ≡ (i.lease_id, i.lease.ttl)) × Tells of_leases (table_of mid) i.next) l
         (creds b c mount name identifier credential)
@@ -190,10 +194,7 @@ module _ (b : Broker) (c : Text) (sound : Sound forms (Some c) b) (mount name id
             let r = ok_step (some_or refusal.NotFound (roles.role b mount name)) _ x.0 x.1 in
             let lasts = ok_step (unless (not (is_last_use b c)) (refusal.BadRequest reason.LastUseTakesLease)) _ x.0 r.2 in
             let there = some_of refusal.NotFound (roles.role b mount name) r.0 r.1 in
-            let same =
-            ap (λ (x : IssuedLease). record { lease_id = x.lease_id; lease = x.lease; next = issue b c x.lease_id x.lease }) (ok_inj lasts.2)
-            ∙ ok_inj x.2 in
-            (
+            let same = ap given (ok_inj lasts.2) ∙ ok_inj x.2 in (
               h.0,
               subst (λ (i : Issued). Represents (Some c) new_rows (record i.next { used = use_up i.next.used (identifier ∷ credential ∷ []) })) same
                   (represents-issued r.0 there (subst (λ (i : Issued). Tells of_leases (table_of mid) i.next) (sym same) h.1)),
