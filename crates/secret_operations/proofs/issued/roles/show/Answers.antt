@@ -41,6 +41,7 @@ returns-clause-told g c who honest b starts fresh =
     acts_found b new who (λ (r : Role). plainly (reply (plain_reply request (role_object r.max_ttl r.ttl)) None) b)
     (roles.role b c.args.mount.now c.args.name.now) c.in-Some.found (Ok c.in_ok-shown.field-0)
     (sym (c.in_ok-found.ensures.told honest b st.sound.roles (tells_part of_roles b old st)) ∙ c.in-Some.is) (
-      c.in_ok-shown.ensures ∙ ap (λ o. reply (plain_reply request o) None) c.in_ok-object.ensures,
+      c.in_ok-shown.ensures ∙ ap (λ o. reply (plain_reply request o) None)
+          (c.in_ok-object.ensures ∙ ap (λ (r : Role). role_object r.max_ttl r.ttl) c.found.view_is),
       still_represented b old new (c.in_ok-found.ensures.call.same honest) st,
     )
