@@ -58,7 +58,8 @@ pub(super) fn set<T: RecordsTx>(
     requires ttl { asked.ttl ≤ longest_duration }
     requires max_ttl { asked.max_ttl ≤ longest_duration }
     ensures told { is_mount_name mount.now ≡ true → (who : Option Text) (x : known.Context)
-        → Performs who x [] (T.seen tx.old) (T.seen tx.new) (λ b. part.set_role b (at mount.now name.now) asked) result }
+        → Performs who x [] (T.seen tx.old) (T.seen tx.new)
+        (λ b. part.set_role b (at mount.now name.now) asked) result }
     ensures call { IsRequestCall (T.seen tx.old) (T.seen tx.new) result IsNotBadStart }
 {
     set_role(alloc, tx, mount, name, asked.ttl, asked.max_ttl)?;
