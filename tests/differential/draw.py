@@ -21,6 +21,8 @@ import pathlib
 import sys
 
 from drawing import Run
+from lease_themes import (credentials, ends_of_leases, lease_routes, lives_of_leases, mixed_leases, mounts_enabled,
+                          mounts_of_secrets, roles)
 from policy_themes import (changing_policies, creating_or_updating, cubbyhole_permissions, denials, exact_and_prefix,
                            list_patterns, mixed_policies, permissions, policies_by_callers, policies_not_there,
                            policies_of_children, policy_names, policy_routes, policy_texts, refusals_in_order,
@@ -50,16 +52,18 @@ THEMES = {
     changed_heads: 4, line_ends: 3, many_fields: 2, body_lengths: 3, cuts: 4, single_bytes: 2, pipelines: 3,
     connections: 3, closing: 3, moments: 3, spellings: 3, lines: 6, changed_lines: 4, large: 1, mixed: 6, queries: 4,
     limits: 4, escapes: 6, authorizations: 5, hex_and_lists: 3,
-    creations: 4, lenient_creations: 7, refused_creations: 6, children: 8, families: 6, look_ups: 6, accessors: 4,
+    creations: 4, lenient_creations: 7, refused_creations: 6, children: 7, families: 6, look_ups: 6, accessors: 4,
     renewals: 6, ends: 6, uses: 6, revocations: 6, sudo_paths: 6, given_twice: 4, other_cubbyholes: 4,
-    cubbyhole_lists: 8, token_routes: 4, mixed_tokens: 6,
-    secret_writes: 4, check_and_set: 7, old_versions: 5, asked_versions: 7, deletions: 8, version_lists: 5,
-    refused_secrets: 6, settings: 7, folders: 7, forgotten_secrets: 4, secret_callers: 10, secret_routes: 6,
+    cubbyhole_lists: 7, token_routes: 4, mixed_tokens: 6,
+    secret_writes: 4, check_and_set: 7, old_versions: 5, asked_versions: 6, deletions: 7, version_lists: 5,
+    refused_secrets: 6, settings: 6, folders: 6, forgotten_secrets: 4, secret_callers: 8, secret_routes: 6,
     secret_moments: 2, mixed_secrets: 6,
-    permissions: 16, exact_and_prefix: 16, denials: 16, list_patterns: 16, creating_or_updating: 17,
-    cubbyhole_permissions: 12, stars_in_paths: 10, sudo_permissions: 16, policy_texts: 12, policy_names: 10,
-    changing_policies: 16, policies_of_children: 10, policies_not_there: 8, policies_by_callers: 8,
-    refusals_in_order: 10, policy_routes: 6, mixed_policies: 8,
+    permissions: 11, exact_and_prefix: 11, denials: 11, list_patterns: 11, creating_or_updating: 11,
+    cubbyhole_permissions: 9, stars_in_paths: 8, sudo_permissions: 11, policy_texts: 9, policy_names: 7,
+    changing_policies: 11, policies_of_children: 8, policies_not_there: 6, policies_by_callers: 6,
+    refusals_in_order: 8, policy_routes: 5, mixed_policies: 6,
+    mounts_enabled: 7, mounts_of_secrets: 6, roles: 7, credentials: 10, lives_of_leases: 10, ends_of_leases: 12,
+    lease_routes: 6, mixed_leases: 8,
     unserved_routes: 4, unserved_fields: 1,
 }
 

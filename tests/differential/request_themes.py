@@ -592,10 +592,10 @@ UNSERVED_ROUTES = (
     ("POST", "auth/token/tidy", "["), ("LIST", "auth/token/roles", None), ("GET", "auth/token", None),
     ("POST", "secret/metadata/x", '{"max_versions":1}'), ("PUT", "secret/metadata/a/b", "["),
     ("GET", "secret/subkeys/x", None),
-    ("GET", "sys/mounts", None), ("POST", "sys/mounts/db", '{"type":"issued"}'),
-    ("POST", "sys/leases/revoke-prefix/secret", None), ("GET", "sys/policy/default", None),
+    ("LIST", "sys/leases/lookup/db", None), ("POST", "sys/mounts/db/tune", '{"type":"issued"}'),
+    ("POST", "sys/leases/revoke-force/secret", None), ("GET", "sys/policy/default", None),
     ("POST", "sys/wrapping/wrap", '{"a":1}'), ("POST", "sys/wrapping/unwrap", '{"token":"x"}'),
-    ("POST", "sys/wrapping/lookup", None), ("POST", "sys/leases/lookup", "{}"), ("GET", "db/creds/r", None),
+    ("POST", "sys/wrapping/lookup", None), ("PUT", "sys/leases/tidy", "{}"), ("GET", "sys/auth", None),
     ("GET", "cubbyhole", None), ("DELETE", "cubbyhole", None), ("POST", "cubbyhole", '{"a":1}'),
     ("GET", "sys", None), ("GET", "auth", None), ("DELETE", "none", None), ("LIST", "secret", None))
 

@@ -1,7 +1,7 @@
 pub mod CommandReads
+pub mod EngineRoutes
 pub mod Finishing
 pub mod Permitted
 pub mod RoutedBy
 pub mod Routes
-pub mod SecretRoutes
 pub mod Serving

@@ -5,8 +5,8 @@
 //! a backslash before it, `#012` the identifier that ends in these digits, and `@` the time of the moment 1000.
 //!
 //! What comes is bytes, or a request of a token: `#021 POST auth/token/create {'ttl':60}`. A reply is a status and what
-//! it tells: data, `made` with the token that was made, `version` with the version that was written, or the text of a
-//! refusal. `close` before it says that the connection closes.
+//! it tells: data, `made` with the token that was made, `version` with the version that was written, `leased` with a
+//! lease, or the text of a refusal. `close` before it says that the connection closes.
 
 use crate::streams::started;
 use broker_types::{Bytes, Moment, Words};
@@ -28,6 +28,7 @@ macro_rules! expect {
 }
 
 mod acl_policies;
+mod leases;
 mod requests;
 mod secrets;
 mod tokens;
@@ -79,8 +80,10 @@ fn date(moment: u64) -> &'static str {
         1_000 => "Thu, 01 Jan 1970 00:16:40 GMT",
         1_005 => "Thu, 01 Jan 1970 00:16:45 GMT",
         1_010 => "Thu, 01 Jan 1970 00:16:50 GMT",
+        1_030 => "Thu, 01 Jan 1970 00:17:10 GMT",
         1_040 => "Thu, 01 Jan 1970 00:17:20 GMT",
         1_060 => "Thu, 01 Jan 1970 00:17:40 GMT",
+        2_000 => "Thu, 01 Jan 1970 00:33:20 GMT",
         1_700_000_000 => "Tue, 14 Nov 2023 22:13:20 GMT",
         _ => "",
     }
@@ -141,6 +144,18 @@ fn version(alloc: Global, number: &str) -> Result<String, AllocError> {
     spelled(alloc, object.as_str())
 }
 
+/// The body of a reply with a lease: its id, the seconds to its end, and data.
+fn leased(alloc: Global, text: &str, word: u128) -> Result<String, AllocError> {
+    let (id, rest) = first_word(text);
+    let (seconds, data) = first_word(rest);
+    let id = spelled(alloc, id)?;
+    let data = spelled(alloc, data)?;
+    format!(in alloc;
+        "{{\"auth\":null,\"data\":{data},\"lease_duration\":{seconds},\"lease_id\":\"{id}\",\"renewable\":true,\
+        \"request_id\":\"{IDENTIFIER}{word:03x}\",\"warnings\":null,\"wrap_info\":null}}\n"
+    )
+}
+
 /// The body of a reply that tells this.
 fn body_of(alloc: Global, told: &str, word: u128) -> Result<String, AllocError> {
     if told.is_empty() {
@@ -151,6 +166,7 @@ fn body_of(alloc: Global, told: &str, word: u128) -> Result<String, AllocError> 
     }
     match first_word(told) {
         ("made", token) => answered(alloc, word, made(alloc, token)?.as_str(), "null"),
+        ("leased", lease) => leased(alloc, lease, word),
         ("version", number) => answered(alloc, word, "null", version(alloc, number)?.as_str()),
         _ => format!(in alloc; "{{\"errors\":[\"{told}\"]}}\n"),
     }

@@ -1,8 +1,8 @@
 use broker_types::Verb::{self, Delete, Get, List, Write};
 use broker_types::{Methods, Reason, Refusal, RequestError};
 use mounts::{
-    CubbyholeOperation, MountType, NamedMount, Operation, PolicyOperation, SecretOperation,
-    TokenOperation, disable, enable, list, route,
+    CubbyholeOperation, IssuedOperation, LeaseOperation, MountOperation, MountType, NamedMount,
+    Operation, PolicyOperation, SecretOperation, TokenOperation, disable, enable, list, route,
 };
 use records::{ListRecords, ListTx};
 use std::process::Abort;
@@ -63,6 +63,24 @@ const OF_ONE_POLICY: &[(Verb, Operation)] = &[
     (Get, Operation::Policies(PolicyOperation::Show)),
     (Write, Operation::Policies(PolicyOperation::Set)),
     (Delete, Operation::Policies(PolicyOperation::Remove)),
+];
+
+const OF_MOUNTS: &[(Verb, Operation)] = &[(Get, Operation::Mounts(MountOperation::List))];
+
+const OF_ONE_MOUNT: &[(Verb, Operation)] = &[
+    (Write, Operation::Mounts(MountOperation::Enable)),
+    (Delete, Operation::Mounts(MountOperation::Disable)),
+];
+
+const OF_PREFIXES: &[(Verb, Operation)] = &[(
+    Write,
+    Operation::Leases(LeaseOperation::RevokeUnder),
+)];
+
+const OF_ROLES: &[(Verb, Operation)] = &[
+    (Get, Operation::Issued(IssuedOperation::ShowRole)),
+    (Write, Operation::Issued(IssuedOperation::SetRole)),
+    (Delete, Operation::Issued(IssuedOperation::RemoveRole)),
 ];
 
 /// The routes of the profile, each with a path that fits, one with a segment more and one with a segment less.
@@ -151,19 +169,31 @@ const LINES: &[Line] = &[
     Line("sys/wrapping/rewrap/a", NONE, &[]),
     Line("sys/wrapping/unwrap", NONE, &[Write]),
     Line("sys/wrapping/unwrap/a", NONE, &[]),
-    Line("sys/leases/lookup", NONE, &[Write]),
+    Line(
+        "sys/leases/lookup",
+        &[(Write, Operation::Leases(LeaseOperation::LookUp))],
+        &[],
+    ),
     Line("sys/leases/lookup/a", NONE, &[]),
     Line("sys/leases", NONE, &[]),
-    Line("sys/leases/renew", NONE, &[Write]),
+    Line(
+        "sys/leases/renew",
+        &[(Write, Operation::Leases(LeaseOperation::Renew))],
+        &[],
+    ),
     Line("sys/leases/renew/a", NONE, &[]),
-    Line("sys/leases/revoke", NONE, &[Write]),
+    Line(
+        "sys/leases/revoke",
+        &[(Write, Operation::Leases(LeaseOperation::Revoke))],
+        &[],
+    ),
     Line("sys/leases/revoke/a", NONE, &[]),
-    Line("sys/leases/revoke-prefix/db", NONE, &[Write]),
-    Line("sys/leases/revoke-prefix/db/creds", NONE, &[Write]),
+    Line("sys/leases/revoke-prefix/db", OF_PREFIXES, &[]),
+    Line("sys/leases/revoke-prefix/db/creds", OF_PREFIXES, &[]),
     Line("sys/leases/revoke-prefix", NONE, &[]),
-    Line("sys/mounts", NONE, &[Get]),
+    Line("sys/mounts", OF_MOUNTS, &[]),
     Line("sys", NONE, &[]),
-    Line("sys/mounts/db", NONE, &[Write, Delete]),
+    Line("sys/mounts/db", OF_ONE_MOUNT, &[]),
     Line("sys/mounts/db/a", NONE, &[]),
     Line("sys/policies/acl", OF_POLICIES, &[]),
     Line("sys/policies", NONE, &[]),
@@ -190,14 +220,22 @@ const LINES: &[Line] = &[
     Line("secret/metadata", OF_LISTS, &[]),
     Line("secret/metadata/a", OF_METADATA, &[]),
     Line("secret/metadata/a/b", OF_METADATA, &[]),
-    Line("db/roles/r", NONE, &[Get, Write, Delete]),
+    Line("db/roles/r", OF_ROLES, &[]),
     Line("db/roles/r/a", NONE, &[]),
     Line("db/roles", NONE, &[]),
     Line("db", NONE, &[]),
-    Line("db/creds/r", NONE, &[Get]),
+    Line(
+        "db/creds/r",
+        &[(Get, Operation::Issued(IssuedOperation::Issue))],
+        &[],
+    ),
     Line("db/creds/r/a", NONE, &[]),
     Line("db/creds", NONE, &[]),
-    Line("db/verify", NONE, &[Write]),
+    Line(
+        "db/verify",
+        &[(Write, Operation::Issued(IssuedOperation::Verify))],
+        &[],
+    ),
     Line("db/verify/a", NONE, &[]),
     Line("db2/creds/r", NONE, &[]),
     Line("other/data/a", NONE, &[]),

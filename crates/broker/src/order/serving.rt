@@ -30,9 +30,9 @@ use crate::order::routing::find_route;
 use broker_rows::{Answered, Caller, Context, are_new};
 use broker_types::{Answer, Ask, Fault, Refusal, RequestError};
 use records::RecordsTx;
-use secret_operations::{act_on_cubbyholes, act_on_secrets};
+use secret_operations::{act_on_cubbyholes, act_on_issued, act_on_secrets};
 use std::alloc::Global;
-use system_operations::act_on_policies;
+use system_operations::{act_on_leases, act_on_mounts, act_on_policies};
 use token_operations::act_on_tokens;
 
 /// Answers an ask of the caller, which has spent its use: the ask is served or refused, and a caller without uses left
@@ -148,5 +148,10 @@ fn act<T: RecordsTx>(
         Command::OnToken(command) => act_on_tokens(alloc, tx, context, caller, command),
         Command::OnSecret(place, command) => act_on_secrets(alloc, tx, context, &place, command),
         Command::OnPolicy(name, command) => act_on_policies(alloc, tx, context, name, command),
+        Command::OnMount(name, command) => act_on_mounts(alloc, tx, context, name, command),
+        Command::OnLease(prefix, command) => act_on_leases(alloc, tx, context, prefix, command),
+        Command::OnIssued(place, command) => {
+            act_on_issued(alloc, tx, context, caller, &place, command)
+        }
     }
 }

@@ -1,6 +1,6 @@
 -- The part of mounts: what the routes under `sys/mounts` mean, and what they do to the maps (Vault's documentation,
 -- "/sys/mounts").
-use Rattle.std.specs.Prelude.{ℕ, ◌×◌, List, [], map, true, false, Option, Some, None, is_some, Result, Ok, codes}
+use Rattle.std.specs.Prelude.{ℕ, List, [], map, true, false, Option, Some, None, is_some, Result, Ok, codes}
 use Rattle.std.specs.Prelude.{if◌then◌else◌}
 use Rattle.broker_types.specs.Text.{Text}
 use Rattle.broker_types.specs.Map.{get}
@@ -83,7 +83,7 @@ abbrev pub disable : Broker → Text → Result Done Refusal
 disable b name = do
   next ← mounts.disabled b.mounts name
   Ok (plainly nothing
-  (if is_some (get b.mounts name) then without_kept (record b { mounts = next }) name else b))
+      (if is_some (get b.mounts name) then without_kept (record b { mounts = next }) name else b))
 
 -- ---- the part
 

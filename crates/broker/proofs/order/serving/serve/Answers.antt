@@ -23,7 +23,7 @@ use Rattle.broker.specs.Stages.{IsServed}
 use Rattle.broker.proofs.CommandReads.{known_by, meant_by_route, no_route, on_no_command}
 use Rattle.broker.proofs.CommandReads.{permitted_before}
 use Rattle.broker.proofs.Routes.{is_meant, not_meant, not_served, served_by, served_nowhere, served_permitted}
-use Rattle.broker.proofs.SecretRoutes.{mount_named}
+use Rattle.broker.proofs.EngineRoutes.{mount_named}
 use Rattle.broker.proofs.Serving.{caller_still}
 use Rattle.broker.proofs.order.serving.serve.Goals as goal
 
@@ -169,7 +169,7 @@ returns-clause-told g c honest b starts =
     let found = sym c.in_ok-found-2.was ∙ routed in
     let formed : IsWellFormed route = record {
       parameter = λ takes. c.in_ok-found.ensures.parameter c.as_str-path.ensures.good route takes c.in_ok-found-2.was;
-      mount = λ op is. mount_named b ask.verb path route op starts.begins.represents.sound.mounts (sym found) is;
+      mount = λ is. mount_named b ask.verb path route starts.begins.represents.sound.mounts (sym found) is;
     } in
     let t = ap (λ (x : Caller). x.token) c.caller.view_is in
     let begins : Begins (Some caller) c.args.context.now (seen c.permitted.new.tx).rows b =

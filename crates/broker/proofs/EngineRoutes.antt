@@ -1,0 +1,67 @@
+-- The routes to operations of engines lead to mounts that are there.
+use Rattle.std.specs.Prelude.{◌≡◌, if◌then◌else◌, Bool, true, false, Option, Some, None, Ok, codes}
+use Rattle.std.specs.List.{list_all}
+use Rattle.std.proofs.Common.{refl, sym, ◌∙◌, ap}
+use Rattle.std.proofs.lemmas.Bool.{false≢true}
+use Rattle.std.proofs.lemmas.Option.{none-some, same_Some}
+use Rattle.broker_types.specs.Broker.{Broker, Mount}
+use Rattle.broker_types.specs.Map.{get}
+use Rattle.broker_types.specs.Name.{is_mount_name}
+use Rattle.broker_types.specs.Sound.{SoundMounts}
+use Rattle.broker_types.specs.Text.{Text, same}
+use Rattle.broker_types.specs.declared.ask.Verb.{Verb}
+use Rattle.records.specs.Rows.{or_else}
+use Rattle.mounts.specs.Route.{Route, cut, route_of}
+use Rattle.mounts.specs.RouteRow.{RouteRow}
+use Rattle.mounts.specs.Table.{route_rows}
+use Rattle.mounts.specs.Types.{fixed_type, type_at}
+use Rattle.mounts.specs.declared.mount_type.MountType.{MountType}
+use Rattle.mounts.specs.declared.mount_type.MountType.TheVariants as mount
+use Rattle.mounts.specs.declared.operation.Operation.{Operation}
+use Rattle.broker_rows.specs.Operating.{is_of_engine}
+use Rattle.broker.proofs.RoutedBy.{routed_by}
+
+-- whether the mounts of a type are those of an engine
+is_engine : MountType → Bool
+is_engine mount.Kv = true
+is_engine mount.Issued = true
+is_engine _ = false
+
+-- only such mounts have operations of engines
+elsewhere : (type : MountType) (r : Route) → is_of_engine r.operation ≡ true
+    → ((q : Operation → Bool) → list_all (λ (x : RouteRow). q x.operation) (route_rows type) ≡ true → q r.operation ≡ true)
+    → is_engine type ≡ true
+unfolding is_engine
+elsewhere mount.Kv r is passes = refl
+elsewhere mount.Issued r is passes = refl
+elsewhere mount.Token r is passes = absurd (false≢true (sym (ap not is) ∙ passes (λ o. not (is_of_engine o)) refl))
+elsewhere mount.System r is passes = absurd (false≢true (sym (ap not is) ∙ passes (λ o. not (is_of_engine o)) refl))
+elsewhere mount.Cubbyhole r is passes = absurd (false≢true (sym (ap not is) ∙ passes (λ o. not (is_of_engine o)) refl))
+
+-- and none of them is always there
+not_fixed : (a b c : Bool) (type : MountType) → is_engine type ≡ true
+    → (if a then Some mount.Token else (if b then Some mount.System else (if c then Some mount.Cubbyhole else None))) ≡ Some type → ⊥
+unfolding is_engine
+not_fixed true b c type engine h = false≢true (ap is_engine (same_Some _ _ h) ∙ engine)
+not_fixed false true c type engine h = false≢true (ap is_engine (same_Some _ _ h) ∙ engine)
+not_fixed false false true type engine h = false≢true (ap is_engine (same_Some _ _ h) ∙ engine)
+not_fixed false false false type engine h = none-some _ h
+
+mount_there : (o : Option Mount) (name : Text) (type : MountType) → is_engine type ≡ true → type_at o name ≡ Some type
+    → (m : Mount) × (o ≡ Some m)
+mount_there (Some m) name type engine h = (m, refl)
+mount_there None name type engine h =
+    absurd (not_fixed (same name (codes "auth")) (same name (codes "sys")) (same name (codes "cubbyhole")) type engine
+    (bare (fixed_type name) h))
+  where
+    bare : (o : Option MountType) → or_else o None ≡ Some type → o ≡ Some type
+    bare None h = h
+    bare (Some t) h = h
+
+-- so their mounts have names of mounts
+pub mount_named : (b : Broker) (v : Verb) (path : Text) (r : Route) → SoundMounts b.mounts → route_of b.mounts v path ≡ Ok r
+    → is_of_engine r.operation ≡ true → is_mount_name r.mount ≡ true
+mount_named b v path r sound h is =
+    let by = routed_by (get b.mounts (cut path).0) v path r h in
+    let m = mount_there (get b.mounts (cut path).0) (cut path).0 by.type (elsewhere by.type r is by.passes) by.there in
+    ap is_mount_name by.mount ∙ (sound (cut path).0 m.0 m.1).mount_name
