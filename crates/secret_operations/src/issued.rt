@@ -13,7 +13,7 @@ ghost use Rattle.broker_model.specs.declared.commands.IssuedCommand.TheVariants 
 ghost use Rattle.broker_model.specs.parts.Bodies.{read_as};
 ghost use Rattle.broker_model.specs.parts.Issued as part;
 ghost use Rattle.broker_model.specs.parts.Issued.{issued_command, own_names};
-ghost use Rattle.broker_rows.specs.Operating.{PerformsBy};
+ghost use Rattle.broker_rows.specs.Operating.{ArePrinted, PerformsBy};
 ghost use Rattle.broker_rows.specs.Reads.{AreReadableIssued};
 ghost use Rattle.secret_operations.specs.InRange.{IsIssuedCommandInRange};
 
@@ -25,7 +25,7 @@ use crate::place::Place;
 use api_json::{credential, read_body, role_settings};
 use broker_model::IssuedCommand;
 use broker_rows::{Answered, Caller, Context};
-use broker_types::RequestError;
+use broker_types::{RequestError, TextBuf};
 use mounts::IssuedOperation;
 use records::RecordsTx;
 use std::alloc::Global;
@@ -70,18 +70,20 @@ fn read_credential(alloc: Global, body: &[u8]) -> Result<IssuedCommand, RequestE
     Ok(IssuedCommand::Verify(text))
 }
 
-/// Carries out a command of the caller at the place of a role. It may be refused. It fails with `Memory` if memory runs
-/// out, with `Storage` if the transaction's storage failed, and with `Damaged` if a row that it asks for cannot be
-/// read.
+/// Carries out a command of the caller at the place of a role. The identifiers that it needs have been printed. It may
+/// be refused. It fails with `Memory` if memory runs out, with `Storage` if the transaction's storage failed, and with
+/// `Damaged` if a row that it asks for cannot be read.
 pub fn act_on_issued<T: RecordsTx>(
     alloc: Global,
     tx: &mut T,
     context: &Context<'_>,
     caller: &Caller<'_>,
+    own: &[TextBuf],
     place: &Place<'_>,
     command: IssuedCommand,
 ) -> Result<Answered, RequestError>
-    requires { IsIssuedCommandInRange command }
+    requires in_range { IsIssuedCommandInRange command }
+    requires own { ArePrinted own.now (own_names command (names_of context.now.words)) }
     ensures told { is_mount_name place.now.mount ≡ true
         → PerformsBy caller.now context.now (own_names command (names_of context.now.words))
         (T.seen tx.old) (T.seen tx.new)
@@ -98,7 +100,7 @@ pub fn act_on_issued<T: RecordsTx>(
         IssuedCommand::ShowRole => roles::show(alloc, tx, context, mount, name),
         IssuedCommand::SetRole(asked) => roles::set(alloc, tx, mount, name, asked),
         IssuedCommand::RemoveRole => roles::remove(alloc, tx, mount, name),
-        IssuedCommand::Issue => credentials::issue(alloc, tx, context, caller, mount, name),
+        IssuedCommand::Issue => credentials::issue(alloc, tx, context, caller, own, mount, name),
         IssuedCommand::Verify(text) => credentials::verify(alloc, tx, context, text.as_str()),
     }
 }

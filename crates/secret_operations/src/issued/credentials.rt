@@ -19,26 +19,28 @@ ghost use Rattle.broker_model.specs.parts.Issued as part;
 ghost use Rattle.broker_model.specs.parts.Issued.{lease_names};
 ghost use Rattle.broker_model.specs.parts.Place.{at};
 ghost use Rattle.broker_rows.specs.Done.{answered_of};
-ghost use Rattle.broker_rows.specs.Operating.{Performs, PerformsBy};
+ghost use Rattle.broker_rows.specs.Operating.{ArePrinted, Performs, PerformsBy};
 ghost use Rattle.secret_operations.specs.Issuing.{IssuesLease};
 
-use crate::issued::identifiers::identifier;
 use api_json::{credential_object, lease_reply, valid_object};
 use broker_rows::{Answered, Caller, Context, use_up};
-use broker_types::{RequestError, id_text};
+use broker_types::{RequestError, TextBuf, id_text};
 use leases::{IssuedLease, Names, creds};
 use records::RecordsTx;
 use std::alloc::{AllocError, Global};
 
-/// Issues a credential of a role, with a lease of the caller's token. The identifiers of the request are new.
+/// Issues a credential of a role, with a lease of the caller's token. The identifiers of the request are new, and have
+/// been printed.
 pub(super) fn issue<T: RecordsTx>(
     alloc: Global,
     tx: &mut T,
     context: &Context<'_>,
     caller: &Caller<'_>,
+    own: &[TextBuf],
     mount: &str,
     name: &str,
 ) -> Result<Answered, RequestError>
+    requires own { ArePrinted own.now (lease_names (names_of context.now.words)) }
     ensures told { is_mount_name mount.now ≡ true
         → PerformsBy caller.now context.now (lease_names (names_of context.now.words)) (T.seen tx.old) (T.seen tx.new)
         (λ b. part.issue b caller.now.token (names_of context.now.words) (at mount.now name.now)) result }
@@ -48,19 +50,10 @@ pub(super) fn issue<T: RecordsTx>(
         → OnAnswer result (IsReadableRole (table (T.seen tx.old)) mount.now name.now) }
     ensures call { IsRequestCall (T.seen tx.old) (T.seen tx.new) result IsNotBadStart }
 {
-    let named = identifier(alloc, context.words.0[3])?;
-    let credential = identifier(alloc, context.words.0[4])?;
-    let lease = put(
-        alloc,
-        tx,
-        context,
-        caller,
-        mount,
-        name,
-        named.as_str(),
-        credential.as_str(),
-    )?;
-    Ok(given(alloc, context, lease, credential.as_str())?)
+    let named = own[0].as_str();
+    let credential = own[1].as_str();
+    let lease = put(alloc, tx, context, caller, mount, name, named, credential)?;
+    Ok(given(alloc, context, lease, credential)?)
 }
 
 /// Makes a lease of the caller's token for a credential of a role, and marks its identifiers as given out.

@@ -1,13 +1,13 @@
 //! The identifiers of a new lease.
 
-ghost use Rattle.std.specs.Prelude.{◌≡◌, IfOk};
-ghost use Rattle.broker_types.specs.Identifier.{id};
+ghost use Rattle.std.specs.Prelude.{IfOk};
 ghost use Rattle.broker_types.specs.Names.{names_of};
-ghost use Rattle.broker_types.specs.Sound.{IsIdentifier};
 ghost use Rattle.broker_model.specs.parts.Issued.{own_names};
+ghost use Rattle.broker_rows.specs.Operating.{ArePrinted};
 
 use broker_model::IssuedCommand;
-use broker_types::{TextBuf, Words, id_text};
+use broker_rows::printed;
+use broker_types::{TextBuf, Words};
 use std::alloc::{AllocError, Global};
 
 /// The identifiers that a command on roles and credentials needs, which have to be new: that of a lease that it makes,
@@ -18,20 +18,10 @@ pub fn own_identifiers(
     words: &Words,
     command: &IssuedCommand,
 ) -> Result<Vec<TextBuf>, AllocError>
-    ensures { IfOk result (λ identifiers. identifiers.items ≡ own_names command.now (names_of words.now)) }
+    ensures { IfOk result (λ own. ArePrinted own.items (own_names command.now (names_of words.now))) }
 {
-    let mut identifiers = Vec::new(alloc);
-    if let IssuedCommand::Issue = command {
-        identifiers.push(identifier(alloc, words.0[3])?)?;
-        identifiers.push(identifier(alloc, words.0[4])?)?;
+    match command {
+        IssuedCommand::Issue => printed(alloc, words.0[3], words.0[4]),
+        _ => Ok(Vec::new(alloc)),
     }
-    Ok(identifiers)
-}
-
-/// The identifier of a word.
-pub(super) fn identifier(alloc: Global, word: u128) -> Result<TextBuf, AllocError>
-    ensures value { IfOk result (λ t. t ≡ id word) }
-    ensures good { IfOk result IsIdentifier }
-{
-    Ok(TextBuf::new(id_text(alloc, word)?))
 }
