@@ -1,12 +1,12 @@
 -- How the commands on roles and credentials end.
-use Rattle.std.specs.Prelude.{◌≡◌, ◌≤◌, ℕ, [], ◌∷◌, true, Option, Some, None, Result, Ok, Err, ⊤}
+use Rattle.std.specs.Prelude.{◌≡◌, ◌≤◌, ℕ, true, Option, Some, None, Result, Ok, Err, ⊤}
 use Rattle.std.proofs.Common.{refl, sym, ◌∙◌, ap, subst}
 use Rattle.broker_types.specs.Broker.{Broker}
 use Rattle.broker_types.specs.Duration.{longest_duration}
 use Rattle.broker_types.specs.Map.{put}
 use Rattle.broker_types.specs.Name.{is_name, is_mount_name}
 use Rattle.broker_types.specs.Names.{Names}
-use Rattle.broker_types.specs.Operation.{Answered, nothing, reply, Done, plainly}
+use Rattle.broker_types.specs.Operation.{nothing, reply, Done, plainly}
 use Rattle.broker_types.specs.Refuse.{◌>>=◌, unless}
 use Rattle.broker_types.specs.RefuseLaws.{ok_step}
 use Rattle.broker_types.specs.RequestError.{EndsOk, EndsErr}

@@ -9,18 +9,18 @@ use Rattle.std.proofs.lemmas.Bool.Decides.{nat_tests}
 use Rattle.std.proofs.lemmas.Option.{none-some, same_Some}
 use Rattle.broker_types.specs.Broker.{Broker, Role}
 use Rattle.broker_types.specs.Evolves.{IsNew}
-use Rattle.broker_types.specs.Map.{Map, get, put}
+use Rattle.broker_types.specs.Map.{get, put}
 use Rattle.broker_types.specs.MapLaws.{get-put}
 use Rattle.broker_types.specs.Name.{is_name, is_name_byte, is_mount_name}
 use Rattle.broker_types.specs.OptionLaws.{is_nothing}
 use Rattle.broker_types.specs.Places.{lease_identifier}
-use Rattle.broker_types.specs.Refuse.{◌>>=◌, some_or, unless}
+use Rattle.broker_types.specs.Refuse.{some_or, unless}
 use Rattle.broker_types.specs.RefuseLaws.{ok_step, no_ok}
 use Rattle.broker_types.specs.RequestError.{EndsOk}
-use Rattle.broker_types.specs.Sound.{Sound, SoundRoles, IsSoundRole, IsIdentifier}
+use Rattle.broker_types.specs.Sound.{Sound, IsSoundRole, IsIdentifier}
 use Rattle.broker_types.specs.Text.{Text, same}
 use Rattle.broker_types.specs.TextLaws.{same_self}
-use Rattle.broker_types.specs.Token.{Token, Lease}
+use Rattle.broker_types.specs.Token.{Token}
 use Rattle.broker_types.specs.Used.{are_new, use_up}
 use Rattle.broker_types.specs.UsedLaws.{first_new}
 use Rattle.broker_types.specs.declared.refusal.Refusal.{Refusal}

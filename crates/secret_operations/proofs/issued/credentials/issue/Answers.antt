@@ -1,15 +1,11 @@
-use Rattle.std.specs.Prelude.{ℕ}
-use Rattle.std.proofs.Common.{None, Some, Ok, Err, ap, sym, subst, ◌∙◌}
+use Rattle.std.proofs.Common.{List, None, Some, Ok, Err, ap, get_or, subst, ◌∙◌}
 use Rattle.std.proofs.lemmas.Result.{err_from_is_err_and}
 use Rattle.api_json.specs.Objects.{credential_object}
 use Rattle.api_json.specs.Reply.{lease_reply}
 use Rattle.broker_types.specs.Names.{names_of}
 use Rattle.broker_types.specs.Operation.{reply}
 use Rattle.broker_types.specs.Text.{Text}
-use Rattle.broker_model.specs.parts.Issued.{issue, lease_names}
 use Rattle.broker_model.specs.parts.Place.{at}
-use Rattle.broker_rows.specs.Context.{Context}
-use Rattle.broker_rows.specs.Operating.{PerformsBy}
 use Rattle.secret_operations.specs.Issuing.{IssuesLease}
 use Rattle.secret_operations.proofs.IssuedAnswers.{acts_issued, acts_not_issued}
 use Rattle.secret_operations.proofs.issued.credentials.issue.Goals as goal
@@ -22,9 +18,9 @@ returns-in_err-lease-clause-told g c is_mount honest b starts new =
     let name = c.args.name.now in
     let names = names_of c.args.context.now.words in
     let token = c.args.caller.now.token in
-    let p = err_from_is_err_and c.from_residual-in_err-lease.result c.from_residual-in_err-lease.ensures.1 in
-    let named = c.as_str-named.ensures ∙ c.index-own.is ∙ ap (λ (own : List Text). get_or own 0 c.index-own.result) c.requires.own.are in
-    let credential = c.as_str-credential.ensures ∙ c.index-own-2.is ∙ ap (λ (own : List Text). get_or own 1 c.index-own-2.result) c.requires.own.are in
+    let p = err_from_is_err_and c.from_residual.result c.from_residual.ensures.1 in
+    let named = c.as_str-named.ensures ∙ c.index-own-0.is ∙ ap (λ (own : List Text). get_or own 0 c.index-own-0.result) c.requires.own.are in
+    let credential = c.as_str-credential.ensures ∙ c.index-own-1.is ∙ ap (λ (own : List Text). get_or own 1 c.index-own-1.result) c.requires.own.are in
     let told = subst (λ (p : Text × Text). IssuesLease c.args.caller.now c.args.context.now mount name p.0 p.1 (seen c.args.tx.now) (seen c.put.new.tx)
     (Err c.in_err-lease.field-0.0)) (λ i. (named i, credential i)) (c.in_err-lease.ensures.told is_mount) in
     rw (p.1 ∙ ap Err p.2) (acts_not_issued b token (seen c.put.new.tx).rows names (at mount name) c.in_err-lease.field-0.0 (told honest b starts new))
@@ -38,8 +34,8 @@ returns-clause-told g c is_mount honest b starts new =
     let names = names_of c.args.context.now.words in
     let token = c.args.caller.now.token in
     let lease = c.in_ok-lease.lease in
-    let named = c.as_str-named.ensures ∙ c.index-own.is ∙ ap (λ (own : List Text). get_or own 0 c.index-own.result) c.requires.own.are in
-    let credential = c.as_str-credential.ensures ∙ c.index-own-2.is ∙ ap (λ (own : List Text). get_or own 1 c.index-own-2.result) c.requires.own.are in
+    let named = c.as_str-named.ensures ∙ c.index-own-0.is ∙ ap (λ (own : List Text). get_or own 0 c.index-own-0.result) c.requires.own.are in
+    let credential = c.as_str-credential.ensures ∙ c.index-own-1.is ∙ ap (λ (own : List Text). get_or own 1 c.index-own-1.result) c.requires.own.are in
     let told = subst (λ (p : Text × Text). IssuesLease c.args.caller.now c.args.context.now mount name p.0 p.1 (seen c.args.tx.now) (seen c.put.new.tx)
     (Ok lease)) (λ i. (named i, credential i)) (c.in_ok-lease.ensures.told is_mount) in
     acts_issued b token (seen c.put.new.tx).rows names (at mount name) lease c.in_ok-given.field-0 (told honest b starts new)

@@ -1,12 +1,12 @@
 use Rattle.std.specs.Prelude.{length}
 use Rattle.std.specs.Option.{option_map_or}
-use Rattle.std.proofs.Common.{◌≡◌, ◌==◌, Ok, Err, Some, false, refl, sym, ap, subst, arith, ◌∙◌}
+use Rattle.std.proofs.Common.{◌≡◌, ◌==◌, Ok, Err, false, refl, sym, ap, subst, arith, ◌∙◌}
 use Rattle.std.proofs.lemmas.Result.{err_from_is_err_and}
 use Rattle.broker_types.specs.IdentifierLaws.{id-length}
 use Rattle.records.specs.CallLaws.{honest_before}
 use Rattle.records.specs.Parts.{of_roles}
 use Rattle.records.specs.RowForms.{used_row}
-use Rattle.records.specs.Table.{table_of, with_row}
+use Rattle.records.specs.Table.{with_row}
 use Rattle.records.specs.declared.kind.Kind.TheVariants as kind
 use Rattle.leases.specs.Roles.{creds}
 use Rattle.broker_model.specs.Forms.{forms}
