@@ -36,9 +36,11 @@ returns-clause-told g c who honest b starts fresh =
     let new = (seen c.lookup.new.tx).rows in
     let st = starts.represents in
     let names = names_of c.args.context.now.words in
-    let clock : b.clock ≡ c.context.inside.clock = starts.clock ∙ sym (ap (λ (x : Context). x.clock) c.context.view_is) in
+    let clock : b.clock ≡ c.context.inside.clock =
+        starts.clock ∙ sym (ap (λ (x : Context). x.clock) c.context.view_is) in
     acts_shown b who old new st names c.as_str.result.now c.args.lease_id c.context.inside.clock c.in_ok-times.times
     c.in_ok-shown.field-0 c.as_str.ensures (c.in_ok-times.ensures.call.same honest) clock
     (c.in_ok-times.ensures.told honest forms b (represents_leases b old old st (λ k q h. refl)))
     (c.in_ok-shown.ensures
-    ∙ ap (λ o. reply (plain_reply names.request o) None) (c.in_ok-object.ensures ∙ ap lease_object c.shown-lease.ensures))
+    ∙ ap (λ o. reply (plain_reply names.request o) None)
+    (c.in_ok-object.ensures ∙ ap lease_object c.shown-lease.ensures))

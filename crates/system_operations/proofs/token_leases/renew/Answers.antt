@@ -22,7 +22,8 @@ returns-in_err-ends-clause-told g c who honest b starts fresh =
     let st = starts.represents in
     let names = names_of c.args.context.now.words in
     let asked = c.args.asked in
-    let clock : b.clock ≡ c.context.inside.clock = starts.clock ∙ sym (ap (λ (x : Context). x.clock) c.context.view_is) in
+    let clock : b.clock ≡ c.context.inside.clock =
+        starts.clock ∙ sym (ap (λ (x : Context). x.clock) c.context.view_is) in
     let p = err_from_is_err_and c.from_residual.result c.from_residual.ensures.1 in
     rw (p.1 ∙ ap Err p.2)
     (acts_refused b who old new st (leases.renew b asked.lease_id asked.increment) (renewed_of b names asked.lease_id)
@@ -49,5 +50,7 @@ returns-clause-told g c who =
     (c.in_ok-ends.ensures.told honest forms b (represents_leases b old old st (λ k q h. refl)) (sym starts.clock))
     (c.in_ok-ends.ensures.call.others honest)
     (c.in_ok-lease_reply.ensures
-    ∙ (λ i. lease_reply ((c.as_str-2.ensures.value ∙ c.in_ok-request.ensures) i) asked.lease_id (c.seconds_left-seconds.ensures i) None)
+    ∙ ap (λ request. lease_reply request asked.lease_id c.seconds_left-seconds.result None)
+    (c.as_str-2.ensures.value ∙ c.in_ok-request.ensures)
+    ∙ ap (λ seconds. lease_reply names.request asked.lease_id seconds None) c.seconds_left-seconds.ensures
     ∙ ap (λ now. lease_reply names.request asked.lease_id (ends - now) None) (sym starts.clock)))
