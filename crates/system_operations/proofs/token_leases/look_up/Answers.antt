@@ -37,7 +37,7 @@ returns-clause-told g c who honest b starts fresh =
     let st = starts.represents in
     let names = names_of c.args.context.now.words in
     let clock : b.clock ≡ c.context.inside.clock =
-        starts.clock ∙ sym (ap (λ (x : Context). x.clock) c.context.view_is) in
+    starts.clock ∙ sym (ap (λ (x : Context). x.clock) c.context.view_is) in
     acts_shown b who old new st names c.as_str.result.now c.args.lease_id c.context.inside.clock c.in_ok-times.times
     c.in_ok-shown.field-0 c.as_str.ensures (c.in_ok-times.ensures.call.same honest) clock
     (c.in_ok-times.ensures.told honest forms b (represents_leases b old old st (λ k q h. refl)))

@@ -23,7 +23,7 @@ returns-in_err-ends-clause-told g c who honest b starts fresh =
     let names = names_of c.args.context.now.words in
     let asked = c.args.asked in
     let clock : b.clock ≡ c.context.inside.clock =
-        starts.clock ∙ sym (ap (λ (x : Context). x.clock) c.context.view_is) in
+    starts.clock ∙ sym (ap (λ (x : Context). x.clock) c.context.view_is) in
     let p = err_from_is_err_and c.from_residual.result c.from_residual.ensures.1 in
     rw (p.1 ∙ ap Err p.2)
     (acts_refused b who old new st (leases.renew b asked.lease_id asked.increment) (renewed_of b names asked.lease_id)
