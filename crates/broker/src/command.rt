@@ -3,7 +3,7 @@
 ghost use Rattle.std.specs.Prelude.{IfOk};
 ghost use Rattle.broker_types.specs.Names.{names_of};
 ghost use Rattle.api_json.specs.Reads.{IsReadAs};
-ghost use Rattle.broker_model.specs.Command.{command_for};
+ghost use Rattle.broker_model.specs.Command.{command_for, place_of};
 ghost use Rattle.broker_model.specs.Step.{traits};
 ghost use Rattle.broker_rows.specs.Operating.{ArePrinted, IsWellFormed};
 ghost use Rattle.broker.specs.Meant.{meant, IsInRange, IsWellPlaced};
@@ -14,9 +14,7 @@ use broker_model::{
 };
 use broker_types::{Ask, RequestError, TextBuf, Words};
 use mounts::{Operation, Route};
-use secret_operations::{
-    Place, read_cubbyhole_command, read_issued_command, read_secret_command,
-};
+use secret_operations::{Place, read_cubbyhole_command, read_issued_command, read_secret_command};
 use std::alloc::{AllocError, Global};
 use system_operations::{read_lease_command, read_mount_command, read_policy_command};
 use token_operations::read_token_command;
@@ -65,11 +63,7 @@ pub(crate) fn read_command<'r>(
         Operation::Secrets(operation) => {
             let version = ask.version.as_slice();
             let command = read_secret_command(alloc, operation, version, body)?;
-            let place = Place {
-                mount: route.mount,
-                path: parameter,
-            };
-            Ok(Command::OnSecret(place, command))
+            Ok(Command::OnSecret(place_of(route), command))
         }
         Operation::Policies(operation) => {
             let command = read_policy_command(alloc, operation, body)?;
@@ -85,12 +79,18 @@ pub(crate) fn read_command<'r>(
         }
         Operation::Issued(operation) => {
             let command = read_issued_command(alloc, operation, body)?;
-            let place = Place {
-                mount: route.mount,
-                path: parameter,
-            };
-            Ok(Command::OnIssued(place, command))
+            Ok(Command::OnIssued(place_of(route), command))
         }
+    }
+}
+
+/// Where a route leads in a mount of an engine.
+fn place_of<'r>(route: &Route<'r>) -> Place<'r>
+    ensures { result ≡ place_of route.now }
+{
+    Place {
+        mount: route.mount,
+        path: route.parameter,
     }
 }
 

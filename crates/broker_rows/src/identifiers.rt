@@ -1,9 +1,11 @@
 //! The identifiers that a request gives out.
 
-ghost use Rattle.std.specs.Prelude.{◌≡◌, Option, IfOk, OnOk};
+ghost use Rattle.std.specs.Prelude.{◌≡◌, ◌∷◌, [], Option, IfOk, OnOk};
 ghost use Rattle.std.specs.List.{list_any};
 ghost use Rattle.broker_types.specs.Broker.{Broker};
 ghost use Rattle.broker_types.specs.Fault.{IsMemoryOrStorage};
+ghost use Rattle.broker_types.specs.Identifier.{id};
+ghost use Rattle.broker_types.specs.Sound.{IsIdentifier};
 ghost use Rattle.broker_types.specs.Text.{Text, same};
 ghost use Rattle.broker_types.specs.Used as model;
 ghost use Rattle.records.specs.RowForms.{used_row};
@@ -12,11 +14,29 @@ ghost use Rattle.records.specs.Transaction.{IsHonest};
 ghost use Rattle.records.specs.declared.kind.Kind.TheVariants as kind;
 ghost use Rattle.records.specs.Calls.{IsCall, IsReading};
 ghost use Rattle.broker_rows.specs.Marks.{are_unmarked};
+ghost use Rattle.broker_rows.specs.Operating.{ArePrinted};
 ghost use Rattle.broker_rows.specs.Representing.{Represents};
 
-use broker_types::{Fault, TextBuf};
+use broker_types::{Fault, TextBuf, id_text};
 use records::{Kind, RecordsTx, write_used};
-use std::alloc::Global;
+use std::alloc::{AllocError, Global};
+
+/// The identifiers of two words, printed. The only error is running out of memory.
+pub fn printed(alloc: Global, first: u128, second: u128) -> Result<Vec<TextBuf>, AllocError>
+    ensures { IfOk result (λ own. ArePrinted own.items (id first ∷ id second ∷ [])) }
+{
+    let first = identifier(alloc, first)?;
+    let second = identifier(alloc, second)?;
+    Ok(vec![in alloc; first, second]?)
+}
+
+/// The identifier of a word.
+fn identifier(alloc: Global, word: u128) -> Result<TextBuf, AllocError>
+    ensures value { IfOk result (λ t. t ≡ id word) }
+    ensures good { IfOk result IsIdentifier }
+{
+    Ok(TextBuf::new(id_text(alloc, word)?))
+}
 
 /// Whether identifiers are new: no two are equal, and none was ever given out.
 /// It fails with `Memory` if memory runs out, and with `Storage` if the transaction's storage failed.

@@ -28,7 +28,7 @@ macro_rules! expect {
 }
 
 mod acl_policies;
-mod leases;
+mod issued;
 mod requests;
 mod secrets;
 mod tokens;

@@ -6,9 +6,7 @@ ghost use Rattle.mounts.specs.RouteRow.{rows_in};
 ghost use Rattle.mounts.specs.Table as table;
 
 use crate::mount_type::MountType;
-use crate::operation::Operation::{
-    Cubbyholes, Issued, Leases, Mounts, Policies, Secrets, Tokens,
-};
+use crate::operation::Operation::{Cubbyholes, Issued, Leases, Mounts, Policies, Secrets, Tokens};
 use crate::operation::{
     CubbyholeOperation, IssuedOperation, LeaseOperation, MountOperation, Operation,
     PolicyOperation, SecretOperation, TokenOperation,

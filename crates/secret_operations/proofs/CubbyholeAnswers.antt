@@ -31,7 +31,6 @@ represents-write {who} b old new t path object st is_path is_object tells =
     record {
       rows = λ i k q. tells k q refl i;
       sound = write_sound forms who b t st.sound path object is_path is_object;
-      served = record { none_waits = st.served.none_waits };
     }
 
 -- and those after a deletion
@@ -41,7 +40,6 @@ represents-delete {who} b old new t path st tells =
     record {
       rows = λ i k q. tells k q refl i;
       sound = delete_sound forms who b t st.sound path;
-      served = record { none_waits = st.served.none_waits };
     }
 
 -- ---- a list

@@ -1,4 +1,6 @@
 pub mod Changes
 pub mod CubbyholeAnswers
+pub mod IssuedAnswers
+pub mod IssuedRows
 pub mod SecretAnswers
 pub mod SecretTables

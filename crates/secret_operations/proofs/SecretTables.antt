@@ -16,7 +16,7 @@ use Rattle.records.specs.Table.{Table, table_of, is_at, has_prefix}
 use Rattle.records.specs.Transaction.{Rows}
 use Rattle.kv2.specs.SecretRows.{AreChanged, KeepsOtherNames, KeepsOtherMounts, is_key_of, versions_prefix}
 use Rattle.broker_model.specs.Forms.{forms}
-use Rattle.broker_rows.specs.Representing.{AsServed, Represents}
+use Rattle.broker_rows.specs.Representing.{Represents}
 
 -- ---- rows of other parts
 
@@ -49,10 +49,6 @@ outside_mounts name _ q h = refl
 
 -- ---- a broker with other secrets, or other settings
 
--- what the requests served so far can leave is so with any secrets and mounts
-served_still : (b : Broker) (secrets : Map Key) (mounts : Map Mount) → AsServed b → AsServed (record b { secrets = secrets; mounts = mounts })
-served_still b secrets mounts s = record { none_waits = s.none_waits }
-
 module _ {who : Option Text} (b : Broker) (old new : Rows) (st : Represents who old b) where
   pub represents-secrets : (secrets : Map Key) → Sound forms who (record b { secrets = secrets })
       → Tells of_secrets (table_of new) (record b { secrets = secrets }) → KeepsOthers of_secrets (table_of old) (table_of new)
@@ -61,7 +57,6 @@ module _ {who : Option Text} (b : Broker) (old new : Rows) (st : Represents who 
     rows = joined_rows of_secrets (table_of old) (table_of new) b (record b { secrets = secrets }) st.rows tells keeps
         (rows_of-other_secrets b secrets);
     sound = sound;
-    served = served_still b secrets b.mounts st.served;
   }
 
   pub represents-settings : (name : Text) (mounts : Map Mount) → Sound forms who (record b { mounts = mounts })
@@ -71,5 +66,4 @@ module _ {who : Option Text} (b : Broker) (old new : Rows) (st : Represents who 
     rows = joined_rows of_mounts (table_of old) (table_of new) b (record b { mounts = mounts }) st.rows tells
         (λ k q h. keeps k q (outside_mounts name k q h)) (rows_of-other_mounts b mounts);
     sound = sound;
-    served = served_still b b.secrets mounts st.served;
   }

@@ -1,8 +1,13 @@
--- Commands that fit into rows: a text that is kept is a short one, of an object (this project's row format).
-use Rattle.std.specs.Prelude.{Some, None, ⊤}
+-- Commands that fit into rows: a text that is kept is a short one, of an object, and a time that is kept no longer than
+-- one that can be given (this project's row format).
+use Rattle.std.specs.Prelude.{◌≤◌, Some, None, ⊤}
+use Rattle.broker_types.specs.Duration.{longest_duration}
 use Rattle.api_json.specs.Kept.{IsKept}
+use Rattle.api_json.specs.declared.issued_bodies.RoleSettings.{RoleSettings}
 use Rattle.broker_model.specs.declared.commands.CubbyholeCommand.{CubbyholeCommand}
 use Rattle.broker_model.specs.declared.commands.CubbyholeCommand.TheVariants as cubbyhole
+use Rattle.broker_model.specs.declared.commands.IssuedCommand.{IssuedCommand}
+use Rattle.broker_model.specs.declared.commands.IssuedCommand.TheVariants as issued
 use Rattle.broker_model.specs.declared.commands.SecretCommand.{SecretCommand}
 use Rattle.broker_model.specs.declared.commands.SecretCommand.TheVariants as secret
 
@@ -18,3 +23,13 @@ IsCubbyholeCommandInRange (cubbyhole.Write (Some text)) = IsKept text
 abbrev pub IsSecretCommandInRange : SecretCommand → Type 0
 IsSecretCommandInRange (secret.Write asked) = IsKept asked.object
 IsSecretCommandInRange _ = ⊤
+
+-- the times of a role
+pub record AreRoleSettingsInRange (asked : RoleSettings) : Type 0 where
+  pub ttl : asked.ttl ≤ longest_duration
+  pub max_ttl : asked.max_ttl ≤ longest_duration
+
+-- what is set as a role
+abbrev pub IsIssuedCommandInRange : IssuedCommand → Type 0
+IsIssuedCommandInRange (issued.SetRole asked) = AreRoleSettingsInRange asked
+IsIssuedCommandInRange _ = ⊤

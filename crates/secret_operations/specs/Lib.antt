@@ -1,3 +1,4 @@
 pub mod Bodies
 pub mod InRange
+pub mod Issuing
 pub mod Paths

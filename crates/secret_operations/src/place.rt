@@ -10,7 +10,7 @@ pub struct Place<'r> {
 }
 
 impl<'r> Model for Place<'r> {
-    ghost use Rattle.broker_model.specs.parts.SecretCommands as spec;
+    ghost use Rattle.broker_model.specs.parts.Place as spec;
 
     ghost Value = { spec.Place };
 

@@ -18,14 +18,10 @@ use Rattle.records.specs.Transaction.{Rows}
 use Rattle.policies.specs.PolicyRows.{ArePolicies}
 use Rattle.policies.specs.TellLaws.{told_policies}
 use Rattle.broker_model.specs.Forms.{forms}
-use Rattle.broker_rows.specs.Representing.{AsServed, Represents}
+use Rattle.broker_rows.specs.Representing.{Represents}
 use Rattle.broker_rows.specs.declared.answered.Answered.TheVariants.{Nothing}
 use Rattle.broker_rows.specs.Operating.{ActsAs}
 use Rattle.broker_rows.specs.RepresentingLaws.{still_represented}
-
--- what the requests served so far can leave is so with any policies
-served_still : (b : Broker) (next : Map Text) → AsServed b → AsServed (record b { policies = next })
-served_still b next s = record { none_waits = s.none_waits }
 
 module _ (b : Broker) (who : Option Text) (old new : Rows) (st : Represents who old b) where
   represents-policies : (next : Map Text) → Sound forms who (record b { policies = next }) → ArePolicies (table_of new) next
@@ -34,7 +30,6 @@ module _ (b : Broker) (who : Option Text) (old new : Rows) (st : Represents who 
     rows = joined_rows of_policies (table_of old) (table_of new) b (record b { policies = next }) st.rows
         (told_policies (table_of new) (record b { policies = next }) are) keeps (rows_of-other_policies b next);
     sound = sound;
-    served = served_still b next st.served;
   }
 
   abbrev changed : Result (Map Text) Refusal → Result Done Refusal

@@ -1,1 +1,3 @@
 pub mod AclPolicyAnswers
+pub mod LeaseAnswers
+pub mod MountAnswers

@@ -48,7 +48,9 @@ pub fn act_on_tokens<T: RecordsTx>(
     ensures call { IsRequestCall (T.seen tx.old) (T.seen tx.new) result IsNotBadStart }
 {
     match command {
-        TokenCommand::Create(making, asked) => create(alloc, tx, context, asker, own, making, asked),
+        TokenCommand::Create(making, asked) => create(
+            alloc, tx, context, asker, own, making, asked,
+        ),
         TokenCommand::LookUp(token) => look_up(alloc, tx, context, token.as_str(), token.as_str()),
         TokenCommand::LookUpAccessor(accessor) => {
             look_up_accessor(alloc, tx, context, accessor.as_str())

@@ -160,7 +160,7 @@ fn act<T: RecordsTx>(
         Command::OnMount(name, command) => act_on_mounts(alloc, tx, context, name, command),
         Command::OnLease(prefix, command) => act_on_leases(alloc, tx, context, prefix, command),
         Command::OnIssued(place, command) => {
-            act_on_issued(alloc, tx, context, caller, &place, command)
+            act_on_issued(alloc, tx, context, &asker.caller, own, &place, command)
         }
     }
 }

@@ -8,7 +8,7 @@ ghost use Rattle.records.specs.Transaction.{IsHonest};
 ghost use Rattle.records.specs.Calls.{OnAnswer, IsRequestCall};
 ghost use Rattle.records.specs.Table.{table};
 ghost use Rattle.kv2.specs.SecretRows.{IsReadableMount};
-ghost use Rattle.broker_model.specs.parts.SecretCommands.{at};
+ghost use Rattle.broker_model.specs.parts.Place.{at};
 ghost use Rattle.broker_model.specs.parts.Secrets as part;
 ghost use Rattle.broker_rows.specs.Context as known;
 ghost use Rattle.broker_rows.specs.Operating.{Performs};

@@ -11,7 +11,7 @@ ghost use Rattle.records.specs.Table.{table};
 ghost use Rattle.api_json.specs.Kept.{IsKept};
 ghost use Rattle.kv2.specs.SecretRows.{AreReadableToWrite};
 ghost use Rattle.kv2.specs.Secrets.{secret_name};
-ghost use Rattle.broker_model.specs.parts.SecretCommands.{at};
+ghost use Rattle.broker_model.specs.parts.Place.{at};
 ghost use Rattle.broker_model.specs.parts.Secrets as part;
 ghost use Rattle.broker_rows.specs.Operating.{Performs};
 ghost use Rattle.broker_rows.specs.ReadableRow.{IsReadableSecret};

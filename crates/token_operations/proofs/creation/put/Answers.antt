@@ -31,10 +31,10 @@ returns-clause-told g c who is =
     let st = starts.represents in
     let once = honest_before (seen c.use_up.new.tx) (seen c.use_up-2.new.tx) _ c.in_ok-use_up-2.ensures.call.goes_on honest in
     let made = honest_before (seen c.create.new.tx) (seen c.use_up.new.tx) _ c.in_ok-use_up.ensures.call.goes_on once in
-    let text : c.as_str-2.result.now ≡ token_text names.token = c.as_str-2.ensures ∙ c.in_ok-text.ensures in
-    let identifier : c.as_str-4.result.now ≡ names.token = c.as_str-4.ensures ∙ is ∙ ap (λ (x : Context). (names_of x.words).token) (sym c.context.view_is) in
-    let request : c.as_str-5.result.now ≡ names.request = c.as_str-5.ensures.value ∙ c.in_ok-request.ensures in
-    let shown : c.as_str-6.result.now ≡ token_text names.token = c.as_str-6.ensures ∙ c.in_ok-text.ensures in
+    let identifier : c.args.identifier.now ≡ names.token = is ∙ ap (λ (x : Context). (names_of x.words).token) (sym c.context.view_is) in
+    let text : c.as_str-2.result.now ≡ token_text names.token = c.as_str-2.ensures ∙ c.in_ok-text.ensures ∙ ap token_text identifier in
+    let request : c.as_str-4.result.now ≡ names.request = c.as_str-4.ensures.value ∙ c.in_ok-request.ensures in
+    let shown : c.as_str-5.result.now ≡ token_text names.token = c.as_str-5.ensures ∙ c.in_ok-text.ensures ∙ ap token_text identifier in
     let given : c.in_ok-accessor.accessor ≡ y.accessor = c.in_ok-accessor.ensures ∙ c.as_str.ensures
     ∙ ap (λ (e : TokenEntry). e.accessor) (c.token.view_is ∙ sym entry) in
     let tells = subst (λ t. Tells of_tokens (table_of (seen c.create.new.tx).rows) (with_token b t y)) text

@@ -3,7 +3,6 @@ use Rattle.std.proofs.Common.{refl, sym, ap, ◌∙◌, subst}
 use Rattle.broker_types.specs.Names.{names_of}
 use Rattle.broker_types.specs.Sound.{IsEnd}
 use Rattle.records.specs.TokenEntry.{TokenEntry}
-use Rattle.token_tree.specs.TokenRows.{renewed_entry}
 use Rattle.broker_model.specs.Forms.{forms}
 use Rattle.broker_model.specs.parts.TokenReplies.{auth_reply}
 use Rattle.broker_model.specs.parts.Tokens.{renew}
@@ -38,8 +37,8 @@ returns-clause-told g c honest who b starts here =
     (sym (c.as_str.ensures.value ∙ c.in_ok-request.ensures)) (starts.clock ∙ sym (ap (λ (x : Context). x.clock) c.context.view_is)) refl
     (ap (λ (e : TokenEntry). is_some e.ends) (sym c.found.view_is) ∙ c.is_none.ensures ∙ ap not c.if-is_none.false) c.new_end-ends.ensures
     (c.in_ok-auth_reply.ensures
-    ∙ ap (auth_reply c.as_str.result.now now t) (c.in_ok-renewed.ensures.renewed ∙ ap (renewed_entry ends) c.found.view_is))
+    ∙ ap (auth_reply c.as_str.result.now now t) c.in_ok-renewed.ensures.renewed)
     (represents-renewed b t ends old new st
     (subst IsEnd (sym c.new_end-ends.ensures) (new_end_near now asked c.args.found c.requires))
-    (c.in_ok-renewed.ensures.told honest forms b (represents_tokens b old st) (ap Some c.found.view_is ∙ here))
+    (c.in_ok-renewed.ensures.told honest forms b (represents_tokens b old st) here)
     (c.in_ok-renewed.ensures.call.others honest)))

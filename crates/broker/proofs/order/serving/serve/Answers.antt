@@ -2,24 +2,18 @@ use Rattle.std.specs.Prelude.{is_some}
 use Rattle.std.proofs.Common.{◌≡◌, Some, Err, true, false, refl, sym, ap, ◌∙◌, subst, inl, inr}
 use Rattle.std.proofs.lemmas.Result.{err_from_is_err_and}
 use Rattle.records.specs.CallLaws.{honest_before, on_answer_weaker}
-use Rattle.records.specs.Calls.{OnAnswer}
 use Rattle.records.specs.Transaction.{Rows}
 use Rattle.records.specs.ValueLaws.{none_of, ok_inj}
 use Rattle.broker_types.specs.declared.request_error.RequestError.TheVariants.{Refused}
 use Rattle.broker_types.specs.Names.{names_of}
-use Rattle.broker_types.specs.RequestError.{Ends}
-use Rattle.broker_types.specs.Text.{Text}
 use Rattle.broker_model.specs.Command.{Command, command_for}
 use Rattle.broker_model.specs.Permission.{permits}
-use Rattle.broker_model.specs.Serving.{operated}
-use Rattle.broker_rows.specs.Caller.{Caller}
-use Rattle.broker_rows.specs.Operating.{Begins, IsWellFormed}
-use Rattle.broker_rows.specs.Representing.{Represents}
+use Rattle.broker_rows.specs.Caller.{AreRulesAt}
+use Rattle.broker_rows.specs.Operating.{BeginsBy, IsWellFormed}
 use Rattle.broker_rows.specs.RepresentingLaws.{mounts_there, still_represented}
 use Rattle.broker_rows.specs.declared.answered.Answered.{Answered}
 use Rattle.broker.specs.Answering.{IsReadableCommand, Asks}
 use Rattle.broker.specs.Meant.{meant}
-use Rattle.broker.specs.Stages.{IsServed}
 use Rattle.broker.proofs.CommandReads.{known_by, meant_by_route, no_route, on_no_command}
 use Rattle.broker.proofs.CommandReads.{permitted_before}
 use Rattle.broker.proofs.Routes.{is_meant, not_meant, not_served, served_by, served_nowhere, served_permitted}
@@ -101,7 +95,7 @@ returns-in_err-found-2-clause-readable g c honest at =
 -- ---- the body is read
 
 pub operate-requires : goal.operate-requires
-operate-requires g c = c.in_ok-command.ensures.in_range
+operate-requires g c = record { in_range = c.in_ok-command.ensures.in_range; known = c.requires }
 
 pub returns-in_err-command-clause-told : goal.returns-in_err-command-clause-told
 returns-in_err-command-clause-told g c honest b starts =
@@ -171,16 +165,14 @@ returns-clause-told g c honest b starts =
       parameter = λ takes. c.in_ok-found.ensures.parameter c.as_str-path.ensures.good route takes c.in_ok-found-2.was;
       mount = λ is. mount_named b ask.verb path route starts.begins.represents.sound.mounts (sym found) is;
     } in
-    let t = ap (λ (x : Caller). x.token) c.caller.view_is in
-    let begins : Begins (Some caller) c.args.context.now (seen c.permitted.new.tx).rows b =
-    record { represents = then; here = starts.begins.here; clock = starts.begins.clock } in
+    let begins : BeginsBy c.args.caller c.args.context.now (seen c.permitted.new.tx).rows b =
+    record { begins = record { represents = then; here = starts.begins.here; clock = starts.begins.clock }; caller = starts.caller } in
+    let are = subst (λ (rows : Rows). AreRulesAt rows c.args.caller.known.policies ask.verb c.in-Some.rules)
+    (sym (c.in_ok-rules.ensures.call.same later)) (c.in_ok-rules.ensures.rules later c.in-Some.rules c.in-Some.is) in
     served_permitted b caller names ask (seen c.operate.new.tx).rows c.operate.result permitted
     (served_by b caller names ask (seen c.operate.new.tx).rows c.operate.result route path c.as_str-path.ensures.text found
     (is_meant b caller names ask (seen c.operate.new.tx).rows (command_for route ask) (meant c.in_ok-command.command) c.operate.result c.in_ok-command.ensures.reads
-    (subst (λ (who : Text). Ends (IsServed (Some who) (seen c.operate.new.tx).rows) (Represents (Some who) (seen c.operate.new.tx).rows b) c.operate.result
-    (operated b (Some who) names ask (meant c.in_ok-command.command))) t
-    (c.operate.ensures.told (c.in_ok-command.ensures.placed formed) honest b
-    (subst (λ (who : Text). Begins (Some who) c.args.context.now (seen c.permitted.new.tx).rows b) (sym t) begins) ask))))
+    (c.operate.ensures.told (c.in_ok-command.ensures.placed formed) honest b (ask.verb, are) begins ask)))
 
 pub returns-clause-readable : goal.returns-clause-readable
 returns-clause-readable g c honest at =
@@ -207,5 +199,4 @@ returns-clause-readable g c honest at =
           subst (IsReadableCommand old caller) is
           (subst (λ (rows : Rows). IsReadableCommand rows caller (meant c.in_ok-command.command)) same read);
     }))
-    (subst (λ (who : Text). OnAnswer c.operate.result (IsReadableCommand (seen c.permitted.new.tx).rows who (meant c.in_ok-command.command)))
-    (ap (λ (x : Caller). x.token) c.caller.view_is) (c.operate.ensures.readable honest))
+    (c.operate.ensures.readable honest (caller_still old (seen c.permitted.new.tx).rows c.args.caller same at))

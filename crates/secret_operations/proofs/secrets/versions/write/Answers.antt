@@ -10,7 +10,7 @@ use Rattle.records.specs.Table.{table_of}
 use Rattle.kv2.specs.SecretRows.{AreReadableToWrite}
 use Rattle.kv2.specs.Secrets as secrets
 use Rattle.broker_model.specs.Forms.{forms}
-use Rattle.broker_model.specs.parts.SecretCommands.{at}
+use Rattle.broker_model.specs.parts.Place.{at}
 use Rattle.broker_rows.specs.Context.{Context}
 use Rattle.broker_rows.specs.RepresentingLaws.{tells_part}
 use Rattle.secret_operations.proofs.SecretAnswers.{IsWrittenAs, acts_written, acts_not_written, on_written}

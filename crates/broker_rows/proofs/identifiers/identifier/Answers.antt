@@ -1,5 +1,5 @@
 use Rattle.std.proofs.Common.{rules}
-use Rattle.token_operations.proofs.identifiers.identifier.Goals as goal
+use Rattle.broker_rows.proofs.identifiers.identifier.Goals as goal
 
 pub returns-clause-good : goal.returns-clause-good
 returns-clause-good c = (c.args.word, c.ranges.word.fits, search rules)

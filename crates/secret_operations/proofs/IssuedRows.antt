@@ -1,0 +1,200 @@
+-- A credential that was issued: its rows, its identifiers, and the broker that they represent.
+use Rattle.std.specs.Prelude.{◌≡◌, ◌≢◌, ◌==◌, ◌&&◌, ◌||◌, ℕ, List, [], ◌∷◌, ◌++◌, not, Bool, true, false, if◌then◌else◌, cond, codes}
+use Rattle.std.specs.Prelude.{Option, Some, None, option_map, is_none, Result, Ok, Err, ⊤}
+use Rattle.std.specs.List.{list_all}
+use Rattle.std.specs.Option.{option_map_or}
+use Rattle.std.proofs.Common.{arith, refl, sym, ◌∙◌, ap, subst, append_assoc}
+use Rattle.std.proofs.lemmas.Bool.{false≢true, true≢false, and_parts}
+use Rattle.std.proofs.lemmas.Bool.Decides.{nat_tests}
+use Rattle.std.proofs.lemmas.Option.{none-some, same_Some}
+use Rattle.broker_types.specs.Broker.{Broker, Role}
+use Rattle.broker_types.specs.Evolves.{IsNew}
+use Rattle.broker_types.specs.Map.{get, put}
+use Rattle.broker_types.specs.MapLaws.{get-put}
+use Rattle.broker_types.specs.Name.{is_name, is_name_byte, is_mount_name}
+use Rattle.broker_types.specs.OptionLaws.{is_nothing}
+use Rattle.broker_types.specs.Places.{lease_identifier}
+use Rattle.broker_types.specs.Refuse.{some_or, unless}
+use Rattle.broker_types.specs.RefuseLaws.{ok_step, no_ok}
+use Rattle.broker_types.specs.RequestError.{EndsOk}
+use Rattle.broker_types.specs.Sound.{Sound, IsSoundRole, IsIdentifier}
+use Rattle.broker_types.specs.Text.{Text, same}
+use Rattle.broker_types.specs.TextLaws.{same_self}
+use Rattle.broker_types.specs.Token.{Token}
+use Rattle.broker_types.specs.Used.{are_new, use_up}
+use Rattle.broker_types.specs.UsedLaws.{first_new}
+use Rattle.broker_types.specs.declared.refusal.Refusal.{Refusal}
+use Rattle.broker_types.specs.declared.refusal.Refusal.TheVariants as refusal
+use Rattle.broker_types.specs.declared.refusal.Reason.TheVariants as reason
+use Rattle.records.specs.declared.kind.Kind.{Kind}
+use Rattle.records.specs.declared.kind.Kind.TheVariants as kind
+use Rattle.records.specs.declared.row.Row.{Row}
+use Rattle.records.specs.PartLaws.{joined_rows, rows_of-other_used}
+use Rattle.records.specs.Parts.{Tells, KeepsOthers, of_leases, of_used}
+use Rattle.records.specs.RowForms.{used_row}
+use Rattle.records.specs.Rows.{rows_of}
+use Rattle.records.specs.SplitLaws.{split-lacking}
+use Rattle.records.specs.Splits.{slash, split_once, lacks}
+use Rattle.records.specs.Table.{Table, table_of, with_row}
+use Rattle.records.specs.TokenEntry.{TokenEntry, token_entry}
+use Rattle.records.specs.Transaction.{Rows}
+use Rattle.records.specs.ValueLaws.{ok_inj}
+use Rattle.leases.specs.IssuedLaws.{issue_sound, identifier_of_id, new_lease_sound}
+use Rattle.leases.specs.Laws.{MayBeIssued}
+use Rattle.leases.specs.Leases.{issue}
+use Rattle.leases.specs.Roles as roles
+use Rattle.leases.specs.Roles.{Issued, IssuedLease, role_name, lease_id, new_lease, is_last_use, creds}
+use Rattle.leases.specs.SoundLaws.{shows_in_leases}
+use Rattle.broker_model.specs.Forms.{forms}
+use Rattle.broker_rows.specs.Caller.{Caller, IsCallerOf}
+use Rattle.broker_rows.specs.Representing.{Represents}
+use Rattle.secret_operations.specs.Issuing.{IsLeased}
+
+-- ---- the rows of identifiers
+
+inner : (v w : Bool) (o : Option Row) (u : Option ⊤) → o ≡ option_map (λ _. used_row) u
+    → (if v then Some used_row else (if w then Some used_row else o)) ≡ option_map (λ _. used_row) (cond v (Some (tt {0})) (cond w (Some (tt {0})) u))
+inner true w o u h = refl
+inner false true o u h = refl
+inner false false o u h = h
+
+module _ (b : Broker) (i j : Text) (mid new : Table) (is : new ≡ with_row (with_row mid kind.Used j used_row) kind.Used i used_row) where
+  -- two more were given out
+  marks_told : ((q : Text) → mid kind.Used q ≡ rows_of b kind.Used q) → Tells of_used new (record b { used = use_up b.used (i ∷ j ∷ []) })
+  unfolding rows_of
+  marks_told before kind.Used q h =
+      ap (λ (table : Table). table kind.Used q) is
+      ∙ inner (same q i) (same q j) (mid kind.Used q) (get b.used q) (before q)
+      ∙ ap (option_map (λ _. used_row))
+      (sym (get-put (put b.used j tt) i tt q ∙ ap (cond (same q i) (Some (tt {0}))) (get-put b.used j tt q)))
+  marks_told before _ q h = absurd (false≢true h)
+
+  marks_outside : (k : Kind) (q : Text) → of_used k ≡ false
+      → with_row (with_row mid kind.Used j used_row) kind.Used i used_row k q ≡ mid k q
+  marks_outside kind.Used q h = absurd (true≢false h)
+  marks_outside _ q h = refl
+
+  marks_keep : KeepsOthers of_used mid new
+  marks_keep k q h = ap (λ (table : Table). table k q) is ∙ marks_outside k q h
+
+-- ---- the name of a role that is there
+
+weaker : (p q : ℕ → Bool) → ((x : ℕ) → p x ≡ true → q x ≡ true) → (xs : List ℕ) → list_all p xs ≡ true → list_all q xs ≡ true
+weaker p q h [] e = refl
+weaker p q h (x ∷ xs) e = λ i. h x (and_parts _ _ e).0 i && weaker p q h xs (and_parts _ _ e).1 i
+
+name_byte : (x : ℕ) → is_name_byte x ≡ true → not (x == slash) ≡ true
+name_byte x h = grind (arith, nat_tests)
+
+mount_lacks : (mount : Text) → is_mount_name mount ≡ true → lacks slash mount ≡ true
+mount_lacks mount h = weaker is_name_byte (λ x. not (x == slash)) name_byte mount (and_parts _ _ (and_parts _ _ (and_parts _ _ h).0).1).1
+
+-- a role is kept under a name
+role_named : (mount name : Text) (r : Role) → is_mount_name mount ≡ true → IsSoundRole (role_name mount name) r → is_name name ≡ true
+role_named mount name r is_mount s =
+    let parts : role_name mount name ≡ s.mount ++ slash ∷ s.role = s.parts ∙ append_assoc s.mount (codes "/") s.role in
+    let pair = same_Some _ _
+    (sym (split-lacking slash mount name (mount_lacks mount is_mount)) ∙ ap (split_once slash) parts
+    ∙ split-lacking slash s.mount s.role (mount_lacks s.mount s.mount_name)) in
+    ap (λ (p : Text × Text). is_name p.1) pair ∙ s.role_name
+
+-- ---- the caller
+
+-- the entry of a caller tells whether this is its last use
+pub last_use : (b : Broker) (c : Caller) → IsCallerOf b c → option_map_or (λ n. n == 0) c.known.uses_left false ≡ is_last_use b c.token
+last_use b c is = by (get b.tokens c.token) is
+  where
+    by : (o : Option Token) → Some c.known ≡ option_map token_entry o
+        → option_map_or (λ n. n == 0) c.known.uses_left false ≡ option_map_or (λ (x : Token). option_map_or (λ n. n == 0) x.uses_left false) o false
+    by None h = absurd (none-some _ (sym h))
+    by (Some x) h = ap (λ (e : TokenEntry). option_map_or (λ n. n == 0) e.uses_left false) (same_Some _ _ h)
+
+-- ---- a lease that may be made
+
+some_of : {X : Type 0} (e : Refusal) (o : Option X) (x : X) → some_or e o ≡ Ok x → o ≡ Some x
+some_of e None x h = no_ok h
+some_of e (Some y) x h = ap Some (ok_inj h)
+
+module _ (b : Broker) (c : Text) (sound : Sound forms (Some c) b) (mount name identifier credential : Text) (is_mount : is_mount_name mount ≡ true)
+    (good : IsIdentifier identifier) (good_too : IsIdentifier credential) (new : are_new b.used (identifier ∷ credential ∷ []) ≡ true)
+    (here : get b.tokens c ≢ None) where
+  abbrev id : Text
+  id = lease_id mount name identifier
+
+  ends_with : lease_identifier id ≡ identifier
+  ends_with = identifier_of_id mount name identifier good
+
+  rest_new : (not (same identifier credential || false) ≡ true) × ((is_none (get b.used credential) && true) ≡ true)
+  rest_new = and_parts _ _ (and_parts (is_none (get b.used identifier)) _ new).1
+
+  pub identifier_new : IsNew b identifier
+  identifier_new = first_new b.used identifier credential new
+
+  pub credential_new : IsNew b credential
+  credential_new = is_nothing (get b.used credential) (and_parts (is_none (get b.used credential)) true rest_new.1).0
+
+  differ : identifier ≢ credential
+  differ e =
+      false≢true (sym (ap (λ v. not (v || false)) (same_self identifier)) ∙ ap (λ k. not (same identifier k || false)) e ∙ rest_new.0)
+
+  pub id_new : IsNew b (lease_identifier id)
+  id_new = subst (IsNew b) (sym ends_with) identifier_new
+
+  may_be_issued : (r : Role) → roles.role b mount name ≡ Some r → MayBeIssued b c id (new_lease b.clock r credential)
+  may_be_issued r is = record {
+    sound = new_lease_sound mount name identifier credential b.clock r is_mount
+        (role_named mount name r is_mount (sound.roles (role_name mount name) r is)) good good_too sound.clock;
+    here = here;
+    id_is_new = id_new;
+    credential_is_new = credential_new;
+    differ = λ e. differ (sym ends_with ∙ e);
+  }
+
+  -- ---- what is left
+
+  module _ (old mid new_rows : Rows) (st : Represents (Some c) old b) (keeps : KeepsOthers of_leases (table_of old) (table_of mid))
+      (marks : table_of new_rows ≡ with_row (with_row (table_of mid) kind.Used credential used_row) kind.Used identifier used_row) where
+    -- the lease was made, and both identifiers were marked
+    represents-issued : (r : Role) → roles.role b mount name ≡ Some r
+        → Tells of_leases (table_of mid) (issue b c id (new_lease b.clock r credential))
+        → Represents (Some c) new_rows (record (issue b c id (new_lease b.clock r credential)) { used = use_up b.used (identifier ∷ credential ∷ []) })
+    represents-issued r is tells =
+        let l = new_lease b.clock r credential in
+        let may = may_be_issued r is in
+        let next = issue b c id l in
+        let made : table_of mid ≡ rows_of next =
+        joined_rows of_leases (table_of old) (table_of mid) b next st.rows tells keeps
+        (shows_in_leases b (λ u m. if same u c then put m id l else m)) in
+        record {
+          rows = joined_rows of_used (table_of mid) (table_of new_rows) next (record next { used = use_up b.used (identifier ∷ credential ∷ []) }) made
+              (marks_told next identifier credential (table_of mid) (table_of new_rows) marks (λ q. ap (λ (t : Table). t kind.Used q) made))
+              (marks_keep next identifier credential (table_of mid) (table_of new_rows) marks)
+              (rows_of-other_used next (use_up b.used (identifier ∷ credential ∷ [])));
+          sound = subst (λ i. Sound forms (Some c) (record next { used = use_up b.used (i ∷ credential ∷ []) })) ends_with
+              (issue_sound b c id l forms (Some c) st.sound may (subst IsIdentifier (sym ends_with) good));
+        }
+
+    -- what is issued by a lease
+    abbrev given : IssuedLease → Issued
+    given x = record { lease_id = x.lease_id; lease = x.lease; next = issue b c x.lease_id x.lease }
+
+    -- so what a call on leases has made is issued
+    pub leased : (l : Text × ℕ) → EndsOk (λ x (i : Issued). (x ≡ (i.lease_id, i.lease.ttl)) × Tells of_leases (table_of mid) i.next) l
+        (creds b c mount name identifier credential)
+        → EndsOk (IsLeased c new_rows identifier credential) l (creds b c mount name identifier credential)
+    leased l ends = by (creds b c mount name identifier credential) refl ends
+      where
+        by : (m : Result Issued Refusal) → creds b c mount name identifier credential ≡ m
+            → EndsOk (λ x (i : Issued). (x ≡ (i.lease_id, i.lease.ttl)) × Tells of_leases (table_of mid) i.next) l m
+            → EndsOk (IsLeased c new_rows identifier credential) l m
+        by (Err r) is h = absurd h
+        by (Ok i) is h =
+            let x = ok_step (roles.issued (roles.role b mount name) (is_last_use b c) b.clock mount name identifier credential) _ i is in
+            let r = ok_step (some_or refusal.NotFound (roles.role b mount name)) _ x.0 x.1 in
+            let lasts = ok_step (unless (not (is_last_use b c)) (refusal.BadRequest reason.LastUseTakesLease)) _ x.0 r.2 in
+            let there = some_of refusal.NotFound (roles.role b mount name) r.0 r.1 in
+            let same = ap given (ok_inj lasts.2) ∙ ok_inj x.2 in (
+              h.0,
+              subst (λ (i : Issued). Represents (Some c) new_rows (record i.next { used = use_up i.next.used (identifier ∷ credential ∷ []) })) same
+                  (represents-issued r.0 there (subst (λ (i : Issued). Tells of_leases (table_of mid) i.next) (sym same) h.1)),
+            )

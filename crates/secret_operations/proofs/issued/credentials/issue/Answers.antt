@@ -1,0 +1,42 @@
+use Rattle.std.proofs.Common.{List, None, Some, Ok, Err, ap, get_or, subst, ◌∙◌}
+use Rattle.std.proofs.lemmas.Result.{err_from_is_err_and}
+use Rattle.api_json.specs.Objects.{credential_object}
+use Rattle.api_json.specs.Reply.{lease_reply}
+use Rattle.broker_types.specs.Names.{names_of}
+use Rattle.broker_types.specs.Operation.{reply}
+use Rattle.broker_types.specs.Text.{Text}
+use Rattle.broker_model.specs.parts.Place.{at}
+use Rattle.secret_operations.specs.Issuing.{IssuesLease}
+use Rattle.secret_operations.proofs.IssuedAnswers.{acts_issued, acts_not_issued}
+use Rattle.secret_operations.proofs.issued.credentials.issue.Goals as goal
+
+pub returns-in_err-lease-clause-told : goal.returns-in_err-lease-clause-told
+unfolding names_of
+returns-in_err-lease-clause-told g c is_mount honest b starts new =
+    let seen = g.T.RecordsTx.seen in
+    let mount = c.args.mount.now in
+    let name = c.args.name.now in
+    let names = names_of c.args.context.now.words in
+    let token = c.args.caller.now.token in
+    let p = err_from_is_err_and c.from_residual.result c.from_residual.ensures.1 in
+    let named = c.as_str-named.ensures ∙ c.index-own-0.is ∙ ap (λ (own : List Text). get_or own 0 c.index-own-0.result) c.requires.own.are in
+    let credential = c.as_str-credential.ensures ∙ c.index-own-1.is ∙ ap (λ (own : List Text). get_or own 1 c.index-own-1.result) c.requires.own.are in
+    let told = subst (λ (p : Text × Text). IssuesLease c.args.caller.now c.args.context.now mount name p.0 p.1 (seen c.args.tx.now) (seen c.put.new.tx)
+    (Err c.in_err-lease.field-0.0)) (λ i. (named i, credential i)) (c.in_err-lease.ensures.told is_mount) in
+    rw (p.1 ∙ ap Err p.2) (acts_not_issued b token (seen c.put.new.tx).rows names (at mount name) c.in_err-lease.field-0.0 (told honest b starts new))
+
+pub returns-clause-told : goal.returns-clause-told
+unfolding names_of
+returns-clause-told g c is_mount honest b starts new =
+    let seen = g.T.RecordsTx.seen in
+    let mount = c.args.mount.now in
+    let name = c.args.name.now in
+    let names = names_of c.args.context.now.words in
+    let token = c.args.caller.now.token in
+    let lease = c.in_ok-lease.lease in
+    let named = c.as_str-named.ensures ∙ c.index-own-0.is ∙ ap (λ (own : List Text). get_or own 0 c.index-own-0.result) c.requires.own.are in
+    let credential = c.as_str-credential.ensures ∙ c.index-own-1.is ∙ ap (λ (own : List Text). get_or own 1 c.index-own-1.result) c.requires.own.are in
+    let told = subst (λ (p : Text × Text). IssuesLease c.args.caller.now c.args.context.now mount name p.0 p.1 (seen c.args.tx.now) (seen c.put.new.tx)
+    (Ok lease)) (λ i. (named i, credential i)) (c.in_ok-lease.ensures.told is_mount) in
+    acts_issued b token (seen c.put.new.tx).rows names (at mount name) lease c.in_ok-given.field-0 (told honest b starts new)
+    (c.in_ok-given.ensures ∙ ap (λ t. reply (lease_reply names.request lease.0 lease.1 (Some (credential_object t))) None) credential)

@@ -1,0 +1,142 @@
+//! Credentials of roles, each with a lease.
+
+ghost use Rattle.std.specs.Prelude.{◌≡◌, ◌==◌, [], false, true, None, Some, Option, Ok, IfOk};
+ghost use Rattle.std.specs.Option.{option_map_or};
+ghost use Rattle.api_json.specs.Objects.{credential_object};
+ghost use Rattle.api_json.specs.Reply.{lease_reply};
+ghost use Rattle.broker_types.specs.Fault.{IsNotBadStart};
+ghost use Rattle.broker_types.specs.Name.{is_mount_name};
+ghost use Rattle.broker_types.specs.Names.{names_of};
+ghost use Rattle.broker_types.specs.Operation as operation;
+ghost use Rattle.broker_types.specs.Sound.{IsIdentifier};
+ghost use Rattle.broker_types.specs.Text.{Text};
+ghost use Rattle.records.specs.Transaction.{IsHonest};
+ghost use Rattle.records.specs.Calls.{OnAnswer, IsRequestCall};
+ghost use Rattle.records.specs.Table.{table};
+ghost use Rattle.leases.specs.LeaseRows.{IsReadableCredential};
+ghost use Rattle.leases.specs.RoleRows.{IsReadableRole};
+ghost use Rattle.broker_model.specs.parts.Issued as part;
+ghost use Rattle.broker_model.specs.parts.Issued.{lease_names};
+ghost use Rattle.broker_model.specs.parts.Place.{at};
+ghost use Rattle.broker_rows.specs.Done.{answered_of};
+ghost use Rattle.broker_rows.specs.Operating.{ArePrinted, Performs, PerformsBy};
+ghost use Rattle.secret_operations.specs.Issuing.{IssuesLease};
+
+use api_json::{credential_object, lease_reply, valid_object};
+use broker_rows::{Answered, Caller, Context, use_up};
+use broker_types::{RequestError, TextBuf, id_text};
+use leases::{IssuedLease, Names, creds};
+use records::RecordsTx;
+use std::alloc::{AllocError, Global};
+
+/// Issues a credential of a role, with a lease of the caller's token. The identifiers of the request are new, and have
+/// been printed.
+pub(super) fn issue<T: RecordsTx>(
+    alloc: Global,
+    tx: &mut T,
+    context: &Context<'_>,
+    caller: &Caller<'_>,
+    own: &[TextBuf],
+    mount: &str,
+    name: &str,
+) -> Result<Answered, RequestError>
+    requires own { ArePrinted own.now (lease_names (names_of context.now.words)) }
+    ensures told { is_mount_name mount.now ≡ true
+        → PerformsBy caller.now context.now (lease_names (names_of context.now.words)) (T.seen tx.old) (T.seen tx.new)
+        (λ b. part.issue b caller.now.token (names_of context.now.words) (at mount.now name.now)) result }
+
+    // Whatever the rows are: a damaged row is neither one of a role nor of none.
+    ensures readable { IsHonest (T.seen tx.new)
+        → OnAnswer result (IsReadableRole (table (T.seen tx.old)) mount.now name.now) }
+    ensures call { IsRequestCall (T.seen tx.old) (T.seen tx.new) result IsNotBadStart }
+{
+    let named = own[0].as_str();
+    let credential = own[1].as_str();
+    let lease = put(alloc, tx, context, caller, mount, name, named, credential)?;
+    Ok(given(alloc, context, lease, credential)?)
+}
+
+/// Makes a lease of the caller's token for a credential of a role, and marks its identifiers as given out.
+fn put<T: RecordsTx>(
+    alloc: Global,
+    tx: &mut T,
+    context: &Context<'_>,
+    caller: &Caller<'_>,
+    mount: &str,
+    name: &str,
+    named: &str,
+    credential: &str,
+) -> Result<IssuedLease, RequestError>
+    requires named { IsIdentifier named.now }
+    requires credential { IsIdentifier credential.now }
+    ensures told { is_mount_name mount.now ≡ true → IssuesLease caller.now context.now mount.now name.now named.now
+        credential.now (T.seen tx.old) (T.seen tx.new) result }
+    ensures readable { IsHonest (T.seen tx.new)
+        → OnAnswer result (IsReadableRole (table (T.seen tx.old)) mount.now name.now) }
+    ensures call { IsRequestCall (T.seen tx.old) (T.seen tx.new) result IsNotBadStart }
+{
+    let holder = leases::Caller {
+        token: caller.token,
+        is_last_use: is_last_use(caller),
+    };
+    let names = Names {
+        lease: named,
+        credential,
+    };
+    let lease = creds(alloc, tx, context.clock, holder, mount, name, names)?;
+    use_up(alloc, tx, credential)?;
+    use_up(alloc, tx, named)?;
+    Ok(lease)
+}
+
+/// Whether the caller has no uses left after this request.
+fn is_last_use(caller: &Caller<'_>) -> bool
+    ensures { result ≡ option_map_or (λ n. n == 0) caller.now.known.uses_left false }
+{
+    match caller.known.uses_left {
+        None => false,
+        Some(uses) => uses == 0,
+    }
+}
+
+/// Answers with a lease and its credential.
+fn given(
+    alloc: Global,
+    context: &Context<'_>,
+    lease: IssuedLease,
+    credential: &str,
+) -> Result<Answered, AllocError>
+    ensures { IfOk result (λ a. answered_of a ≡ operation.reply (lease_reply (names_of context.now.words).request
+        lease.0 lease.1 (Some (credential_object credential.now))) None) }
+{
+    let request = id_text(alloc, context.words.0[0])?;
+    let object = credential_object(alloc, credential)?;
+    let reply = lease_reply(
+        alloc,
+        request.as_str(),
+        lease.lease_id,
+        lease.ttl,
+        Some(object),
+    )?;
+    Ok(Answered::Given(reply))
+}
+
+/// Says whether the lease of a credential still stands.
+pub(super) fn verify<T: RecordsTx>(
+    alloc: Global,
+    tx: &mut T,
+    context: &Context<'_>,
+    credential: &str,
+) -> Result<Answered, RequestError>
+    ensures told { (who : Option Text) → Performs who context.now [] (T.seen tx.old) (T.seen tx.new)
+        (λ b. Ok (part.verify b (names_of context.now.words) credential.now)) result }
+
+    // Whatever the rows are: a damaged row is answered neither as a lease nor as none.
+    ensures readable { IsHonest (T.seen tx.new)
+        → OnAnswer result (IsReadableCredential (table (T.seen tx.old)) credential.now) }
+    ensures call { IsRequestCall (T.seen tx.old) (T.seen tx.new) result IsNotBadStart }
+{
+    let valid = leases::verify(tx, credential)?;
+    let object = valid_object(alloc, valid)?;
+    Ok(Answered::shown(alloc, context, object)?)
+}

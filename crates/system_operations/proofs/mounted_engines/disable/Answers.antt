@@ -1,0 +1,105 @@
+use Rattle.std.proofs.Common.{◌≡◌, Err, refl, ap, subst, ◌∙◌}
+use Rattle.std.specs.Prelude.{is_some, if◌then◌else◌}
+use Rattle.std.proofs.lemmas.Result.{err_from_is_err_and}
+use Rattle.broker_types.specs.Map.{get}
+use Rattle.broker_types.specs.Operation.{nothing, plainly}
+use Rattle.broker_types.specs.RequestError.{EndsOk}
+use Rattle.leases.specs.Endings.{AreReadable, is_under}
+use Rattle.mounts.specs.Mounts as mounts
+use Rattle.mounts.specs.MountRows as rows
+use Rattle.records.specs.CallLaws.{honest_before}
+use Rattle.records.specs.Table.{table_of}
+use Rattle.records.specs.declared.kind.Kind.TheVariants as kind
+use Rattle.broker_model.specs.parts.Mounts.{without_kept}
+use Rattle.broker_rows.specs.RepresentingLaws.{mounts_there}
+use Rattle.system_operations.proofs.MountAnswers.{IsDisabled, acts_refused, acts_absent, is_gone, acts_disabled}
+use Rattle.system_operations.proofs.MountAnswers.{readable_before, refused_readable, absent_readable}
+use Rattle.system_operations.proofs.mounted_engines.disable.Goals as goal
+
+pub returns-in_err-was_there-clause-told : goal.returns-in_err-was_there-clause-told
+returns-in_err-was_there-clause-told g c who x honest b starts fresh =
+    let seen = g.T.RecordsTx.seen in
+    let old = (seen c.args.tx.now).rows in
+    let new = (seen c.disable.new.tx).rows in
+    let name = c.args.name.now in
+    let st = starts.represents in
+    let p = err_from_is_err_and c.from_residual.result c.from_residual.ensures.1 in
+    rw (p.1 ∙ ap Err p.2)
+    (acts_refused b who old new st (λ next. plainly nothing
+    (if is_some (get b.mounts name) then without_kept (record b { mounts = next }) name else b))
+    (mounts.disabled b.mounts name) c.in_err-was_there.field-0.0
+    (c.in_err-was_there.ensures.told honest b.mounts (mounts_there b old st)))
+
+pub returns-then-not-was_there-clause-told : goal.returns-then-not-was_there-clause-told
+returns-then-not-was_there-clause-told g c who x honest b starts fresh =
+    let seen = g.T.RecordsTx.seen in
+    let old = (seen c.args.tx.now).rows in
+    let new = (seen c.disable.new.tx).rows in
+    let name = c.args.name.now in
+    let st = starts.represents in
+    acts_absent b who old new st name
+    (subst (λ was. EndsOk (IsDisabled b who old new st name) was (mounts.disabled b.mounts name)) c.if-not-was_there.true
+    (c.in_ok-was_there.ensures.told honest b.mounts (mounts_there b old st)))
+    (c.in_ok-was_there.ensures.call.others honest)
+
+pub returns-clause-told : goal.returns-clause-told
+returns-clause-told g c who x honest b starts fresh =
+    let seen = g.T.RecordsTx.seen in
+    let asked = honest_before (seen c.disable.new.tx) (seen c.drop_kept.new.tx) _ c.drop_kept.ensures.call.goes_on honest in
+    let old = (seen c.args.tx.now).rows in
+    let mid = (seen c.disable.new.tx).rows in
+    let new = (seen c.drop_kept.new.tx).rows in
+    let name = c.args.name.now in
+    let st = starts.represents in
+    let gone = is_gone b who old mid st name
+    (subst (λ was. EndsOk (IsDisabled b who old mid st name) was (mounts.disabled b.mounts name)) c.if-not-was_there.false
+    (c.in_ok-was_there.ensures.told asked b.mounts (mounts_there b old st)))
+    (c.in_ok-was_there.ensures.call.others asked) in
+    acts_disabled b who old mid st name new gone
+    (c.in_ok-drop_kept.ensures.told honest who (record b { mounts = gone.next }) gone.represents gone.named)
+
+pub returns-in_err-drop_kept-clause-told : goal.returns-in_err-drop_kept-clause-told
+returns-in_err-drop_kept-clause-told g c who x honest b starts fresh =
+    let seen = g.T.RecordsTx.seen in
+    let asked = honest_before (seen c.disable.new.tx) (seen c.drop_kept.new.tx) _ c.drop_kept.ensures.call.goes_on honest in
+    let old = (seen c.args.tx.now).rows in
+    let mid = (seen c.disable.new.tx).rows in
+    let name = c.args.name.now in
+    let st = starts.represents in
+    let gone = is_gone b who old mid st name
+    (subst (λ was. EndsOk (IsDisabled b who old mid st name) was (mounts.disabled b.mounts name)) c.if-not-was_there.false
+    (c.in_ok-was_there.ensures.told asked b.mounts (mounts_there b old st)))
+    (c.in_ok-was_there.ensures.call.others asked) in
+    let p = err_from_is_err_and c.from_residual-in_err-drop_kept.result c.from_residual-in_err-drop_kept.ensures.1 in
+    rw (p.1 ∙ ap Err p.2)
+    (c.in_err-drop_kept.ensures.wants honest who (record b { mounts = gone.next }) gone.represents gone.named)
+
+pub returns-in_err-was_there-clause-readable : goal.returns-in_err-was_there-clause-readable
+returns-in_err-was_there-clause-readable g c honest =
+    let seen = g.T.RecordsTx.seen in
+    let old = table_of (seen c.args.tx.now).rows in
+    let name = c.args.name.now in
+    let p = err_from_is_err_and c.from_residual.result c.from_residual.ensures.1 in
+    rw (p.1 ∙ ap Err p.2)
+    (refused_readable old name (AreReadable (is_under name) old) _ c.in_err-was_there.field-0.0
+    (c.in_err-was_there.ensures.rows honest))
+
+pub returns-then-not-was_there-clause-readable : goal.returns-then-not-was_there-clause-readable
+returns-then-not-was_there-clause-readable g c honest go there =
+    let seen = g.T.RecordsTx.seen in
+    let old = table_of (seen c.args.tx.now).rows in
+    let new = table_of (seen c.disable.new.tx).rows in
+    let name = c.args.name.now in
+    absent_readable old name (AreReadable (is_under name) old) new
+    (subst (λ was. EndsOk (λ was next. (was ≡ is_some (old kind.Mount name)) × (new ≡ next)) was (rows.disabled old name))
+    c.if-not-was_there.true (c.in_ok-was_there.ensures.rows honest)) go there
+
+pub returns-clause-readable : goal.returns-clause-readable
+returns-clause-readable g c honest go there =
+    let seen = g.T.RecordsTx.seen in
+    let asked = honest_before (seen c.disable.new.tx) (seen c.drop_kept.new.tx) _ c.drop_kept.ensures.call.goes_on honest in
+    let old = table_of (seen c.args.tx.now).rows in
+    let mid = table_of (seen c.disable.new.tx).rows in
+    let name = c.args.name.now in
+    readable_before (is_under name) old mid (λ q. c.in_ok-was_there.ensures.call.others asked kind.Lease q refl)
+    (c.in_ok-drop_kept.ensures.readable honest)
