@@ -29,7 +29,8 @@ use Rattle.broker.proofs.order.caller.find_caller.Goals as goal
 pub returns-in_default-clause-found : goal.returns-in_default-clause-found
 returns-in_default-clause-found g c honest =
     let none = none_of c.args.ask.now.token c.in_default.not-Some in
-    (λ t is. absurd (none-some _ (sym none ∙ is)), refl)
+    let rows = (g.T.RecordsTx.seen c.args.tx.now).rows in
+    (λ t is. absurd (none-some _ (sym none ∙ is)), subst (λ o. DropsClient o rows rows) (sym none) refl)
 
 pub returns-in_default-clause-told : goal.returns-in_default-clause-told
 returns-in_default-clause-told g c honest b st =
@@ -86,8 +87,8 @@ returns-in_default-2-clause-told g c honest b st =
           (c.in_ok-drop_token.ensures.call.others honest),
     )
 
-pub returns-in_default-2-in_err-drop_token-clause-wants : goal.returns-in_default-2-in_err-drop_token-clause-wants
-returns-in_default-2-in_err-drop_token-clause-wants g c honest b st =
+pub returns-in_err-drop_token-clause-wants : goal.returns-in_err-drop_token-clause-wants
+returns-in_err-drop_token-clause-wants g c honest b st =
     let seen = g.T.RecordsTx.seen in
     let old = (seen c.args.tx.now).rows in
     let mid = (seen c.spend.new.tx).rows in
