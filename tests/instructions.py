@@ -4,9 +4,9 @@
     python3 instructions.py PROGRAM [--many N] [--requests N] [--callers CALLER..] [--kinds KIND..]
     python3 instructions.py PROGRAM --kept N.. [--requests N]
 
-PROGRAM is a built `brokerd`. Each figure is the difference of two runs of `PROGRAM replay` under callgrind, with REQUESTS
-requests of one kind (100 if not given) and without them, for one request. Before them, requests of the root token made
-MANY tokens and as many secrets (100 if not given), and the policies and the token of the caller.
+PROGRAM is a built `brokerd`. Each figure is the difference of two runs of `PROGRAM replay` under callgrind, with
+REQUESTS requests of one kind (100 if not given) and without them, for one request. Before them, requests of the root
+token made MANY tokens and as many secrets (100 if not given), and the policies and the token of the caller.
 
 CALLER is `root` or `policies`: a token that has five policies of ten patterns each, and no other. KIND is `read` or
 `write` (of secrets, spread over all; a write adds the second version), `create` (a token) or `look_up_self`.
