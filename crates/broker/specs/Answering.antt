@@ -1,5 +1,5 @@
 -- When a request is answered, whatever the rows are (this project's definition).
-use Rattle.std.specs.Prelude.{◌≡◌, ◌⊎◌, ℕ, true, false, Option, Some, None, Result, Ok, Err}
+use Rattle.std.specs.Prelude.{◌≡◌, ◌⊎◌, ℕ, true, false, Option, Some, None, Result, Ok, Err, ⊤}
 use Rattle.std.specs.FinMap as map
 use Rattle.broker_types.specs.Answer.{Response, refused}
 use Rattle.broker_types.specs.Broker.{Mount}
@@ -16,6 +16,9 @@ use Rattle.mounts.specs.Route.{Route, cut, route_at}
 use Rattle.broker_model.specs.Command.{Command, on_cubbyhole, on_token, on_secret, on_policy, command_for}
 use Rattle.broker_model.specs.Command.{on_mount, on_lease, on_issued}
 use Rattle.broker_model.specs.Order.{permission_denied}
+use Rattle.broker_model.specs.declared.commands.IssuedCommand.{IssuedCommand}
+use Rattle.broker_model.specs.declared.commands.IssuedCommand.TheVariants as issued
+use Rattle.broker_model.specs.parts.Place.{Place}
 use Rattle.broker_rows.specs.Ending.{EndsCaller, Expires}
 use Rattle.broker_rows.specs.Reads.{AreReadableObjects, AreReadableTokens, AreReadableSecrets, AreReadablePolicies}
 use Rattle.broker_rows.specs.Reads.{AreReadableMounts, AreReadableLeases, AreReadableIssued}
@@ -23,6 +26,15 @@ use Rattle.broker.specs.PermittedRows.{IsPermittedAt, IsToldForbidden}
 use Rattle.broker.specs.Stages.{DropsClient}
 
 -- ---- what an ask means
+
+-- None of the rows that a command on roles and credentials reads is damaged, whatever its identifiers are. What is
+-- issued goes by the row of its role, which is read only if its identifiers are new.
+abbrev pub AreReadableAnyway : Rows → Place → IssuedCommand → Type 0
+AreReadableAnyway rows place issued.ShowRole = AreReadableIssued rows place issued.ShowRole
+AreReadableAnyway rows place (issued.SetRole asked) = AreReadableIssued rows place (issued.SetRole asked)
+AreReadableAnyway rows place issued.RemoveRole = AreReadableIssued rows place issued.RemoveRole
+AreReadableAnyway rows place issued.Issue = ⊤
+AreReadableAnyway rows place (issued.Verify credential) = AreReadableIssued rows place (issued.Verify credential)
 
 -- none of the rows that a command of the caller reads is damaged
 abbrev pub IsReadableCommand : Rows → Text → Command → Type 0
@@ -32,7 +44,7 @@ IsReadableCommand rows caller (on_secret place command) = AreReadableSecrets row
 IsReadableCommand rows caller (on_policy name command) = AreReadablePolicies rows name command
 IsReadableCommand rows caller (on_mount name command) = AreReadableMounts rows name command
 IsReadableCommand rows caller (on_lease prefix command) = AreReadableLeases rows prefix command
-IsReadableCommand rows caller (on_issued place command) = AreReadableIssued rows place command
+IsReadableCommand rows caller (on_issued place command) = AreReadableAnyway rows place command
 
 -- The ask means this command: what is at the first segment of its path is known, and by that the route and the command
 -- are found.

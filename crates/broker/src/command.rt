@@ -1,6 +1,6 @@
 //! What an ask means: a command, with where it acts.
 
-ghost use Rattle.std.specs.Prelude.{IfOk};
+ghost use Rattle.std.specs.Prelude.{◌≡◌, IfOk};
 ghost use Rattle.broker_types.specs.Names.{names_of};
 ghost use Rattle.api_json.specs.Reads.{IsReadAs};
 ghost use Rattle.broker_model.specs.Command.{command_for, place_of};

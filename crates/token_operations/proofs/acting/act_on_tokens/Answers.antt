@@ -1,10 +1,8 @@
 use Rattle.std.specs.Prelude.{Some}
 use Rattle.std.proofs.Common.{sym, subst}
 use Rattle.std.proofs.lemmas.Option.{same_Some}
-use Rattle.broker_types.specs.Text.{Text}
 use Rattle.records.specs.CallLaws.{on_answer}
 use Rattle.records.specs.Ranges.{IsTokenInRange}
-use Rattle.records.specs.Table.{table_of}
 use Rattle.records.specs.Transaction.{Rows}
 use Rattle.broker_model.specs.declared.commands.TokenCommand.{TokenCommand}
 use Rattle.broker_rows.specs.Caller.{Caller, IsCallerAt}

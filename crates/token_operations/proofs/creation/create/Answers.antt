@@ -13,7 +13,6 @@ use Rattle.records.specs.CallLaws.{on_ok}
 use Rattle.records.specs.Ranges.{IsTokenInRange}
 use Rattle.records.specs.TokenEntry.{TokenEntry, token_entry}
 use Rattle.policies.specs.Allows.{allows}
-use Rattle.policies.specs.Rules.{Rules}
 use Rattle.policies.specs.declared.capability.Capability.TheVariants as capability
 use Rattle.broker_model.specs.Forms.{forms}
 use Rattle.broker_model.specs.parts.TokenCommands.{token_names}

@@ -1,4 +1,4 @@
-use Rattle.std.proofs.Common.{◌≡◌, Some, sym, ◌∙◌, subst, refl}
+use Rattle.std.proofs.Common.{Some, sym, ◌∙◌, subst, refl}
 use Rattle.std.proofs.lemmas.Option.{same_Some}
 use Rattle.broker_types.specs.Map.{get}
 use Rattle.broker_types.specs.OptionLaws.{mapped}

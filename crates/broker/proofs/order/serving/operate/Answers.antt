@@ -4,14 +4,17 @@ use Rattle.broker_types.specs.Names.{names_of}
 use Rattle.broker_types.specs.Text.{Text}
 use Rattle.broker_types.specs.Used.{are_new}
 use Rattle.records.specs.CallLaws.{honest_before, on_answer_weaker}
+use Rattle.records.specs.Table.{table_of}
 use Rattle.records.specs.Transaction.{Rows}
 use Rattle.broker_model.specs.Step.{traits}
 use Rattle.broker_rows.specs.Caller.{AreItsRules}
 use Rattle.broker_rows.specs.Context.{Context}
+use Rattle.broker_rows.specs.Marks.{are_unmarked}
 use Rattle.broker_rows.specs.Operating.{ArePrinted}
 use Rattle.broker_rows.specs.RepresentingLaws.{still_represented}
 use Rattle.broker.specs.Answering.{IsReadableCommand}
 use Rattle.broker.specs.Meant.{meant}
+use Rattle.broker.proofs.OwnIdentifiers.{marked_reads}
 use Rattle.broker.proofs.Routes.{operated_new, operated_used}
 use Rattle.broker.proofs.Serving.{caller_still}
 use Rattle.broker.proofs.order.serving.operate.Goals as goal
@@ -39,6 +42,15 @@ returns-then-not-branch-clause-told g c placed honest b rules starts ask =
     ap (are_new b.used) (sym own) ∙ sym (c.in_ok-are_new.ensures.told honest who b st) ∙ c.if-not-branch.true in
     operated_used b who (names_of c.args.context.now.words) ask command new used
     (still_represented b (seen c.args.tx.now).rows new (c.in_ok-are_new.ensures.call.same honest) st)
+
+pub returns-then-not-branch-clause-readable : goal.returns-then-not-branch-clause-readable
+returns-then-not-branch-clause-readable g c honest at =
+    let old = (g.T.RecordsTx.seen c.args.tx.now).rows in
+    let command = meant c.args.command in
+    let own = c.deref.ensures.value ∙ c.in_ok-own.ensures.are
+    ∙ ap (λ (x : Context). (traits command).own (names_of x.words)) c.context.view_is in
+    marked_reads old c.args.asker.now.caller.token (names_of c.args.context.now.words) (table_of old) command
+    (ap (are_unmarked (table_of old)) (sym own) ∙ sym (c.in_ok-are_new.ensures.found honest) ∙ c.if-not-branch.true)
 
 pub returns-clause-told : goal.returns-clause-told
 returns-clause-told g c placed honest b rules starts ask =
