@@ -1,5 +1,5 @@
 -- When a request is answered, whatever the rows are (this project's definition).
-use Rattle.std.specs.Prelude.{◌≡◌, ◌⊎◌, ℕ, true, false, Option, Some, None, Result, Ok, Err, ⊤}
+use Rattle.std.specs.Prelude.{◌≡◌, ◌≢◌, ◌⊎◌, ℕ, true, false, Option, Some, None, Result, Ok, Err, ⊤}
 use Rattle.std.specs.FinMap as map
 use Rattle.broker_types.specs.Answer.{Response, refused}
 use Rattle.broker_types.specs.Broker.{Mount}

@@ -28,14 +28,14 @@ IsCaller b token rows (Some c) =
 IsCaller b token rows None =
     (c : Broker) × ((go : Text → Outcome) → for_caller b token go ≡ denied c) × Represents None rows c
 
--- The response that waits under the client token, if there is a client token and one does, was read. Its rows are gone,
--- and no other row has changed.
+-- The response that waits under the client token, if there is a client token and one does, was read. Its rows are
+-- gone, and no other row has changed.
 abbrev pub DropsClient : Option Text → Rows → Rows → Type 0
 DropsClient None old new = new ≡ old
 DropsClient (Some t) old new = DropsResponse t old new
 
--- The caller is the client token, and has spent a use; or there is no row of a token of the client token, and then it is
--- dropped as a wrapping token.
+-- The caller is the client token, and has spent a use; or there is no row of a token of the client token, and then it
+-- is dropped as a wrapping token.
 abbrev pub SpendsAsCaller : Option Text → Rows → Rows → Option Caller → Type 0
 SpendsAsCaller token old new (Some c) =
     (token ≡ Some c.token) × SpendsUse c.token (table_of old) (table_of new) (Some c.known)

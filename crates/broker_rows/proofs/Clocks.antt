@@ -37,12 +37,15 @@ represents-with_clock b old new n st within e =
 -- what has not expired was there, with no lease that is new
 alive_fewer : (b : Broker) (now : ℕ) → AreFewer b.tokens (alive_at now b.tokens)
 alive_fewer b now q y e =
-    let x = alive_is now b.tokens q y e in
-    (x.0, x.1, subst (IsLess x.0) (sym x.3) (record {
-      same_accessor = refl;
-      fewer_leases = λ lease_id l f.
-          (kept_get (λ id. option_map_or (λ (l : Lease). nat_lt now l.ends) (get x.0.leases id) false) x.0.leases lease_id l f).0;
-    }))
+    let x = alive_is now b.tokens q y e in (
+      x.0,
+      x.1,
+      subst (IsLess x.0) (sym x.3) (record {
+        same_accessor = refl;
+        fewer_leases = λ lease_id l f.
+            (kept_get (λ id. option_map_or (λ (l : Lease). nat_lt now l.ends) (get x.0.leases id) false) x.0.leases lease_id l f).0;
+      }),
+    )
 
 -- a sound broker of which tokens and leases have expired, and no response yet, is sound
 pub expired_tokens_sound : (b : Broker) (m : ℕ) → Sound forms None b → m ≤ greatest_moment

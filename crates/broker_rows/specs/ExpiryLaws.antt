@@ -173,8 +173,7 @@ module _ (moment now : ℕ) (old expired : Rows) (e : Expires moment now old exp
           let due : is_due_at now (table_of e.left) t ≡ true = sym (e.responses.each t) ∙ gone in
           let at : table_of e.left kind.Waiting t ≡ Some row = responses_before t ∙ some in
           let is = e.responses.readable t row at
-          (sym (ap (λ o. option_map_or (λ (r : Row). is_due now r.due) o false) at) ∙ due) in
-          (
+          (sym (ap (λ o. option_map_or (λ (r : Row). is_due now r.due) o false) at) ∙ due) in (
             Some is.0,
             record { in_range = λ x e. subst IsWaitingInRange (same_Some _ _ e) is.1; row = some ∙ ap Some is.2 },
           )

@@ -43,6 +43,7 @@ fn plant(alloc: Global, tx: &mut ListTx) -> Result<(), Fail> {
 }
 
 /// A request: how many seconds after the start, by which token, verb, path and body.
+#[derive(Clone, Copy)]
 struct Request<'a>(u64, &'a str, Verb, &'a str, &'a str);
 
 /// How many rows of the response are left after the request, whose answer has the status.

@@ -16,8 +16,8 @@ use wrapping::drop_token;
 
 /// The caller of an ask: its client token, if there is such a token, which spends a use. If it is a wrapping token
 /// instead, the response that waits under it is dropped, and there is no caller (Vault's documentation, "Response
-/// wrapping": a wrapping token is good for one use). The token is looked for first, so that a request of one pays for no
-/// second look-up; no text is both.
+/// wrapping": a wrapping token is good for one use). The token is looked for first, so that a request of one pays for
+/// no second look-up; no text is both.
 pub(crate) fn find_caller<'a, T: RecordsTx>(
     alloc: Global,
     tx: &mut T,
@@ -28,8 +28,8 @@ pub(crate) fn find_caller<'a, T: RecordsTx>(
     ensures wants { IsHonest (T.seen tx.new) → (b : Broker) → Represents None (T.seen tx.old).rows b
         → IfErr result IsMemoryOrStorage }
 
-    // Whatever the rows are: the row of the client token can be read, if it is there, and says the caller's entry. If it
-    // is not, that of the wrapping token can be read, if this is there, and is gone then.
+    // Whatever the rows are: the row of the client token can be read, if it is there, and says the caller's entry. If
+    // it is not, that of the wrapping token can be read, if this is there, and is gone then.
     ensures found { IsHonest (T.seen tx.new)
         → IfOk result (SpendsAsCaller ask.now.token (T.seen tx.old).rows (T.seen tx.new).rows) }
     ensures in_range { IfOk result IsCallerInRange }

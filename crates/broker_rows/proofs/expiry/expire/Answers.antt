@@ -101,8 +101,7 @@ returns-clause-told g c honest b st =
     let due_now = due_yet timed old mid (seen c.end_due-2.new.tx).rows rest now c.deref-4.result.now c.deref-3.result.now
     (subst (AreDue timed now) (sym c.deref-4.ensures.value) (c.in_ok-due.ensures.listed asked)) same (c.in_ok-ended.ensures.call.others swept)
     leases.others (c.in_ok-leave_nothing.ensures.rows left) in
-    let waiting = represents_waiting (without_expired at now) rest gone in
-    (
+    let waiting = represents_waiting (without_expired at now) rest gone in (
       later.0,
       responses_swept b c.args.moment now first old st later.0 still rest (seen c.drop_due.new.tx).rows gone
           (c.in_ok-drop_due.ensures.told honest (without_expired at now) waiting now due_now) (c.in_ok-drop_due.ensures.call.others honest),

@@ -33,8 +33,7 @@ returns-clause-told g c honest who b st =
     let tokens = represents_tokens b old st in
     let are = subst (AreEnded b (revoke b t)) (sym c.deref.ensures.value) (c.in_ok-ended.ensures.ended revoked forms b tokens) in
     let have = has_revoked b t old mid ended st (c.in_ok-ended.ensures.call.others revoked) are (c.in_ok-ended.ensures.told revoked forms b tokens) in
-    let rest = c.in_ok-leave_nothing.ensures.told gone _ _ b (without_descendants b.tokens t) have in
-    (
+    let rest = c.in_ok-leave_nothing.ensures.told gone _ _ b (without_descendants b.tokens t) have in (
       refl,
       represents_dropped (revoke b t) t left (seen c.drop_token.new.tx).rows rest
           (c.in_ok-drop_token.ensures.told honest (revoke b t) (represents_waiting (revoke b t) left rest)) (c.in_ok-drop_token.ensures.call.others honest),
@@ -72,11 +71,11 @@ returns-clause-readable g c honest =
     let leaves = subst (λ ended. LeavesNothing ended mid left) c.deref.ensures.value (c.in_ok-leave_nothing.ensures.rows gone) in
     let dropped = c.in_ok-drop_token.ensures.rows honest in (
       (
-            ended,
-            ends.descent,
-            ends.readable,
-            leases_before (are_owned ended) (table_of old) (table_of mid) others leaves.leases.readable,
-          ),
+        ended,
+        ends.descent,
+        ends.readable,
+        leases_before (are_owned ended) (table_of old) (table_of mid) others leaves.leases.readable,
+      ),
       response_still ended t old mid left others leaves (dropped.0, dropped.1.was),
     )
 

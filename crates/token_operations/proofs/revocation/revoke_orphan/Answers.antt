@@ -33,8 +33,7 @@ returns-clause-told g c honest who b st =
     let tokens = represents_tokens b old st in
     let are = subst (AreEnded b (revoke_orphan b t)) (sym c.deref.ensures.value) (c.in_ok-ended.ensures.ended revoked forms b tokens) in
     let have = has_revoked_alone b t old mid ended st (c.in_ok-ended.ensures.call.others revoked) are (c.in_ok-ended.ensures.told revoked forms b tokens) in
-    let rest = c.in_ok-leave_nothing.ensures.told gone _ _ b (without_parent b.tokens t) have in
-    (
+    let rest = c.in_ok-leave_nothing.ensures.told gone _ _ b (without_parent b.tokens t) have in (
       refl,
       represents_dropped (revoke_orphan b t) t left (seen c.drop_token.new.tx).rows rest
           (c.in_ok-drop_token.ensures.told honest (revoke_orphan b t) (represents_waiting (revoke_orphan b t) left rest)) (c.in_ok-drop_token.ensures.call.others honest),
