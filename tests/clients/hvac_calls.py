@@ -56,13 +56,42 @@ def policies(root, _):
     root.sys.delete_acl_policy(name="hvac")
 
 
+def mounts(root, _):
+    root.sys.enable_secrets_engine(backend_type="kv", path="hvac-kv", options={"version": "2"})
+    expect(root.sys.list_mounted_secrets_engines()["data"]["hvac-kv/"]["type"] == "kv", "another type is listed")
+    root.secrets.kv.v2.create_or_update_secret(path="one", secret={"user": "app"}, mount_point="hvac-kv")
+    root.sys.disable_secrets_engine(path="hvac-kv")
+    expect("hvac-kv/" not in root.sys.list_mounted_secrets_engines()["data"], "it is still listed")
+
+
+def leases(root, _):
+    """A credential that is issued, its lease renewed and revoked, and another one revoked by its prefix."""
+    root.sys.enable_secrets_engine(backend_type="issued", path="hvac-db")
+    root.write("hvac-db/roles/app", ttl="1h", max_ttl="24h")
+    issued = root.read("hvac-db/creds/app")
+    lease_id = issued["lease_id"]
+    expect(root.sys.read_lease(lease_id=lease_id)["data"]["id"] == lease_id, "another lease is read")
+    expect(root.sys.renew_lease(lease_id=lease_id, increment=60)["lease_duration"] == 60, "another end")
+    root.sys.revoke_lease(lease_id=lease_id)
+    try:
+        root.sys.read_lease(lease_id=lease_id)
+        raise AssertionError("a revoked lease is read")
+    except hvac.exceptions.InvalidRequest:
+        pass
+    credential = root.read("hvac-db/creds/app")["data"]["credential"]
+    expect(root.write("hvac-db/verify", credential=credential)["data"]["valid"], "a credential is not valid")
+    root.sys.revoke_prefix(prefix="hvac-db/creds/app")
+    expect(not root.write("hvac-db/verify", credential=credential)["data"]["valid"], "it is still valid")
+    root.sys.disable_secrets_engine(path="hvac-db")
+
+
 def main():
     if hvac is None:
         print("hvac is not installed for this Python: its calls are skipped")
         print("0 passed, 0 failed")
         return 0
     url = f"http://127.0.0.1:{sys.argv[1]}"
-    calls, failed = [secrets, tokens], 0
+    calls, failed = [secrets, tokens, mounts, leases], 0
     if hasattr(hvac.Client(url=url).sys, "create_or_update_acl_policy"):  # older ones only have `sys/policy`
         calls.append(policies)
     for call in calls:
