@@ -1,8 +1,7 @@
 -- The part of responses that wait, computed.
-use Rattle.std.specs.Prelude.{◌≡◌, [], true, false, Option, Some, None, Ok, Err, codes}
+use Rattle.std.specs.Prelude.{◌≡◌, [], Bool, true, false, Option, Some, None, Ok, Err, codes}
 use Rattle.std.proofs.Common.{refl}
 use Rattle.broker_types.specs.Text.{Text, same}
-use Rattle.broker_types.specs.declared.ask.Ask.{Ask}
 use Rattle.broker_types.specs.declared.ask.Verb.{Verb}
 use Rattle.broker_types.specs.declared.ask.Verb.TheVariants as verb
 use Rattle.broker_types.specs.declared.refusal.Refusal.TheVariants as refusal
@@ -37,27 +36,27 @@ none_found b = refl
 
 -- ---- which requests are open
 
--- a request without a body
-asks : Verb → Text → Option Text → Ask
-asks v path token = record { verb = v; path = path; version = []; token = token; wrap_ttl = 0; body = [] }
+-- by verb, path and client token, without a body
+asks : Verb → Text → Option Text → Bool
+asks v path token = opens v path token []
 
-look_up_is_open : opens (asks verb.Write (codes "sys/wrapping/lookup") None) ≡ true
+look_up_is_open : asks verb.Write (codes "sys/wrapping/lookup") None ≡ true
 unfolding asks looks_up same
 look_up_is_open = refl
 
-unwrap_is_open : opens (asks verb.Write (codes "sys/wrapping/unwrap") (Some (codes "hvs.t"))) ≡ true
+unwrap_is_open : asks verb.Write (codes "sys/wrapping/unwrap") (Some (codes "hvs.t")) ≡ true
 unfolding asks looks_up takes_own same reader.wrapping_token optional
 unwrap_is_open = refl
 
-rewrap_is_open : opens (asks verb.Write (codes "sys/wrapping/rewrap") None) ≡ true
+rewrap_is_open : asks verb.Write (codes "sys/wrapping/rewrap") None ≡ true
 unfolding asks looks_up takes_own same reader.wrapping_token optional
 rewrap_is_open = refl
 
-wrap_is_not : opens (asks verb.Write (codes "sys/wrapping/wrap") (Some (codes "hvs.t"))) ≡ false
+wrap_is_not : asks verb.Write (codes "sys/wrapping/wrap") (Some (codes "hvs.t")) ≡ false
 unfolding asks looks_up takes_own same
 wrap_is_not = refl
 
-get_is_not : opens (asks verb.Get (codes "sys/wrapping/unwrap") (Some (codes "hvs.t"))) ≡ false
+get_is_not : asks verb.Get (codes "sys/wrapping/unwrap") (Some (codes "hvs.t")) ≡ false
 unfolding asks looks_up takes_own same
 get_is_not = refl
 

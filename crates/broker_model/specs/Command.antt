@@ -8,7 +8,7 @@ use Rattle.broker_types.specs.declared.ask.Ask.{Ask}
 use Rattle.broker_types.specs.declared.refusal.Refusal.{Refusal}
 use Rattle.mounts.specs.declared.operation.Operation.{Operation}
 use Rattle.mounts.specs.declared.operation.Operation.TheVariants.{Cubbyholes, Tokens, Secrets, Policies}
-use Rattle.mounts.specs.declared.operation.Operation.TheVariants.{Mounts, Leases, Issued}
+use Rattle.mounts.specs.declared.operation.Operation.TheVariants.{Mounts, Leases, Issued, Wrappings}
 use Rattle.mounts.specs.Route.{Route, route_of}
 use Rattle.broker_model.specs.declared.commands.CubbyholeCommand.{CubbyholeCommand}
 use Rattle.broker_model.specs.declared.commands.IssuedCommand.{IssuedCommand}
@@ -17,6 +17,7 @@ use Rattle.broker_model.specs.declared.commands.MountCommand.{MountCommand}
 use Rattle.broker_model.specs.declared.commands.PolicyCommand.{PolicyCommand}
 use Rattle.broker_model.specs.declared.commands.SecretCommand.{SecretCommand}
 use Rattle.broker_model.specs.declared.commands.TokenCommand.{TokenCommand}
+use Rattle.broker_model.specs.declared.commands.WrappingCommand.{WrappingCommand}
 use Rattle.broker_model.specs.parts.Cubbyholes.{cubbyhole_command}
 use Rattle.broker_model.specs.parts.AclPolicyCommands.{policy_command}
 use Rattle.broker_model.specs.parts.Issued.{issued_command}
@@ -25,6 +26,7 @@ use Rattle.broker_model.specs.parts.Mounts.{mount_command}
 use Rattle.broker_model.specs.parts.Place.{Place, at}
 use Rattle.broker_model.specs.parts.SecretCommands.{secret_command}
 use Rattle.broker_model.specs.parts.TokenCommands.{token_command}
+use Rattle.broker_model.specs.parts.WrappingCommands.{wrapping_command}
 
 -- part by part, with where it acts: a path of the caller's cubbyhole, a place of secrets, the name of a policy, the name
 -- of a mount, a prefix of leases, the place of a role
@@ -36,6 +38,7 @@ pub data Command : Type 0 where
   on_mount : Text → MountCommand → Command
   on_lease : Text → LeaseCommand → Command
   on_issued : Place → IssuedCommand → Command
+  on_wrapping : WrappingCommand → Command
 
 -- a command of a part is one of all
 abbrev pub meant_by : {C : Type 0} → (C → Command) → Result C Refusal → Result Command Refusal
@@ -56,6 +59,7 @@ command_by (Policies operation) r a = meant_by (on_policy r.parameter) (policy_c
 command_by (Mounts operation) r a = meant_by (on_mount r.parameter) (mount_command operation a.body)
 command_by (Leases operation) r a = meant_by (on_lease r.parameter) (lease_command operation a.body)
 command_by (Issued operation) r a = meant_by (on_issued (place_of r)) (issued_command operation a.body)
+command_by (Wrappings operation) r a = meant_by on_wrapping (wrapping_command operation a.token a.body)
 
 -- what an ask of this route means
 abbrev pub command_for : Route → Ask → Result Command Refusal

@@ -1,12 +1,12 @@
 -- One request of the broker of three maps (this project's definition).
-use Rattle.std.specs.Prelude.{ℕ, false}
+use Rattle.std.specs.Prelude.{ℕ}
 use Rattle.broker_types.specs.Broker.{Broker}
 use Rattle.broker_types.specs.declared.ask.Ask.{Ask}
 use Rattle.broker_types.specs.declared.words.Words.{Words}
 use Rattle.broker_model.specs.Request.{Request}
 use Rattle.broker_types.specs.Names.{names_of}
 use Rattle.broker_model.specs.Command.{Command, on_cubbyhole, on_token, on_secret, on_policy, command_of}
-use Rattle.broker_model.specs.Command.{on_mount, on_lease, on_issued}
+use Rattle.broker_model.specs.Command.{on_mount, on_lease, on_issued, on_wrapping}
 use Rattle.broker_model.specs.parts.Cubbyholes.{cubbyhole_traits}
 use Rattle.broker_model.specs.parts.AclPolicyCommands.{policy_traits}
 use Rattle.broker_model.specs.parts.Issued.{issued_traits}
@@ -14,6 +14,7 @@ use Rattle.broker_model.specs.parts.Leases.{lease_traits}
 use Rattle.broker_model.specs.parts.Mounts.{mount_traits}
 use Rattle.broker_model.specs.parts.SecretCommands.{secret_traits}
 use Rattle.broker_model.specs.parts.TokenCommands.{token_traits}
+use Rattle.broker_model.specs.parts.WrappingCommands.{opens, wrapping_traits}
 use Rattle.broker_model.specs.Act.{act}
 use Rattle.broker_model.specs.Order.{Traits, Outcome, ordered}
 use Rattle.broker_model.specs.Permission.{permits}
@@ -27,17 +28,18 @@ traits (on_policy name command) = policy_traits command
 traits (on_mount name command) = mount_traits command
 traits (on_lease prefix command) = lease_traits command
 traits (on_issued place command) = issued_traits command
+traits (on_wrapping command) = wrapping_traits command
 
--- so far no wrap TTL is read, and no request is open
+-- what an ask brings to the order of one request
 abbrev pub request_of : Ask → Request Command
 request_of a =
     record {
       verb = a.verb;
       path = a.path;
       token = a.token;
-      wrap_ttl = 0;
+      wrap_ttl = a.wrap_ttl;
       command = λ b. command_of b.mounts a;
-      is_open = false;
+      is_open = opens a.verb a.path a.token a.body;
     }
 
 -- step b moment words ask: what the broker b answers to the ask, and what it leaves

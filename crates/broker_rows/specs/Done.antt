@@ -7,13 +7,14 @@ use Rattle.records.specs.Transaction.{Rows}
 pub use Rattle.broker_model.specs.Order.{counted}
 use Rattle.broker_rows.specs.Representing.{Represents}
 use Rattle.broker_rows.specs.declared.answered.Answered.{Answered}
-use Rattle.broker_rows.specs.declared.answered.Answered.TheVariants.{Nothing, Given, Made, Missing}
+use Rattle.broker_rows.specs.declared.answered.Answered.TheVariants.{Nothing, Given, Made, Kept, Missing}
 
 -- what an operation answers, in the words of its definition
 abbrev pub answered_of : Answered → operation.Answered
 answered_of Nothing = operation.nothing
 answered_of (Given r) = operation.reply r None
 answered_of (Made r accessor) = operation.reply r (Some accessor)
+answered_of (Kept text) = operation.kept_text text
 answered_of (Missing r) = operation.missing r
 
 -- an operation answered as its definition, and the rows represent what it left

@@ -18,6 +18,8 @@ pub enum Answered {
     Given(Reply),
     /// 200 with the reply that made a token, and its accessor.
     Made(Reply, TextBuf),
+    /// 200 with a text that was kept, as it is.
+    Kept(TextBuf),
     /// 404 with a reply.
     Missing(Reply),
 }

@@ -7,7 +7,7 @@ use Rattle.mounts.specs.declared.mount_type.MountType.{MountType}
 use Rattle.mounts.specs.declared.mount_type.MountType.TheVariants as mount
 use Rattle.mounts.specs.declared.operation.Operation.{Operation}
 use Rattle.mounts.specs.declared.operation.Operation.TheVariants.{Cubbyholes, Tokens, Secrets, Policies}
-use Rattle.mounts.specs.declared.operation.Operation.TheVariants.{Mounts, Leases, Issued}
+use Rattle.mounts.specs.declared.operation.Operation.TheVariants.{Mounts, Leases, Issued, Wrappings}
 use Rattle.mounts.specs.declared.operation.CubbyholeOperation.TheVariants as cubbyhole
 use Rattle.mounts.specs.declared.operation.IssuedOperation.{IssuedOperation}
 use Rattle.mounts.specs.declared.operation.IssuedOperation.TheVariants as issued
@@ -20,6 +20,7 @@ use Rattle.mounts.specs.declared.operation.PolicyOperation.{PolicyOperation}
 use Rattle.mounts.specs.declared.operation.PolicyOperation.TheVariants as policy
 use Rattle.mounts.specs.declared.operation.SecretOperation.{SecretOperation}
 use Rattle.mounts.specs.declared.operation.SecretOperation.TheVariants as secret
+use Rattle.mounts.specs.declared.operation.WrappingOperation.TheVariants as wrapping
 use Rattle.mounts.specs.RouteRow.{RouteRow, on}
 
 -- the rows of a type of mounts
@@ -50,6 +51,10 @@ route_rows mount.System =
     ∷ on verb.Get (codes "policies/acl/{name}") (Policies policy.Show)
     ∷ on verb.Write (codes "policies/acl/{name}") (Policies policy.Set)
     ∷ on verb.Delete (codes "policies/acl/{name}") (Policies policy.Remove)
+    ∷ on verb.Write (codes "wrapping/lookup") (Wrappings wrapping.LookUp)
+    ∷ on verb.Write (codes "wrapping/rewrap") (Wrappings wrapping.Rewrap)
+    ∷ on verb.Write (codes "wrapping/unwrap") (Wrappings wrapping.Unwrap)
+    ∷ on verb.Write (codes "wrapping/wrap") (Wrappings wrapping.Wrap)
     ∷ []
 route_rows mount.Cubbyhole =
     on verb.List (codes "") (Cubbyholes cubbyhole.List)
@@ -127,3 +132,4 @@ takes_parameter (Policies operation) = takes_name operation
 takes_parameter (Mounts operation) = takes_mount operation
 takes_parameter (Leases operation) = takes_prefix operation
 takes_parameter (Issued operation) = takes_role operation
+takes_parameter (Wrappings operation) = false

@@ -19,6 +19,6 @@ pub use mount_type::MountType;
 pub use mounting::{disable, enable};
 pub use operation::{
     CubbyholeOperation, IssuedOperation, LeaseOperation, MountOperation, Operation,
-    PolicyOperation, Route, SecretOperation, TokenOperation,
+    PolicyOperation, Route, SecretOperation, TokenOperation, WrappingOperation,
 };
 pub use routing::route;

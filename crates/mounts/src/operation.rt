@@ -19,6 +19,8 @@ pub enum Operation {
     Leases(LeaseOperation),
     /// On the roles and the credentials of a mount.
     Issued(IssuedOperation),
+    /// On responses that wait.
+    Wrappings(WrappingOperation),
 }
 
 /// What is done with a path of the caller's cubbyhole (Vault's documentation, "Cubbyhole secrets engine
@@ -141,6 +143,19 @@ pub enum IssuedOperation {
     Issue,
     /// Whether the lease of a credential still stands.
     Verify,
+}
+
+/// What is done with responses that wait (Vault's documentation, "/sys/wrapping").
+#[derive(Clone, Copy, Debug, PartialEq, Eq)]
+pub enum WrappingOperation {
+    /// An object is wrapped.
+    Wrap,
+    /// A response is shown without its text.
+    LookUp,
+    /// A response moves to a new wrapping token.
+    Rewrap,
+    /// A response is handed out.
+    Unwrap,
 }
 
 /// Where a request goes.

@@ -6,10 +6,12 @@ ghost use Rattle.mounts.specs.RouteRow.{rows_in};
 ghost use Rattle.mounts.specs.Table as table;
 
 use crate::mount_type::MountType;
-use crate::operation::Operation::{Cubbyholes, Issued, Leases, Mounts, Policies, Secrets, Tokens};
+use crate::operation::Operation::{
+    Cubbyholes, Issued, Leases, Mounts, Policies, Secrets, Tokens, Wrappings,
+};
 use crate::operation::{
     CubbyholeOperation, IssuedOperation, LeaseOperation, MountOperation, Operation,
-    PolicyOperation, SecretOperation, TokenOperation,
+    PolicyOperation, SecretOperation, TokenOperation, WrappingOperation,
 };
 use broker_types::Verb::{self, Delete, Get, List, Write};
 
@@ -80,6 +82,22 @@ const SYSTEM: &[RouteRow] = &[
         "policies/acl/{name}",
         Policies(PolicyOperation::Remove),
     ),
+    RouteRow(
+        Write,
+        "wrapping/lookup",
+        Wrappings(WrappingOperation::LookUp),
+    ),
+    RouteRow(
+        Write,
+        "wrapping/rewrap",
+        Wrappings(WrappingOperation::Rewrap),
+    ),
+    RouteRow(
+        Write,
+        "wrapping/unwrap",
+        Wrappings(WrappingOperation::Unwrap),
+    ),
+    RouteRow(Write, "wrapping/wrap", Wrappings(WrappingOperation::Wrap)),
 ];
 
 const CUBBYHOLE: &[RouteRow] = &[

@@ -1,5 +1,5 @@
--- What the routes under `sys/wrapping/` will mean: which command a body is, which wrapping token is meant, what each
--- command needs, and which requests will be open (Vault's documentation, "/sys/wrapping").
+-- What the routes under `sys/wrapping/` mean: which command a body is, which wrapping token is meant, what each command
+-- needs, and which requests are open (Vault's documentation, "/sys/wrapping").
 use Rattle.std.specs.Prelude.{ℕ, ◌||◌, ◌&&◌, List, [], ◌∷◌, Bool, true, false, Option, Some, None}
 use Rattle.std.specs.Prelude.{Result, Ok, Err, codes}
 use Rattle.std.specs.Option.{option_map_or}
@@ -8,10 +8,12 @@ use Rattle.serde_json.specs.Written.{compact_text}
 use Rattle.broker_types.specs.Text.{Text, same}
 use Rattle.broker_types.specs.Names.{Names}
 use Rattle.broker_types.specs.Refuse.{◌>>=◌}
-use Rattle.broker_types.specs.declared.ask.Ask.{Ask}
+use Rattle.broker_types.specs.declared.ask.Verb.{Verb}
 use Rattle.broker_types.specs.declared.ask.Verb.TheVariants as verb
 use Rattle.broker_types.specs.declared.refusal.Refusal.{Refusal}
 use Rattle.mounts.specs.Patterns.{same_verb}
+use Rattle.mounts.specs.declared.operation.WrappingOperation.{WrappingOperation}
+use Rattle.mounts.specs.declared.operation.WrappingOperation.TheVariants as operation
 use Rattle.api_json.specs.Json.{body_members}
 use Rattle.api_json.specs.Readers as reader
 use Rattle.broker_model.specs.Order.{Traits}
@@ -46,6 +48,13 @@ rewrap_meant = on_token_meant command.Rewrap
 
 abbrev pub unwrap_meant : Option Text → List ℕ → Result WrappingCommand Refusal
 unwrap_meant = on_token_meant command.Unwrap
+
+-- the command that an operation on responses means, from this client token and this body
+abbrev pub wrapping_command : WrappingOperation → Option Text → List ℕ → Result WrappingCommand Refusal
+wrapping_command operation.Wrap client body = wrap_meant body
+wrapping_command operation.LookUp client body = look_up_meant client body
+wrapping_command operation.Rewrap client body = rewrap_meant client body
+wrapping_command operation.Unwrap client body = unwrap_meant client body
 
 -- ---- what commands need
 
@@ -86,10 +95,10 @@ looks_up path = same path (codes "sys/wrapping/lookup")
 unfoldable pub takes_own : Text → Bool
 takes_own path = same path (codes "sys/wrapping/unwrap") || same path (codes "sys/wrapping/rewrap")
 
--- Whether a request will need no caller: POST and PUT of `sys/wrapping/lookup`; and of `sys/wrapping/unwrap` and
+-- Whether a request needs no caller: POST and PUT of `sys/wrapping/lookup`; and of `sys/wrapping/unwrap` and
 -- `sys/wrapping/rewrap`, if the body can be read and names no wrapping token but the client token (Vault's
 -- documentation, "/sys/wrapping/unwrap", where the client token may be the wrapping token; the rest is this project's).
-abbrev pub opens : Ask → Bool
-opens a =
-    same_verb a.verb verb.Write
-    && (looks_up a.path || (takes_own a.path && is_own_if_read a.token (token_named a.body)))
+-- The wrap TTL plays no part.
+abbrev pub opens : Verb → Text → Option Text → List ℕ → Bool
+opens v path client body =
+    same_verb v verb.Write && (looks_up path || (takes_own path && is_own_if_read client (token_named body)))

@@ -1,4 +1,4 @@
--- The part of responses that wait: what the commands of the routes under `sys/wrapping/` will do to the maps (Vault's
+-- The part of responses that wait: what the commands of the routes under `sys/wrapping/` do to the maps (Vault's
 -- documentation, "Response wrapping", "/sys/wrapping").
 use Rattle.std.specs.Prelude.{[], Option, Some, None, Result, Ok, option_map}
 use Rattle.broker_types.specs.Text.{Text}
