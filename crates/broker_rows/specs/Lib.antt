@@ -8,6 +8,7 @@ pub mod ExpiryLaws
 pub mod Laws
 pub mod Left
 pub mod LeftLaws
+pub mod MarkLaws
 pub mod Marks
 pub mod Operating
 pub mod OperatingLaws

@@ -1,0 +1,55 @@
+-- Laws of two identifiers that were marked as given out.
+use Rattle.std.specs.Prelude.{◌≡◌, [], ◌∷◌, Bool, true, false, if◌then◌else◌, cond, Option, Some, option_map, ⊤}
+use Rattle.std.proofs.Common.{refl, sym, ◌∙◌, ap}
+use Rattle.std.proofs.lemmas.Bool.{false≢true, true≢false}
+use Rattle.broker_types.specs.Broker.{Broker}
+use Rattle.broker_types.specs.Map.{get, put}
+use Rattle.broker_types.specs.MapLaws.{get-put}
+use Rattle.broker_types.specs.Text.{Text, same}
+use Rattle.broker_types.specs.Used.{use_up}
+use Rattle.records.specs.PartLaws.{joined_rows, rows_of-other_used}
+use Rattle.records.specs.Parts.{Tells, KeepsOthers, of_used}
+use Rattle.records.specs.RowForms.{used_row}
+use Rattle.records.specs.Rows.{rows_of}
+use Rattle.records.specs.Table.{Table, with_row}
+use Rattle.records.specs.declared.kind.Kind.{Kind}
+use Rattle.records.specs.declared.kind.Kind.TheVariants as kind
+use Rattle.records.specs.declared.row.Row.{Row}
+
+inner : (v w : Bool) (o : Option Row) (u : Option ⊤) → o ≡ option_map (λ _. used_row) u
+    → (if v then Some used_row else (if w then Some used_row else o))
+    ≡ option_map (λ _. used_row) (cond v (Some (tt {0})) (cond w (Some (tt {0})) u))
+inner true w o u h = refl
+inner false true o u h = refl
+inner false false o u h = h
+
+-- the broker in which two more were given out
+abbrev pub marked : Broker → Text → Text → Broker
+marked b i j = record b { used = use_up b.used (i ∷ j ∷ []) }
+
+module _ (b : Broker) (i j : Text) (mid new : Table)
+    (is : new ≡ with_row (with_row mid kind.Used j used_row) kind.Used i used_row) where
+  -- the rows of identifiers tell it
+  pub marks_told : ((q : Text) → mid kind.Used q ≡ rows_of b kind.Used q) → Tells of_used new (marked b i j)
+  unfolding rows_of
+  marks_told before kind.Used q h =
+      ap (λ (table : Table). table kind.Used q) is
+      ∙ inner (same q i) (same q j) (mid kind.Used q) (get b.used q) (before q)
+      ∙ ap (option_map (λ _. used_row))
+      (sym (get-put (put b.used j tt) i tt q ∙ ap (cond (same q i) (Some (tt {0}))) (get-put b.used j tt q)))
+  marks_told before _ q h = absurd (false≢true h)
+
+  marks_outside : (k : Kind) (q : Text) → of_used k ≡ false
+      → with_row (with_row mid kind.Used j used_row) kind.Used i used_row k q ≡ mid k q
+  marks_outside kind.Used q h = absurd (true≢false h)
+  marks_outside _ q h = refl
+
+  -- and no other row has changed
+  pub marks_keep : KeepsOthers of_used mid new
+  marks_keep k q h = ap (λ (table : Table). table k q) is ∙ marks_outside k q h
+
+  -- so the rows of a broker become those of the broker in which the two were given out
+  pub marks_joined : mid ≡ rows_of b → new ≡ rows_of (marked b i j)
+  marks_joined told =
+      joined_rows of_used mid new b (marked b i j) told (marks_told (λ q. ap (λ (table : Table). table kind.Used q) told))
+      marks_keep (rows_of-other_used b (use_up b.used (i ∷ j ∷ [])))
