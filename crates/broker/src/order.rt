@@ -6,3 +6,4 @@ pub(crate) mod finishing;
 pub(crate) mod permission;
 pub(crate) mod routing;
 pub(crate) mod serving;
+pub(crate) mod wrapping;
