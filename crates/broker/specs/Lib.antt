@@ -7,4 +7,5 @@ pub mod PermittedRows
 pub mod Safely
 pub mod Stages
 pub mod StoreRows
+pub mod Wraps
 pub use Rattle.records.specs.Transaction
