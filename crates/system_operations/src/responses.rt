@@ -11,23 +11,19 @@ ghost use Rattle.records.specs.Transaction.{IsHonest};
 ghost use Rattle.records.specs.Calls.{OnAnswer, IsCall, IsRequestCall};
 ghost use Rattle.records.specs.Table.{table};
 ghost use Rattle.wrapping.specs.WaitingRows.{IsReadableWaiting};
-ghost use Rattle.api_json.specs.Json.{body_members};
-ghost use Rattle.api_json.specs.Parsed.{members_of};
-ghost use Rattle.api_json.specs.Readers as reader;
 ghost use Rattle.api_json.specs.Reads.{IsRead};
 ghost use Rattle.broker_model.specs.Order.{wrap_info};
 ghost use Rattle.broker_model.specs.declared.commands.WrappingCommand.TheVariants as commands;
 ghost use Rattle.broker_model.specs.parts.Wrappings as part;
-ghost use Rattle.broker_model.specs.parts.WrappingCommands.{token_meant, wrap_meant, wrapping_command};
+ghost use Rattle.broker_model.specs.parts.WrappingCommands.{token_meant, wrapping_command};
 ghost use Rattle.broker_model.specs.parts.WrappingCommands.{wrapping_names, wrapping_traits};
 ghost use Rattle.broker_rows.specs.Context as known;
 ghost use Rattle.broker_rows.specs.Operating.{ArePrinted, Begins, Performs};
 ghost use Rattle.broker_rows.specs.Reads.{AreReadableResponses};
-ghost use Rattle.system_operations.specs.Bodies.{then_meant};
 ghost use Rattle.system_operations.specs.Rewrapping.{MovesResponse};
 
 use api_json::{
-    Body, WrapObject, read_body, waiting_object, wrap_object, wrap_reply, wrapping_token,
+    WrapObject, read_body, waiting_object, wrap_object, wrap_reply, wrapping_token,
 };
 use broker_model::{WrappingCommand, wrapping_commands_are_proper};
 use broker_rows::{Answered, Context, moment, printed, use_up};
@@ -60,40 +56,44 @@ pub fn read_wrapping_command(
     match operation {
         WrappingOperation::Wrap => Ok(WrappingCommand::Wrap(members.into_text(alloc)?)),
         WrappingOperation::LookUp => {
-            let meant = read_meant(alloc, client, &members)?;
-            Ok(WrappingCommand::LookUp(meant))
+            let named = wrapping_token(alloc, &members)?;
+            Ok(WrappingCommand::LookUp(token_meant(alloc, client, named)?))
         }
         WrappingOperation::Rewrap => {
-            let meant = read_meant(alloc, client, &members)?;
-            Ok(WrappingCommand::Rewrap(meant))
+            let named = wrapping_token(alloc, &members)?;
+            Ok(WrappingCommand::Rewrap(token_meant(alloc, client, named)?))
         }
         WrappingOperation::Unwrap => {
-            let meant = read_meant(alloc, client, &members)?;
-            Ok(WrappingCommand::Unwrap(meant))
+            let named = wrapping_token(alloc, &members)?;
+            Ok(WrappingCommand::Unwrap(token_meant(alloc, client, named)?))
         }
     }
 }
 
-/// The wrapping token that is meant, if one is. An empty text names none.
-fn read_meant(
+/// The wrapping token that is meant, if one is: that which the body names, else the client token. An empty text names
+/// none.
+fn token_meant(
     alloc: Global,
     client: &Option<CowText<'_>>,
-    members: &Body,
-) -> Result<Option<TextBuf>, RequestError>
-    ensures { IsRead (then_meant client.now (reader.wrapping_token (members_of members.now))) result }
+    named: Option<TextBuf>,
+) -> Result<Option<TextBuf>, AllocError>
+    ensures { IfOk result (λ meant. meant ≡ token_meant client.now named) }
 {
-    match wrapping_token(alloc, members)? {
-        Some(named) if !named.as_str().is_empty() => Ok(Some(named)),
-        _ => Ok(client_meant(alloc, client)?),
+    let Some(named) = named else {
+        return client_token(alloc, client);
+    };
+    if named.as_str().is_empty() {
+        return client_token(alloc, client);
     }
+    Ok(Some(named))
 }
 
 /// A copy of the client token, if there is one.
-fn client_meant(
+fn client_token(
     alloc: Global,
     client: &Option<CowText<'_>>,
 ) -> Result<Option<TextBuf>, AllocError>
-    ensures { IfOk result (λ meant. meant ≡ client.now) }
+    ensures { IfOk result (λ token. token ≡ client.now) }
 {
     match client {
         None => Ok(None),
