@@ -161,8 +161,8 @@ AreReadableIssued rows p (issued.Verify credential) = IsReadableCredential (tabl
 
 -- ---- responses
 
--- What waits under the wrapping token that is meant is read, if one is meant. A rewrap reads it once its identifiers are
--- new, which was tested before.
+-- What waits under the wrapping token that is meant is read, if one is meant. A rewrap reads it once its identifiers
+-- are new, which was tested before.
 abbrev pub AreReadableResponses : Rows → WrappingCommand → Type 0
 AreReadableResponses rows (wrapping_command.Wrap text) = ⊤
 AreReadableResponses rows (wrapping_command.LookUp meant) = IfNamed (IsReadableWaiting (table_of rows)) meant

@@ -27,8 +27,8 @@ module _ (b : Broker) (who : Option Text) (rows : Rows) (t : Text) (f : FoundRes
   acts a o = ActsAs who b rows (Ok a) (some_or not_waiting (option_map (found_under t) o) >>= (λ x. Ok (f x)))
 
   -- a response that waits is acted on
-  pub acts_on_found : (w : Waiting) (a : Code.Answered) → get b.waiting t ≡ Some w → IsDone who rows a (f (found_under t w))
-      → ActsAs who b rows (Ok a) (found b (Some t) >>= (λ x. Ok (f x)))
+  pub acts_on_found : (w : Waiting) (a : Code.Answered) → get b.waiting t ≡ Some w
+      → IsDone who rows a (f (found_under t w)) → ActsAs who b rows (Ok a) (found b (Some t) >>= (λ x. Ok (f x)))
   acts_on_found w a is done = subst (acts a) (sym is) done
 
   -- and where none does, that is refused

@@ -42,22 +42,22 @@ module _ {who : Option Text} (b : Broker) (names : Names) (t : Text) (w : Waitin
   abbrev next : Broker
   next = rewrap b t (token_text names.wrapping_token) names.wrapping_accessor b.clock
 
-  next_is : next
-      ≡ with_waiting (drop_waiting b t) (token_text names.wrapping_token) (moved names.wrapping_accessor b.clock w)
+  abbrev moved_to : Broker
+  moved_to = with_waiting (drop_waiting b t) (token_text names.wrapping_token) (moved names.wrapping_accessor b.clock w)
+
+  next_is : next ≡ moved_to
   next_is = rewrap_is b t (token_text names.wrapping_token) names.wrapping_accessor b.clock w is
 
   -- only responses have changed
   agrees : AgreeOutside of_waiting b next
-  agrees = subst (AgreeOutside of_waiting b) (sym next_is)
-      (rows_of-other_waiting b
-      (with_waiting (drop_waiting b t) (token_text names.wrapping_token) (moved names.wrapping_accessor b.clock w)).waiting)
+  agrees = subst (AgreeOutside of_waiting b) (sym next_is) (rows_of-other_waiting b moved_to.waiting)
 
   -- the response has moved, and both identifiers were marked
   pub represents_moved : WrappingCommandsKeepSoundness → AreWrappingNames names
       → are_new b.used (wrapping_names names) ≡ true → Tells of_waiting (table_of mid) next
       → KeepsOthers of_waiting (table_of old) (table_of mid)
-      → table_of new
-      ≡ with_row (with_row (table_of mid) kind.Used names.wrapping_accessor used_row) kind.Used names.wrapping_token used_row
+      → table_of new ≡ with_row (with_row (table_of mid) kind.Used names.wrapping_accessor used_row) kind.Used
+      names.wrapping_token used_row
       → Represents who new (counted (rewrapped b names (found_under t w)))
   represents_moved keeps good fresh tells others marks = record {
     rows = marks_joined next names.wrapping_token names.wrapping_accessor (table_of mid) (table_of new) marks

@@ -187,7 +187,7 @@ fn rewrap<T: RecordsTx>(
         (T.seen tx.old) (T.seen tx.new)
         (λ b. part.act_on_wrappings b (names_of context.now.words) (commands.Rewrap (Some token.now))) result }
 
-    // Whatever the rows are: a damaged row is moved neither as a response nor refused as an unknown wrapping token.
+    // Whatever the rows are: a damaged row is neither moved nor refused as an unknown wrapping token.
     ensures readable { IsHonest (T.seen tx.new)
         → OnAnswer result (IsReadableWaiting (table (T.seen tx.old)) token.now) }
     ensures call { IsRequestCall (T.seen tx.old) (T.seen tx.new) result IsNotBadStart }
@@ -266,7 +266,7 @@ fn unwrap<T: RecordsTx>(alloc: Global, tx: &mut T, token: &str) -> Result<Answer
     ensures told { (who : Option Text) (x : known.Context) → Performs who x [] (T.seen tx.old) (T.seen tx.new)
         (λ b. part.act_on_wrappings b (names_of x.words) (commands.Unwrap (Some token.now))) result }
 
-    // Whatever the rows are: a damaged row is handed out neither as a response nor refused as an unknown wrapping token.
+    // Whatever the rows are: a damaged row is neither handed out nor refused as an unknown wrapping token.
     ensures readable { IsHonest (T.seen tx.new)
         → OnAnswer result (IsReadableWaiting (table (T.seen tx.old)) token.now) }
     ensures call { IsRequestCall (T.seen tx.old) (T.seen tx.new) result IsNotBadStart }
