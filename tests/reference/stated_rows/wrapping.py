@@ -27,6 +27,23 @@ def is_first_body(got):
     assert got.status == 200 and got.body.decode() == expand(FIRST_BODY) and len(got.body) == 167
 
 
+@row("A secret is wrapped, handed on, looked up and unwrapped once (`examples/wrapping.replay`)", "tokens", "secrets",
+     "policies", "wrapping", start=1700000000)
+def life_of_a_response(r):
+    r.post("secret/data/team/db", {"data": {"password": "new"}}).is_(200)
+    r.post("sys/policies/acl/deploy", policy({"secret/data/team/db": ["read"]})).is_(204)
+    r.post("auth/token/create", {"policies": ["deploy"], "ttl": "2h"}, at=1700000060).is_(200).has(
+        "auth", client_token="hvs.#31")
+    r.get("secret/data/team/db", token="hvs.#31", wrap="5m", at=1700000120).is_(200, data=None, wrap_info={
+        "accessor": "#46", "creation_path": "secret/data/team/db", "creation_time": "2023-11-14T22:15:20Z",
+        "token": "hvs.#45", "ttl": 300})
+    app = {"conn": 2, "at": 1700000150}
+    r.post("sys/wrapping/lookup", None, token="hvs.#45", **app).is_(200, data={
+        "creation_path": "secret/data/team/db", "creation_time": "2023-11-14T22:15:20Z", "creation_ttl": 300})
+    unwrap(r, "hvs.#45", **app).is_(200, request_id="#40", wrap_info=None).has("data", data={"password": "new"})
+    unwrap(r, "hvs.#45", **app).refused(400, NO_RESPONSE)
+
+
 @row("A wrapped reply is handed out once, byte for byte", "wrapping", start=100)
 def wrapped_reply_once(r):
     wrapped_read(r)
