@@ -1,5 +1,5 @@
 #!/bin/bash
-# Tries restarts: every row of tests/rows over files that are closed and opened again after each request, and three of
+# Tries restarts: every row of tests/rows over files that are closed and opened again after each request, and four of
 # them over files that stop, at each call in turn. The last line is 'N passed, M failed'; the status is 0 if nothing
 # failed.
 set -u
@@ -39,7 +39,7 @@ stop() {
 }
 
 run_rows
-for row in first_run orphan_survives eleven_versions; do
+for row in first_run orphan_survives rewrapped_reply eleven_versions; do
     stop "$row"
 done
 

@@ -1,7 +1,8 @@
+pub mod Asked
 pub mod CommandReads
 pub mod EngineRoutes
 pub mod Finishing
-pub mod OwnIdentifiers
+pub mod NeededIdentifiers
 pub mod Permitted
 pub mod RoutedBy
 pub mod Routes

@@ -1,4 +1,5 @@
 pub mod Answering
+pub mod Askers
 pub mod Kept
 pub mod Laws
 pub mod Meant
@@ -6,4 +7,5 @@ pub mod PermittedRows
 pub mod Safely
 pub mod Stages
 pub mod StoreRows
+pub mod Wraps
 pub use Rattle.records.specs.Transaction

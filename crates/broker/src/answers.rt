@@ -40,6 +40,7 @@ pub(crate) fn answer(alloc: Global, answered: Answered) -> Result<Answer, AllocE
         }
         Answered::Given(reply) => success(alloc, &reply),
         Answered::Made(reply, _) => success(alloc, &reply),
+        Answered::Kept(text) => Answer::new(alloc, Status::Success, Methods::none(), text),
         Answered::Missing(reply) => missing(alloc, &reply),
     }
 }

@@ -1,0 +1,33 @@
+-- When a reply may be wrapped, and which rows that puts (this project's definition).
+use Rattle.std.specs.Prelude.{◌≡◌, ◌∷◌, ℕ, List, true}
+use Rattle.broker_types.specs.Broker.{Broker, Waiting}
+use Rattle.broker_types.specs.Names.{names_of}
+use Rattle.broker_types.specs.Operation.{Done}
+use Rattle.broker_types.specs.Text.{Text}
+use Rattle.broker_types.specs.Used.{are_new}
+use Rattle.records.specs.declared.kind.Kind.TheVariants as kind
+use Rattle.records.specs.RowForms.{used_row}
+use Rattle.records.specs.Table.{Table, with_row}
+use Rattle.wrapping.specs.WaitingRows.{with_response}
+use Rattle.wrapping.specs.Wrapping.{with_waiting}
+use Rattle.broker_model.specs.Order.{IsProper}
+use Rattle.broker_rows.specs.Context.{Context}
+use Rattle.broker_rows.specs.MarkLaws.{marked}
+
+-- The request is one at the broker's clock, and these are its identifiers of a wrapping token and of its accessor. They
+-- are new beside those of the operation, which was a proper one.
+pub record MayWrap (x : Context) (token accessor : Text) (b : Broker) (own : List Text) (d : Done) : Type 0 where
+  pub clock : b.clock ≡ x.clock
+  pub token_named : token ≡ (names_of x.words).wrapping_token
+  pub accessor_named : accessor ≡ (names_of x.words).wrapping_accessor
+  pub new : are_new b.used ((names_of x.words).wrapping_token ∷ (names_of x.words).wrapping_accessor ∷ own) ≡ true
+  pub proper : IsProper b own d
+
+-- the table in which the response waits under t, and its identifiers are marked as given out
+abbrev pub with_kept : Table → Text → Waiting → Table
+with_kept rows t w =
+    with_row (with_row (with_response rows t w) kind.Used w.accessor used_row) kind.Used w.origin used_row
+
+-- the same broker but for this
+abbrev pub kept_in : Broker → Text → Waiting → Broker
+kept_in b t w = marked (with_waiting b t w) w.origin w.accessor

@@ -1,0 +1,160 @@
+//! The reply of a request is wrapped.
+
+ghost use Rattle.std.specs.Prelude.{◌≡◌, ◌<◌, List, Option, None, true, IfOk, OnOk};
+ghost use Rattle.api_json.specs.Reply.{wrap_reply};
+ghost use Rattle.broker_types.specs.Broker.{Broker};
+ghost use Rattle.broker_types.specs.Fault.{IsMemoryOrStorage};
+ghost use Rattle.broker_types.specs.Names.{names_of};
+ghost use Rattle.broker_types.specs.Operation as operation;
+ghost use Rattle.broker_types.specs.Operation.{Done};
+ghost use Rattle.broker_types.specs.Evolves.{IsNew};
+ghost use Rattle.broker_types.specs.Path.{is_path};
+ghost use Rattle.broker_types.specs.Places.{token_identifier, AllUsed};
+ghost use Rattle.broker_types.specs.Sound.{IsIdentifier};
+ghost use Rattle.broker_types.specs.Text.{Text};
+ghost use Rattle.broker_types.specs.TokenText.{token_text};
+ghost use Rattle.records.specs.Calls.{IsCall};
+ghost use Rattle.records.specs.Ranges.{IsWaitingInRange};
+ghost use Rattle.records.specs.Rows.{rows_of};
+ghost use Rattle.records.specs.Table.{table};
+ghost use Rattle.records.specs.Transaction.{IsHonest};
+ghost use Rattle.wrapping.specs.WaitingRows.{RepresentsWaiting};
+ghost use Rattle.broker_model.specs.Order as order;
+ghost use Rattle.broker_rows.specs.Done.{answered_of, counted, IsDone};
+ghost use Rattle.broker_rows.specs.Representing.{Represents};
+ghost use Rattle.broker.specs.Stages.{IsServed};
+ghost use Rattle.broker.specs.Wraps.{MayWrap, kept_in, with_kept};
+
+use api_json::{WrapObject, reply_text, wrap_object, wrap_reply};
+use broker_rows::{Answered, Context, use_up};
+use broker_types::{Fault, Reply, TextBuf, WrapTtl, id_text};
+use records::{RecordsTx, WaitingRecord};
+use std::alloc::{AllocError, Global};
+use wrapping::store;
+
+/// A reply of status 200 is kept under a new wrapping token, and the caller is told of this token in its place (Vault's
+/// documentation, "Response wrapping"). Nothing else is wrapped. The identifiers of the token and of its accessor have
+/// been printed, and they are new. It fails with `Memory` if memory runs out, and with `Storage` if the transaction's
+/// storage failed.
+pub(crate) fn wrap<T: RecordsTx>(
+    alloc: Global,
+    tx: &mut T,
+    context: &Context<'_>,
+    path: &str,
+    ttl: WrapTtl,
+    token: &str,
+    accessor: &str,
+    answered: Answered,
+) -> Result<Answered, Fault>
+    requires path { is_path path.now ≡ true }
+    requires waits { 0 < ttl }
+    requires token { IsIdentifier token.now }
+    requires accessor { IsIdentifier accessor.now }
+    ensures told { IsHonest (T.seen tx.new) → (who : Option Text) (b : Broker) (own : List Text) (d : Done)
+        → MayWrap context.now token.now accessor.now b own d → IsDone who (T.seen tx.old).rows answered d
+        → IfOk result (λ x. IsServed who (T.seen tx.new).rows x
+        (order.wrap_200 b path.now ttl (names_of context.now.words) d d.answered)) }
+    ensures call { IsCall (T.seen tx.old) (T.seen tx.new) result IsMemoryOrStorage }
+{
+    match answered {
+        Answered::Given(reply) => keep(alloc, tx, context, path, ttl, token, accessor, &reply, None),
+        Answered::Made(reply, made) => {
+            keep(alloc, tx, context, path, ttl, token, accessor, &reply, Some(made))
+        }
+        Answered::Nothing => Ok(Answered::Nothing),
+        Answered::Kept(text) => Ok(Answered::Kept(text)),
+        Answered::Missing(reply) => Ok(Answered::Missing(reply)),
+    }
+}
+
+/// Keeps a reply under a new wrapping token, and tells of this token. `made` is the accessor of the token that the reply
+/// made, if it made one.
+fn keep<T: RecordsTx>(
+    alloc: Global,
+    tx: &mut T,
+    context: &Context<'_>,
+    path: &str,
+    ttl: WrapTtl,
+    token: &str,
+    accessor: &str,
+    reply: &Reply,
+    made: Option<TextBuf>,
+) -> Result<Answered, Fault>
+    requires path { is_path path.now ≡ true }
+    requires waits { 0 < ttl }
+    requires token { IsIdentifier token.now }
+    requires accessor { IsIdentifier accessor.now }
+    ensures told { IsHonest (T.seen tx.new) → (who : Option Text) (b : Broker) (own : List Text) (d : Done)
+        → MayWrap context.now token.now accessor.now b own d → Represents who (T.seen tx.old).rows (counted d)
+        → IfOk result (λ x. IsServed who (T.seen tx.new).rows x
+        (order.wrap b path.now ttl (names_of context.now.words) d reply.now made)) }
+    ensures call { IsCall (T.seen tx.old) (T.seen tx.new) result IsMemoryOrStorage }
+{
+    let text = reply_text(alloc, reply)?;
+    let wrapping_token = token_text(alloc, token)?;
+    let response = WaitingRecord {
+        accessor,
+        created: context.clock.seconds(),
+        ttl: u64::from(ttl.count()),
+        path,
+        origin: token,
+        reply: text.as_str(),
+    };
+    put(alloc, tx, wrapping_token.as_str(), &response)?;
+    Ok(told(alloc, context, wrapping_token, &response, made)?)
+}
+
+/// Stores a response under a new wrapping token, and marks its identifiers as given out.
+fn put<T: RecordsTx>(
+    alloc: Global,
+    tx: &mut T,
+    token: &str,
+    response: &WaitingRecord<'_>,
+) -> Result<(), Fault>
+    requires { IsWaitingInRange response.now }
+    ensures rows { IsHonest (T.seen tx.new) → OnOk result (table (T.seen tx.new)
+        ≡ with_kept (table (T.seen tx.old)) token.now response.now) }
+    ensures told { IsHonest (T.seen tx.new) → (b : Broker) → table (T.seen tx.old) ≡ rows_of b
+        → RepresentsWaiting (table (T.seen tx.old)) b → AllUsed b → IsNew b (token_identifier token.now)
+        → IsNew b response.now.accessor
+        → OnOk result (table (T.seen tx.new) ≡ rows_of (kept_in b token.now response.now)) }
+    ensures call { IsCall (T.seen tx.old) (T.seen tx.new) result IsMemoryOrStorage }
+{
+    store(alloc, tx, token, response)?;
+    use_up(alloc, tx, response.accessor)?;
+    use_up(alloc, tx, response.origin)
+}
+
+/// The token of an identifier.
+fn token_text(alloc: Global, identifier: &str) -> Result<TextBuf, AllocError>
+    ensures { IfOk result (λ text. text ≡ token_text identifier.now) }
+{
+    let mut text = String::from_str(alloc, "hvs.")?;
+    text.push_str(identifier)?;
+    Ok(TextBuf::new(text))
+}
+
+/// Answers with the wrapping token of a response that was kept now.
+fn told(
+    alloc: Global,
+    context: &Context<'_>,
+    token: TextBuf,
+    response: &WaitingRecord<'_>,
+    made: Option<TextBuf>,
+) -> Result<Answered, AllocError>
+    requires { response.now.created ≡ context.now.clock }
+    ensures { IfOk result (λ a. answered_of a ≡ operation.reply (wrap_reply (names_of context.now.words).request
+        (order.wrap_info token response.now made)) None) }
+{
+    let wrap = WrapObject {
+        accessor: TextBuf::copied(alloc, response.accessor)?,
+        creation_path: TextBuf::copied(alloc, response.path)?,
+        created: context.clock,
+        token,
+        ttl: response.ttl,
+        wrapped_accessor: made,
+    };
+    let request = id_text(alloc, context.words.0[0])?;
+    let info = wrap_object(alloc, &wrap)?;
+    Ok(Answered::Given(wrap_reply(alloc, request.as_str(), info)?))
+}
