@@ -1,6 +1,7 @@
 pub mod CommandReads
 pub mod EngineRoutes
 pub mod Finishing
+pub mod KeptReplies
 pub mod OwnIdentifiers
 pub mod Permitted
 pub mod RoutedBy
