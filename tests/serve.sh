@@ -93,12 +93,20 @@ count() {
     fi
 }
 
+# The wrapping token of the last reply.
+wrapping_token() { sed 's/.*"token":"\([^"]*\)".*/\1/' "$found/body"; }
+
 ask_by_curl() {
-    local url=http://127.0.0.1:$port/v1 child
+    local url=http://127.0.0.1:$port/v1 child wrapping
     ask "write" 200 '"version":1' -d '{"data":{"user":"app"}}' "$url/secret/data/app"
     ask "read" 200 '"data":{"user":"app"}' "$url/secret/data/app"
     ask "list" 200 '"keys":["app"]' -X LIST "$url/secret/metadata"
     ask "list by query" 200 '"keys":["app"]' "$url/secret/metadata?list=true"
+    ask "wrapped read" 200 '"creation_path":"secret/data/app"' -H 'X-Vault-Wrap-TTL: 60' "$url/secret/data/app"
+    wrapping=$(wrapping_token)
+    token=$wrapping ask "look-up of a response" 200 '"creation_ttl":60' -X POST "$url/sys/wrapping/lookup"
+    token=$wrapping ask "unwrap" 200 '"data":{"user":"app"}' -X POST "$url/sys/wrapping/unwrap"
+    token=$wrapping ask "another unwrap" 400 'wrapping token is not valid' -X POST "$url/sys/wrapping/unwrap"
     ask "delete" 204 '' -X DELETE "$url/secret/data/app"
     ask "read of a deleted version" 404 '"deletion_time"' "$url/secret/data/app"
     ask "no route" 404 '{"errors":[]}' "$url/sys/health"
@@ -123,7 +131,7 @@ python_with_hvac() {
 }
 
 ask_by_client() {
-    local address=127.0.0.1:$port text
+    local address=127.0.0.1:$port text wrapping
     if [ ! -x bin/client ]; then
         echo "serve: there is no bin/client: it is skipped"
         return
@@ -134,21 +142,33 @@ ask_by_client() {
     if [ $? -eq 0 ] && [[ $text == *'"data":{"user":"app"}'* ]]; then pass; else fail "client" "read"; fi
     bin/client --addr "$address" --token "$token" read secret/data/absent > "$found/body"
     if [ $? -eq 1 ] && grep -qF '"errors"' "$found/body"; then pass; else fail "client" "read of an absent secret"; fi
+    bin/client --addr "$address" --token "$token" --wrap-ttl 60 read secret/data/client > "$found/body"
+    wrapping=$(wrapping_token)
+    text=$(bin/client --addr "$address" --token "$wrapping" unwrap)
+    if [ $? -eq 0 ] && [[ $text == *'"data":{"user":"app"}'* ]]; then pass; else fail "client" "unwrap"; fi
+    bin/client --addr "$address" --token "$token" unwrap "$wrapping" > "$found/body"
+    if [ $? -eq 1 ] && grep -qF 'wrapping token is' "$found/body"; then pass; else fail "client" "another unwrap"; fi
 }
 
 # A broker in a file: stopped by SIGKILL and started again it is the one that it was, and prints no token.
 keep_in_a_file() {
-    local file=$found/broker.db
+    local file=$found/broker.db url wrapping
     start 4294967295 --db "$file"
     token=$(sed -n 's/^root token: //p' "$found/served")
-    ask "write to a file" 200 '"version":1' -d '{"data":{"user":"app"}}' "http://127.0.0.1:$port/v1/secret/data/app"
+    url=http://127.0.0.1:$port/v1
+    ask "write to a file" 200 '"version":1' -d '{"data":{"user":"app"}}' "$url/secret/data/app"
+    ask "wrapped read from a file" 200 '"wrap_info":{' -H 'X-Vault-Wrap-TTL: 1h' "$url/secret/data/app"
+    wrapping=$(wrapping_token)
     run "a file that is open" 1 'fault 2' serve --listen 127.0.0.1:0 --db "$file"
     if [ "$(stat -c %a "$file" "$file-wal" | sort -u)" = 600 ]; then pass; else fail "a file" "others may read it"; fi
     kill -9 "$pid"
     stop
     start 4294967295 --db "$file"
     if [ ! -s "$found/served" ]; then pass; else fail "a restart" "it prints $(head -c 200 "$found/served")"; fi
-    ask "read after a restart" 200 '"data":{"user":"app"}' "http://127.0.0.1:$port/v1/secret/data/app"
+    url=http://127.0.0.1:$port/v1
+    ask "read after a restart" 200 '"data":{"user":"app"}' "$url/secret/data/app"
+    token=$wrapping ask "unwrap after a restart" 200 '"data":{"user":"app"}' -X POST "$url/sys/wrapping/unwrap"
+    token=$wrapping ask "another unwrap after a restart" 400 'wrapping token' -X POST "$url/sys/wrapping/unwrap"
     stop
     python3 -c "
 import sqlite3

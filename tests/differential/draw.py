@@ -8,7 +8,7 @@
 Every run is drawn by a generator of its own, seeded by the seed and the run's name, so that a theme that is changed or
 added leaves the inputs of the others as they were. `THEMES` names the themes, with how many runs each has.
 
-An input is a start line and 3 to 12 events, up to 16 in the themes about tokens, secrets and policies, but for some
+An input is a start line and 3 to 12 events, up to 16 in the themes that are not about requests and lines, but for some
 runs of the theme `lines`, in which a line is bad at once. A run is a JSON object on a line, with `name` and `stdin`.
 With `--answer` it also has `stdout`, `stderr` and `status` of a broker that serves the parts, today's if none are
 named. The last line of `--check` is `N passed, M failed`; the status is 0 if nothing failed.
@@ -30,7 +30,7 @@ from policy_themes import (changing_policies, creating_or_updating, cubbyhole_pe
 from request_themes import (authorizations, bodies, body_lengths, changed_heads, changed_lines, closing, connections,
                             cuts, depths, escapes, heads, hex_and_lists, large, limits, line_ends, lines, many_fields,
                             methods, mixed, moments, numbers, paths, pipelines, queries, refused_bodies,
-                            replaced_members, single_bytes, spellings, tokens, unserved_fields, unserved_routes)
+                            replaced_members, single_bytes, spellings, tokens, unserved_routes)
 from run import data_of
 from secret_themes import (asked_versions, check_and_set, deletions, folders, forgotten_secrets, mixed_secrets,
                            old_versions, refused_secrets, secret_callers, secret_moments, secret_routes, secret_writes,
@@ -38,6 +38,9 @@ from secret_themes import (asked_versions, check_and_set, deletions, folders, fo
 from token_themes import (accessors, children, creations, cubbyhole_lists, ends, families, given_twice,
                           lenient_creations, look_ups, mixed_tokens, other_cubbyholes, refused_creations, renewals,
                           revocations, sudo_paths, token_routes, uses)
+from wrapping_themes import (mixed_wrapping, open_requests, revoked_responses, rewraps, spent_wrapping_tokens,
+                             times_of_responses, wrap_ttls, wrapped_creations, wrapped_credentials, wrapped_replies,
+                             wrapping_callers, wrapping_routes, wrapping_words)
 
 HERE = pathlib.Path(__file__).resolve().parent
 sys.path.append(str(HERE.parent / "reference"))
@@ -48,23 +51,26 @@ from broker.parts import add_parts_option  # noqa: E402
 STORED = {"runs.jsonl": 1, "more_runs.jsonl": 2}  # the seed of each file of runs
 
 THEMES = {
-    bodies: 4, refused_bodies: 5, numbers: 3, replaced_members: 3, depths: 2, paths: 5, tokens: 4, methods: 3, heads: 6,
-    changed_heads: 4, line_ends: 3, many_fields: 2, body_lengths: 3, cuts: 4, single_bytes: 2, pipelines: 3,
-    connections: 3, closing: 3, moments: 3, spellings: 3, lines: 6, changed_lines: 4, large: 1, mixed: 6, queries: 4,
-    limits: 4, escapes: 6, authorizations: 5, hex_and_lists: 3,
-    creations: 4, lenient_creations: 7, refused_creations: 6, children: 7, families: 6, look_ups: 6, accessors: 4,
-    renewals: 6, ends: 6, uses: 6, revocations: 6, sudo_paths: 6, given_twice: 4, other_cubbyholes: 4,
-    cubbyhole_lists: 7, token_routes: 4, mixed_tokens: 6,
-    secret_writes: 4, check_and_set: 7, old_versions: 5, asked_versions: 6, deletions: 7, version_lists: 5,
-    refused_secrets: 6, settings: 6, folders: 6, forgotten_secrets: 4, secret_callers: 8, secret_routes: 6,
-    secret_moments: 2, mixed_secrets: 6,
-    permissions: 11, exact_and_prefix: 11, denials: 11, list_patterns: 11, creating_or_updating: 11,
-    cubbyhole_permissions: 9, stars_in_paths: 8, sudo_permissions: 11, policy_texts: 9, policy_names: 7,
-    changing_policies: 11, policies_of_children: 8, policies_not_there: 6, policies_by_callers: 6,
-    refusals_in_order: 8, policy_routes: 5, mixed_policies: 6,
-    mounts_enabled: 7, mounts_of_secrets: 6, roles: 7, credentials: 10, lives_of_leases: 10, ends_of_leases: 12,
-    lease_routes: 6, mixed_leases: 8,
-    unserved_routes: 4, unserved_fields: 1,
+    bodies: 2, refused_bodies: 3, numbers: 2, replaced_members: 2, depths: 1, paths: 3, tokens: 2, methods: 2, heads: 4,
+    changed_heads: 2, line_ends: 2, many_fields: 1, body_lengths: 2, cuts: 2, single_bytes: 1, pipelines: 2,
+    connections: 2, closing: 2, moments: 2, spellings: 2, lines: 4, changed_lines: 2, large: 1, mixed: 4, queries: 2,
+    limits: 2, escapes: 4, authorizations: 3, hex_and_lists: 2,
+    creations: 2, lenient_creations: 4, refused_creations: 4, children: 4, families: 4, look_ups: 4, accessors: 2,
+    renewals: 4, ends: 4, uses: 4, revocations: 4, sudo_paths: 4, given_twice: 2, other_cubbyholes: 2,
+    cubbyhole_lists: 4, token_routes: 2, mixed_tokens: 4,
+    secret_writes: 2, check_and_set: 4, old_versions: 3, asked_versions: 4, deletions: 4, version_lists: 3,
+    refused_secrets: 4, settings: 4, folders: 4, forgotten_secrets: 2, secret_callers: 5, secret_routes: 4,
+    secret_moments: 1, mixed_secrets: 4,
+    permissions: 7, exact_and_prefix: 7, denials: 7, list_patterns: 7, creating_or_updating: 7,
+    cubbyhole_permissions: 5, stars_in_paths: 5, sudo_permissions: 7, policy_texts: 5, policy_names: 4,
+    changing_policies: 7, policies_of_children: 5, policies_not_there: 4, policies_by_callers: 4,
+    refusals_in_order: 5, policy_routes: 3, mixed_policies: 4,
+    mounts_enabled: 4, mounts_of_secrets: 4, roles: 4, credentials: 6, lives_of_leases: 6, ends_of_leases: 7,
+    lease_routes: 4, mixed_leases: 5,
+    wrapped_replies: 24, wrap_ttls: 14, times_of_responses: 16, rewraps: 14, open_requests: 24,
+    spent_wrapping_tokens: 12, revoked_responses: 14, wrapped_creations: 14, wrapping_callers: 16, wrapping_words: 12,
+    wrapped_credentials: 12, wrapping_routes: 8, mixed_wrapping: 14,
+    unserved_routes: 2,
 }
 
 

@@ -594,8 +594,7 @@ UNSERVED_ROUTES = (
     ("GET", "secret/subkeys/x", None),
     ("LIST", "sys/leases/lookup/db", None), ("POST", "sys/mounts/db/tune", '{"type":"issued"}'),
     ("POST", "sys/leases/revoke-force/secret", None), ("GET", "sys/policy/default", None),
-    ("POST", "sys/wrapping/wrap", '{"a":1}'), ("POST", "sys/wrapping/unwrap", '{"token":"x"}'),
-    ("POST", "sys/wrapping/lookup", None), ("PUT", "sys/leases/tidy", "{}"), ("GET", "sys/auth", None),
+    ("PUT", "sys/leases/tidy", "{}"), ("GET", "sys/auth", None),
     ("GET", "cubbyhole", None), ("DELETE", "cubbyhole", None), ("POST", "cubbyhole", '{"a":1}'),
     ("GET", "sys", None), ("GET", "auth", None), ("DELETE", "none", None), ("LIST", "secret", None))
 
@@ -656,19 +655,6 @@ def limits(run):
         run.event(blank + request(method, "/v1/cubbyhole/a", fields, version=version), connection)
         run.event(run.pick("", run.read("cubbyhole/a"), "0\r\n\r\n"),
                   run.pick(connection, connection, connection + 1))
-
-
-def unserved_fields(run):
-    """Fields that are not read so far."""
-    path = run.path()
-    run.event(run.write(path, run.object_text(1)))
-    while run.room() > 0:
-        fields = run.fields()
-        if not run.chance(4):
-            fields += run.pick(["X-Vault-Wrap-TTL: 60"], ["X-Vault-Wrap-TTL: 1d"], ["X-Vault-Wrap-TTL: é"],
-                               ["X-Vault-Wrap-TTL: 5", "X-Vault-Wrap-TTL: 6"], ["X-Vault-Namespace: a"])
-        target = "/v1/" + run.pick(path, path, path, "none", "a//b", "auth/token/lookup-self")
-        run.event(request(run.pick("GET", "GET", "PUT", "LIST"), target, fields, run.pick(None, '{"a":1}')))
 
 
 def hex_and_lists(run):

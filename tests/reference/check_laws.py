@@ -5,10 +5,10 @@
 
 After each event: the broker is sound, its rows are read back as the same broker, and the status and the text of a
 refusal are listed ones. Over each run: a wrapped response is handed out once at most; what is handed out is what the
-request would have been answered without wrapping; what was revoked or expired is never there again; no identifier is
-used twice; the clock never goes back. The pieces of a request may be cut anywhere. In addition, what stands at the
-front of a stream does not change by more bytes, and JSON is read and written as Python's own reader and writer do,
-where the two must agree.
+request would have been answered without wrapping; what was revoked or expired is never there again, and who asks by it
+is refused; no identifier is used twice; the clock never goes back. The pieces of a request may be cut anywhere. In
+addition, what stands at the front of a stream does not change by more bytes, and JSON is read and written as Python's
+own reader and writer do, where the two must agree.
 
 The last line is `N passed, M failed`: the checks of streams and of JSON, and each run. The status is 0 if nothing
 failed.
@@ -133,6 +133,7 @@ class WatchedServer(Server):
         assert b.used <= self.broker.used
         self.check_answer(answer)
         self.check_used(b)
+        self.check_gone_client(ask, answer)
         self.check_gone(b)
         self.check_wrapping(b, moment, words, ask, answer)
         if answer.status >= 400:
@@ -159,6 +160,14 @@ class WatchedServer(Server):
         new = set(identifiers(self.broker)) - set(identifiers(b))
         assert not new & b.used
         assert new <= self.broker.used
+
+    def check_gone_client(self, ask, answer):
+        """A client token that is gone is refused; where no caller is needed, the response that it stands for is."""
+        if ask.token in self.gone:
+            if not is_open(ask, ALL):
+                assert answer.status == 403
+            elif ask.path != "sys/wrapping/lookup":
+                assert answer.status in (400, 500)
 
     def check_gone(self, b):
         """What is gone does not come back."""

@@ -160,6 +160,15 @@ client_token_sent c len =
     )
     (append-nil (values_in (codes "x-vault-token") (optional_field (codes "X-Vault-Token") c.token)))
 
+pub wrap_ttl_sent : (c : Command) (len : Option ℕ) → values_in (codes "x-vault-wrap-ttl") (sent_fields c len) ≡ values_in (codes "x-vault-wrap-ttl") (optional_field (codes "X-Vault-Wrap-TTL") c.wrap_ttl)
+wrap_ttl_sent c len =
+    rw (
+      values_sent (codes "x-vault-wrap-ttl") c len,
+      other_optional (codes "x-vault-wrap-ttl") (codes "X-Vault-Token") c.token refl,
+      other_length (codes "x-vault-wrap-ttl") len refl,
+    )
+    (append-nil (values_in (codes "x-vault-wrap-ttl") (optional_field (codes "X-Vault-Wrap-TTL") c.wrap_ttl)))
+
 pub length_sent : (c : Command) (len : Option ℕ) → values_in (codes "content-length") (sent_fields c len) ≡ values_in (codes "content-length") (length_field len)
 length_sent c len =
     rw (

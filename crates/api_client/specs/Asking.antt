@@ -1,5 +1,5 @@
 -- What the requests of the client ask (Vault's documentation, "HTTP API" and "Response wrapping").
-use Rattle.std.specs.Prelude.{◌≡◌, ℕ, ◌<◌, ◌≤◌, true, List, [], length, unwrap_or, Option, None, IfSome, All, IsUtf8}
+use Rattle.std.specs.Prelude.{◌≡◌, ℕ, ◌<◌, ◌≤◌, true, List, [], length, unwrap_or, Option, IfSome, All, IsUtf8}
 use Rattle.std.specs.Prelude.{Result, Ok}
 use Rattle.broker_types.specs.Limits.{longest_body}
 use Rattle.broker_types.specs.Path.{is_path}
@@ -26,14 +26,10 @@ verb_of (request.List path) = verb.List
 verb_of (request.Delete path) = verb.Delete
 verb_of (request.Unwrap token) = verb.Write
 
--- the text of the wrap TTL that a server reads: so far none, since it does not read the field
-abbrev pub wrap_ttl_meant : Option Text → Option Text
-wrap_ttl_meant ttl = None
-
--- the ask that a command means, or the refusal of its wrap TTL
+-- the ask that a command means, or the refusal of a wrap TTL that is no duration
 abbrev pub ask_meant : Command → Result Ask RefusalParts
 ask_meant c = do
-  wrap_ttl ← wrap_ttl_read (wrap_ttl_meant c.wrap_ttl)
+  wrap_ttl ← wrap_ttl_read c.wrap_ttl
   Ok (record {
     verb = verb_of c.request;
     path = path_of c.request;

@@ -15,7 +15,8 @@ use std::alloc::{AllocError, Global};
 use std::borrow::CowSlice;
 
 /// The bytes of the request that a command sends (RFC 9112). They are one whole request with nothing
-/// after it, and a server reads it as the command means it. The only fault is running out of memory.
+/// after it, and a server reads it as the command means it, or refuses it for a wrap TTL that is no
+/// duration. The only fault is running out of memory.
 pub fn request_of(alloc: Global, command: &Command<'_>) -> Result<Vec<u8>, Fault>
     ensures ok { IfOk result (λ bytes. bytes.items ≡ sent command.now) }
     ensures asks { IfOk result (λ bytes. Asks bytes.items command.now) }

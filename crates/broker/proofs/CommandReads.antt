@@ -10,6 +10,7 @@ use Rattle.broker_types.specs.Text.{Text, text_cmp, same}
 use Rattle.broker_types.specs.TextLaws.{same_self, same_true, same-text_cmp}
 use Rattle.broker_types.specs.Answer.{response_of, refused}
 use Rattle.broker_types.specs.Broker.{Mount, Waiting}
+use Rattle.broker_types.specs.Names.{Names}
 use Rattle.broker_types.specs.RequestError.{EndsRefused}
 use Rattle.broker_types.specs.declared.answer.Answer.{Answer}
 use Rattle.broker_types.specs.declared.ask.Ask.{Ask}
@@ -159,11 +160,11 @@ module _ (old new : Rows) (t : Text) (ask : Ask) where
   refusal_in _ = permission_denied
 
   -- who is refused for that is told so; either way it ends then if it has no uses left
-  pub may_refused : {A : Type 0} (final : Rows) (r : Refusal) (a : Answer)
-      → (MayBeDone old t ask ⊎ IsForbidden {A = A} old new t ask (Err (Refused r)))
-      → response_of a ≡ refused r → EndsCaller t new final → IsCarriedOutOrForbidden old final t ask (response_of a)
-  may_refused final r a (inl may) is ends = inl (record { may = may; done = new; ends = ends })
-  may_refused final r a (inr forbidden) is ends = inr (record {
+  pub may_refused : {A : Type 0} (names : Names) (final : Rows) (r : Refusal) (a : Answer)
+      → (MayBeDone old t names ask ⊎ IsForbidden {A = A} old new t ask (Err (Refused r)))
+      → response_of a ≡ refused r → EndsCaller t new final → IsCarriedOutOrForbidden old final t names ask (response_of a)
+  may_refused names final r a (inl may) is ends = inl (record { may = may; done = new; ends = ends })
+  may_refused names final r a (inr forbidden) is ends = inr (record {
     response = is ∙ ap refused (ap refusal_in forbidden.refused);
     forbidden = forbidden.forbidden;
     ends = subst (λ rows. EndsCaller t rows final) forbidden.same ends;

@@ -40,3 +40,16 @@ module _ (c : Text) (old new : Rows) (b : Broker)
 pub if_ok : {T E P : Type 0} (r : Result T E) → P → IfOk r (λ _. P)
 if_ok (Ok x) p = p
 if_ok (Err e) p = tt
+
+module _ (rows : Rows) (b : Broker) where
+  -- an open ask that was served
+  pub openly_served : (x : Answered) (m : Result Wrapped Refusal) (a : Answer) → HasServed None rows b (Ok x) m
+      → response_of a ≡ response_to (answered_of x) → Gives a rows (finish b None m)
+  openly_served x (Ok w) a h is = record { response = is ∙ ap response_to h.0; represents = h.1 }
+  openly_served x (Err e) a h is = absurd h
+
+  -- one that was refused
+  pub openly_refused : (r : Refusal) (m : Result Wrapped Refusal) (a : Answer) → HasServed None rows b (Err r) m
+      → response_of a ≡ refused r → Gives a rows (finish b None m)
+  openly_refused r (Ok w) a h is = absurd h
+  openly_refused r (Err e) a h is = record { response = is ∙ ap refused h.0; represents = h.1 }

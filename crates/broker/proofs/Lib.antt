@@ -1,7 +1,9 @@
+pub mod Asked
 pub mod CommandReads
 pub mod EngineRoutes
 pub mod Finishing
 pub mod KeptReplies
+pub mod NeededIdentifiers
 pub mod OwnIdentifiers
 pub mod Permitted
 pub mod RoutedBy

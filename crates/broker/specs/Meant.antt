@@ -4,6 +4,7 @@ use Rattle.broker_types.specs.Name.{is_mount_name}
 use Rattle.broker_types.specs.Path.{is_path}
 use Rattle.broker_model.specs.Command as model
 use Rattle.broker_model.specs.Command.{on_cubbyhole, on_token, on_secret, on_policy, on_mount, on_lease, on_issued}
+use Rattle.broker_model.specs.Command.{on_wrapping}
 use Rattle.secret_operations.specs.InRange.{IsCubbyholeCommandInRange, IsSecretCommandInRange}
 use Rattle.secret_operations.specs.InRange.{IsIssuedCommandInRange}
 use Rattle.secret_operations.specs.Paths.{needs_path, needs_object_path}
@@ -11,7 +12,7 @@ use Rattle.system_operations.specs.InRange.{IsPolicyCommandInRange}
 use Rattle.token_operations.specs.TokenRanges.{IsTokenCommandInRange}
 use Rattle.broker.specs.declared.command.Command.{Command}
 use Rattle.broker.specs.declared.command.Command.TheVariants.{OnCubbyhole, OnToken, OnSecret, OnPolicy}
-use Rattle.broker.specs.declared.command.Command.TheVariants.{OnMount, OnLease, OnIssued}
+use Rattle.broker.specs.declared.command.Command.TheVariants.{OnMount, OnLease, OnIssued, OnWrapping}
 
 -- the command, in the words of the definition
 abbrev pub meant : Command → model.Command
@@ -22,6 +23,7 @@ meant (OnPolicy name command) = on_policy name.now command
 meant (OnMount name command) = on_mount name.now command
 meant (OnLease prefix command) = on_lease prefix.now command
 meant (OnIssued place command) = on_issued place command
+meant (OnWrapping command) = on_wrapping command
 
 -- where it acts is of the form that it asks for
 abbrev pub IsWellPlaced : model.Command → Type 0
@@ -33,6 +35,7 @@ IsWellPlaced (on_policy name command) = ⊤
 IsWellPlaced (on_mount name command) = ⊤
 IsWellPlaced (on_lease prefix command) = ⊤
 IsWellPlaced (on_issued place command) = is_mount_name place.mount ≡ true
+IsWellPlaced (on_wrapping command) = ⊤
 
 -- what it brings can be kept
 abbrev pub IsInRange : model.Command → Type 0
@@ -43,3 +46,4 @@ IsInRange (on_policy name command) = IsPolicyCommandInRange command
 IsInRange (on_mount name command) = ⊤
 IsInRange (on_lease prefix command) = ⊤
 IsInRange (on_issued place command) = IsIssuedCommandInRange command
+IsInRange (on_wrapping command) = ⊤

@@ -1,22 +1,28 @@
 //! What an ask means: a command, with where it acts.
 
-ghost use Rattle.std.specs.Prelude.{◌≡◌, IfOk};
+ghost use Rattle.std.specs.Prelude.{◌≡◌, ◌||◌, not, nat_lt, IfOk};
 ghost use Rattle.broker_types.specs.Names.{names_of};
 ghost use Rattle.api_json.specs.Reads.{IsReadAs};
 ghost use Rattle.broker_model.specs.Command.{command_for, place_of};
+ghost use Rattle.broker_model.specs.Serving as serving;
+ghost use Rattle.broker_model.specs.Serving.{needed_by};
 ghost use Rattle.broker_model.specs.Step.{traits};
+ghost use Rattle.broker_model.specs.parts.WrappingCommands.{wrapping_traits};
 ghost use Rattle.broker_rows.specs.Operating.{ArePrinted, IsWellFormed};
 ghost use Rattle.broker.specs.Meant.{meant, IsInRange, IsWellPlaced};
 
 use broker_model::{
     CubbyholeCommand, IssuedCommand, LeaseCommand, MountCommand, PolicyCommand, SecretCommand,
-    TokenCommand,
+    TokenCommand, WrappingCommand,
 };
+use broker_rows::printed;
 use broker_types::{Ask, RequestError, TextBuf, Words};
 use mounts::{Operation, Route};
 use secret_operations::{Place, read_cubbyhole_command, read_issued_command, read_secret_command};
 use std::alloc::{AllocError, Global};
-use system_operations::{read_lease_command, read_mount_command, read_policy_command};
+use system_operations::{
+    read_lease_command, read_mount_command, read_policy_command, read_wrapping_command,
+};
 use token_operations::read_token_command;
 
 /// The commands, part by part.
@@ -36,6 +42,8 @@ pub(crate) enum Command<'r> {
     OnLease(&'r str, LeaseCommand),
     /// At the place of a role.
     OnIssued(Place<'r>, IssuedCommand),
+    /// On responses that wait.
+    OnWrapping(WrappingCommand),
 }
 
 /// Reads what an ask of this route means. What its body or its version brings is refused with 400, if it is wrong. The
@@ -81,6 +89,10 @@ pub(crate) fn read_command<'r>(
             let command = read_issued_command(alloc, operation, body)?;
             Ok(Command::OnIssued(place_of(route), command))
         }
+        Operation::Wrappings(operation) => {
+            let command = read_wrapping_command(alloc, operation, &ask.token, body)?;
+            Ok(Command::OnWrapping(command))
+        }
     }
 }
 
@@ -94,8 +106,73 @@ fn place_of<'r>(route: &Route<'r>) -> Place<'r>
     }
 }
 
-/// The identifiers that a command needs, which have to be new, as they are printed. It fails if memory runs out.
-pub(crate) fn own_identifiers(
+/// Whether the reply to a command of an ask is wrapped: a wrap TTL asks for it, and it may be.
+pub(crate) fn is_wrapped(ask: &Ask<'_>, command: &Command<'_>) -> bool
+    ensures { result ≡ serving.is_wrapped ask.now (meant command.now) }
+{
+    ask.wrap_ttl.count() > 0 && may_wrap(command)
+}
+
+/// Whether an ask has the wrap TTL that its command must have, or needs none.
+pub(crate) fn has_wrap_ttl(ask: &Ask<'_>, command: &Command<'_>) -> bool
+    ensures { result ≡ (not (traits (meant command.now)).must_wrap || nat_lt 0 ask.now.wrap_ttl) }
+{
+    !must_wrap(command) || ask.wrap_ttl.count() > 0
+}
+
+/// Whether the reply to a command is wrapped if a wrap TTL asks for it.
+fn may_wrap(command: &Command<'_>) -> bool
+    ensures { result ≡ (traits (meant command.now)).may_wrap }
+{
+    match command {
+        Command::OnWrapping(command) => is_wrap(command),
+        _ => true,
+    }
+}
+
+/// Whether the reply to a command must be wrapped.
+fn must_wrap(command: &Command<'_>) -> bool
+    ensures { result ≡ (traits (meant command.now)).must_wrap }
+{
+    match command {
+        Command::OnWrapping(command) => is_wrap(command),
+        _ => false,
+    }
+}
+
+/// Whether a command on responses is that to wrap an object.
+fn is_wrap(command: &WrappingCommand) -> bool
+    ensures may { result ≡ (wrapping_traits command.now).may_wrap }
+    ensures must { result ≡ (wrapping_traits command.now).must_wrap }
+{
+    match command {
+        WrappingCommand::Wrap(_) => true,
+        _ => false,
+    }
+}
+
+/// The identifiers that a command of an ask needs, which have to be new, as they are printed: first those of a new
+/// wrapping token and of its accessor, if the reply is wrapped. It fails if memory runs out.
+pub(crate) fn needed_identifiers(
+    alloc: Global,
+    words: &Words,
+    ask: &Ask<'_>,
+    command: &Command<'_>,
+) -> Result<Vec<TextBuf>, AllocError>
+    ensures { IfOk result (λ needed.
+        ArePrinted needed.items (needed_by ask.now (names_of words.now) (meant command.now))) }
+{
+    let own = own_identifiers(alloc, words, command)?;
+    if !is_wrapped(ask, command) {
+        return Ok(own);
+    }
+    let mut needed = printed(alloc, words.0[5], words.0[6])?;
+    needed.extend(own)?;
+    Ok(needed)
+}
+
+/// The command's own identifiers.
+fn own_identifiers(
     alloc: Global,
     words: &Words,
     command: &Command<'_>,
@@ -105,6 +182,9 @@ pub(crate) fn own_identifiers(
     match command {
         Command::OnToken(command) => token_operations::own_identifiers(alloc, words, command),
         Command::OnIssued(_, command) => secret_operations::own_identifiers(alloc, words, command),
+        Command::OnWrapping(command) => {
+            system_operations::wrapping_identifiers(alloc, words, command)
+        }
         _ => Ok(Vec::new(alloc)),
     }
 }

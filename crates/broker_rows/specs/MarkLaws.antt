@@ -30,7 +30,7 @@ marked b i j = record b { used = use_up b.used (i ∷ j ∷ []) }
 module _ (b : Broker) (i j : Text) (mid new : Table)
     (is : new ≡ with_row (with_row mid kind.Used j used_row) kind.Used i used_row) where
   -- the rows of identifiers tell it
-  pub marks_told : ((q : Text) → mid kind.Used q ≡ rows_of b kind.Used q) → Tells of_used new (marked b i j)
+  marks_told : ((q : Text) → mid kind.Used q ≡ rows_of b kind.Used q) → Tells of_used new (marked b i j)
   unfolding rows_of
   marks_told before kind.Used q h =
       ap (λ (table : Table). table kind.Used q) is
@@ -45,11 +45,11 @@ module _ (b : Broker) (i j : Text) (mid new : Table)
   marks_outside _ q h = refl
 
   -- and no other row has changed
-  pub marks_keep : KeepsOthers of_used mid new
+  marks_keep : KeepsOthers of_used mid new
   marks_keep k q h = ap (λ (table : Table). table k q) is ∙ marks_outside k q h
 
   -- so the rows of a broker become those of the broker in which the two were given out
   pub marks_joined : mid ≡ rows_of b → new ≡ rows_of (marked b i j)
   marks_joined told =
-      joined_rows of_used mid new b (marked b i j) told (marks_told (λ q. ap (λ (table : Table). table kind.Used q) told))
-      marks_keep (rows_of-other_used b (use_up b.used (i ∷ j ∷ [])))
+      joined_rows of_used mid new b (marked b i j) told
+      (marks_told (λ q. ap (λ (table : Table). table kind.Used q) told)) marks_keep (rows_of-other_used b (use_up b.used (i ∷ j ∷ [])))

@@ -30,6 +30,8 @@ use Rattle.broker_model.specs.declared.commands.SecretCommand.{SecretCommand}
 use Rattle.broker_model.specs.declared.commands.SecretCommand.TheVariants as secret
 use Rattle.broker_model.specs.declared.commands.TokenCommand.{TokenCommand}
 use Rattle.broker_model.specs.declared.commands.TokenCommand.TheVariants as token
+use Rattle.broker_model.specs.declared.commands.WrappingCommand.{WrappingCommand}
+use Rattle.broker_model.specs.declared.commands.WrappingCommand.TheVariants as wrapping_command
 use Rattle.broker_model.specs.parts.Place.{Place}
 use Rattle.broker_rows.specs.ReadableRow.{IsReadableObject, IsReadablePolicy, IsReadableSecret, IsReadableToken}
 use Rattle.broker_rows.specs.ReadableRow.{IsReadableDescent, IsReadableAlone}
@@ -156,3 +158,13 @@ AreReadableIssued rows p (issued.SetRole asked) = ⊤
 AreReadableIssued rows p issued.RemoveRole = ⊤
 AreReadableIssued rows p issued.Issue = IsReadableRole (table_of rows) p.mount p.path
 AreReadableIssued rows p (issued.Verify credential) = IsReadableCredential (table_of rows) credential
+
+-- ---- responses
+
+-- What waits under the wrapping token that is meant is read, if one is meant. A rewrap reads it once its identifiers
+-- are new, which was tested before.
+abbrev pub AreReadableResponses : Rows → WrappingCommand → Type 0
+AreReadableResponses rows (wrapping_command.Wrap text) = ⊤
+AreReadableResponses rows (wrapping_command.LookUp meant) = IfNamed (IsReadableWaiting (table_of rows)) meant
+AreReadableResponses rows (wrapping_command.Rewrap meant) = IfNamed (IsReadableWaiting (table_of rows)) meant
+AreReadableResponses rows (wrapping_command.Unwrap meant) = IfNamed (IsReadableWaiting (table_of rows)) meant

@@ -9,6 +9,7 @@ ghost use Rattle.broker_types.specs.Broker.{Broker};
 ghost use Rattle.broker_types.specs.Fault.{IsMemoryOrStorage};
 ghost use Rattle.broker_types.specs.First.{first_broker};
 ghost use Rattle.broker_types.specs.Identifier.{id};
+ghost use Rattle.broker_types.specs.Names.{names_of};
 ghost use Rattle.broker_types.specs.TokenText.{token_text};
 ghost use Rattle.records.specs.Transaction.{is_storage};
 ghost use Rattle.broker_model.specs.Listed.{IsListed};
@@ -142,8 +143,8 @@ impl<S: Alter> SqlStore<S> {
         ensures clock { IsHonestStore (sql_kept S.Store self.new)
             → NeedsClock (sql_kept S.Store self.old).rows result }
         ensures answers { IsHonestStore (sql_kept S.Store self.new) → IfOk result
-            (λ a. IsAnsweredBy moment (sql_kept S.Store self.old).rows (sql_kept S.Store self.new).rows ask.now
-            (response_of a)) }
+            (λ a. IsAnsweredBy moment (names_of words.now) (sql_kept S.Store self.old).rows
+            (sql_kept S.Store self.new).rows ask.now (response_of a)) }
         ensures listed { IfOk result (λ a. IsListed (response_of a)) }
         ensures wants { IsHonestStore (sql_kept S.Store self.new) → (b : Broker)
             → Represents None (sql_kept S.Store self.old).rows b → IfErr result IsMemoryOrStorage }

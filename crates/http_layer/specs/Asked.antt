@@ -87,9 +87,9 @@ token_asked fields = do
   authorization ← value_asked (values_named (codes "authorization") fields)
   Ok (client_token vault authorization)
 
--- the text of the wrap TTL (Vault's documentation, "Response wrapping"): so far the field is not read
+-- the text of the wrap TTL (Vault's documentation, "Response wrapping"), from the fields
 abbrev pub wrap_ttl_asked : List HeadField → Result (Option Text) RefusalParts
-wrap_ttl_asked fields = Ok None
+wrap_ttl_asked fields = value_asked (values_named (codes "x-vault-wrap-ttl") fields)
 
 -- For how many seconds a reply waits for its wrapping token: a duration, at most 32 days. Without one the reply is not
 -- wrapped.

@@ -1,18 +1,23 @@
 -- Laws of refusals: what is refused without asking the broker is listed.
 use Rattle.std.proofs.Common.{ℕ, ◌+◌, ◌||◌, ◌&&◌, Bool, true, false, cond, List, [], ◌∷◌, length, take, drop}
 use Rattle.std.proofs.Common.{codes, bytes_eq, slice_range, Result, Ok, Err, IfErr, nat_le, nat_lt, refl, sym, subst}
-use Rattle.std.proofs.Common.{inl, inr, lit<}
+use Rattle.std.proofs.Common.{Option, Some, None, min, inl, inr, lit<}
+use Rattle.std.specs.Option.{option_map_or}
 use Rattle.std.specs.Str.{is_utf8}
 use Rattle.std.specs.Str.Parse.{digits_value}
 use Rattle.percent_encoding.specs.Percent.{percent_decode}
-use Rattle.broker_types.specs.Limits.{longest_body}
+use Rattle.broker_types.specs.Duration.{duration_of}
+use Rattle.broker_types.specs.Limits.{longest_body, longest_ttl}
 use Rattle.broker_types.specs.Path.{is_path, without_slash}
+use Rattle.broker_types.specs.Text.{Text}
+use Rattle.broker_types.specs.declared.refusal.Reason.TheVariants.{InvalidDuration}
 use Rattle.broker_types.specs.declared.status.Status.{Status}
 use Rattle.broker_types.specs.declared.status.Status.TheVariants.{BadRequest, PayloadTooLarge, NotImplemented}
 use Rattle.http_layer.specs.Front.{Front, need, refused_with, whole, HeadFront, unended, too_long, malformed, read}
 use Rattle.http_layer.specs.Front.{front_of_body, front_of_head, content_length, body_length, may_have_hosts, is_number}
 use Rattle.http_layer.specs.HeadParts.{HeadField, HeadParts, values_named}
-use Rattle.http_layer.specs.Asked.{asked, verb_asked, value_asked, token_asked, path_asked}
+use Rattle.http_layer.specs.Asked.{asked, verb_asked, value_asked, token_asked, wrap_ttl_asked, wrap_ttl_read}
+use Rattle.http_layer.specs.Asked.{path_asked, bad_request}
 use Rattle.http_layer.specs.Query.{target_path, target_query}
 use Rattle.http_layer.specs.Laws.{FrontRefusalIsListed, AskRefusalIsListed}
 use Rattle.http_layer.specs.Listed.{IsFrontRefusal, IsAskRefusal}
@@ -105,11 +110,21 @@ token_refuses fields =
     (λ vault. step_refuses (value_asked (values_named (codes "authorization") fields)) _
     (value_refuses (values_named (codes "authorization") fields)) (λ authorization. tt))
 
+-- the seconds of a duration, if it is one
+duration_refuses : (seconds : Option ℕ)
+    → IfErr (option_map_or (λ n. Ok (min n longest_ttl)) seconds (Err (bad_request InvalidDuration))) IsAskRefusal
+duration_refuses None = inr (inr (inr refl))
+duration_refuses (Some n) = tt
+
+ttl_refuses : (text : Option Text) → IfErr (wrap_ttl_read text) IsAskRefusal
+ttl_refuses None = tt
+ttl_refuses (Some text) = duration_refuses (duration_of text)
+
 path_refuses : (target : List ℕ) → IfErr (path_asked target) IsAskRefusal
 path_refuses target =
     let bytes = percent_decode (drop 4 (target_path target)) in
     cond_refuses IsAskRefusal (bytes_eq (take 4 target) (codes "/v1/")) _ _
-    (cond_refuses IsAskRefusal (is_utf8 bytes && is_path (without_slash bytes)) _ _ tt (inr (inr refl)))
+    (cond_refuses IsAskRefusal (is_utf8 bytes && is_path (without_slash bytes)) _ _ tt (inr (inr (inl refl))))
     (inl (inr refl))
 
 -- the refusal of a request that asks nothing is listed
@@ -119,4 +134,7 @@ ask_refuses head body =
     step_refuses (verb_asked head.method (target_query head.target)) _
     (verb_refuses head.method (target_query head.target))
     (λ verb. step_refuses (token_asked head.fields) _ (token_refuses head.fields)
-    (λ token. step_refuses (path_asked head.target) _ (path_refuses head.target) (λ path. tt)))
+    (λ token. step_refuses (wrap_ttl_asked head.fields) _
+    (value_refuses (values_named (codes "x-vault-wrap-ttl") head.fields))
+    (λ ttl. step_refuses (path_asked head.target) _ (path_refuses head.target)
+    (λ path. step_refuses (wrap_ttl_read ttl) _ (ttl_refuses ttl) (λ wrap_ttl. tt)))))

@@ -2,7 +2,7 @@ ghost use Rattle.std.specs.Prelude.{◌≡◌, ◌≢◌, MatchResult, Ok, Err, 
 ghost use Rattle.http_layer.specs.HeadParts.{values_named};
 ghost use Rattle.http_layer.specs.Query.{target_path};
 ghost use Rattle.http_layer.specs.Asked.{asked, verb_asked, value_asked, not_empty, without_spaces, bearer_token};
-ghost use Rattle.http_layer.specs.Asked.{client_token, token_asked, HasNoEscape, path_read, path_asked};
+ghost use Rattle.http_layer.specs.Asked.{client_token, token_asked, wrap_ttl_read, HasNoEscape, path_read, path_asked};
 ghost use Rattle.http_layer.specs.Refusing.{Agrees, parts_of_refusal};
 ghost use Rattle.percent_encoding.specs.Percent.{percent_decode};
 
@@ -11,7 +11,7 @@ use crate::head::Head;
 use crate::query::{lists, split_target, version_asked};
 use crate::refusal::{AskError, HttpRefusal};
 use broker_types::{
-    Ask, BodyBytes, CowBytes, CowText, Fault, Path, Reason, Seconds, Verb, WrapTtl,
+    Ask, BodyBytes, CowBytes, CowText, Fault, Path, Reason, Seconds, Verb, WrapTtl, read_duration,
 };
 use percent_encoding::{DecodeError, percent_decode};
 use std::alloc::Global;
@@ -20,13 +20,15 @@ use std::str;
 
 /// What a whole request asks (RFC 9110, section 9; Vault's documentation, "HTTP API"), or the first
 /// refusal, in this order: 501 for a method that is not GET, LIST, POST, PUT or DELETE; 400 for more
-/// than one X-Vault-Token or Authorization field, or one that is not UTF-8; 404 for a target that does
-/// not begin with `/v1/`; 400 for a target whose rest up to its first `?`, percent-decoded (RFC 3986,
-/// section 2.1), is not a valid path. The client token is X-Vault-Token unless it is empty, else the
-/// Bearer token of Authorization (RFC 6750, section 2.1). Of the query, which is not decoded,
-/// `list=true` makes a GET a LIST, and the first `version=` is the version asked for. Other parts of
-/// the query and other fields are ignored. The only fault is running out of memory, where the path has
-/// an encoded byte: without one the ask borrows all its texts.
+/// than one X-Vault-Token, Authorization or X-Vault-Wrap-TTL field, or one that is not UTF-8; 404 for a
+/// target that does not begin with `/v1/`; 400 for a target whose rest up to its first `?`,
+/// percent-decoded (RFC 3986, section 2.1), is not a valid path; 400 for an X-Vault-Wrap-TTL that is no
+/// duration (Vault's documentation, "Response wrapping"), while a longer one is cut to 32 days. The
+/// client token is X-Vault-Token unless it is empty, else the Bearer token of Authorization (RFC 6750,
+/// section 2.1). Of the query, which is not decoded, `list=true` makes a GET a LIST, and the first
+/// `version=` is the version asked for. Other parts of the query and other fields are ignored. The only
+/// fault is running out of memory, where the path has an encoded byte: without one the ask borrows all
+/// its texts.
 #[tactic(auto, unfolding(crate::specs::Asked::asked))]
 pub fn ask_of<'b>(alloc: Global, head: &Head<'b>, body: BodyBytes<'b>) -> Result<Ask<'b>, AskError>
     ensures ask { Agrees (asked head.now body.entry) result }
@@ -35,13 +37,18 @@ pub fn ask_of<'b>(alloc: Global, head: &Head<'b>, body: BodyBytes<'b>) -> Result
     let (_, query) = split_target(head.target());
     let verb = verb_of(head.method(), query)?;
     let token = token_of(head)?;
+    let ttl = value_of(head, b"x-vault-wrap-ttl")?;
     let path = path_of(alloc, head.target())?;
+    let wrap_ttl = match wrap_ttl_of(ttl) {
+        Ok(wrap_ttl) => wrap_ttl,
+        Err(refusal) => return Err(refusal.into()),
+    };
     Ok(Ask {
         verb,
         path,
         version: CowBytes::new(CowSlice::Borrowed(version_asked(query))),
         token,
-        wrap_ttl: WrapTtl::cut(Seconds::new(0)),
+        wrap_ttl,
         body,
     })
 }
@@ -130,6 +137,22 @@ fn without_spaces<'b>(mut text: &'b str) -> &'b str
         text = &text[1..];
     }
     text
+}
+
+/// The wrap TTL, from the value of X-Vault-Wrap-TTL, cut to 32 days; 0 if there is none. A value that is no
+/// duration is refused: 400.
+fn wrap_ttl_of(value: Option<&str>) -> Result<WrapTtl, HttpRefusal>
+    ensures { MatchResult result
+        (λ ttl. wrap_ttl_read (option_map (λ text. text.now) value.entry) ≡ Ok ttl)
+        (λ refusal. wrap_ttl_read (option_map (λ text. text.now) value.entry) ≡ Err (parts_of_refusal refusal)) }
+{
+    let Some(text) = value else {
+        return Ok(WrapTtl::cut(Seconds::new(0)));
+    };
+    match read_duration(text) {
+        Ok(asked) => Ok(WrapTtl::cut(asked)),
+        Err(_) => Err(HttpRefusal::bad_request(Reason::InvalidDuration)),
+    }
 }
 
 /// The path that a target names.

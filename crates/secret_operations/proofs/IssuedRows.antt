@@ -1,16 +1,15 @@
 -- A credential that was issued: its rows, its identifiers, and the broker that they represent.
-use Rattle.std.specs.Prelude.{◌≡◌, ◌≢◌, ◌==◌, ◌&&◌, ◌||◌, ℕ, List, [], ◌∷◌, ◌++◌, not, Bool, true, false, if◌then◌else◌, cond, codes}
-use Rattle.std.specs.Prelude.{Option, Some, None, option_map, is_none, Result, Ok, Err, ⊤}
+use Rattle.std.specs.Prelude.{◌≡◌, ◌≢◌, ◌==◌, ◌&&◌, ◌||◌, ℕ, List, [], ◌∷◌, ◌++◌, not, Bool, true, false, if◌then◌else◌, codes}
+use Rattle.std.specs.Prelude.{Option, Some, None, option_map, is_none, Result, Ok, Err}
 use Rattle.std.specs.List.{list_all}
 use Rattle.std.specs.Option.{option_map_or}
 use Rattle.std.proofs.Common.{arith, refl, sym, ◌∙◌, ap, subst, append_assoc}
-use Rattle.std.proofs.lemmas.Bool.{false≢true, true≢false, and_parts}
+use Rattle.std.proofs.lemmas.Bool.{false≢true, and_parts}
 use Rattle.std.proofs.lemmas.Bool.Decides.{nat_tests}
 use Rattle.std.proofs.lemmas.Option.{none-some, same_Some}
 use Rattle.broker_types.specs.Broker.{Broker, Role}
 use Rattle.broker_types.specs.Evolves.{IsNew}
 use Rattle.broker_types.specs.Map.{get, put}
-use Rattle.broker_types.specs.MapLaws.{get-put}
 use Rattle.broker_types.specs.Name.{is_name, is_name_byte, is_mount_name}
 use Rattle.broker_types.specs.OptionLaws.{is_nothing}
 use Rattle.broker_types.specs.Places.{lease_identifier}
@@ -26,16 +25,14 @@ use Rattle.broker_types.specs.UsedLaws.{first_new}
 use Rattle.broker_types.specs.declared.refusal.Refusal.{Refusal}
 use Rattle.broker_types.specs.declared.refusal.Refusal.TheVariants as refusal
 use Rattle.broker_types.specs.declared.refusal.Reason.TheVariants as reason
-use Rattle.records.specs.declared.kind.Kind.{Kind}
 use Rattle.records.specs.declared.kind.Kind.TheVariants as kind
-use Rattle.records.specs.declared.row.Row.{Row}
-use Rattle.records.specs.PartLaws.{joined_rows, rows_of-other_used}
-use Rattle.records.specs.Parts.{Tells, KeepsOthers, of_leases, of_used}
+use Rattle.records.specs.PartLaws.{joined_rows}
+use Rattle.records.specs.Parts.{Tells, KeepsOthers, of_leases}
 use Rattle.records.specs.RowForms.{used_row}
 use Rattle.records.specs.Rows.{rows_of}
 use Rattle.records.specs.SplitLaws.{split-lacking}
 use Rattle.records.specs.Splits.{slash, split_once, lacks}
-use Rattle.records.specs.Table.{Table, table_of, with_row}
+use Rattle.records.specs.Table.{table_of, with_row}
 use Rattle.records.specs.TokenEntry.{TokenEntry, token_entry}
 use Rattle.records.specs.Transaction.{Rows}
 use Rattle.records.specs.ValueLaws.{ok_inj}
@@ -47,35 +44,9 @@ use Rattle.leases.specs.Roles.{Issued, IssuedLease, role_name, lease_id, new_lea
 use Rattle.leases.specs.SoundLaws.{shows_in_leases}
 use Rattle.broker_model.specs.Forms.{forms}
 use Rattle.broker_rows.specs.Caller.{Caller, IsCallerOf}
+use Rattle.broker_rows.specs.MarkLaws.{marks_joined}
 use Rattle.broker_rows.specs.Representing.{Represents}
 use Rattle.secret_operations.specs.Issuing.{IsLeased}
-
--- ---- the rows of identifiers
-
-inner : (v w : Bool) (o : Option Row) (u : Option ⊤) → o ≡ option_map (λ _. used_row) u
-    → (if v then Some used_row else (if w then Some used_row else o)) ≡ option_map (λ _. used_row) (cond v (Some (tt {0})) (cond w (Some (tt {0})) u))
-inner true w o u h = refl
-inner false true o u h = refl
-inner false false o u h = h
-
-module _ (b : Broker) (i j : Text) (mid new : Table) (is : new ≡ with_row (with_row mid kind.Used j used_row) kind.Used i used_row) where
-  -- two more were given out
-  marks_told : ((q : Text) → mid kind.Used q ≡ rows_of b kind.Used q) → Tells of_used new (record b { used = use_up b.used (i ∷ j ∷ []) })
-  unfolding rows_of
-  marks_told before kind.Used q h =
-      ap (λ (table : Table). table kind.Used q) is
-      ∙ inner (same q i) (same q j) (mid kind.Used q) (get b.used q) (before q)
-      ∙ ap (option_map (λ _. used_row))
-      (sym (get-put (put b.used j tt) i tt q ∙ ap (cond (same q i) (Some (tt {0}))) (get-put b.used j tt q)))
-  marks_told before _ q h = absurd (false≢true h)
-
-  marks_outside : (k : Kind) (q : Text) → of_used k ≡ false
-      → with_row (with_row mid kind.Used j used_row) kind.Used i used_row k q ≡ mid k q
-  marks_outside kind.Used q h = absurd (true≢false h)
-  marks_outside _ q h = refl
-
-  marks_keep : KeepsOthers of_used mid new
-  marks_keep k q h = ap (λ (table : Table). table k q) is ∙ marks_outside k q h
 
 -- ---- the name of a role that is there
 
@@ -166,10 +137,7 @@ module _ (b : Broker) (c : Text) (sound : Sound forms (Some c) b) (mount name id
         joined_rows of_leases (table_of old) (table_of mid) b next st.rows tells keeps
         (shows_in_leases b (λ u m. if same u c then put m id l else m)) in
         record {
-          rows = joined_rows of_used (table_of mid) (table_of new_rows) next (record next { used = use_up b.used (identifier ∷ credential ∷ []) }) made
-              (marks_told next identifier credential (table_of mid) (table_of new_rows) marks (λ q. ap (λ (t : Table). t kind.Used q) made))
-              (marks_keep next identifier credential (table_of mid) (table_of new_rows) marks)
-              (rows_of-other_used next (use_up b.used (identifier ∷ credential ∷ [])));
+          rows = marks_joined next identifier credential (table_of mid) (table_of new_rows) marks made;
           sound = subst (λ i. Sound forms (Some c) (record next { used = use_up b.used (i ∷ credential ∷ []) })) ends_with
               (issue_sound b c id l forms (Some c) st.sound may (subst IsIdentifier (sym ends_with) good));
         }

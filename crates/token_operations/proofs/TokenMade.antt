@@ -1,29 +1,24 @@
 -- A token that was made: its rows, its identifiers, and the answer.
-use Rattle.std.specs.Prelude.{◌≡◌, ◌==◌, length, [], ◌∷◌, Bool, true, false, if◌then◌else◌, cond, Option, Some, None, option_map, ⊤}
-use Rattle.std.proofs.Common.{refl, sym, ◌∙◌, ap, subst}
-use Rattle.std.proofs.lemmas.Bool.{false≢true, true≢false}
+use Rattle.std.specs.Prelude.{◌≡◌, ◌==◌, length, [], ◌∷◌, true, Option, Some, None, option_map}
+use Rattle.std.proofs.Common.{refl, ◌∙◌, ap, subst}
+use Rattle.std.proofs.lemmas.Bool.{true≢false}
 use Rattle.broker_types.specs.Broker.{Broker}
-use Rattle.broker_types.specs.Map.{get, put, empty}
-use Rattle.broker_types.specs.MapLaws.{get-put}
+use Rattle.broker_types.specs.Map.{get, empty}
 use Rattle.broker_types.specs.Names.{Names}
 use Rattle.broker_types.specs.Operation as operation
-use Rattle.broker_types.specs.Places.{token_identifier}
-use Rattle.broker_types.specs.Text.{Text, same}
+use Rattle.broker_types.specs.Text.{Text}
 use Rattle.broker_types.specs.Token.{Token}
 use Rattle.broker_types.specs.TokenText.{token_text}
 use Rattle.broker_types.specs.Used.{use_up}
 use Rattle.broker_types.specs.declared.reply.Reply.{Reply}
-use Rattle.records.specs.Parts.{Tells, KeepsOthers, of_tokens, of_used}
+use Rattle.records.specs.Parts.{Tells, KeepsOthers, of_tokens}
 use Rattle.records.specs.RowForms.{used_row}
-use Rattle.records.specs.Rows.{rows_of}
-use Rattle.records.specs.Table.{Table, table_of, with_row}
+use Rattle.records.specs.Table.{table_of, with_row}
 use Rattle.records.specs.TokenEntry.{token_entry}
 use Rattle.records.specs.Transaction.{Rows}
-use Rattle.records.specs.declared.kind.Kind.{Kind}
 use Rattle.records.specs.declared.kind.Kind.TheVariants as kind
-use Rattle.records.specs.declared.row.Row.{Row}
 use Rattle.token_tree.specs.SoundLaws.{create_sound}
-use Rattle.token_tree.specs.Tokens.{MayBeMade, created, with_token}
+use Rattle.token_tree.specs.Tokens.{MayBeMade, with_token}
 use Rattle.broker_model.specs.Forms.{forms}
 use Rattle.broker_model.specs.parts.TokenReplies.{auth_reply}
 use Rattle.broker_model.specs.parts.Tokens.{made}
@@ -32,35 +27,6 @@ use Rattle.broker_rows.specs.Done.{IsDone}
 use Rattle.broker_rows.specs.declared.answered.Answered.TheVariants.{Made}
 use Rattle.broker_rows.specs.RepresentingLaws.{tokens_long}
 use Rattle.token_operations.proofs.TokenTables.{represents-created}
-
--- ---- the rows of identifiers
-
-inner : (v w : Bool) (o : Option Row) (u : Option ⊤) → o ≡ option_map (λ _. used_row) u
-    → (if v then Some used_row else (if w then Some used_row else o)) ≡ option_map (λ _. used_row) (cond v (Some (tt {0})) (cond w (Some (tt {0})) u))
-inner true w o u h = refl
-inner false true o u h = refl
-inner false false o u h = h
-
-module _ (b : Broker) (t : Text) (x : Token) (mid new : Table)
-    (is : new ≡ with_row (with_row mid kind.Used x.accessor used_row) kind.Used (token_identifier t) used_row) where
-  -- two more were given out
-  marks_told : ((q : Text) → mid kind.Used q ≡ rows_of b kind.Used q) → Tells of_used new (created b t x)
-  unfolding rows_of
-  marks_told before kind.Used q h =
-      ap (λ (table : Table). table kind.Used q) is
-      ∙ inner (same q (token_identifier t)) (same q x.accessor) (mid kind.Used q) (get b.used q) (before q)
-      ∙ ap (option_map (λ _. used_row))
-      (sym (get-put (put b.used x.accessor tt) (token_identifier t) tt q
-      ∙ ap (cond (same q (token_identifier t)) (Some (tt {0}))) (get-put b.used x.accessor tt q)))
-  marks_told before _ q h = absurd (false≢true h)
-
-  marks_outside : (k : Kind) (q : Text) → of_used k ≡ false
-      → with_row (with_row mid kind.Used x.accessor used_row) kind.Used (token_identifier t) used_row k q ≡ mid k q
-  marks_outside kind.Used q h = absurd (true≢false h)
-  marks_outside _ q h = refl
-
-  marks_keep : KeepsOthers of_used mid new
-  marks_keep k q h = ap (λ (table : Table). table k q) is ∙ marks_outside k q h
 
 -- ---- what is made
 
@@ -75,10 +41,7 @@ module _ {who : Option Text} (b : Broker) (names : Names) (x : Token) (old mid n
     λ i. operation.reply (shown i) (Some ((given ∙ named) i)),
     subst (λ i. Represents who new (record (with_token b (token_text names.token) x) { used = use_up b.used (names.token ∷ i ∷ []) })) named
         (represents-created b (token_text names.token) x old st can mid new bare
-        (create_sound b (token_text names.token) x forms who st.sound can) tells others
-        (marks_told b (token_text names.token) x (table_of mid) (table_of new) marks
-        (λ q. others kind.Used q refl ∙ ap (λ (table : Table). table kind.Used q) st.rows))
-        (marks_keep b (token_text names.token) x (table_of mid) (table_of new) marks)),
+        (create_sound b (token_text names.token) x forms who st.sound can) tells others marks),
   )
 
 -- ---- no token has an empty text

@@ -16,13 +16,12 @@ use Rattle.broker_types.specs.RemovalLaws.{revoke_sound, revoke_orphan_sound}
 use Rattle.broker_types.specs.Sound.{IsEnd, Sound}
 use Rattle.records.specs.declared.kind.Kind.{Kind}
 use Rattle.records.specs.declared.kind.Kind.TheVariants as kind
-use Rattle.records.specs.PartLaws.{joined_rows, rows_of-other_used}
-use Rattle.records.specs.Parts.{Tells, KeepsOthers, of_tokens, of_cubbyholes, of_used}
+use Rattle.records.specs.Parts.{Tells, KeepsOthers, of_tokens, of_cubbyholes}
 use Rattle.records.specs.Ranges.{IsWaitingInRange}
 use Rattle.records.specs.Reading.{IsRowOf}
-use Rattle.records.specs.RowForms.{cubby_row, waiting_row}
+use Rattle.records.specs.RowForms.{cubby_row, used_row, waiting_row}
 use Rattle.records.specs.Rows.{rows_of, token_len, has_slash, object_row}
-use Rattle.records.specs.Table.{Table, table_of}
+use Rattle.records.specs.Table.{Table, table_of, with_row}
 use Rattle.records.specs.Transaction.{Rows}
 use Rattle.token_tree.specs.SoundLaws.{renew_sound}
 use Rattle.token_tree.specs.Tokens.{AreEnded, MayBeMade, created, with_token, with_end, renew}
@@ -32,6 +31,7 @@ use Rattle.wrapping.specs.WaitingRows.{IsReadableWaiting}
 use Rattle.broker_rows.specs.Ending.{LeavesNothing}
 use Rattle.broker_rows.specs.Left.{HaveEnded}
 use Rattle.broker_rows.specs.LeftLaws.{revoked_left}
+use Rattle.broker_rows.specs.MarkLaws.{marks_joined}
 use Rattle.broker_rows.specs.Representing.{Represents}
 use Rattle.broker_rows.specs.EndingLaws.{leaves_others, no_token, is_object, is_elsewhere, other_tokens}
 use Rattle.broker_rows.specs.RepresentingLaws.{leases_still, changed_leases}
@@ -155,12 +155,12 @@ module _ {who : Option Text} (b : Broker) (t : Text) (x : Token) (old : Rows) (s
   -- a token was made, without a cubbyhole, and then its identifiers were marked as used
   pub represents-created : (mid new : Rows) → x.cubbyhole ≡ empty → Sound forms who (created b t x)
       → Tells of_tokens (table_of mid) (with_token b t x) → KeepsOthers of_tokens (table_of old) (table_of mid)
-      → Tells of_used (table_of new) (created b t x) → KeepsOthers of_used (table_of mid) (table_of new) → Represents who new (created b t x)
-  represents-created mid new bare sound tells others marks kept =
+      → table_of new ≡ with_row (with_row (table_of mid) kind.Used x.accessor used_row) kind.Used (token_identifier t) used_row
+      → Represents who new (created b t x)
+  represents-created mid new bare sound tells others marks =
       let made = rows_alike b (put b.tokens t x) (objects_made b.tokens t x absent bare) (leases_made b t x absent can.no_lease)
       old mid st tells others in
       record {
-        rows = joined_rows of_used (table_of mid) (table_of new) (with_token b t x) (created b t x) made marks kept
-            (rows_of-other_used (with_token b t x) (created b t x).used);
+        rows = marks_joined (with_token b t x) (token_identifier t) x.accessor (table_of mid) (table_of new) marks made;
         sound = sound;
       }

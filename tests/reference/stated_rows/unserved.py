@@ -3,15 +3,12 @@
 from .tools import BAD_PATH, DENIED, NO_METHOD, NO_SUDO, ROOT, policy, request, row
 
 
-@row("Paths, escapes and fields, most of them not served so far, and queries")
+@row("Paths, escapes and fields, most of them not served so far, and queries", until=("wrapping",))
 def unserved_routes(r):
-    decoding, wrapping = r.serves("decoding"), r.serves("wrapping")
+    decoding = r.serves("decoding")
     r.post("cubbyhole/a", {"a": 1}).is_(204)
     routes_of_parts(r)
-    if wrapping:
-        r.post("sys/wrapping/lookup", {"token": "x"}, token=None).is_(400)
-    else:
-        r.post("sys/wrapping/lookup", {"token": "x"}, token=None).refused(403, DENIED)
+    r.post("sys/wrapping/lookup", {"token": "x"}, token=None).refused(403, DENIED)
     queries_of_parts(r)
     r.event(request("GET", "/v2/x?%")).refused(404)
     r.get("cubbyhole/a", token="other").refused(403, DENIED)
@@ -23,8 +20,7 @@ def unserved_routes(r):
         bearer.refused(403, DENIED)
     twice = r.get("cubbyhole/a", fields=("Authorization: a", "Authorization: b"))
     twice.is_(400 if decoding else there)
-    wrapped = r.get("cubbyhole/a", wrap="1d", fields=("X-Vault-Wrap-TTL: 5",))
-    wrapped.is_(400 if wrapping else there)
+    r.get("cubbyhole/a", wrap="1d", fields=("X-Vault-Wrap-TTL: 5",)).is_(there)
     r.get("cubbyhole/a", wrap="60", words=0).is_(there)
 
 
@@ -42,8 +38,7 @@ def routes_of_parts(r):
         r.list("cubbyhole").refused(404)
     for part, method, path, status in (
             ("tokens", "GET", "auth/token/lookup-self", 200), ("tokens", "POST", "auth/token/create", 200),
-            ("secrets", "GET", "secret/data/x", 404), ("wrapping", "POST", "sys/wrapping/unwrap", 400),
-            ("mounts", "GET", "sys/mounts", 200)):
+            ("secrets", "GET", "secret/data/x", 404), ("mounts", "GET", "sys/mounts", 200)):
         got = r.ask(method, path)
         if r.serves(part):
             got.is_(status)

@@ -19,15 +19,15 @@ use Rattle.broker.proofs.CommandReads.{may_served, may_refused, ok_with}
 use Rattle.broker.proofs.order.serving.answer_caller.Goals as goal
 
 pub returns-in-Ok-clause-told : goal.returns-in-Ok-clause-told
-returns-in-Ok-clause-told g c honest b begins =
+returns-in-Ok-clause-told g c shut honest b begins =
     let seen = g.T.RecordsTx.seen in
     let caller = c.args.caller.token in
     let t = ap (λ (x : Caller). x.token) c.caller.view_is in
     let left = honest_before (seen c.serve.new.tx) (seen c.finish.new.tx) _ c.finish.ensures.call.goes_on honest in
-    let m : Result Wrapped Refusal = served b caller (names_of c.args.context.now.words) c.args.ask.now in
+    let m : Result Wrapped Refusal = served b (Some caller) (names_of c.args.context.now.words) c.args.ask.now in
     subst (λ (who : Text). IfOk c.finish.result (λ a. Gives a (seen c.finish.new.tx).rows (finish b (Some who) m))) t
     (c.finish.ensures.told honest b m (subst (λ (who : Text). HasServed (Some who) (seen c.serve.new.tx).rows b (Ok c.in-Ok.answered) m) (sym t)
-    (c.in-Ok.ensures.told left b begins)))
+    (c.in-Ok.ensures.told shut left b begins)))
 
 pub returns-in-Ok-clause-safely : goal.returns-in-Ok-clause-safely
 returns-in-Ok-clause-safely g c =
@@ -37,23 +37,23 @@ returns-in-Ok-clause-safely g c =
     record {
       room = c.finish.ensures.room;
       listed = c.finish.ensures.listed;
-      wants = λ honest b begins.
+      wants = λ honest b needs.
           let left = honest_before (seen c.serve.new.tx) (seen c.finish.new.tx) _ c.finish.ensures.call.goes_on honest in
-          let m : Result Wrapped Refusal = served b caller (names_of c.args.context.now.words) c.args.ask.now in
+          let m : Result Wrapped Refusal = served b (Some caller) (names_of c.args.context.now.words) c.args.ask.now in
           c.finish.ensures.wants honest b m (subst (λ (who : Text). HasServed (Some who) (seen c.serve.new.tx).rows b (Ok c.in-Ok.answered) m) (sym t)
-          (c.in-Ok.ensures.told left b begins));
+          (c.in-Ok.ensures.told needs.0 left b needs.1));
       goes_on = search rules;
     }
 
 pub returns-in-Err-Refused-clause-told : goal.returns-in-Err-Refused-clause-told
-returns-in-Err-Refused-clause-told g c honest b begins =
+returns-in-Err-Refused-clause-told g c shut honest b begins =
     let seen = g.T.RecordsTx.seen in
     let caller = c.args.caller.token in
     let t = ap (λ (x : Caller). x.token) c.caller.view_is in
     let left = honest_before (seen c.serve.new.tx) (seen c.finish-in-Err-Refused.new.tx) _ c.finish-in-Err-Refused.ensures.call.goes_on honest in
-    let m : Result Wrapped Refusal = served b caller (names_of c.args.context.now.words) c.args.ask.now in
+    let m : Result Wrapped Refusal = served b (Some caller) (names_of c.args.context.now.words) c.args.ask.now in
     let refused : HasServed (Some caller) (seen c.serve.new.tx).rows b (Err c.in-Err-Refused.refusal) m =
-    rw c.in-Err-Refused.field-0-is at (c.in-Err-Refused.ensures.told left b begins) in
+    rw c.in-Err-Refused.field-0-is at (c.in-Err-Refused.ensures.told shut left b begins) in
     subst (λ (who : Text). IfOk c.finish-in-Err-Refused.result (λ a. Gives a (seen c.finish-in-Err-Refused.new.tx).rows (finish b (Some who) m))) t
     (c.finish-in-Err-Refused.ensures.told honest b m
     (subst (λ (who : Text). HasServed (Some who) (seen c.serve.new.tx).rows b (Err c.in-Err-Refused.refusal) m) (sym t) refused))
@@ -66,11 +66,11 @@ returns-in-Err-Refused-clause-safely g c =
     record {
       room = c.finish-in-Err-Refused.ensures.room;
       listed = c.finish-in-Err-Refused.ensures.listed;
-      wants = λ honest b begins.
+      wants = λ honest b needs.
           let left = honest_before (seen c.serve.new.tx) (seen c.finish-in-Err-Refused.new.tx) _ c.finish-in-Err-Refused.ensures.call.goes_on honest in
-          let m : Result Wrapped Refusal = served b caller (names_of c.args.context.now.words) c.args.ask.now in
+          let m : Result Wrapped Refusal = served b (Some caller) (names_of c.args.context.now.words) c.args.ask.now in
           let refused : HasServed (Some caller) (seen c.serve.new.tx).rows b (Err c.in-Err-Refused.refusal) m =
-          rw c.in-Err-Refused.field-0-is at (c.in-Err-Refused.ensures.told left b begins) in
+          rw c.in-Err-Refused.field-0-is at (c.in-Err-Refused.ensures.told needs.0 left b needs.1) in
           c.finish-in-Err-Refused.ensures.wants honest b m
           (subst (λ (who : Text). HasServed (Some who) (seen c.serve.new.tx).rows b (Err c.in-Err-Refused.refusal) m) (sym t) refused);
       goes_on = search rules;
@@ -82,7 +82,7 @@ returns-in-Err-Fault-clause-safely g c =
     record {
       room = search rules;
       listed = search rules;
-      wants = λ honest b begins. rw c.in-Err-Fault.field-0-is at (c.in-Err-Fault.ensures.told honest b begins);
+      wants = λ honest b needs. rw c.in-Err-Fault.field-0-is at (c.in-Err-Fault.ensures.told needs.0 honest b needs.1);
       goes_on = fault_goes_on Answer _ _ c.in-Err-Fault.fault (rw c.in-Err-Fault.field-0-is at c.in-Err-Fault.ensures.call.goes_on);
     }
 
@@ -109,9 +109,10 @@ returns-in-Err-Refused-clause-readable g c honest there =
     let done = (seen c.serve.new.tx).rows in
     let final = (seen c.finish-in-Err-Refused.new.tx).rows in
     let left = honest_before (seen c.serve.new.tx) (seen c.finish-in-Err-Refused.new.tx) _ c.finish-in-Err-Refused.ensures.call.goes_on honest in
-    let found : MayBeDone old caller ask ⊎ IsForbidden {A = Answered} old done caller ask (Err (Refused c.in-Err-Refused.refusal)) =
+    let names = names_of c.args.context.now.words in
+    let found : MayBeDone old caller names ask ⊎ IsForbidden {A = Answered} old done caller ask (Err (Refused c.in-Err-Refused.refusal)) =
     rw c.in-Err-Refused.field-0-is at (c.in-Err-Refused.ensures.readable left there) in
     let ends = subst (λ (who : Text). OnOk c.finish-in-Err-Refused.result (EndsCaller who done final)) t (c.finish-in-Err-Refused.ensures.rows honest) in
     IfOk-weaker c.finish-in-Err-Refused.result _ _
-    (λ a told. may_refused old done caller ask final c.in-Err-Refused.refusal a found told.1 told.0)
+    (λ a told. may_refused old done caller ask names final c.in-Err-Refused.refusal a found told.1 told.0)
     (ok_with _ _ c.finish-in-Err-Refused.result ends c.finish-in-Err-Refused.ensures.refused)

@@ -12,23 +12,23 @@ use Rattle.broker_rows.specs.Caller.{AreRulesAt}
 use Rattle.broker_rows.specs.Operating.{BeginsBy, IsWellFormed}
 use Rattle.broker_rows.specs.RepresentingLaws.{mounts_there, still_represented}
 use Rattle.broker_rows.specs.declared.answered.Answered.{Answered}
-use Rattle.broker.specs.Answering.{IsReadableCommand, Asks}
+use Rattle.broker.specs.Answering.{IsReadableIfNew, Asks}
 use Rattle.broker.specs.Meant.{meant}
 use Rattle.broker.proofs.CommandReads.{known_by, meant_by_route, no_route, on_no_command}
 use Rattle.broker.proofs.CommandReads.{permitted_before}
-use Rattle.broker.proofs.Routes.{is_meant, not_meant, not_served, served_by, served_nowhere, served_permitted}
+use Rattle.broker.proofs.Routes.{allowed_to, is_meant, not_meant, not_served, served_allowed, served_by, served_nowhere}
 use Rattle.broker.proofs.EngineRoutes.{mount_named}
 use Rattle.broker.proofs.Serving.{caller_still}
 use Rattle.broker.proofs.order.serving.serve.Goals as goal
 
 pub returns-in_err-found-clause-told : goal.returns-in_err-found-clause-told
-returns-in_err-found-clause-told g c honest b starts =
+returns-in_err-found-clause-told g c shut honest b starts =
     let p = err_from_is_err_and c.from_residual.result c.from_residual.ensures.1 in
     rw (p.1 ∙ ap Err p.2)
     (c.in_err-found.ensures.wants honest b.mounts (mounts_there b (g.T.RecordsTx.seen c.args.tx.now).rows starts.begins.represents))
 
 pub returns-in_default-clause-told : goal.returns-in_default-clause-told
-returns-in_default-clause-told g c honest b starts =
+returns-in_default-clause-told g c shut honest b starts =
     let seen = g.T.RecordsTx.seen in
     let old = (seen c.args.tx.now).rows in
     let caller = c.args.caller.token in
@@ -38,7 +38,8 @@ returns-in_default-clause-told g c honest b starts =
     let told = c.in_ok-rules.ensures.told honest b still starts.caller (c.in_ok-found.ensures.told mid b.mounts (mounts_there b old starts.begins.represents)) in
     let forbidden : permits b (Some caller) ask.verb ask.path ≡ false =
     (λ i. permits b (Some caller) ask.verb (sym c.as_str-path.ensures.text i)) ∙ sym told ∙ ap is_some (none_of _ c.in_default.not-Some) in
-    not_served b caller (names_of c.args.context.now.words) ask (seen c.permitted.new.tx).rows forbidden
+    not_served b (Some caller) (names_of c.args.context.now.words) ask (seen c.permitted.new.tx).rows
+    (allowed_to b (Some caller) ask false shut forbidden)
     (still_represented b (seen c.find_route.new.tx).rows (seen c.permitted.new.tx).rows (c.in_ok-rules.ensures.call.same honest) still)
 
 pub returns-in_default-clause-readable : goal.returns-in_default-clause-readable
@@ -55,7 +56,7 @@ returns-in_default-clause-readable g c honest at =
     inr (record { refused = refl; forbidden = forbidden; same = c.in_ok-rules.ensures.call.same honest ∙ c.in_ok-found.ensures.call.same mid })
 
 pub returns-in_err-found-2-clause-told : goal.returns-in_err-found-2-clause-told
-returns-in_err-found-2-clause-told g c honest b starts =
+returns-in_err-found-2-clause-told g c shut honest b starts =
     let seen = g.T.RecordsTx.seen in
     let old = (seen c.args.tx.now).rows in
     let caller = c.args.caller.token in
@@ -69,8 +70,8 @@ returns-in_err-found-2-clause-told g c honest b starts =
     let permitted : permits b (Some caller) ask.verb ask.path ≡ true =
     (λ i. permits b (Some caller) ask.verb (sym c.as_str-path.ensures.text i)) ∙ sym told ∙ ap is_some c.in-Some.is in
     rw (p.1 ∙ ap Err p.2)
-    (served_permitted b caller names ask (seen c.permitted.new.tx).rows (Err (Refused c.in_err-found-2.field-0.0)) permitted
-    (served_nowhere b caller names ask (seen c.permitted.new.tx).rows c.in_err-found-2.field-0.0 c.as_str-path.result.now
+    (served_allowed b (Some caller) names ask (seen c.permitted.new.tx).rows (Err (Refused c.in_err-found-2.field-0.0)) (allowed_to b (Some caller) ask true shut permitted)
+    (served_nowhere b (Some caller) names ask (seen c.permitted.new.tx).rows c.in_err-found-2.field-0.0 c.as_str-path.result.now
     c.as_str-path.ensures.text (sym c.in_err-found-2.was ∙ routed)
     (still_represented b (seen c.find_route.new.tx).rows (seen c.permitted.new.tx).rows (c.in_ok-rules.ensures.call.same honest) still)))
 
@@ -88,7 +89,7 @@ returns-in_err-found-2-clause-readable g c honest at =
     c.as_str-path.ensures.text (ap is_some c.in-Some.is) readable (c.in_ok-found.ensures.found mid readable.0 readable.1)
     (c.in_ok-rules.ensures.found honest (caller_still (seen c.args.tx.now).rows (seen c.find_route.new.tx).rows c.args.caller (c.in_ok-found.ensures.call.same mid) at)) in
     let nothing = λ (command : Command) (asks : Asks old ask command).
-    no_route old ask command path c.in_err-found-2.field-0.0 (IsReadableCommand old c.args.caller.token command) c.as_str-path.ensures.text asks
+    no_route old ask command path c.in_err-found-2.field-0.0 (IsReadableIfNew old (Some c.args.caller.token) (names_of c.args.context.now.words) ask command) c.as_str-path.ensures.text asks
     (sym c.in_err-found-2.was ∙ c.in_ok-found.ensures.found mid asks.mount (known_by old ask command path c.as_str-path.ensures.text asks)) in
     rw (p.1 ∙ ap Err p.2) (inl (record { permitted = permitted; readable = nothing }))
 
@@ -98,7 +99,7 @@ pub operate-requires : goal.operate-requires
 operate-requires g c = record { in_range = c.in_ok-command.ensures.in_range; known = c.requires }
 
 pub returns-in_err-command-clause-told : goal.returns-in_err-command-clause-told
-returns-in_err-command-clause-told g c honest b starts =
+returns-in_err-command-clause-told g c shut honest b starts =
     let seen = g.T.RecordsTx.seen in
     let old = (seen c.args.tx.now).rows in
     let new = (seen c.permitted.new.tx).rows in
@@ -114,10 +115,10 @@ returns-in_err-command-clause-told g c honest b starts =
     let then = still_represented b (seen c.find_route.new.tx).rows new (c.in_ok-rules.ensures.call.same honest) still in
     let p = err_from_is_err_and c.from_residual-in_err-command.result c.from_residual-in_err-command.ensures.1 in
     rw (p.1 ∙ ap Err p.2)
-    (served_permitted b caller names ask new (Err c.in_err-command.field-0.0) permitted
-    (served_by b caller names ask new (Err c.in_err-command.field-0.0) c.in_ok-found-2.field-0 c.as_str-path.result.now c.as_str-path.ensures.text
+    (served_allowed b (Some caller) names ask new (Err c.in_err-command.field-0.0) (allowed_to b (Some caller) ask true shut permitted)
+    (served_by b (Some caller) names ask new (Err c.in_err-command.field-0.0) c.in_ok-found-2.field-0 c.as_str-path.result.now c.as_str-path.ensures.text
     (sym c.in_ok-found-2.was ∙ routed)
-    (not_meant b caller names ask new (command_for c.in_ok-found-2.field-0 ask) c.in_err-command.field-0.0 c.in_err-command.ensures.reads then)))
+    (not_meant b (Some caller) names ask new (command_for c.in_ok-found-2.field-0 ask) c.in_err-command.field-0.0 c.in_err-command.ensures.reads then)))
 
 pub returns-in_err-command-clause-readable : goal.returns-in_err-command-clause-readable
 returns-in_err-command-clause-readable g c honest at =
@@ -144,7 +145,7 @@ returns-in_err-command-clause-readable g c honest at =
     })))
 
 pub returns-clause-told : goal.returns-clause-told
-returns-clause-told g c honest b starts =
+returns-clause-told g c shut honest b starts =
     let seen = g.T.RecordsTx.seen in
     let old = (seen c.args.tx.now).rows in
     let caller = c.args.caller.token in
@@ -169,16 +170,17 @@ returns-clause-told g c honest b starts =
     record { begins = record { represents = then; here = starts.begins.here; clock = starts.begins.clock }; caller = starts.caller } in
     let are = subst (λ (rows : Rows). AreRulesAt rows c.args.caller.known.policies ask.verb c.in-Some.rules)
     (sym (c.in_ok-rules.ensures.call.same later)) (c.in_ok-rules.ensures.rules later c.in-Some.rules c.in-Some.is) in
-    served_permitted b caller names ask (seen c.operate.new.tx).rows c.operate.result permitted
-    (served_by b caller names ask (seen c.operate.new.tx).rows c.operate.result route path c.as_str-path.ensures.text found
-    (is_meant b caller names ask (seen c.operate.new.tx).rows (command_for route ask) (meant c.in_ok-command.command) c.operate.result c.in_ok-command.ensures.reads
-    (c.operate.ensures.told (c.in_ok-command.ensures.placed formed) honest b (ask.verb, are) begins ask)))
+    served_allowed b (Some caller) names ask (seen c.operate.new.tx).rows c.operate.result (allowed_to b (Some caller) ask true shut permitted)
+    (served_by b (Some caller) names ask (seen c.operate.new.tx).rows c.operate.result route path c.as_str-path.ensures.text found
+    (is_meant b (Some caller) names ask (seen c.operate.new.tx).rows (command_for route ask) (meant c.in_ok-command.command) c.operate.result c.in_ok-command.ensures.reads
+    (c.operate.ensures.told (c.in_ok-command.ensures.placed formed) honest b ((ask.verb, are), begins))))
 
 pub returns-clause-readable : goal.returns-clause-readable
 returns-clause-readable g c honest at =
     let seen = g.T.RecordsTx.seen in
     let old = (seen c.args.tx.now).rows in
     let caller = c.args.caller.token in
+    let names = names_of c.args.context.now.words in
     let ask = c.args.ask.now in
     let path = c.as_str-path.result.now in
     let route = c.in_ok-found-2.field-0 in
@@ -196,7 +198,7 @@ returns-clause-readable g c honest at =
           let routed = sym c.in_ok-found-2.was
           ∙ c.in_ok-found.ensures.found mid asks.mount (known_by old ask command path c.as_str-path.ensures.text asks) in
           let is = ok_inj (sym c.in_ok-command.ensures.reads ∙ meant_by_route old ask command path route c.as_str-path.ensures.text asks routed) in
-          subst (IsReadableCommand old caller) is
-          (subst (λ (rows : Rows). IsReadableCommand rows caller (meant c.in_ok-command.command)) same read);
+          subst (IsReadableIfNew old (Some caller) names ask) is
+          (subst (λ (rows : Rows). IsReadableIfNew rows (Some caller) names ask (meant c.in_ok-command.command)) same read);
     }))
     (c.operate.ensures.readable honest (caller_still old (seen c.permitted.new.tx).rows c.args.caller same at))

@@ -1,0 +1,29 @@
+-- Who asks, from one time in a request to another.
+use Rattle.std.specs.Prelude.{◌≡◌, Option, Some, None}
+use Rattle.std.proofs.Common.{sym, subst}
+use Rattle.broker_types.specs.Broker.{Broker}
+use Rattle.records.specs.Transaction.{Rows}
+use Rattle.broker_rows.specs.Caller.{Asker}
+use Rattle.broker_rows.specs.Context.{Context}
+use Rattle.broker_rows.specs.Representing.{Represents}
+use Rattle.broker.specs.Askers.{BeginsFor, IsAskerAt, who_of}
+
+-- the rows that a command starts from represent the broker
+pub begins_represented : (asker : Option Asker) (x : Context) (rows : Rows) (b : Broker) → BeginsFor asker x rows b
+    → Represents (who_of asker) rows b
+begins_represented None x rows b begins = begins.represents
+begins_represented (Some a) x rows b begins = begins.1.begins.represents
+
+-- and its clock is that of the request
+pub begins_clock : (asker : Option Asker) (x : Context) (rows : Rows) (b : Broker) → BeginsFor asker x rows b → b.clock ≡ x.clock
+begins_clock None x rows b begins = begins.clock
+begins_clock (Some a) x rows b begins = begins.1.begins.clock
+
+-- a command starts from rows as long as they stay
+pub begins_still : (asker : Option Asker) (x : Context) (old new : Rows) (b : Broker) → new ≡ old → BeginsFor asker x old b
+    → BeginsFor asker x new b
+begins_still asker x old new b same begins = subst (λ (rows : Rows). BeginsFor asker x rows b) (sym same) begins
+
+-- and they say the same of who asks
+pub asker_still : (asker : Option Asker) (old new : Rows) → new ≡ old → IsAskerAt old asker → IsAskerAt new asker
+asker_still asker old new same at = subst (λ (rows : Rows). IsAskerAt rows asker) (sym same) at

@@ -1,0 +1,195 @@
+//! What a command leads to: its identifiers have to be new, it acts, and its reply may be wrapped.
+
+ghost use Rattle.std.specs.Prelude.{◌≡◌, true, None, Some};
+ghost use Rattle.broker_types.specs.Broker.{Broker};
+ghost use Rattle.broker_types.specs.Fault.{IsNotBadStart};
+ghost use Rattle.broker_types.specs.Names.{names_of};
+ghost use Rattle.broker_types.specs.RequestError.{Ends};
+ghost use Rattle.broker_types.specs.Used.{are_new};
+ghost use Rattle.records.specs.Calls.{OnAnswer, IsRequestCall};
+ghost use Rattle.records.specs.Ranges.{IsTokenInRange};
+ghost use Rattle.records.specs.Transaction.{IsHonest};
+ghost use Rattle.broker_model.specs.Act as model;
+ghost use Rattle.broker_model.specs.Serving as serving;
+ghost use Rattle.broker_model.specs.Serving.{acted, needed_by, operated};
+ghost use Rattle.broker_model.specs.Step.{traits};
+ghost use Rattle.broker_rows.specs.Caller.{AreItsRules, IsCallerAt};
+ghost use Rattle.broker_rows.specs.Operating.{ActsAs, ArePrinted, Performs, PerformsBy};
+ghost use Rattle.broker_rows.specs.Representing.{Represents};
+ghost use Rattle.broker.specs.Answering.{IsReadableBy, IsReadableCommand, IsReadableIfNew, IsReadableOpenly};
+ghost use Rattle.broker.specs.Askers.{BeginsFor, IsAskerAt, IsAskerInRange, who_of};
+ghost use Rattle.broker.specs.Meant.{meant, IsInRange, IsWellPlaced};
+ghost use Rattle.broker.specs.Stages.{IsServed};
+
+use crate::answers::PERMISSION_DENIED;
+use crate::command::{Command, has_wrap_ttl, is_wrapped, needed_identifiers};
+use crate::order::wrapping::wrap;
+use broker_rows::{Answered, Asker, Context, are_new};
+use broker_types::{Ask, Reason, Refusal, RequestError, TextBuf};
+use records::RecordsTx;
+use secret_operations::{act_on_cubbyholes, act_on_issued, act_on_secrets};
+use std::alloc::Global;
+use system_operations::{act_on_leases, act_on_mounts, act_on_policies, act_on_wrappings};
+use token_operations::act_on_tokens;
+
+/// Does what a command of an ask means, if the identifiers that it needs are new, and if it has the wrap TTL that it must
+/// have. The identifiers are printed here, once.
+pub(crate) fn operate<T: RecordsTx>(
+    alloc: Global,
+    tx: &mut T,
+    context: &Context<'_>,
+    asker: &Option<Asker<'_>>,
+    ask: &Ask<'_>,
+    command: Command<'_>,
+) -> Result<Answered, RequestError>
+    requires in_range { IsInRange (meant command) }
+    requires known { IsAskerInRange asker.now }
+    ensures told { IsWellPlaced (meant command.entry) → IsHonest (T.seen tx.new) → (b : Broker)
+        → BeginsFor asker.now context.now (T.seen tx.old).rows b
+        → Ends (IsServed (who_of asker.now) (T.seen tx.new).rows)
+        (Represents (who_of asker.now) (T.seen tx.new).rows b)
+        result (operated b (who_of asker.now) (names_of context.now.words) ask.now (meant command.entry)) }
+
+    // Whatever the rows are: it is neither answered nor refused if a row that the command reads is damaged, unless an
+    // identifier that it needs was given out. The row of the caller was read before.
+    ensures readable { IsHonest (T.seen tx.new) → IsAskerAt (T.seen tx.old).rows asker.now
+        → OnAnswer result (IsReadableIfNew (T.seen tx.old).rows (who_of asker.now) (names_of context.now.words) ask.now
+        (meant command.entry)) }
+    ensures call { IsRequestCall (T.seen tx.old) (T.seen tx.new) result IsNotBadStart }
+{
+    let needed = needed_identifiers(alloc, context.words, ask, &command)?;
+    if !are_new(tx, &needed)? {
+        return Err(RequestError::Refused(Refusal::IdentifierUsed));
+    }
+    if !has_wrap_ttl(ask, &command) {
+        return Err(RequestError::Refused(Refusal::BadRequest(
+            Reason::WrappingRequired,
+        )));
+    }
+    carry_out(alloc, tx, context, asker, ask, &needed, command)
+}
+
+/// Carries out a command of an ask, and wraps its reply if a wrap TTL asks for it.
+fn carry_out<T: RecordsTx>(
+    alloc: Global,
+    tx: &mut T,
+    context: &Context<'_>,
+    asker: &Option<Asker<'_>>,
+    ask: &Ask<'_>,
+    needed: &[TextBuf],
+    command: Command<'_>,
+) -> Result<Answered, RequestError>
+    requires in_range { IsInRange (meant command) }
+    requires known { IsAskerInRange asker.now }
+    requires needed { ArePrinted needed.now (needed_by ask.now (names_of context.now.words) (meant command)) }
+    ensures told { IsWellPlaced (meant command.entry) → IsHonest (T.seen tx.new) → (b : Broker)
+        → BeginsFor asker.now context.now (T.seen tx.old).rows b
+        → are_new b.used (needed_by ask.now (names_of context.now.words) (meant command.entry)) ≡ true
+        → Ends (IsServed (who_of asker.now) (T.seen tx.new).rows)
+        (Represents (who_of asker.now) (T.seen tx.new).rows b)
+        result (acted b (who_of asker.now) (names_of context.now.words) ask.now (meant command.entry)) }
+
+    // Whatever the rows are: it is neither answered nor refused if a row that the command reads is damaged.
+    ensures readable { IsHonest (T.seen tx.new) → IsAskerAt (T.seen tx.old).rows asker.now
+        → OnAnswer result (IsReadableBy (T.seen tx.old).rows (who_of asker.now) (meant command.entry)) }
+    ensures call { IsRequestCall (T.seen tx.old) (T.seen tx.new) result IsNotBadStart }
+{
+    if !is_wrapped(ask, &command) {
+        return act(alloc, tx, context, asker, needed, command);
+    }
+    let answered = act(alloc, tx, context, asker, &needed[2..], command)?;
+    let token = needed[0].as_str();
+    let accessor = needed[1].as_str();
+    let path = ask.path.as_str();
+    Ok(wrap(alloc, tx, context, path, ask.wrap_ttl, token, accessor, answered)?)
+}
+
+/// Carries out a command, of the caller who asks or of an open ask. Its own identifiers are new, and have been printed.
+fn act<T: RecordsTx>(
+    alloc: Global,
+    tx: &mut T,
+    context: &Context<'_>,
+    asker: &Option<Asker<'_>>,
+    own: &[TextBuf],
+    command: Command<'_>,
+) -> Result<Answered, RequestError>
+    requires in_range { IsInRange (meant command) }
+    requires known { IsAskerInRange asker.now }
+    requires own { ArePrinted own.now ((traits (meant command)).own (names_of context.now.words)) }
+    ensures told { IsWellPlaced (meant command.entry) → IsHonest (T.seen tx.new) → (b : Broker)
+        → BeginsFor asker.now context.now (T.seen tx.old).rows b
+        → are_new b.used ((traits (meant command.entry)).own (names_of context.now.words)) ≡ true
+        → ActsAs (who_of asker.now) b (T.seen tx.new).rows result
+        (model.act b (who_of asker.now) (names_of context.now.words) (meant command.entry)) }
+
+    // Whatever the rows are: it is neither answered nor refused if a row that the command reads is damaged.
+    ensures readable { IsHonest (T.seen tx.new) → IsAskerAt (T.seen tx.old).rows asker.now
+        → OnAnswer result (IsReadableBy (T.seen tx.old).rows (who_of asker.now) (meant command.entry)) }
+    ensures call { IsRequestCall (T.seen tx.old) (T.seen tx.new) result IsNotBadStart }
+{
+    match asker {
+        None => act_openly(alloc, tx, context, own, command),
+        Some(asker) => act_for(alloc, tx, context, asker, own, command),
+    }
+}
+
+/// Carries out a command of an open ask. Without a caller all others are denied.
+fn act_openly<T: RecordsTx>(
+    alloc: Global,
+    tx: &mut T,
+    context: &Context<'_>,
+    own: &[TextBuf],
+    command: Command<'_>,
+) -> Result<Answered, RequestError>
+    requires own { ArePrinted own.now ((traits (meant command)).own (names_of context.now.words)) }
+    ensures told { Performs None context.now
+        ((traits (meant command.entry)).own (names_of context.now.words)) (T.seen tx.old) (T.seen tx.new)
+        (λ b. model.act_openly b (names_of context.now.words) (meant command.entry)) result }
+    ensures readable { IsHonest (T.seen tx.new)
+        → OnAnswer result (IsReadableOpenly (T.seen tx.old).rows (meant command.entry)) }
+    ensures call { IsRequestCall (T.seen tx.old) (T.seen tx.new) result IsNotBadStart }
+{
+    match command {
+        Command::OnWrapping(command) => act_on_wrappings(alloc, tx, context, own, command),
+        _ => Err(RequestError::Refused(PERMISSION_DENIED)),
+    }
+}
+
+/// Carries out a command of the caller who asks.
+fn act_for<T: RecordsTx>(
+    alloc: Global,
+    tx: &mut T,
+    context: &Context<'_>,
+    asker: &Asker<'_>,
+    own: &[TextBuf],
+    command: Command<'_>,
+) -> Result<Answered, RequestError>
+    requires in_range { IsInRange (meant command) }
+    requires known { IsTokenInRange asker.now.caller.known }
+    requires own { ArePrinted own.now ((traits (meant command)).own (names_of context.now.words)) }
+    ensures told { IsWellPlaced (meant command.entry) → AreItsRules (T.seen tx.old).rows asker.now
+        → PerformsBy asker.now.caller context.now
+        ((traits (meant command.entry)).own (names_of context.now.words)) (T.seen tx.old) (T.seen tx.new)
+        (λ b. model.act_for b asker.now.caller.token (names_of context.now.words) (meant command.entry)) result }
+
+    // Whatever the rows are: it is neither answered nor refused if a row that the command reads is damaged. That of the
+    // caller was read before.
+    ensures readable { IsHonest (T.seen tx.new) → IsCallerAt (T.seen tx.old).rows asker.now.caller
+        → OnAnswer result (IsReadableCommand (T.seen tx.old).rows asker.now.caller.token (meant command.entry)) }
+    ensures call { IsRequestCall (T.seen tx.old) (T.seen tx.new) result IsNotBadStart }
+{
+    match command {
+        Command::OnCubbyhole(path, command) => {
+            act_on_cubbyholes(alloc, tx, context, asker.caller.token, path, command)
+        }
+        Command::OnToken(command) => act_on_tokens(alloc, tx, context, asker, own, command),
+        Command::OnSecret(place, command) => act_on_secrets(alloc, tx, context, &place, command),
+        Command::OnPolicy(name, command) => act_on_policies(alloc, tx, context, name, command),
+        Command::OnMount(name, command) => act_on_mounts(alloc, tx, context, name, command),
+        Command::OnLease(prefix, command) => act_on_leases(alloc, tx, context, prefix, command),
+        Command::OnIssued(place, command) => {
+            act_on_issued(alloc, tx, context, &asker.caller, own, &place, command)
+        }
+        Command::OnWrapping(command) => act_on_wrappings(alloc, tx, context, own, command),
+    }
+}

@@ -1,0 +1,51 @@
+use Rattle.std.specs.Prelude.{Err, None}
+use Rattle.std.proofs.Common.{ap, sym, ◌∙◌}
+use Rattle.std.proofs.lemmas.Result.{err_from_is_err_and}
+use Rattle.api_json.specs.Objects.{waiting_object}
+use Rattle.api_json.specs.Reply.{plain_reply}
+use Rattle.broker_types.specs.Broker.{Waiting}
+use Rattle.broker_types.specs.Names.{names_of}
+use Rattle.broker_types.specs.Operation.{reply, plainly}
+use Rattle.records.specs.ValueLaws.{none_of}
+use Rattle.broker_model.specs.parts.Wrappings.{FoundResponse, shown}
+use Rattle.broker_rows.specs.RepresentingLaws.{represents_waiting, still_represented}
+use Rattle.system_operations.proofs.ResponseAnswers.{acts_on_found, acts_on_none}
+use Rattle.system_operations.proofs.responses.look_up.Goals as goal
+
+pub returns-in_err-response-clause-told : goal.returns-in_err-response-clause-told
+returns-in_err-response-clause-told g c who honest b starts fresh =
+    let old = (g.T.RecordsTx.seen c.args.tx.now).rows in
+    let p = err_from_is_err_and c.from_residual.result c.from_residual.ensures.1 in
+    rw (p.1 ∙ ap Err p.2) (c.in_err-response.ensures.wants honest b (represents_waiting b old starts.represents))
+
+pub returns-in_default-clause-told : goal.returns-in_default-clause-told
+returns-in_default-clause-told g c who honest b starts fresh =
+    let seen = g.T.RecordsTx.seen in
+    let old = (seen c.args.tx.now).rows in
+    let new = (seen c.look.new.tx).rows in
+    let names = names_of c.args.context.now.words in
+    let st = starts.represents in
+    acts_on_none b who new c.args.token.now (λ (f : FoundResponse). plainly (reply (shown names f) None) b)
+    (sym (c.in_ok-response.ensures.told honest b (represents_waiting b old st)) ∙ none_of _ c.in_default.not-Some)
+    (still_represented b old new (c.in_ok-response.ensures.call.same honest) st)
+
+pub returns-clause-told : goal.returns-clause-told
+returns-clause-told g c who honest b starts fresh =
+    let seen = g.T.RecordsTx.seen in
+    let old = (seen c.args.tx.now).rows in
+    let new = (seen c.look.new.tx).rows in
+    let names = names_of c.args.context.now.words in
+    let st = starts.represents in
+    let w = c.in-Some.response in
+    acts_on_found b who new c.args.token.now (λ (f : FoundResponse). plainly (reply (shown names f) None) b) w
+    c.in_ok-shown.field-0
+    (sym (c.in_ok-response.ensures.told honest b (represents_waiting b old st)) ∙ c.in-Some.is) (
+      c.in_ok-shown.ensures ∙ ap (λ o. reply (plain_reply names.request o) None)
+          (c.in_ok-object.ensures
+          ∙ (λ i. waiting_object (c.as_str.ensures i) (c.moment-created.ensures i) c.response.inside.ttl)
+          ∙ ap (λ (w : Waiting). waiting_object w.path w.created w.ttl) c.response.view_is),
+      still_represented b old new (c.in_ok-response.ensures.call.same honest) st,
+    )
+
+pub returns-clause-readable : goal.returns-clause-readable
+returns-clause-readable g c honest = (c.in_ok-response.response, c.in_ok-response.ensures.found honest)

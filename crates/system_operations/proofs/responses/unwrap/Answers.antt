@@ -1,0 +1,49 @@
+use Rattle.std.specs.Prelude.{Err, Some}
+use Rattle.std.proofs.Common.{ap, sym, ◌∙◌}
+use Rattle.std.proofs.lemmas.Result.{err_from_is_err_and}
+use Rattle.broker_types.specs.Broker.{Waiting}
+use Rattle.broker_types.specs.Map.{get}
+use Rattle.broker_types.specs.Operation.{kept_text}
+use Rattle.broker_types.specs.OptionLaws.{mapped, mapped_none}
+use Rattle.records.specs.ValueLaws.{none_of}
+use Rattle.broker_model.specs.parts.Wrappings.{handed_out}
+use Rattle.broker_rows.specs.RepresentingLaws.{represents_dropped, represents_waiting, still_represented}
+use Rattle.system_operations.proofs.ResponseAnswers.{acts_on_found, acts_on_none}
+use Rattle.system_operations.proofs.responses.unwrap.Goals as goal
+
+pub returns-in_err-text-clause-told : goal.returns-in_err-text-clause-told
+returns-in_err-text-clause-told g c who x honest b starts fresh =
+    let old = (g.T.RecordsTx.seen c.args.tx.now).rows in
+    let p = err_from_is_err_and c.from_residual.result c.from_residual.ensures.1 in
+    rw (p.1 ∙ ap Err p.2) (c.in_err-text.ensures.wants honest b (represents_waiting b old starts.represents))
+
+pub returns-in_default-clause-told : goal.returns-in_default-clause-told
+returns-in_default-clause-told g c who x honest b starts fresh =
+    let seen = g.T.RecordsTx.seen in
+    let old = (seen c.args.tx.now).rows in
+    let new = (seen c.take.new.tx).rows in
+    let t = c.args.token.now in
+    let st = starts.represents in
+    let there = represents_waiting b old st in
+    let none = mapped_none (λ (w : Waiting). w.reply) (get b.waiting t)
+    (sym (c.in_ok-text.ensures.taken honest b there) ∙ none_of _ c.in_default.not-Some) in
+    acts_on_none b who new t (handed_out b) none
+    (still_represented b old new (c.in_ok-text.ensures.unknown honest b there none).1 st)
+
+pub returns-clause-told : goal.returns-clause-told
+returns-clause-told g c who x honest b starts fresh =
+    let seen = g.T.RecordsTx.seen in
+    let old = (seen c.args.tx.now).rows in
+    let new = (seen c.take.new.tx).rows in
+    let t = c.args.token.now in
+    let st = starts.represents in
+    let there = represents_waiting b old st in
+    let w = mapped (λ (w : Waiting). w.reply) (get b.waiting t) c.in-Some.text
+    (sym (c.in_ok-text.ensures.taken honest b there) ∙ c.in-Some.is) in
+    acts_on_found b who new t (handed_out b) w.0 _ w.1 (
+      ap kept_text w.2,
+      represents_dropped b t old new st (c.in_ok-text.ensures.told honest b there) (c.in_ok-text.ensures.call.others honest),
+    )
+
+pub returns-clause-readable : goal.returns-clause-readable
+returns-clause-readable g c honest = let out = c.in_ok-text.ensures.rows honest in (out.0, out.1.was)
