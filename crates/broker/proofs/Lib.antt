@@ -4,7 +4,6 @@ pub mod EngineRoutes
 pub mod Finishing
 pub mod KeptReplies
 pub mod NeededIdentifiers
-pub mod OwnIdentifiers
 pub mod Permitted
 pub mod RoutedBy
 pub mod Routes
