@@ -1,4 +1,4 @@
-//! The reply of a request is wrapped.
+//! A reply is kept for its unwrapping.
 
 ghost use Rattle.std.specs.Prelude.{◌≡◌, ◌<◌, List, Option, None, true, IfOk, OnOk};
 ghost use Rattle.api_json.specs.Reply.{reply_text, wrap_reply};
