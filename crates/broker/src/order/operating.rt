@@ -23,7 +23,7 @@ ghost use Rattle.broker.specs.Stages.{IsServed};
 
 use crate::answers::PERMISSION_DENIED;
 use crate::command::{Command, has_wrap_ttl, is_wrapped, needed_identifiers};
-use crate::order::wrapping::wrap;
+use crate::order::keeping::wrap;
 use broker_rows::{Answered, Asker, Context, are_new};
 use broker_types::{Ask, Reason, Refusal, RequestError, TextBuf};
 use records::RecordsTx;
