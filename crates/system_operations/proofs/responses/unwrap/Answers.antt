@@ -8,6 +8,7 @@ use Rattle.broker_types.specs.OptionLaws.{mapped, mapped_none}
 use Rattle.records.specs.ValueLaws.{none_of}
 use Rattle.broker_model.specs.parts.Wrappings.{handed_out}
 use Rattle.broker_rows.specs.RepresentingLaws.{represents_dropped, represents_waiting, still_represented}
+use Rattle.broker_rows.specs.declared.answered.Answered.TheVariants.{Kept}
 use Rattle.system_operations.proofs.ResponseAnswers.{acts_on_found, acts_on_none}
 use Rattle.system_operations.proofs.responses.unwrap.Goals as goal
 
@@ -40,7 +41,7 @@ returns-clause-told g c who x honest b starts fresh =
     let there = represents_waiting b old st in
     let w = mapped (λ (w : Waiting). w.reply) (get b.waiting t) c.in-Some.text
     (sym (c.in_ok-text.ensures.taken honest b there) ∙ c.in-Some.is) in
-    acts_on_found b who new t (handed_out b) w.0 _ w.1 (
+    acts_on_found b who new t (handed_out b) w.0 (Kept c.in-Some.text) w.1 (
       ap kept_text w.2,
       represents_dropped b t old new st (c.in_ok-text.ensures.told honest b there) (c.in_ok-text.ensures.call.others honest),
     )
