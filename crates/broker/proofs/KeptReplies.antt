@@ -109,8 +109,7 @@ module _ (x : Context) (token accessor : Text) (b : Broker) (own : List Text) (d
         → IsServed who new a (wrap b path ttl names d r made)
     kept_served a sound is told =
         let good = subst (λ (e : Text × Waiting). IsSoundWaiting (token_text e.0) e.1)
-        (λ i. (may.token_named i, kept i)) sound in
-        (
+        (λ i. (may.token_named i, kept i)) sound in (
           told ∙ (λ i. operation.reply
               (wrap_reply names.request (wrap_info (token_text (may.token_named i)) (kept i) made)) None),
           record {

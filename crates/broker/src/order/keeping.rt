@@ -62,9 +62,21 @@ pub(crate) fn wrap<T: RecordsTx>(
     ensures call { IsCall (T.seen tx.old) (T.seen tx.new) result IsMemoryOrStorage }
 {
     match answered {
-        Answered::Given(reply) => keep(alloc, tx, context, path, ttl, token, accessor, &reply, None),
+        Answered::Given(reply) => keep(
+            alloc, tx, context, path, ttl, token, accessor, &reply, None,
+        ),
         Answered::Made(reply, made) => {
-            keep(alloc, tx, context, path, ttl, token, accessor, &reply, Some(made))
+            keep(
+                alloc,
+                tx,
+                context,
+                path,
+                ttl,
+                token,
+                accessor,
+                &reply,
+                Some(made),
+            )
         }
         Answered::Nothing => Ok(Answered::Nothing),
         Answered::Kept(text) => Ok(Answered::Kept(text)),
