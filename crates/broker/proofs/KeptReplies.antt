@@ -1,12 +1,12 @@
 -- A reply that is kept: its identifiers, its rows, and the broker that they represent.
-use Rattle.std.specs.Prelude.{◌≡◌, ◌||◌, ◌×◌, ℕ, List, [], ◌∷◌, Bool, true, false, not, cond, ⊤}
+use Rattle.std.specs.Prelude.{◌≡◌, ◌||◌, ℕ, List, [], ◌∷◌, Bool, true, false, not, cond, ⊤}
 use Rattle.std.specs.Prelude.{Option, Some, None, is_none}
 use Rattle.std.specs.List.{list_any}
-use Rattle.std.proofs.Common.{refl, sym, ◌∙◌, ap, subst}
+use Rattle.std.proofs.Common.{refl, sym, ◌∙◌, ap, subst, inl, inr}
 use Rattle.std.proofs.lemmas.Bool.{false≢true, and_parts}
 use Rattle.broker_types.specs.Broker.{Broker, Waiting}
 use Rattle.broker_types.specs.Evolves.{IsNew}
-use Rattle.broker_types.specs.Map.{Map, get, put}
+use Rattle.broker_types.specs.Map.{Map, get}
 use Rattle.broker_types.specs.MapLaws.{get-put}
 use Rattle.broker_types.specs.Names.{Names, names_of}
 use Rattle.broker_types.specs.Operation as operation
@@ -76,7 +76,8 @@ module _ (x : Context) (token accessor : Text) (b : Broker) (own : List Text) (d
       × (are_new b.used (names.wrapping_accessor ∷ own) ≡ true)
   of_token =
       let outer = and_parts (is_none (get b.used names.wrapping_token)) _ may.new in
-      (outer.0, and_parts (not (list_any (same names.wrapping_token) (names.wrapping_accessor ∷ own))) _ outer.1)
+      let inner = and_parts (not (list_any (same names.wrapping_token) (names.wrapping_accessor ∷ own))) _ outer.1 in
+      (outer.0, inner.0, inner.1)
 
   -- so both are new after the operation
   pub token_new : IsNew (counted d) token

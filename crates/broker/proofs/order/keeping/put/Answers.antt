@@ -1,12 +1,10 @@
-use Rattle.std.proofs.Common.{ap, sym, ◌∙◌}
+use Rattle.std.proofs.Common.{ap, ◌∙◌}
 use Rattle.std.proofs.lemmas.Result.{on_ok_weaker}
 use Rattle.broker_types.specs.Broker.{Waiting}
 use Rattle.records.specs.CallLaws.{honest_before}
 use Rattle.records.specs.RowForms.{used_row}
 use Rattle.records.specs.Table.{with_row}
 use Rattle.records.specs.declared.kind.Kind.TheVariants as kind
-use Rattle.wrapping.specs.WaitingRows.{with_response}
-use Rattle.records.specs.Table.{table_of}
 use Rattle.broker_rows.specs.RepresentingLaws.{represents_waiting}
 use Rattle.broker.proofs.KeptReplies.{kept_rows}
 use Rattle.broker.proofs.order.keeping.put.Goals as goal
