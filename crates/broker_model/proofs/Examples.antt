@@ -1,5 +1,5 @@
 -- Wrapping, computed on a small broker.
-use Rattle.std.specs.Prelude.{◌≡◌, [], ◌∷◌, None, Some, true, false, codes}
+use Rattle.std.specs.Prelude.{◌≡◌, [], ◌∷◌, None, Some, false, codes}
 use Rattle.std.specs.Fmt.{digits}
 use Rattle.std.proofs.Common.{refl}
 use Rattle.json.specs.Print.{escape_byte}
@@ -18,11 +18,10 @@ use Rattle.api_json.specs.Objects.{wrap_object}
 use Rattle.api_json.specs.Printing as printing
 use Rattle.api_json.specs.Reply.{reply_text}
 use Rattle.broker_model.specs.Act.{act}
-use Rattle.broker_model.specs.Command.{Command, on_cubbyhole, on_token, on_secret, on_policy}
-use Rattle.broker_model.specs.Command.{on_mount, on_lease, on_issued}
+use Rattle.broker_model.specs.Command.{Command}
 use Rattle.broker_model.specs.Order.{wrap_info, wraps, wrap_200, Wrapped, unwrapped}
 use Rattle.broker_model.specs.Permission.{permits}
-use Rattle.broker_model.specs.Step.{traits, request_of}
+use Rattle.broker_model.specs.Step.{request_of, traits, unwrapped_ask}
 
 abbrev broker : Broker
 broker = first_broker 100 1 2
@@ -37,24 +36,13 @@ unfolding wrap_object name_text digits escape_byte civil day_from_year day_from_
     printing.whole_number printing.time
 told = refl
 
--- a request with a wrap TTL of 5 seconds is wrapped, and one without is not
-wraps_with_ttl : (a : Ask) (command : Command) → wraps permits traits act (record (request_of a) { wrap_ttl = 5 }) command ≡ true
-wraps_with_ttl a (on_cubbyhole path command) = refl
-wraps_with_ttl a (on_token command) = refl
-wraps_with_ttl a (on_secret place command) = refl
-wraps_with_ttl a (on_policy name command) = refl
-wraps_with_ttl a (on_mount name command) = refl
-wraps_with_ttl a (on_lease prefix command) = refl
-wraps_with_ttl a (on_issued place command) = refl
+-- a request with a wrap TTL of 5 seconds is wrapped if its command may be, and one without is not
+wraps_with_ttl : (a : Ask) (command : Command)
+    → wraps permits traits act (record (request_of a) { wrap_ttl = 5 }) command ≡ (traits command).may_wrap
+wraps_with_ttl a command = refl
 
-not_without : (a : Ask) (command : Command) → wraps permits traits act (request_of a) command ≡ false
-not_without a (on_cubbyhole path command) = refl
-not_without a (on_token command) = refl
-not_without a (on_secret place command) = refl
-not_without a (on_policy name command) = refl
-not_without a (on_mount name command) = refl
-not_without a (on_lease prefix command) = refl
-not_without a (on_issued place command) = refl
+not_without : (a : Ask) (command : Command) → wraps permits traits act (request_of (unwrapped_ask a)) command ≡ false
+not_without a command = refl
 
 -- the reply r to a request for the path `p`, wrapped under `w` with the accessor `x`
 wrapped_in : Names → Reply → Wrapped
