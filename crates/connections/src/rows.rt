@@ -30,9 +30,9 @@ macro_rules! expect {
 mod acl_policies;
 mod issued;
 mod requests;
+mod responses;
 mod secrets;
 mod tokens;
-mod wrapping;
 
 /// An identifier without its last three digits.
 const IDENTIFIER: &str = "00000000-0000-0000-0000-000000000";

@@ -23,9 +23,7 @@ ghost use Rattle.broker_rows.specs.Reads.{AreReadableResponses};
 ghost use Rattle.system_operations.specs.ResponseChanges.{ChangesResponses, HandsOutAt, MovesAt};
 ghost use Rattle.system_operations.specs.Rewrapping.{MovesResponse};
 
-use api_json::{
-    WrapObject, read_body, waiting_object, wrap_object, wrap_reply, wrapping_token,
-};
+use api_json::{WrapObject, read_body, waiting_object, wrap_object, wrap_reply, wrapping_token};
 use broker_model::{WrappingCommand, wrapping_commands_are_proper};
 use broker_rows::{Answered, Context, moment, printed, use_up};
 use broker_types::{
@@ -37,8 +35,9 @@ use std::alloc::{AllocError, Global};
 use wrapping::{WaitingResponse, look, take};
 
 /// The refusal of a wrapping token that is not there, or was used before, or of none.
-const NOT_WAITING: RequestError =
-    RequestError::Refused(Refusal::BadRequest(Reason::InvalidWrappingToken));
+const NOT_WAITING: RequestError = RequestError::Refused(Refusal::BadRequest(
+    Reason::InvalidWrappingToken,
+));
 
 /// Reads what an operation on responses asks for, from the client token and the body. The wrapping token that is meant
 /// is that which the body names, else the client token. It is refused with 400 `failed to parse JSON input` if the body
@@ -90,10 +89,7 @@ fn token_meant(
 }
 
 /// A copy of the client token, if there is one.
-fn client_token(
-    alloc: Global,
-    client: &Option<CowText<'_>>,
-) -> Result<Option<TextBuf>, AllocError>
+fn client_token(alloc: Global, client: &Option<CowText<'_>>) -> Result<Option<TextBuf>, AllocError>
     ensures { IfOk result (λ token. token ≡ client.now) }
 {
     match client {
@@ -235,8 +231,7 @@ fn move_response<T: RecordsTx>(
     wrapping_commands_are_proper();
     let identifier = own[0].as_str();
     let accessor = own[1].as_str();
-    let Some(response) =
-        wrapping::rewrap(alloc, tx, token, new_token, accessor, context.clock)?
+    let Some(response) = wrapping::rewrap(alloc, tx, token, new_token, accessor, context.clock)?
     else {
         return Ok(None);
     };
