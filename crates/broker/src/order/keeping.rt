@@ -58,7 +58,8 @@ pub(crate) fn wrap<T: RecordsTx>(
     // Whatever the rows are: those of the response that waits and of its identifiers were put, and no others.
     ensures rows { IsHonest (T.seen tx.new) → OnOk result (table (T.seen tx.new)
         ≡ with_wrapped (table (T.seen tx.old)) (token_text token.now)
-        (λ r. waiting_from context.now.clock path.now ttl token.now accessor.now (reply_text r)) (answered_of answered)) }
+        (λ r. waiting_from context.now.clock path.now ttl token.now accessor.now (reply_text r))
+        (answered_of answered)) }
     ensures call { IsCall (T.seen tx.old) (T.seen tx.new) result IsMemoryOrStorage }
 {
     match answered {
@@ -84,8 +85,8 @@ pub(crate) fn wrap<T: RecordsTx>(
     }
 }
 
-/// Keeps a reply under a new wrapping token, and tells of this token. `made` is the accessor of the token that the reply
-/// made, if it made one.
+/// Keeps a reply under a new wrapping token, and tells of this token. If the reply made a token, `made` is the accessor
+/// of that.
 fn keep<T: RecordsTx>(
     alloc: Global,
     tx: &mut T,

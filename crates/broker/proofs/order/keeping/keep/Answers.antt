@@ -17,7 +17,8 @@ use Rattle.broker.proofs.KeptReplies.{accessor_new, kept_served, token_new}
 use Rattle.broker.proofs.order.keeping.keep.Goals as goal
 
 pub put-requires : goal.put-requires
-put-requires g c = waiting_in_range (token_text c.args.token.now) c.waiting-response.result c.waiting-response.ensures.sound
+put-requires g c =
+    waiting_in_range (token_text c.args.token.now) c.waiting-response.result c.waiting-response.ensures.sound
 
 pub told-requires : goal.told-requires
 told-requires g c = ap (λ (w : Waiting). w.created) c.waiting-response.ensures.value

@@ -39,6 +39,7 @@ returns-clause-told g c honest who b st new_token new_accessor =
     c.in_ok-use_up.ensures.call.goes_on once in
     on_ok_weaker c.use_up-2.result (λ is.
     kept_rows b t w old mid (seen c.use_up-2.new.tx).rows st
-    (c.in_ok-store.ensures.told stored b (represents_waiting b old st) st.sound.identifiers.all_used new_token new_accessor)
+    (c.in_ok-store.ensures.told stored b (represents_waiting b old st) st.sound.identifiers.all_used new_token
+    new_accessor)
     (c.in_ok-store.ensures.call.others stored) (c.in_ok-store.ensures.rows stored) is)
     (returns-clause-rows g c honest)
