@@ -4,7 +4,8 @@ use Rattle.std.specs.Prelude.{Option, Some, None, ⊤}
 use Rattle.std.specs.List.{list_any}
 use Rattle.std.proofs.Common.{refl, sym, ◌∙◌, ap, subst}
 use Rattle.std.proofs.lemmas.Bool.{true≢false, and_parts}
-use Rattle.broker_types.specs.Map.{Map}
+use Rattle.std.proofs.lemmas.List.Elements.{All-head, All-tail}
+use Rattle.broker_types.specs.Map.{Map, get}
 use Rattle.broker_types.specs.Names.{Names}
 use Rattle.broker_types.specs.Sound.{IsIdentifier}
 use Rattle.broker_types.specs.Text.{Text, same}
@@ -57,10 +58,14 @@ untimed_reads rows (Some c) a (on_issued place command) untimed = absurd (true�
 
 -- ---- what is wrapped
 
--- the identifiers after those of the wrapping token and of its accessor are new too
+-- identifiers are new without the first of them
+rest_new : (used : Map ⊤) (i : Text) (rest : List Text) → are_new used (i ∷ rest) ≡ true → are_new used rest ≡ true
+rest_new used i rest new =
+    (and_parts (not (list_any (same i) rest)) (are_new used rest) (and_parts (is_none (get used i)) _ new).1).1
+
+-- and so without those of the wrapping token and of its accessor
 pub own_new : (used : Map ⊤) (i j : Text) (own : List Text) → are_new used (i ∷ j ∷ own) ≡ true → are_new used own ≡ true
-own_new used i j own new =
-    (and_parts _ _ (and_parts _ _ (and_parts _ _ (and_parts _ _ new).1).1).1).1
+own_new used i j own new = rest_new used j own (rest_new used i (j ∷ own) new)
 
 module _ (a : Ask) (names : Names) (command : Command) (wraps : is_wrapped a command ≡ true) where
   -- those of the wrapping token and of its accessor come first
@@ -76,13 +81,14 @@ module _ (a : Ask) (names : Names) (command : Command) (wraps : is_wrapped a com
     all_good = subst (All IsIdentifier) printed_is printed.good
 
     pub token_good : IsIdentifier names.wrapping_token
-    token_good = all_good.0
+    token_good = All-head IsIdentifier _ _ all_good
 
     pub accessor_good : IsIdentifier names.wrapping_accessor
-    accessor_good = all_good.1.0
+    accessor_good = All-head IsIdentifier _ _ (All-tail IsIdentifier _ _ all_good)
 
     pub own_printed : ArePrinted (drop 2 needed) ((traits command).own names)
     own_printed = record {
       are = ap (drop 2) printed_is;
-      good = subst (All IsIdentifier) (sym (ap (drop 2) printed_is)) all_good.1.1;
+      good = subst (All IsIdentifier) (sym (ap (drop 2) printed_is))
+          (All-tail IsIdentifier _ _ (All-tail IsIdentifier _ _ all_good));
     }

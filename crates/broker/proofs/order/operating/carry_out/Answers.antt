@@ -22,7 +22,7 @@ act-requires-2-clause-own g c =
     let command = meant c.args.command in
     let ask = c.args.ask.now in
     let names = names_of c.args.context.now.words in
-    let wraps : is_wrapped ask command ≡ true = sym c.is_wrapped.ensures ∙ c.if-not-branch.false in
+    let wraps : is_wrapped ask command ≡ true = sym c.is_wrapped.ensures ∙ c.if-not-is_wrapped.false in
     subst (λ (own : List Text). ArePrinted own ((traits command).own names)) (sym c.range_from.ensures.value)
     (own_printed ask names command wraps c.args.needed.now c.requires.needed)
 
@@ -32,7 +32,7 @@ returns-in_err-answered-clause-told g c placed honest b begins fresh =
     let command = meant c.args.command in
     let ask = c.args.ask.now in
     let names = names_of c.args.context.now.words in
-    let wraps : is_wrapped ask command ≡ true = sym c.is_wrapped.ensures ∙ c.if-not-branch.false in
+    let wraps : is_wrapped ask command ≡ true = sym c.is_wrapped.ensures ∙ c.if-not-is_wrapped.false in
     let own : are_new b.used ((traits command).own names) ≡ true =
     own_new b.used names.wrapping_token names.wrapping_accessor _ (ap (are_new b.used) (sym (needed_is ask names command wraps)) ∙ fresh) in
     let p = err_from_is_err_and c.from_residual.result c.from_residual.ensures.1 in
@@ -45,7 +45,7 @@ wrap-requires-clause-token g c =
     let command = meant c.args.command in
     let ask = c.args.ask.now in
     let names = names_of c.args.context.now.words in
-    let wraps : is_wrapped ask command ≡ true = sym c.is_wrapped.ensures ∙ c.if-not-branch.false in
+    let wraps : is_wrapped ask command ≡ true = sym c.is_wrapped.ensures ∙ c.if-not-is_wrapped.false in
     let named = c.as_str-token.ensures ∙ c.index-needed-0.is
     ∙ ap (λ (needed : List Text). get_or needed 0 c.index-needed-0.result) (printed_is ask names command wraps c.args.needed.now c.requires.needed) in
     subst IsIdentifier (sym named) (token_good ask names command wraps c.args.needed.now c.requires.needed)
@@ -55,7 +55,7 @@ wrap-requires-clause-accessor g c =
     let command = meant c.args.command in
     let ask = c.args.ask.now in
     let names = names_of c.args.context.now.words in
-    let wraps : is_wrapped ask command ≡ true = sym c.is_wrapped.ensures ∙ c.if-not-branch.false in
+    let wraps : is_wrapped ask command ≡ true = sym c.is_wrapped.ensures ∙ c.if-not-is_wrapped.false in
     let named = c.as_str-accessor.ensures ∙ c.index-needed-1.is
     ∙ ap (λ (needed : List Text). get_or needed 1 c.index-needed-1.result) (printed_is ask names command wraps c.args.needed.now c.requires.needed) in
     subst IsIdentifier (sym named) (accessor_good ask names command wraps c.args.needed.now c.requires.needed)
@@ -71,7 +71,7 @@ returns-clause-told g c placed honest b begins fresh =
     let old = (seen c.args.tx.now).rows in
     let mid = (seen c.act-2.new.tx).rows in
     let new = (seen c.wrap.new.tx).rows in
-    let wraps : is_wrapped ask command ≡ true = sym c.is_wrapped.ensures ∙ c.if-not-branch.false in
+    let wraps : is_wrapped ask command ≡ true = sym c.is_wrapped.ensures ∙ c.if-not-is_wrapped.false in
     let printed = printed_is ask names command wraps needed c.requires.needed in
     let all_new = ap (are_new b.used) (sym (needed_is ask names command wraps)) ∙ fresh in
     let own : are_new b.used ((traits command).own names) ≡ true = own_new b.used names.wrapping_token names.wrapping_accessor _ all_new in

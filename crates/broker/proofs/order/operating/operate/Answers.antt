@@ -43,5 +43,5 @@ returns-clause-told g c placed honest b begins =
     ∙ ap (λ (x : Context). needed_by ask (names_of x.words) command) c.context.view_is in
     let fresh : are_new b.used (needed_by ask names command) ≡ true =
     ap (are_new b.used) (sym needed) ∙ sym (c.in_ok-are_new.ensures.told before who b st) ∙ c.if-not-branch.false in
-    operated_new b who names ask command (seen c.carry_out.new.tx).rows c.carry_out.result fresh (sym c.has_wrap_ttl.ensures ∙ c.if-not-branch-2.false)
+    operated_new b who names ask command (seen c.carry_out.new.tx).rows c.carry_out.result fresh (sym c.has_wrap_ttl.ensures ∙ c.if-not-has_wrap_ttl.false)
     (c.carry_out.ensures.told placed honest b (begins_still c.args.asker.now c.args.context.now old mid b same begins) fresh)
