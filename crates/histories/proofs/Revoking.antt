@@ -1,0 +1,178 @@
+-- Laws of what a revocation leaves.
+use Rattle.std.specs.Prelude.{◌≡◌, ◌≢◌, ◌&&◌, ◌||◌, ◌⊎◌, ℕ, zero, suc, ◌∷◌, Bool, true, false, not, cond, if◌then◌else◌}
+use Rattle.std.specs.Prelude.{Option, Some, None, is_none}
+use Rattle.std.specs.List.{list_any}
+use Rattle.std.specs.Option.{option_map_or}
+use Rattle.std.proofs.Common.{refl, sym, ◌∙◌, ap, inl, inr}
+use Rattle.std.proofs.lemmas.Bool.{false≢true, false_from_ne_true}
+use Rattle.std.proofs.lemmas.Option.{none-some}
+use Rattle.broker_types.specs.Text.{Text, same}
+use Rattle.broker_types.specs.Map.{get, len}
+use Rattle.broker_types.specs.Token.{Token, Tokens}
+use Rattle.broker_types.specs.Lineage.{ChainsEnd, climb, ends_within, is_under, without_descendants, without_parent}
+use Rattle.broker_types.specs.LineageLaws.{climb_above, climb_at, climb_enough, ends_above, ends_at, get-revoke}
+use Rattle.broker_types.specs.LineageLaws.{is_under_trans, revoke_other, revoke_under}
+use Rattle.broker_types.specs.Laws.{IsTree}
+use Rattle.broker_types.specs.Broker.{Broker, revoke}
+use Rattle.broker_types.specs.OptionLaws.{found_or_not}
+use Rattle.broker_types.specs.Spending.{end_spent, is_spent}
+use Rattle.broker_types.specs.TextLaws.{same_true}
+use Rattle.broker_types.specs.TreeLaws.{lineage_child, lineage_orphan, orphan_child, orphan_gone, orphan_none}
+use Rattle.broker_types.specs.TreeLaws.{orphan_tree, orphan_unrelated, orphaned_is, revoke_tree, under_self}
+use Rattle.histories.specs.Revocation.{has_no_use, left_by_caller}
+
+-- ---- lineages of what is left
+
+-- tokens that are left, with all that are not under t as they were
+module _ (ts left : Tokens) (t : Text) (tree : IsTree ts) (keeps : (q : Text) → is_under ts q t ≡ false → get left q ≡ get ts q)
+    (ends : ChainsEnd left) where
+  -- the parent of what is not under t is not under t
+  parent_apart : (q p : Text) (x : Token) → is_under ts q t ≡ false → get ts q ≡ Some x → x.parent ≡ Some p → is_under ts p t ≡ false
+  parent_apart q p x apart is parent =
+      false_from_ne_true (is_under ts p t) (λ u. false≢true (sym apart
+      ∙ ap (list_any (same t)) (lineage_child ts q p x tree.chains_end is parent)
+      ∙ elim (same t q) as (λ v. (v || is_under ts p t) ≡ true) [ true ↦ refl | false ↦ u ]))
+
+  same_climb : (n : ℕ) (q : Text) → is_under ts q t ≡ false → climb n left q ≡ climb n ts q
+  same_climb zero q apart = refl
+  same_climb (suc n) q apart =
+      ap (climb_at n left q) (keeps q apart)
+      ∙ elim (get ts q) as (λ o. get ts q ≡ o → climb_at n left q o ≡ climb_at n ts q o) [
+        | None ↦ λ _. refl
+        | Some x ↦ λ is. ap (λ l. q ∷ l) (elim (x.parent) as (λ o. x.parent ≡ o → climb_above n left o ≡ climb_above n ts o) [
+          | None ↦ λ _. refl
+          | Some p ↦ λ parent. same_climb n p (parent_apart q p x apart is parent)
+        ] refl)
+      ] refl
+
+  same_ends : (n : ℕ) (q : Text) → is_under ts q t ≡ false → ends_within n left q ≡ ends_within n ts q
+  same_ends zero q apart = ap is_none (keeps q apart)
+  same_ends (suc n) q apart =
+      ap (ends_at n left) (keeps q apart)
+      ∙ elim (get ts q) as (λ o. get ts q ≡ o → ends_at n left o ≡ ends_at n ts o) [
+        | None ↦ λ _. refl
+        | Some x ↦ λ is. elim (x.parent) as (λ o. x.parent ≡ o → ends_above n left o ≡ ends_above n ts o) [
+          | None ↦ λ _. refl
+          | Some p ↦ λ parent. same_ends n p (parent_apart q p x apart is parent)
+        ] refl
+      ] refl
+
+  -- what is left has the same above it as before
+  pub same_under : (q c : Text) → is_under ts q t ≡ false → is_under left q c ≡ is_under ts q c
+  same_under q c apart =
+      ap (list_any (same c))
+      (climb_enough (len left) (len ts) left q (ends q) (same_ends (len ts) q apart ∙ tree.chains_end q)
+      ∙ same_climb (len ts) q apart)
+
+  -- so what a caller that has spent its last use leaves of it is the same
+  pub same_left : (c q : Text) → is_under ts q t ≡ false → left_by_caller left c q ≡ left_by_caller ts c q
+  same_left c q apart =
+      ap (λ o. if has_no_use left c && is_under left q c then None else o) (keeps q apart)
+      ∙ ap (λ v. if has_no_use left c && v then None else get ts q) (same_under q c apart)
+      ∙ elim (is_under ts q c) as
+      (λ v. is_under ts q c ≡ v → (if has_no_use left c && v then None else get ts q) ≡ (if has_no_use ts c && v then None else get ts q)) [
+        | true ↦ λ under. ap (λ (o : Option Token). if option_map_or is_spent o false && true then None else get ts q)
+            (keeps c (false_from_ne_true (is_under ts c t)
+            (λ u. false≢true (sym apart ∙ is_under_trans ts q c t tree.chains_end under u))))
+        | false ↦ λ _. by (has_no_use left c) (has_no_use ts c)
+      ] refl
+    where
+      by : (v w : Bool) → (if v && false then None else get ts q) ≡ (if w && false then None else get ts q)
+      by true true = refl
+      by true false = refl
+      by false true = refl
+      by false false = refl
+
+-- a token that is not under t is no child of it
+orphans_apart : (ts : Tokens) (t : Text) → IsTree ts → (q : Text) → is_under ts q t ≡ false → get (without_parent ts t) q ≡ get ts q
+orphans_apart ts t tree q apart = elim (found_or_not (get ts q)) [
+  | inl none ↦ orphan_none ts t q none ∙ sym none
+  | inr x ↦
+      orphan_unrelated ts t q x.0
+      (λ e. false≢true (sym apart ∙ ap (λ u. is_under ts u t) e ∙ under_self ts t (λ none. none-some _ (sym none ∙ ap (get ts) (sym e) ∙ x.1)))) x.1
+      (λ parent. false≢true (sym apart ∙ ap (list_any (same t)) (lineage_child ts q t x.0 tree.chains_end x.1 parent)
+      ∙ elim (same t q) as (λ v. (v || is_under ts t t) ≡ true) [ true ↦ refl | false ↦ under_self ts t (tree.parents_exist q t x.0 x.1 parent) ]))
+      ∙ sym x.1
+]
+
+-- ---- the end of the caller
+
+-- what the end of a spent caller leaves of each token
+pub end_spent_leaves : (b : Broker) (c q : Text) → get (end_spent b (Some c)).tokens q ≡ left_by_caller b.tokens c q
+end_spent_leaves b c q =
+    elim (has_no_use b.tokens c) as
+    (λ v. get (if v then revoke b c else b).tokens q ≡ (if v && is_under b.tokens q c then None else get b.tokens q)) [
+      | true ↦ get-revoke b.tokens c q ∙ elim (is_under b.tokens q c) as
+          (λ u. cond (not u) (get b.tokens q) None ≡ (if u then None else get b.tokens q)) [ true ↦ refl | false ↦ refl ]
+      | false ↦ refl
+    ]
+
+-- the tokens of d are those of b without t and all under it; the caller c may have spent its last use
+module _ (b d : Broker) (t c : Text) (is : d.tokens ≡ without_descendants b.tokens t) where
+  -- nothing under t is left
+  pub revoked_are_gone : (q : Text) → is_under b.tokens q t ≡ true → get (end_spent d (Some c)).tokens q ≡ None
+  revoked_are_gone q under =
+      let ts = without_descendants b.tokens t in
+      end_spent_leaves d c q ∙ ap (λ us. left_by_caller us c q) is
+      ∙ ap (λ o. if has_no_use ts c && is_under ts q c then None else o) (revoke_under b.tokens t q under)
+      ∙ elim (has_no_use ts c && is_under ts q c) as (λ v. ◌≡◌ {A = Option Token} (if v then None else None) None) [
+        | true ↦ refl
+        | false ↦ refl
+      ]
+
+  -- the others are as they were, but for the end of the caller
+  pub others_are_left : IsTree b.tokens → (q : Text) → is_under b.tokens q t ≡ false
+      → get (end_spent d (Some c)).tokens q ≡ left_by_caller b.tokens c q
+  others_are_left tree q apart =
+      end_spent_leaves d c q ∙ ap (λ us. left_by_caller us c q) is
+      ∙ same_left b.tokens (without_descendants b.tokens t) t tree (revoke_other b.tokens t) (revoke_tree b.tokens t tree).chains_end c q apart
+
+-- ---- of one token
+
+module _ (b d : Broker) (t c : Text) (is_left : d.tokens ≡ without_parent b.tokens t) where
+  -- it is gone
+  pub orphaned_is_gone : get (end_spent d (Some c)).tokens t ≡ None
+  orphaned_is_gone =
+      let ts = without_parent b.tokens t in
+      end_spent_leaves d c t ∙ ap (λ us. left_by_caller us c t) is_left
+      ∙ ap (λ o. if has_no_use ts c && is_under ts t c then None else o) (orphan_gone b.tokens t)
+      ∙ elim (has_no_use ts c && is_under ts t c) as (λ v. ◌≡◌ {A = Option Token} (if v then None else None) None) [
+        | true ↦ refl
+        | false ↦ refl
+      ]
+
+  -- its children have no parent, but for a caller that has spent its last use
+  pub children_are_orphans : (q : Text) (x : Token) → q ≢ t → get b.tokens q ≡ Some x → x.parent ≡ Some t
+      → (q ≢ c) ⊎ (has_no_use b.tokens c ≡ false) → get (end_spent d (Some c)).tokens q ≡ Some (record x { parent = None })
+  children_are_orphans q x apart is parent free =
+      let ts = without_parent b.tokens t in
+      let child : get ts q ≡ Some (record x { parent = None }) = orphan_child b.tokens t q x apart is parent in
+      end_spent_leaves d c q ∙ ap (λ us. left_by_caller us c q) is_left
+      ∙ ap (λ v. if has_no_use ts c && v then None else get ts q)
+      (ap (list_any (same c)) (lineage_orphan ts q (record x { parent = None }) child refl))
+      ∙ ap (λ o. if has_no_use ts c && (same c q || false) then None else o) child
+      ∙ elim free [
+        | inl other ↦ ap (λ v. if has_no_use ts c && (v || false) then None else Some (record x { parent = None }))
+            (false_from_ne_true (same c q) (λ e. other (sym (same_true c q e))))
+            ∙ elim (has_no_use ts c) as (λ v. (if v && false then None else Some (record x { parent = None })) ≡ Some (record x { parent = None })) [
+              | true ↦ refl
+              | false ↦ refl
+            ]
+        | inr uses ↦ ap (λ v. if v && (same c q || false) then None else Some (record x { parent = None })) (uses_left ts uses)
+      ]
+    where
+      uses_left : (ts : Tokens) → has_no_use b.tokens c ≡ false → has_no_use (without_parent b.tokens t) c ≡ false
+      uses_left ts uses = elim (found_or_not (get (without_parent b.tokens t) c)) [
+        | inl none ↦ ap (λ (o : Option Token). option_map_or is_spent o false) none
+        | inr y ↦
+            let z = orphaned_is b.tokens t c y.0 y.1 in
+            ap (λ (o : Option Token). option_map_or is_spent o false) (y.1 ∙ ap Some z.2)
+            ∙ sym (ap (λ (o : Option Token). option_map_or is_spent o false) z.1) ∙ uses
+      ]
+
+  -- a token that is not under it is as it was, but for the end of the caller
+  pub others_stay : IsTree b.tokens → (q : Text) → is_under b.tokens q t ≡ false
+      → get (end_spent d (Some c)).tokens q ≡ left_by_caller b.tokens c q
+  others_stay tree q apart =
+      end_spent_leaves d c q ∙ ap (λ us. left_by_caller us c q) is_left
+      ∙ same_left b.tokens (without_parent b.tokens t) t tree (orphans_apart b.tokens t tree) (orphan_tree b.tokens t tree).chains_end c q apart
