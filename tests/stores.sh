@@ -1,6 +1,7 @@
 #!/bin/bash
-# Compares the two stores: every row of tests/rows over each, and the 5,000 requests that `stores draw` draws, which
-# have to be answered the same byte for byte. The last line is 'N passed, M failed'; the status is 0 if nothing failed.
+# Compares the two stores: every row of tests/rows over each, and 5,000 requests that tests/drawn_requests.py draws by
+# the numbers of `stores numbers`. Both stores have to answer these byte for byte as the reference broker does. The last
+# line is 'N passed, M failed'; the status is 0 if nothing failed.
 set -u
 cd "$(dirname "$0")/.."
 
@@ -40,14 +41,24 @@ expect() {
     if "${@:2}"; then pass; else fail "$1" "${*:2}"; fi
 }
 
+# How many replies to the drawn requests begin so.
+replies() {
+    grep -ac "^HTTP/1.1 $1" "$found/list"
+}
+
 run_rows list
 run_rows sql
-run draw /dev/null "$found/drawn"
+run numbers /dev/null "$found/numbers"
+python3 tests/drawn_requests.py < "$found/numbers" > "$found/drawn"
 expect "lines that are drawn" [ "$(wc -l < "$found/drawn")" -eq 5001 ]
 run list "$found/drawn" "$found/list"
 run sql "$found/drawn" "$found/sql"
-expect "replies that are drawn" [ "$(grep -ac '^HTTP/1.1 ' "$found/list")" -eq 5000 ]
 expect "both stores" cmp "$found/list" "$found/sql"
+expect "replies" [ "$(replies '')" -eq 5000 ]
+expect "requests that are served" [ "$(replies '20[04] ')" -ge 2500 ]
+expect "replies that are wrapped" [ "$(grep -ac '"wrap_info":{' "$found/list")" -ge 300 ]
+python3 tests/reference/reference_broker.py replay < "$found/drawn" > "$found/reference"
+expect "the reference broker" cmp "$found/list" "$found/reference"
 
 echo "$passed passed, $failed failed"
 [ "$failed" -eq 0 ]

@@ -6,6 +6,7 @@ ghost use Rattle.std.specs.Prelude.{◌≡◌, IfOk};
 ghost use Rattle.std.specs.Process.{exit_status};
 ghost use Rattle.restarts.specs.Ends.{status_after};
 
+mod again;
 mod ending;
 mod left;
 mod lent;
@@ -18,6 +19,7 @@ mod stopped;
 mod stops;
 mod task;
 
+use again::run_again;
 use ending::End;
 use endpoints::{Reading, Writing};
 use reopened::replay_reopened;
@@ -28,7 +30,7 @@ use std::{env, io};
 use stopped::run_stopped;
 use task::{Task, task_of};
 
-const USAGE: &str = "usage: restarts reopened | stopped";
+const USAGE: &str = "usage: restarts reopened | stopped | again";
 
 fn main(rt: HostRuntime) -> anyhow::Result<ExitCode> {
     let alloc = rt.alloc();
@@ -53,6 +55,16 @@ fn main(rt: HostRuntime) -> anyhow::Result<ExitCode> {
             }
             Err(end) => end,
         },
+        Task::Again => {
+            let mut writer = Writing::new(io::writer(&rt));
+            match run_again(alloc, &mut reader, &mut writer) {
+                Ok((without, with)) => {
+                    println!(rt; "not taken {without} times, taken {with} times")?;
+                    End::Replayed(Exit::Done)
+                }
+                Err(end) => end,
+            }
+        }
         Task::Help => {
             println!(rt; "{USAGE}")?;
             End::Replayed(Exit::Done)
@@ -77,7 +89,7 @@ fn tell<R: Eprint>(rt: &R, end: End) -> anyhow::Result<ExitCode>
             Ok(ExitCode::from(2))
         }
         End::Wrong(stop) => {
-            eprintln!(rt; "{stop}: other rows are found")?;
+            eprintln!(rt; "{stop}: another broker is found")?;
             Ok(ExitCode::from(1))
         }
     }

@@ -18,3 +18,13 @@ pub(crate) fn script_of<R: Source>(alloc: Global, reader: &mut R) -> Result<Scri
         Err(_) => Err(Exit::Faulted(1)),
     }
 }
+
+/// The same, if no line is bad.
+pub(crate) fn whole_script_of<R: Source>(alloc: Global, reader: &mut R) -> Result<Script, Exit> {
+    let script = script_of(alloc, reader)?;
+    if script.is_cut {
+        Err(Exit::BadLine((script.events.len() as u64).saturating_add(2)))
+    } else {
+        Ok(script)
+    }
+}

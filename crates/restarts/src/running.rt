@@ -9,8 +9,9 @@ use broker::Store;
 use broker_sql::SqlStore;
 use broker_types::Fault;
 use hub::{Event, Hub};
+use ram_disk::RamFile;
 use replay::Script;
-use sqlite::Files;
+use sqlite::{FileStore, Files};
 use sqlite_disk::{Disk, Fuse, Memory};
 use std::alloc::Global;
 
@@ -93,11 +94,16 @@ fn feed_all<S: Store>(
     answered: &mut usize,
 ) -> Result<(), Fault> {
     for event in events {
-        let piece = event.piece.as_slice();
-        hub.feed(event.conn, piece, event.moment, &event.words)?;
+        feed(hub, event)?;
         *answered = answered.saturating_add(1);
     }
     Ok(())
+}
+
+/// Feeds an event, and answers the bytes of its reply.
+pub(crate) fn feed<S: Store>(hub: &mut Hub<S>, event: &Event) -> Result<Vec<u8>, Fault> {
+    let piece = event.piece.as_slice();
+    hub.feed(event.conn, piece, event.moment, &event.words)
 }
 
 /// The rows before the start, after it, and after each event, of a broker in a database in memory.
@@ -111,10 +117,31 @@ pub(crate) fn all_states(alloc: Global, script: &Script) -> Result<Vec<Rows>, Fa
 }
 
 /// The rows of a broker in a database in memory after the start and these events.
-fn rows_after(alloc: Global, script: &Script, events: &[Event]) -> Result<Rows, Fault> {
+pub(crate) fn rows_after(alloc: Global, script: &Script, events: &[Event]) -> Result<Rows, Fault> {
+    let hub = hub_after(alloc, script, events)?;
+    Rows::of(alloc, hub.into_store())
+}
+
+/// The reply to an event of a broker in a database in memory after the start and these events.
+pub(crate) fn reply_after(
+    alloc: Global,
+    script: &Script,
+    events: &[Event],
+    event: &Event,
+) -> Result<Vec<u8>, Fault> {
+    let mut hub = hub_after(alloc, script, events)?;
+    feed(&mut hub, event)
+}
+
+/// A broker in a database in memory after the start and these events.
+fn hub_after(
+    alloc: Global,
+    script: &Script,
+    events: &[Event],
+) -> Result<Hub<SqlStore<FileStore<RamFile>>>, Fault> {
     let mut store = SqlStore::in_memory(alloc)?;
     store.start(script.start.moment, &script.start.words)?;
     let mut hub = Hub::new(alloc, store);
     feed_all(&mut hub, events, &mut 0)?;
-    Rows::of(alloc, hub.into_store())
+    Ok(hub)
 }

@@ -4,23 +4,19 @@
 use crate::ending::End;
 use crate::left::LeftFiles;
 use crate::opening::open;
-use crate::reading::script_of;
+use crate::reading::whole_script_of;
 use crate::rows::Rows;
 use crate::running::{Run, all_states};
 use crate::stops::{Loss, Part, Stop};
 use broker_types::Fault;
 use endpoints::Source;
-use replay::{Exit, Script};
+use replay::Script;
 use std::alloc::Global;
 
 /// Stops a run of the lines of the source at each call on the log in turn, and then at each on the database file, and
 /// answers how many stops there were of each. It fails with `Storage` if a run stops though each call is answered.
 pub(crate) fn run_stopped<R: Source>(alloc: Global, reader: &mut R) -> Result<(u64, u64), End> {
-    let script = script_of(alloc, reader)?;
-    if script.is_cut {
-        let line = (script.events.len() as u64).saturating_add(2);
-        return Err(End::Replayed(Exit::BadLine(line)));
-    }
+    let script = whole_script_of(alloc, reader)?;
     if Run::until_stop(alloc, &script, Part::Log, u64::MAX)?.is_stopped {
         return Err(End::from(Fault::Storage));
     }
@@ -65,7 +61,11 @@ fn find_each(alloc: Global, run: &Run, states: &[Rows]) -> Result<Option<Loss>, 
 
 /// The rows that are found in files after a loss; none if the files are not those of a broker. The only error is
 /// `Memory`.
-fn rows_found(alloc: Global, files: &LeftFiles, loss: Loss) -> Result<Option<Rows>, Fault> {
+pub(crate) fn rows_found(
+    alloc: Global,
+    files: &LeftFiles,
+    loss: Loss,
+) -> Result<Option<Rows>, Fault> {
     let files = files.after(alloc, loss)?;
     match open(alloc, files).and_then(|store| Rows::of(alloc, store)) {
         Ok(rows) => Ok(Some(rows)),

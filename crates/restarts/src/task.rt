@@ -5,6 +5,8 @@ pub(crate) enum Task {
     Reopened,
     /// Run them over files that stop, at each call in turn.
     Stopped,
+    /// Run all but the last over files that stop, and the last over what is found then.
+    Again,
     /// Say which tasks there are.
     Help,
 }
@@ -19,6 +21,8 @@ pub(crate) fn task_of(words: &[String]) -> Option<Task> {
         Some(Task::Reopened)
     } else if word == "stopped" {
         Some(Task::Stopped)
+    } else if word == "again" {
+        Some(Task::Again)
     } else if word == "--help" {
         Some(Task::Help)
     } else {

@@ -18,6 +18,7 @@ fn tasks(rt: HostRuntime) -> Result<(), Fail> {
     for (line, task) in &[
         ("restarts reopened", Some(Task::Reopened)),
         ("restarts stopped", Some(Task::Stopped)),
+        ("restarts again", Some(Task::Again)),
         ("restarts --help", Some(Task::Help)),
         ("restarts", None),
         ("restarts stop", None),

@@ -1,22 +1,18 @@
-//! The program `stores`, for tests: it runs the lines of a replay over either store, and draws such lines.
+//! The program `stores`, for tests: it runs the lines of a replay over either store, and writes the numbers by which
+//! such lines are drawn.
 #![tactic(auto)]
 
 ghost use Rattle.std.specs.Prelude.{◌≡◌, IfOk};
 ghost use Rattle.std.specs.Process.{exit_status};
 ghost use Rattle.stores.specs.Exits.{status_after};
 
-mod asks;
-mod bodies;
-mod dice;
-mod draw;
-mod request;
+mod numbers;
 mod retrying;
 mod running;
 mod task;
-mod values;
 
-use draw::draw_lines;
 use endpoints::{Reading, Writing};
+use numbers::write_numbers;
 use replay::{Exit, replay};
 use retrying::replay_retrying;
 use running::replay_over_list;
@@ -25,7 +21,7 @@ use std::process::ExitCode;
 use std::{env, io};
 use task::{Task, task_of};
 
-const USAGE: &str = "usage: stores list | sql | retry | draw";
+const USAGE: &str = "usage: stores list | sql | retry | numbers";
 
 fn main(rt: HostRuntime) -> anyhow::Result<ExitCode> {
     let alloc = rt.alloc();
@@ -43,7 +39,7 @@ fn main(rt: HostRuntime) -> anyhow::Result<ExitCode> {
         Task::List => replay_over_list(alloc, &mut reader, &mut writer),
         Task::Sql => replay(alloc, &mut reader, &mut writer),
         Task::Retry => replay_retrying(alloc, &mut reader, &mut writer),
-        Task::Draw => draw_lines(alloc, &mut writer),
+        Task::Numbers => write_numbers(alloc, &mut writer),
         Task::Help => {
             println!(rt; "{USAGE}")?;
             Exit::Done

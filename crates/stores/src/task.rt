@@ -7,8 +7,8 @@ pub(crate) enum Task {
     Sql,
     /// The same, and send a request that met a fault once more.
     Retry,
-    /// Draw lines, and write them to standard output.
-    Draw,
+    /// Write random numbers to standard output, the same each time.
+    Numbers,
     /// Say which tasks there are.
     Help,
 }
@@ -25,8 +25,8 @@ pub(crate) fn task_of(words: &[String]) -> Option<Task> {
         Some(Task::Sql)
     } else if word == "retry" {
         Some(Task::Retry)
-    } else if word == "draw" {
-        Some(Task::Draw)
+    } else if word == "numbers" {
+        Some(Task::Numbers)
     } else if word == "--help" {
         Some(Task::Help)
     } else {

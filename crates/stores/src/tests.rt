@@ -19,7 +19,7 @@ fn tasks(rt: HostRuntime) -> Result<(), Fail> {
         ("stores list", Some(Task::List)),
         ("stores sql", Some(Task::Sql)),
         ("stores retry", Some(Task::Retry)),
-        ("stores draw", Some(Task::Draw)),
+        ("stores numbers", Some(Task::Numbers)),
         ("stores --help", Some(Task::Help)),
         ("stores", None),
         ("stores lists", None),

@@ -1,13 +1,14 @@
 -- Responses that wait: the rows that are left, and the brokers that they represent.
-use Rattle.std.specs.Prelude.{◌≡◌, [], ◌∷◌, true, ⊤, Option, Some, None, Ok, option_map, is_none}
-use Rattle.std.proofs.Common.{refl, sym, ◌∙◌, ap, subst}
+use Rattle.std.specs.Prelude.{◌≡◌, List, [], ◌∷◌, All, true, ⊤, Option, Some, Ok, option_map, is_none}
+use Rattle.std.proofs.Common.{sym, ap, subst}
 use Rattle.std.proofs.lemmas.Bool.{and_parts}
+use Rattle.std.proofs.lemmas.List.Elements.{All-head, All-tail}
 use Rattle.broker_types.specs.Broker.{Broker, Waiting}
 use Rattle.broker_types.specs.Map.{Map, get}
 use Rattle.broker_types.specs.Names.{Names}
 use Rattle.broker_types.specs.OptionLaws.{is_nothing}
 use Rattle.broker_types.specs.Refuse.{◌>>=◌, some_or}
-use Rattle.broker_types.specs.Sound.{Sound}
+use Rattle.broker_types.specs.Sound.{IsIdentifier}
 use Rattle.broker_types.specs.Spending.{drop_waiting}
 use Rattle.broker_types.specs.Text.{Text}
 use Rattle.broker_types.specs.TokenText.{token_text}
@@ -27,8 +28,20 @@ use Rattle.broker_model.specs.declared.commands.WrappingCommand.TheVariants as c
 use Rattle.broker_model.specs.parts.WrappingCommands.{wrapping_names}
 use Rattle.broker_model.specs.parts.Wrappings.{found_under, rewrapped}
 use Rattle.broker_rows.specs.MarkLaws.{marks_joined}
+use Rattle.broker_rows.specs.Operating.{ArePrinted}
 use Rattle.broker_rows.specs.Representing.{Represents}
 use Rattle.system_operations.proofs.ResponseAnswers.{not_waiting}
+
+-- the identifiers that were printed are those of a wrapping token and of its accessor
+pub printed : (own : List Text) (names : Names) → ArePrinted own (wrapping_names names) → AreWrappingNames names
+printed own names are =
+    let i = names.wrapping_token in
+    let a = names.wrapping_accessor in
+    let both = subst (All IsIdentifier) are.are are.good in
+    record {
+      token = All-head IsIdentifier i (a ∷ []) both;
+      accessor = All-head IsIdentifier a [] (All-tail IsIdentifier i (a ∷ []) both);
+    }
 
 -- of two new identifiers the second was not given out
 pub second_new : (used : Map ⊤) (i j : Text) → are_new used (i ∷ j ∷ []) ≡ true → get used j ≡ None

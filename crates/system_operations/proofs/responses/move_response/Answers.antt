@@ -1,14 +1,11 @@
-use Rattle.std.specs.Prelude.{◌≡◌, ℕ, List, [], ◌∷◌, All, Some, None, option_map, get_or, length}
-use Rattle.std.proofs.Common.{ap, arith, subst, sym, ◌∙◌}
-use Rattle.broker_types.specs.Broker.{Waiting}
+use Rattle.std.specs.Prelude.{◌≡◌, ℕ, List, None, length}
+use Rattle.std.proofs.Common.{ap, arith, get_or, subst, sym, ◌∙◌}
 use Rattle.broker_types.specs.IdentifierLaws.{id-length}
 use Rattle.broker_types.specs.Map.{get}
 use Rattle.broker_types.specs.Names.{names_of}
 use Rattle.broker_types.specs.OptionLaws.{mapped, mapped_none}
 use Rattle.broker_types.specs.Places.{token_identifier}
-use Rattle.broker_types.specs.Sound.{IsIdentifier}
 use Rattle.broker_types.specs.Text.{Text}
-use Rattle.broker_types.specs.TokenText.{token_text}
 use Rattle.broker_types.specs.UsedLaws.{first_new}
 use Rattle.records.specs.CallLaws.{honest_before}
 use Rattle.records.specs.Parts.{Tells, of_waiting}
@@ -19,17 +16,16 @@ use Rattle.records.specs.declared.kind.Kind.TheVariants as kind
 use Rattle.wrapping.specs.Wrapping.{moved, rewrap}
 use Rattle.broker_rows.specs.Context.{Context}
 use Rattle.broker_rows.specs.RepresentingLaws.{represents_waiting, still_represented}
-use Rattle.system_operations.proofs.ResponseRows.{represents_moved, second_new}
+use Rattle.system_operations.proofs.ResponseRows.{printed, represents_moved, second_new}
 use Rattle.system_operations.proofs.responses.move_response.Goals as goal
 
 pub rewrap-requires : goal.rewrap-requires
 rewrap-requires g c =
-    let own = c.args.own.now in
-    let good = subst (All IsIdentifier) c.requires.own.are c.requires.own.good in
+    let good = (printed c.args.own.now (names_of c.args.context.now.words) c.requires.own).accessor in
     let accessor = c.as_str-accessor.ensures ∙ c.index-own-1.is
     ∙ ap (λ (own : List Text). get_or own 1 c.index-own-1.result) c.requires.own.are in
     let long : length c.as_str-accessor.result.now ≡ 36 =
-    ap length (accessor ∙ good.1.2) ∙ id-length good.1.0 in
+    ap length (accessor ∙ good.2) ∙ id-length good.0 in
     omega (arith, long)
 
 pub returns-in_default-clause-told : goal.returns-in_default-clause-told
@@ -64,7 +60,6 @@ returns-clause-told g c who honest b starts fresh =
     let accessor : a ≡ names.wrapping_accessor =
     c.as_str-accessor.ensures ∙ c.index-own-1.is
     ∙ ap (λ (own : List Text). get_or own 1 c.index-own-1.result) c.requires.own.are in
-    let good = subst (All IsIdentifier) c.requires.own.are c.requires.own.good in
     let token_new = subst (λ z. get b.used (token_identifier z) ≡ None) (sym c.requires.named)
     (first_new b.used names.wrapping_token names.wrapping_accessor fresh) in
     let accessor_new = subst (λ z. get b.used z ≡ None) (sym accessor)
@@ -81,7 +76,7 @@ returns-clause-told g c who honest b starts fresh =
       w.1,
       w.2 ∙ (λ i. moved (accessor i) (clock i) w.0),
       represents_moved b names t w.0 w.1 old mid new st c.wrapping_commands_are_proper.ensures.sound
-          (record { token = good.0; accessor = good.1 }) fresh tells (c.in_ok-response.ensures.call.others first) marks,
+          (printed c.args.own.now names c.requires.own) fresh tells (c.in_ok-response.ensures.call.others first) marks,
     )
 
 pub returns-clause-readable : goal.returns-clause-readable

@@ -2,17 +2,24 @@ use Rattle.std.specs.Prelude.{◌≡◌, Err, None}
 use Rattle.std.proofs.Common.{ap, subst, sym, ◌∙◌}
 use Rattle.std.proofs.lemmas.Result.{err_from_is_err_and}
 use Rattle.api_json.specs.Reply.{wrap_reply}
-use Rattle.broker_types.specs.Broker.{Waiting}
 use Rattle.broker_types.specs.Names.{names_of}
 use Rattle.broker_types.specs.Operation.{reply}
+use Rattle.broker_types.specs.TokenText.{token_text}
 use Rattle.broker_types.specs.declared.reply.Reply.{Reply}
 use Rattle.records.specs.ValueLaws.{none_of}
+use Rattle.wrapping.specs.Wrapping.{moved}
 use Rattle.broker_model.specs.Order.{wrap_info}
 use Rattle.broker_model.specs.parts.Wrappings.{rewrapped}
 use Rattle.broker_rows.specs.Context.{Context}
 use Rattle.system_operations.specs.Rewrapping.{IsMoved}
 use Rattle.system_operations.proofs.ResponseAnswers.{acts_on_found, acts_on_none}
 use Rattle.system_operations.proofs.responses.rewrap.Goals as goal
+
+pub move_response-requires-clause-named : goal.move_response-requires-clause-named
+unfolding names_of
+move_response-requires-clause-named g c =
+    c.as_str.ensures ∙ c.in_ok-new_token.ensures
+    ∙ ap (λ (x : Context). token_text (names_of x.words).wrapping_token) c.context.view_is
 
 pub returns-in_err-response-clause-told : goal.returns-in_err-response-clause-told
 returns-in_err-response-clause-told g c who honest b starts fresh =
@@ -39,8 +46,11 @@ returns-clause-told g c who honest b starts fresh =
     let request = c.as_str-3.ensures.value ∙ c.in_ok-request.ensures
     ∙ ap (λ (x : Context). (names_of x.words).request) c.context.view_is in
     let token = c.in_ok-token.ensures ∙ c.as_str-2.ensures ∙ c.in_ok-new_token.ensures
-    ∙ ap (λ (x : Context). (names_of x.words).wrapping_token) c.context.view_is in
+    ∙ ap (λ (x : Context). token_text (names_of x.words).wrapping_token) c.context.view_is in
+    let entry : record c.in-Some.response { created = c.context.inside.clock }
+    ≡ moved names.wrapping_accessor b.clock is.0 = (λ i. record (is.2 i) { created = clock i }) in
+    let info = c.in_ok-info.ensures ∙ (λ i. wrap_info (token i) (entry i) None) in
     acts_on_found b who new t (rewrapped b names) is.0 _ is.1 (
-      ap (λ (r : Reply). reply r None) (c.in_ok-wrap_reply.ensures ∙ (λ i. wrap_reply (request i) (c.in_ok-info.ensures i))),
+      ap (λ (r : Reply). reply r None) (c.in_ok-wrap_reply.ensures ∙ (λ i. wrap_reply (request i) (info i))),
       is.3,
     )
