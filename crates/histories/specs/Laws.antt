@@ -1,9 +1,23 @@
 -- The laws over all histories, as statements (this project's).
+use Rattle.std.specs.Prelude.{◌<◌, ℕ}
 use Rattle.broker_types.specs.Broker.{Broker}
-use Rattle.histories.specs.History.{AreAsked, Beginning, History, begun}
+use Rattle.broker_types.specs.Evolves.{Evolves}
+use Rattle.histories.specs.History.{AreAsked, Asking, AskedAt, Beginning, History, begun}
 use Rattle.histories.specs.Identifiers.{GivesOutNew, NoIdentifierTwice}
 use Rattle.histories.specs.Kept.{HandedOutOnce, HandsOutKept, SameReply}
 use Rattle.histories.specs.Revocation.{Revocation}
+
+-- each request lets the broker evolve
+abbrev pub EachEvolves : Type 0
+EachEvolves =
+    (b : Broker) (history : History) (i : ℕ) (a : Asking) → AreAsked b history → AskedAt history i a
+    → Evolves a.broker a.outcome.next
+
+-- and a later one is asked of a broker that evolved from what the earlier one left
+abbrev pub LaterOnesEvolved : Type 0
+LaterOnesEvolved =
+    (b : Broker) (history : History) (i j : ℕ) (a x : Asking) → AreAsked b history → AskedAt history i a
+    → AskedAt history j x → i < j → Evolves a.outcome.next x.broker
 
 -- what is given out is new, whatever the first broker is
 abbrev pub AllGiveOutNew : Type 0

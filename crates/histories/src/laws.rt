@@ -1,9 +1,17 @@
 //! Laws over histories, each the contract of a function that does nothing.
 
 ghost use Rattle.histories.specs.Laws.{AllGiveOutNew, NoneIsGivenTwice, AllAreHandedOutOnce, RevocationLasts};
-ghost use Rattle.histories.specs.Laws.{AllHandOutKept, AllAreTheReplies};
+ghost use Rattle.histories.specs.Laws.{AllHandOutKept, AllAreTheReplies, EachEvolves, LaterOnesEvolved};
 
 use broker_model::operations_are_proper;
+
+/// A law: each request lets the broker evolve, and so do all between two of them. So what ended, or is gone, stays so.
+pub fn requests_evolve()
+    ensures each { EachEvolves }
+    ensures between { LaterOnesEvolved }
+{
+    operations_are_proper();
+}
 
 /// A law: the identifiers that requests give out are new, and no two of them are equal; nothing else is in any place of
 /// identifiers. So from a start on, no identifier is given out twice.
