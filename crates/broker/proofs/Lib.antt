@@ -2,6 +2,7 @@ pub mod Asked
 pub mod CommandReads
 pub mod EngineRoutes
 pub mod Finishing
+pub mod KeptReplies
 pub mod NeededIdentifiers
 pub mod Permitted
 pub mod RoutedBy

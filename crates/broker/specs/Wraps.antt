@@ -2,9 +2,10 @@
 use Rattle.std.specs.Prelude.{◌≡◌, ◌∷◌, ℕ, List, true}
 use Rattle.broker_types.specs.Broker.{Broker, Waiting}
 use Rattle.broker_types.specs.Names.{names_of}
-use Rattle.broker_types.specs.Operation.{Done}
+use Rattle.broker_types.specs.Operation.{Answered, nothing, reply, kept_text, missing, Done}
 use Rattle.broker_types.specs.Text.{Text}
 use Rattle.broker_types.specs.Used.{are_new}
+use Rattle.broker_types.specs.declared.reply.Reply.{Reply}
 use Rattle.records.specs.declared.kind.Kind.TheVariants as kind
 use Rattle.records.specs.RowForms.{used_row}
 use Rattle.records.specs.Table.{Table, with_row}
@@ -23,11 +24,30 @@ pub record MayWrap (x : Context) (token accessor : Text) (b : Broker) (own : Lis
   pub new : are_new b.used ((names_of x.words).wrapping_token ∷ (names_of x.words).wrapping_accessor ∷ own) ≡ true
   pub proper : IsProper b own d
 
--- the table in which the response waits under t, and its identifiers are marked as given out
+-- a text, as it waits from this clock on
+abbrev pub waiting_from : ℕ → Text → ℕ → Text → Text → Text → Waiting
+waiting_from clock path ttl token accessor text =
+    record {
+      accessor = accessor;
+      created = clock;
+      ttl = ttl;
+      path = path;
+      origin = token;
+      reply = text;
+    }
+
+-- the broker in which the response waits under t, and its identifiers are marked as given out
+abbrev pub kept_in : Broker → Text → Waiting → Broker
+kept_in b t w = marked (with_waiting b t w) w.origin w.accessor
+
+-- the rows of this
 abbrev pub with_kept : Table → Text → Waiting → Table
 with_kept rows t w =
     with_row (with_row (with_response rows t w) kind.Used w.accessor used_row) kind.Used w.origin used_row
 
--- the same broker but for this
-abbrev pub kept_in : Broker → Text → Waiting → Broker
-kept_in b t w = marked (with_waiting b t w) w.origin w.accessor
+-- a reply of status 200 is kept under t, as it waits there; of nothing else there are rows
+abbrev pub with_wrapped : Table → Text → (Reply → Waiting) → Answered → Table
+with_wrapped rows t waits nothing = rows
+with_wrapped rows t waits (reply r made) = with_kept rows t (waits r)
+with_wrapped rows t waits (kept_text text) = rows
+with_wrapped rows t waits (missing r) = rows

@@ -6,7 +6,7 @@
 //!
 //! What comes is bytes, or a request of a token: `#021 POST auth/token/create {'ttl':60}`. A reply is a status and what
 //! it tells: data, `made` with the token that was made, `version` with the version that was written, `leased` with a
-//! lease, or the text of a refusal. `close` before it says that the connection closes.
+//! lease, `text` with the text of the body, or the text of a refusal. `close` before it says that the connection closes.
 
 use crate::streams::started;
 use broker_types::{Bytes, Moment, Words};
@@ -32,6 +32,7 @@ mod issued;
 mod requests;
 mod secrets;
 mod tokens;
+mod wrapping;
 
 /// An identifier without its last three digits.
 const IDENTIFIER: &str = "00000000-0000-0000-0000-000000000";
@@ -168,6 +169,7 @@ fn body_of(alloc: Global, told: &str, word: u128) -> Result<String, AllocError> 
         ("made", token) => answered(alloc, word, made(alloc, token)?.as_str(), "null"),
         ("leased", lease) => leased(alloc, lease, word),
         ("version", number) => answered(alloc, word, "null", version(alloc, number)?.as_str()),
+        ("text", text) => format!(in alloc; "{}\n", spelled(alloc, text)?),
         _ => format!(in alloc; "{{\"errors\":[\"{told}\"]}}\n"),
     }
 }

@@ -80,13 +80,29 @@ fn reads_asks(rt: HostRuntime) -> Result<(), Fail> {
     let piece =
         "POST /v1/a%20b%2F HTTP/1.1\r\nHost: b\r\nx-vault-token:\r\nAuthorization: bEARER  c d\r\n\r\n";
     assert!(rt; asks(alloc, piece, (Verb::Write, "a b", "", Some("c d"), ""))?);
-    let piece =
-        "LIST /v1/a HTTP/1.1\r\nHost: b\r\nX-Vault-Wrap-TTL: 1d\r\nX-Vault-Wrap-TTL: 5\r\n\r\n";
+    let piece = "LIST /v1/a HTTP/1.1\r\nHost: b\r\nX-Vault-Wrap-TTL: \r\n\r\n";
     assert!(rt; asks(alloc, piece, (Verb::List, "a", "", None, ""))?);
     let piece = "DELETE /v1/a HTTP/1.1\r\nHost: b\r\n\r\n";
     assert!(rt; asks(alloc, piece, (Verb::Delete, "a", "", None, ""))?);
     let piece = "GET /v1/a?list=true&version=?2&version=3 HTTP/1.1\r\nHost: b\r\n\r\n";
     assert!(rt; asks(alloc, piece, (Verb::List, "a", "?2", None, ""))?);
+    Ok(())
+}
+
+/// Whether a request asks for a reply that is wrapped for so many seconds (`asked`).
+fn is_wrapped_for(alloc: Global, piece: &str, seconds: u32) -> Result<bool, AskError> {
+    let ask = ask_in(alloc, piece)?;
+    Ok(ask.wrap_ttl.count() == seconds)
+}
+
+/// Computes `wrap_ttl_asked`, `wrap_ttl_read`.
+#[test]
+fn reads_wrap_ttls(rt: HostRuntime) -> Result<(), Fail> {
+    let alloc = rt.alloc();
+    let piece = "GET /v1/a HTTP/1.1\r\nHost: b\r\nx-vault-wrap-ttl: 1h30m\r\n\r\n";
+    assert!(rt; is_wrapped_for(alloc, piece, 5400)?);
+    let piece = "GET /v1/a HTTP/1.1\r\nHost: b\r\nX-Vault-Wrap-TTL: 2764801\r\n\r\n";
+    assert!(rt; is_wrapped_for(alloc, piece, 2_764_800)?);
     Ok(())
 }
 
@@ -119,6 +135,22 @@ fn refuses_asks(rt: HostRuntime) -> Result<(), Fail> {
     assert!(rt; is_refused(alloc, piece, (Status::NotFound, "{\"errors\":[]}\n", false))?);
     let piece = "GET /v1/a%0A HTTP/1.1\r\nHost: b\r\n\r\n";
     let text = "{\"errors\":[\"invalid path\"]}\n";
+    assert!(rt; is_refused(alloc, piece, (Status::BadRequest, text, false))?);
+    Ok(())
+}
+
+#[test]
+fn refuses_wrap_ttls(rt: HostRuntime) -> Result<(), Fail> {
+    let alloc = rt.alloc();
+    let piece =
+        "LIST /v2/a HTTP/1.1\r\nHost: b\r\nX-Vault-Wrap-TTL: 5\r\nX-Vault-Wrap-TTL: 5\r\n\r\n";
+    let text = "{\"errors\":[\"malformed request\"]}\n";
+    assert!(rt; is_refused(alloc, piece, (Status::BadRequest, text, false))?);
+    let piece = "GET /v1/a%0A HTTP/1.1\r\nHost: b\r\nX-Vault-Wrap-TTL: 1d\r\n\r\n";
+    let text = "{\"errors\":[\"invalid path\"]}\n";
+    assert!(rt; is_refused(alloc, piece, (Status::BadRequest, text, false))?);
+    let piece = "GET /v1/a HTTP/1.1\r\nHost: b\r\nX-Vault-Wrap-TTL: 1d\r\n\r\n";
+    let text = "{\"errors\":[\"invalid duration\"]}\n";
     assert!(rt; is_refused(alloc, piece, (Status::BadRequest, text, false))?);
     Ok(())
 }

@@ -1,5 +1,5 @@
 -- Responses that wait: the rows that are left, and the brokers that they represent.
-use Rattle.std.specs.Prelude.{◌≡◌, List, [], ◌∷◌, All, true, ⊤, Option, Some, Ok, option_map, is_none}
+use Rattle.std.specs.Prelude.{◌≡◌, List, [], ◌∷◌, All, true, ⊤, Option, Some, None, Ok, option_map, is_none}
 use Rattle.std.proofs.Common.{sym, ap, subst}
 use Rattle.std.proofs.lemmas.Bool.{and_parts}
 use Rattle.std.proofs.lemmas.List.Elements.{All-head, All-tail}

@@ -1,2 +1,3 @@
 pub mod InRange
+pub mod ResponseChanges
 pub mod Rewrapping

@@ -1,6 +1,6 @@
 //! Requests on responses that wait under wrapping tokens (Vault's documentation, "/sys/wrapping").
 
-ghost use Rattle.std.specs.Prelude.{◌≡◌, ◌≤◌, [], None, Option, Some, IfErr, IfOk, OnOk, length};
+ghost use Rattle.std.specs.Prelude.{◌≡◌, ◌≢◌, ◌≤◌, [], None, Option, Some, IfErr, IfOk, OnOk, length};
 ghost use Rattle.broker_types.specs.Broker.{Broker};
 ghost use Rattle.broker_types.specs.Fault.{IsMemoryOrStorage, IsNotBadStart};
 ghost use Rattle.broker_types.specs.Limits.{longest_body};
@@ -20,6 +20,7 @@ ghost use Rattle.broker_model.specs.parts.WrappingCommands.{wrapping_names, wrap
 ghost use Rattle.broker_rows.specs.Context as known;
 ghost use Rattle.broker_rows.specs.Operating.{ArePrinted, Begins, Performs};
 ghost use Rattle.broker_rows.specs.Reads.{AreReadableResponses};
+ghost use Rattle.system_operations.specs.ResponseChanges.{ChangesResponses, HandsOutAt, MovesAt};
 ghost use Rattle.system_operations.specs.Rewrapping.{MovesResponse};
 
 use api_json::{
@@ -137,6 +138,10 @@ pub fn act_on_wrappings<T: RecordsTx>(
     // Whatever the rows are: it is neither answered nor refused if the row of the response that is meant is damaged.
     ensures readable { IsHonest (T.seen tx.new)
         → OnAnswer result (AreReadableResponses (T.seen tx.old).rows command) }
+
+    // And what is unwrapped is gone then, and what is rewrapped waits under its new wrapping token alone.
+    ensures rows { IsHonest (T.seen tx.new)
+        → IfOk result (ChangesResponses context.now command (T.seen tx.old).rows (T.seen tx.new).rows) }
     ensures call { IsRequestCall (T.seen tx.old) (T.seen tx.new) result IsNotBadStart }
 {
     match command {
@@ -163,6 +168,7 @@ fn look_up<T: RecordsTx>(
     // Whatever the rows are: a damaged row is answered neither as a response nor as an unknown wrapping token.
     ensures readable { IsHonest (T.seen tx.new)
         → OnAnswer result (IsReadableWaiting (table (T.seen tx.old)) token.now) }
+    ensures rows { IsHonest (T.seen tx.new) → OnOk result ((T.seen tx.new).rows ≡ (T.seen tx.old).rows) }
     ensures call { IsRequestCall (T.seen tx.old) (T.seen tx.new) result IsNotBadStart }
 {
     let Some(response) = look(alloc, tx, token)? else {
@@ -190,6 +196,8 @@ fn rewrap<T: RecordsTx>(
     // Whatever the rows are: a damaged row is neither moved nor refused as an unknown wrapping token.
     ensures readable { IsHonest (T.seen tx.new)
         → OnAnswer result (IsReadableWaiting (table (T.seen tx.old)) token.now) }
+    ensures rows { IsHonest (T.seen tx.new) → OnOk result (MovesAt (names_of context.now.words) context.now.clock
+        token.now (T.seen tx.old).rows (T.seen tx.new).rows) }
     ensures call { IsRequestCall (T.seen tx.old) (T.seen tx.new) result IsNotBadStart }
 {
     let new_token = TokenText::of_word(alloc, context.words.0[5])?;
@@ -218,6 +226,8 @@ fn move_response<T: RecordsTx>(
         → MovesResponse who context.now (T.seen tx.old) (T.seen tx.new) token.now result }
     ensures readable { IsHonest (T.seen tx.new)
         → OnOk result (IsReadableWaiting (table (T.seen tx.old)) token.now) }
+    ensures rows { IsHonest (T.seen tx.new) → IfOk result (λ found. found ≢ None
+        → MovesAt (names_of context.now.words) context.now.clock token.now (T.seen tx.old).rows (T.seen tx.new).rows) }
     ensures wants { IsHonest (T.seen tx.new) → (who : Option Text) (b : Broker)
         → Begins who context.now (T.seen tx.old).rows b → IfErr result IsMemoryOrStorage }
     ensures call { IsCall (T.seen tx.old) (T.seen tx.new) result IsNotBadStart }
@@ -269,6 +279,8 @@ fn unwrap<T: RecordsTx>(alloc: Global, tx: &mut T, token: &str) -> Result<Answer
     // Whatever the rows are: a damaged row is neither handed out nor refused as an unknown wrapping token.
     ensures readable { IsHonest (T.seen tx.new)
         → OnAnswer result (IsReadableWaiting (table (T.seen tx.old)) token.now) }
+    ensures rows { IsHonest (T.seen tx.new)
+        → IfOk result (HandsOutAt token.now (T.seen tx.old).rows (T.seen tx.new).rows) }
     ensures call { IsRequestCall (T.seen tx.old) (T.seen tx.new) result IsNotBadStart }
 {
     let Some(text) = take(alloc, tx, token)? else {

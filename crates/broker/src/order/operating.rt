@@ -23,7 +23,7 @@ ghost use Rattle.broker.specs.Stages.{IsServed};
 
 use crate::answers::PERMISSION_DENIED;
 use crate::command::{Command, has_wrap_ttl, is_wrapped, needed_identifiers};
-use crate::order::wrapping::wrap;
+use crate::order::keeping::wrap;
 use broker_rows::{Answered, Asker, Context, are_new};
 use broker_types::{Ask, Reason, Refusal, RequestError, TextBuf};
 use records::RecordsTx;
@@ -62,9 +62,7 @@ pub(crate) fn operate<T: RecordsTx>(
         return Err(RequestError::Refused(Refusal::IdentifierUsed));
     }
     if !has_wrap_ttl(ask, &command) {
-        return Err(RequestError::Refused(Refusal::BadRequest(
-            Reason::WrappingRequired,
-        )));
+        return Err(RequestError::Refused(Refusal::BadRequest(Reason::WrappingRequired)));
     }
     carry_out(alloc, tx, context, asker, ask, &needed, command)
 }
@@ -101,7 +99,16 @@ fn carry_out<T: RecordsTx>(
     let token = needed[0].as_str();
     let accessor = needed[1].as_str();
     let path = ask.path.as_str();
-    Ok(wrap(alloc, tx, context, path, ask.wrap_ttl, token, accessor, answered)?)
+    Ok(wrap(
+        alloc,
+        tx,
+        context,
+        path,
+        ask.wrap_ttl,
+        token,
+        accessor,
+        answered,
+    )?)
 }
 
 /// Carries out a command, of the caller who asks or of an open ask. Its own identifiers are new, and have been printed.

@@ -48,4 +48,4 @@ returns-clause-told g c who honest b starts fresh =
     )
 
 pub returns-clause-readable : goal.returns-clause-readable
-returns-clause-readable g c honest = (c.in_ok-response.response, c.in_ok-response.ensures.found honest)
+returns-clause-readable g c honest = (c.in_ok-response.field-0, c.in_ok-response.ensures.found honest)

@@ -1,5 +1,6 @@
 use Rattle.std.specs.Prelude.{◌≡◌, Err, None}
 use Rattle.std.proofs.Common.{ap, subst, sym, ◌∙◌}
+use Rattle.std.proofs.lemmas.Option.{none-some}
 use Rattle.std.proofs.lemmas.Result.{err_from_is_err_and}
 use Rattle.api_json.specs.Reply.{wrap_reply}
 use Rattle.broker_types.specs.Names.{names_of}
@@ -11,6 +12,7 @@ use Rattle.wrapping.specs.Wrapping.{moved}
 use Rattle.broker_model.specs.Order.{wrap_info}
 use Rattle.broker_model.specs.parts.Wrappings.{rewrapped}
 use Rattle.broker_rows.specs.Context.{Context}
+use Rattle.broker_rows.specs.declared.answered.Answered.TheVariants.{Given}
 use Rattle.system_operations.specs.Rewrapping.{IsMoved}
 use Rattle.system_operations.proofs.ResponseAnswers.{acts_on_found, acts_on_none}
 use Rattle.system_operations.proofs.responses.rewrap.Goals as goal
@@ -23,7 +25,7 @@ move_response-requires-clause-named g c =
 
 pub returns-in_err-response-clause-told : goal.returns-in_err-response-clause-told
 returns-in_err-response-clause-told g c who honest b starts fresh =
-    let p = err_from_is_err_and c.from_residual.result c.from_residual.ensures.1 in
+    let p = err_from_is_err_and c.from_residual-in_err-response.result c.from_residual-in_err-response.ensures.1 in
     rw (p.1 ∙ ap Err p.2) (c.in_err-response.ensures.wants honest who b starts)
 
 pub returns-in_default-clause-told : goal.returns-in_default-clause-told
@@ -50,7 +52,11 @@ returns-clause-told g c who honest b starts fresh =
     let entry : record c.in-Some.response { created = c.context.inside.clock }
     ≡ moved names.wrapping_accessor b.clock is.0 = (λ i. record (is.2 i) { created = clock i }) in
     let info = c.in_ok-info.ensures ∙ (λ i. wrap_info (token i) (entry i) None) in
-    acts_on_found b who new t (rewrapped b names) is.0 _ is.1 (
+    acts_on_found b who new t (rewrapped b names) is.0 (Given c.in_ok-wrap_reply.field-0) is.1 (
       ap (λ (r : Reply). reply r None) (c.in_ok-wrap_reply.ensures ∙ (λ i. wrap_reply (request i) (info i))),
       is.3,
     )
+
+pub returns-clause-rows : goal.returns-clause-rows
+returns-clause-rows g c honest =
+    c.in_ok-response.ensures.rows honest (λ none. none-some _ (sym none ∙ c.in-Some.is))

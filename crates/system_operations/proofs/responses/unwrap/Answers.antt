@@ -1,13 +1,16 @@
-use Rattle.std.specs.Prelude.{Err, Some}
-use Rattle.std.proofs.Common.{ap, sym, ◌∙◌}
+use Rattle.std.specs.Prelude.{Err}
+use Rattle.std.proofs.Common.{ap, subst, sym, ◌∙◌}
 use Rattle.std.proofs.lemmas.Result.{err_from_is_err_and}
 use Rattle.broker_types.specs.Broker.{Waiting}
 use Rattle.broker_types.specs.Map.{get}
 use Rattle.broker_types.specs.Operation.{kept_text}
 use Rattle.broker_types.specs.OptionLaws.{mapped, mapped_none}
+use Rattle.records.specs.Table.{table_of}
 use Rattle.records.specs.ValueLaws.{none_of}
+use Rattle.wrapping.specs.WaitingRows.{TakesOut}
 use Rattle.broker_model.specs.parts.Wrappings.{handed_out}
 use Rattle.broker_rows.specs.RepresentingLaws.{represents_dropped, represents_waiting, still_represented}
+use Rattle.broker_rows.specs.declared.answered.Answered.TheVariants.{Kept}
 use Rattle.system_operations.proofs.ResponseAnswers.{acts_on_found, acts_on_none}
 use Rattle.system_operations.proofs.responses.unwrap.Goals as goal
 
@@ -40,10 +43,22 @@ returns-clause-told g c who x honest b starts fresh =
     let there = represents_waiting b old st in
     let w = mapped (λ (w : Waiting). w.reply) (get b.waiting t) c.in-Some.text
     (sym (c.in_ok-text.ensures.taken honest b there) ∙ c.in-Some.is) in
-    acts_on_found b who new t (handed_out b) w.0 _ w.1 (
+    acts_on_found b who new t (handed_out b) w.0 (Kept c.in-Some.text) w.1 (
       ap kept_text w.2,
       represents_dropped b t old new st (c.in_ok-text.ensures.told honest b there) (c.in_ok-text.ensures.call.others honest),
     )
 
 pub returns-clause-readable : goal.returns-clause-readable
 returns-clause-readable g c honest = let out = c.in_ok-text.ensures.rows honest in (out.0, out.1.was)
+
+pub returns-clause-rows : goal.returns-clause-rows
+returns-clause-rows g c honest =
+    let seen = g.T.RecordsTx.seen in
+    let old = (seen c.args.tx.now).rows in
+    let new = (seen c.take.new.tx).rows in
+    let out = c.in_ok-text.ensures.rows honest in
+    let w = mapped (λ (w : Waiting). w.reply) out.0 c.in-Some.text (sym out.2 ∙ c.in-Some.is) in (
+      w.0,
+      subst (λ o. TakesOut c.args.token.now (table_of old) o (table_of new)) w.1 out.1,
+      ap kept_text w.2,
+    )

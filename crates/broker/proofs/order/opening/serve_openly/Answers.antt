@@ -47,8 +47,8 @@ returns-in_err-found-2-clause-readable g c honest =
     let names = names_of c.args.context.now.words in
     let p = err_from_is_err_and c.from_residual-in_err-found-2.result c.from_residual-in_err-found-2.ensures.1 in
     rw (p.1 ∙ ap Err p.2) (λ (command : Command) (asks : Asks old ask command).
-        no_route old ask command path c.in_err-found-2.field-0.0 (IsReadableIfNew old None names ask command) c.as_str-path.ensures.text asks
-        (sym c.in_err-found-2.was ∙ c.in_ok-found.ensures.found honest asks.mount (known_by old ask command path c.as_str-path.ensures.text asks)))
+    no_route old ask command path c.in_err-found-2.field-0.0 (IsReadableIfNew old None names ask command) c.as_str-path.ensures.text asks
+    (sym c.in_err-found-2.was ∙ c.in_ok-found.ensures.found honest asks.mount (known_by old ask command path c.as_str-path.ensures.text asks)))
 
 -- ---- the body is read
 
@@ -79,9 +79,9 @@ returns-in_err-command-clause-readable g c honest =
     rw (p.1 ∙ ap Err p.2)
     (on_no_command Answered (command_for route ask) c.in_err-command.field-0.0 c.in_err-command.ensures.reads
     (λ none command asks.
-        let routed = sym c.in_ok-found-2.was
-        ∙ c.in_ok-found.ensures.found honest asks.mount (known_by old ask command path c.as_str-path.ensures.text asks) in
-        absurd (none command (meant_by_route old ask command path route c.as_str-path.ensures.text asks routed))))
+    let routed = sym c.in_ok-found-2.was
+    ∙ c.in_ok-found.ensures.found honest asks.mount (known_by old ask command path c.as_str-path.ensures.text asks) in
+    absurd (none command (meant_by_route old ask command path route c.as_str-path.ensures.text asks routed))))
 
 -- ---- the command leads to what it does
 
@@ -124,9 +124,9 @@ returns-clause-readable g c honest =
     let same = c.in_ok-found.ensures.call.same before in
     on_answer_weaker c.operate.result
     (λ read command asks.
-        let routed = sym c.in_ok-found-2.was
-        ∙ c.in_ok-found.ensures.found before asks.mount (known_by old ask command path c.as_str-path.ensures.text asks) in
-        let is = ok_inj (sym c.in_ok-command.ensures.reads ∙ meant_by_route old ask command path route c.as_str-path.ensures.text asks routed) in
-        subst (IsReadableIfNew old None names ask) is
-        (subst (λ (rows : Rows). IsReadableIfNew rows None names ask (meant c.in_ok-command.command)) same read))
+    let routed = sym c.in_ok-found-2.was
+    ∙ c.in_ok-found.ensures.found before asks.mount (known_by old ask command path c.as_str-path.ensures.text asks) in
+    let is = ok_inj (sym c.in_ok-command.ensures.reads ∙ meant_by_route old ask command path route c.as_str-path.ensures.text asks routed) in
+    subst (IsReadableIfNew old None names ask) is
+    (subst (λ (rows : Rows). IsReadableIfNew rows None names ask (meant c.in_ok-command.command)) same read))
     (c.operate.ensures.readable honest tt)

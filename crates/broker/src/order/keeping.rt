@@ -1,7 +1,7 @@
-//! The reply of a request is wrapped.
+//! A reply is kept for its unwrapping.
 
 ghost use Rattle.std.specs.Prelude.{◌≡◌, ◌<◌, List, Option, None, true, IfOk, OnOk};
-ghost use Rattle.api_json.specs.Reply.{wrap_reply};
+ghost use Rattle.api_json.specs.Reply.{reply_text, wrap_reply};
 ghost use Rattle.broker_types.specs.Broker.{Broker};
 ghost use Rattle.broker_types.specs.Fault.{IsMemoryOrStorage};
 ghost use Rattle.broker_types.specs.Names.{names_of};
@@ -9,8 +9,8 @@ ghost use Rattle.broker_types.specs.Operation as operation;
 ghost use Rattle.broker_types.specs.Operation.{Done};
 ghost use Rattle.broker_types.specs.Evolves.{IsNew};
 ghost use Rattle.broker_types.specs.Path.{is_path};
-ghost use Rattle.broker_types.specs.Places.{token_identifier, AllUsed};
-ghost use Rattle.broker_types.specs.Sound.{IsIdentifier};
+ghost use Rattle.broker_types.specs.Places.{token_identifier};
+ghost use Rattle.broker_types.specs.Sound.{IsIdentifier, IsSoundWaiting};
 ghost use Rattle.broker_types.specs.Text.{Text};
 ghost use Rattle.broker_types.specs.TokenText.{token_text};
 ghost use Rattle.records.specs.Calls.{IsCall};
@@ -18,14 +18,14 @@ ghost use Rattle.records.specs.Ranges.{IsWaitingInRange};
 ghost use Rattle.records.specs.Rows.{rows_of};
 ghost use Rattle.records.specs.Table.{table};
 ghost use Rattle.records.specs.Transaction.{IsHonest};
-ghost use Rattle.wrapping.specs.WaitingRows.{RepresentsWaiting};
 ghost use Rattle.broker_model.specs.Order as order;
 ghost use Rattle.broker_rows.specs.Done.{answered_of, counted, IsDone};
 ghost use Rattle.broker_rows.specs.Representing.{Represents};
 ghost use Rattle.broker.specs.Stages.{IsServed};
-ghost use Rattle.broker.specs.Wraps.{MayWrap, kept_in, with_kept};
+ghost use Rattle.broker.specs.Wraps.{MayWrap, kept_in, waiting_from, with_kept, with_wrapped};
 
 use api_json::{WrapObject, reply_text, wrap_object, wrap_reply};
+use broker_model::wrapping_is_proper;
 use broker_rows::{Answered, Context, use_up};
 use broker_types::{Fault, Reply, TextBuf, WrapTtl, id_text};
 use records::{RecordsTx, WaitingRecord};
@@ -54,12 +54,29 @@ pub(crate) fn wrap<T: RecordsTx>(
         → MayWrap context.now token.now accessor.now b own d → IsDone who (T.seen tx.old).rows answered d
         → IfOk result (λ x. IsServed who (T.seen tx.new).rows x
         (order.wrap_200 b path.now ttl (names_of context.now.words) d d.answered)) }
+
+    // Whatever the rows are: those of the response that waits and of its identifiers were put, and no others.
+    ensures rows { IsHonest (T.seen tx.new) → OnOk result (table (T.seen tx.new)
+        ≡ with_wrapped (table (T.seen tx.old)) (token_text token.now)
+        (λ r. waiting_from context.now.clock path.now ttl token.now accessor.now (reply_text r)) (answered_of answered)) }
     ensures call { IsCall (T.seen tx.old) (T.seen tx.new) result IsMemoryOrStorage }
 {
     match answered {
-        Answered::Given(reply) => keep(alloc, tx, context, path, ttl, token, accessor, &reply, None),
+        Answered::Given(reply) => keep(
+            alloc, tx, context, path, ttl, token, accessor, &reply, None,
+        ),
         Answered::Made(reply, made) => {
-            keep(alloc, tx, context, path, ttl, token, accessor, &reply, Some(made))
+            keep(
+                alloc,
+                tx,
+                context,
+                path,
+                ttl,
+                token,
+                accessor,
+                &reply,
+                Some(made),
+            )
         }
         Answered::Nothing => Ok(Answered::Nothing),
         Answered::Kept(text) => Ok(Answered::Kept(text)),
@@ -88,20 +105,45 @@ fn keep<T: RecordsTx>(
         → MayWrap context.now token.now accessor.now b own d → Represents who (T.seen tx.old).rows (counted d)
         → IfOk result (λ x. IsServed who (T.seen tx.new).rows x
         (order.wrap b path.now ttl (names_of context.now.words) d reply.now made)) }
+
+    // Whatever the rows are: those of the response that waits and of its identifiers were put, and no others.
+    ensures rows { IsHonest (T.seen tx.new) → OnOk result (table (T.seen tx.new)
+        ≡ with_kept (table (T.seen tx.old)) (token_text token.now)
+        (waiting_from context.now.clock path.now ttl token.now accessor.now (reply_text reply.now))) }
     ensures call { IsCall (T.seen tx.old) (T.seen tx.new) result IsMemoryOrStorage }
 {
+    wrapping_is_proper();
     let text = reply_text(alloc, reply)?;
+    let response = waiting(context, path, ttl, token, accessor, text.as_str());
     let wrapping_token = token_text(alloc, token)?;
-    let response = WaitingRecord {
+    put(alloc, tx, wrapping_token.as_str(), &response)?;
+    Ok(told(alloc, context, wrapping_token, &response, made)?)
+}
+
+/// A text, as it waits from now on.
+fn waiting<'r>(
+    context: &Context<'_>,
+    path: &'r str,
+    ttl: WrapTtl,
+    token: &'r str,
+    accessor: &'r str,
+    text: &'r str,
+) -> WaitingRecord<'r>
+    requires path { is_path path.now ≡ true }
+    requires waits { 0 < ttl }
+    requires token { IsIdentifier token.now }
+    requires accessor { IsIdentifier accessor.now }
+    ensures value { result ≡ waiting_from context.now.clock path.now ttl token.now accessor.now text.now }
+    ensures sound { IsSoundWaiting (token_text token.now) result }
+{
+    WaitingRecord {
         accessor,
         created: context.clock.seconds(),
         ttl: u64::from(ttl.count()),
         path,
         origin: token,
-        reply: text.as_str(),
-    };
-    put(alloc, tx, wrapping_token.as_str(), &response)?;
-    Ok(told(alloc, context, wrapping_token, &response, made)?)
+        reply: text,
+    }
 }
 
 /// Stores a response under a new wrapping token, and marks its identifiers as given out.
@@ -112,12 +154,13 @@ fn put<T: RecordsTx>(
     response: &WaitingRecord<'_>,
 ) -> Result<(), Fault>
     requires { IsWaitingInRange response.now }
+    ensures told { IsHonest (T.seen tx.new) → (who : Option Text) (b : Broker)
+        → Represents who (T.seen tx.old).rows b → IsNew b (token_identifier token.now) → IsNew b response.now.accessor
+        → OnOk result (table (T.seen tx.new) ≡ rows_of (kept_in b token.now response.now)) }
+
+    // Whatever the rows are: these were put, and no others.
     ensures rows { IsHonest (T.seen tx.new) → OnOk result (table (T.seen tx.new)
         ≡ with_kept (table (T.seen tx.old)) token.now response.now) }
-    ensures told { IsHonest (T.seen tx.new) → (b : Broker) → table (T.seen tx.old) ≡ rows_of b
-        → RepresentsWaiting (table (T.seen tx.old)) b → AllUsed b → IsNew b (token_identifier token.now)
-        → IsNew b response.now.accessor
-        → OnOk result (table (T.seen tx.new) ≡ rows_of (kept_in b token.now response.now)) }
     ensures call { IsCall (T.seen tx.old) (T.seen tx.new) result IsMemoryOrStorage }
 {
     store(alloc, tx, token, response)?;
