@@ -61,7 +61,7 @@ use Rattle.histories.proofs.Lasting.{asked_keeps, evolved_since, kept_evolves}
 use Rattle.histories.proofs.OrderCases.{IsServed, IsTurnedAway, IsTurnedDown, order_cases, spent, with_caller}
 use Rattle.histories.proofs.OrderKeeps.{wrapped_cases}
 use Rattle.histories.proofs.Requests.{asked_at, history_keeps}
-use Rattle.histories.proofs.Revoking.{children_are_orphans, orphaned_is_gone, others_are_left, others_stay, revoked_are_gone}
+use Rattle.histories.proofs.Revoking.{below_are_left, children_are_orphans, orphaned_is_gone, others_are_left, others_stay, revoked_are_gone}
 
 -- ---- a 204
 
@@ -407,6 +407,11 @@ module _ (proper : OperationsAreProper) (b : Broker) (history : History) (h : Ar
     children = λ i a c t q x at r other is parent free.
         ap (λ (z : Broker). get z.tokens q) (orphaning_left a (asked_at b history i a h at).outcome c t r)
         ∙ children_are_orphans (spent_by a c) (drop_waiting (broker.revoke_orphan (spent_by a c) t) t) t c refl q x other is parent free;
+    below = λ i a c t q x at r other under there parent stays.
+        let is = asked_at b history i a h at in
+        ap (λ (z : Broker). get z.tokens q) (orphaning_left a is.outcome c t r)
+        ∙ below_are_left (spent_by a c) (drop_waiting (broker.revoke_orphan (spent_by a c) t) t) t c refl
+        (called_tree a c is.sound) q x other under there parent stays;
     others_alone = λ i a c t q at r apart.
         let is = asked_at b history i a h at in
         ap (λ (z : Broker). get z.tokens q) (orphaning_left a is.outcome c t r)

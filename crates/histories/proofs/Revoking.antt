@@ -1,11 +1,11 @@
 -- Laws of what a revocation leaves.
 use Rattle.std.specs.Prelude.{◌≡◌, ◌≢◌, ◌&&◌, ◌||◌, ◌⊎◌, ℕ, zero, suc, ◌∷◌, Bool, true, false, not, cond, if◌then◌else◌}
-use Rattle.std.specs.Prelude.{Option, Some, None, is_none}
+use Rattle.std.specs.Prelude.{Option, Some, None, is_none, option_and_then}
 use Rattle.std.specs.List.{list_any}
 use Rattle.std.specs.Option.{option_map_or}
-use Rattle.std.proofs.Common.{refl, sym, ◌∙◌, ap, inl, inr}
-use Rattle.std.proofs.lemmas.Bool.{false≢true, false_from_ne_true}
-use Rattle.std.proofs.lemmas.Option.{none-some}
+use Rattle.std.proofs.Common.{refl, sym, ◌∙◌, ap, subst, inl, inr}
+use Rattle.std.proofs.lemmas.Bool.{and_parts, false≢true, false_from_ne_true}
+use Rattle.std.proofs.lemmas.Option.{none-some, same_Some}
 use Rattle.broker_types.specs.Text.{Text, same}
 use Rattle.broker_types.specs.Map.{get, len}
 use Rattle.broker_types.specs.Token.{Token, Tokens}
@@ -16,10 +16,10 @@ use Rattle.broker_types.specs.Laws.{IsTree}
 use Rattle.broker_types.specs.Broker.{Broker, revoke}
 use Rattle.broker_types.specs.OptionLaws.{found_or_not}
 use Rattle.broker_types.specs.Spending.{end_spent, is_spent}
-use Rattle.broker_types.specs.TextLaws.{same_true}
+use Rattle.broker_types.specs.TextLaws.{same_self, same_true}
 use Rattle.broker_types.specs.TreeLaws.{lineage_child, lineage_orphan, orphan_child, orphan_gone, orphan_none}
 use Rattle.broker_types.specs.TreeLaws.{orphan_tree, orphan_unrelated, orphaned_is, revoke_tree, under_self}
-use Rattle.histories.specs.Revocation.{has_no_use, left_by_caller}
+use Rattle.histories.specs.Revocation.{EndsWithCaller, has_no_use, left_by_caller}
 
 -- ---- lineages of what is left
 
@@ -129,6 +129,67 @@ module _ (b d : Broker) (t c : Text) (is : d.tokens ≡ without_descendants b.to
 
 -- ---- of one token
 
+-- the parent of a token that is left was its parent, and is not t
+parent_left : (t p : Text) (o : Option Text) → option_and_then (λ r. if same r t then None else Some r) o ≡ Some p
+    → (o ≡ Some p) × (p ≢ t)
+parent_left t p None e = absurd (none-some _ e)
+parent_left t p (Some r) e =
+    elim (same r t) as (λ b. same r t ≡ b → (if b then None else Some r) ≡ Some p → (Some r ≡ Some p) × (p ≢ t)) [
+      | true ↦ λ _ g. absurd (none-some _ g)
+      | false ↦ λ apart g. (
+        g,
+        λ is. false≢true (sym apart ∙ ap (λ z. same z t) (same_Some _ _ g ∙ is) ∙ same_self t),
+      )
+    ] refl e
+
+module _ (ts : Tokens) (t : Text) (tree : IsTree ts) where
+  abbrev left_alone : Tokens
+  left_alone = without_parent ts t
+
+  -- the parent of what is under t, apart from it, is under t
+  parent_under : (q p : Text) (x : Token) → q ≢ t → is_under ts q t ≡ true → get ts q ≡ Some x → x.parent ≡ Some p
+      → is_under ts p t ≡ true
+  parent_under q p x other under is parent =
+      elim (same t q) as (λ v. same t q ≡ v → (v || is_under ts p t) ≡ true → is_under ts p t ≡ true) [
+        | true ↦ λ e _. absurd (other (sym (same_true t q e)))
+        | false ↦ λ _ h. h
+      ] refl (sym (ap (list_any (same t)) (lineage_child ts q p x tree.chains_end is parent)) ∙ under)
+
+  -- what is above a token that is left, where that was under t, was above it and under t
+  above_left : (n : ℕ) (q c : Text) → q ≢ t → is_under ts q t ≡ true → list_any (same c) (climb n left_alone q) ≡ true
+      → (is_under ts c t ≡ true) × (is_under ts q c ≡ true)
+  above_left zero q c other under above = absurd (false≢true above)
+  above_left (suc n) q c other under above = elim (found_or_not (get left_alone q)) [
+    | inl none ↦ absurd (false≢true (sym (ap (λ o. list_any (same c) (climb_at n left_alone q o)) none) ∙ above))
+    | inr y ↦
+        let x = orphaned_is ts t q y.0 y.1 in
+        let here : (same c q || list_any (same c) (climb_above n left_alone y.0.parent)) ≡ true =
+        sym (ap (λ o. list_any (same c) (climb_at n left_alone q o)) y.1) ∙ above in
+        elim (same c q) as
+        (λ v. same c q ≡ v → (v || list_any (same c) (climb_above n left_alone y.0.parent)) ≡ true
+        → (is_under ts c t ≡ true) × (is_under ts q c ≡ true)) [
+          | true ↦ λ e _.
+              let is_q : c ≡ q = same_true c q e in (
+                subst (λ u. is_under ts u t ≡ true) (sym is_q) under,
+                subst (λ u. is_under ts q u ≡ true) (sym is_q)
+                    (under_self ts q (λ none. none-some _ (sym none ∙ x.1))),
+              )
+          | false ↦ λ apart rest.
+              elim (y.0.parent) as
+              (λ o. y.0.parent ≡ o → list_any (same c) (climb_above n left_alone o) ≡ true
+              → (is_under ts c t ≡ true) × (is_under ts q c ≡ true)) [
+                | None ↦ λ _ h. absurd (false≢true h)
+                | Some p ↦ λ parent h.
+                    let was = parent_left t p x.0.parent (ap (λ (z : Token). z.parent) (sym x.2) ∙ parent) in
+                    let more = above_left n p c was.1 (parent_under q p x.0 other under x.1 was.0) h in (
+                      more.0,
+                      ap (list_any (same c)) (lineage_child ts q p x.0 tree.chains_end x.1 was.0)
+                          ∙ ap (λ v. v || is_under ts p c) apart ∙ more.1,
+                    )
+              ] refl rest
+        ] refl here
+  ]
+
 module _ (b d : Broker) (t c : Text) (is_left : d.tokens ≡ without_parent b.tokens t) where
   -- it is gone
   pub orphaned_is_gone : get (end_spent d (Some c)).tokens t ≡ None
@@ -169,6 +230,32 @@ module _ (b d : Broker) (t c : Text) (is_left : d.tokens ≡ without_parent b.to
             ap (λ (o : Option Token). option_map_or is_spent o false) (y.1 ∙ ap Some z.2)
             ∙ sym (ap (λ (o : Option Token). option_map_or is_spent o false) z.1) ∙ uses
       ]
+
+  -- a caller without uses left, which is left, was there without uses left
+  no_use_before : has_no_use (without_parent b.tokens t) c ≡ true → (has_no_use b.tokens c ≡ true) × (c ≢ t)
+  no_use_before none_left = elim (found_or_not (get (without_parent b.tokens t) c)) [
+    | inl none ↦ absurd (false≢true (sym (ap (λ (o : Option Token). option_map_or is_spent o false) none) ∙ none_left))
+    | inr y ↦
+        let z = orphaned_is b.tokens t c y.0 y.1 in (
+          ap (λ (o : Option Token). option_map_or is_spent o false) z.1 ∙ ap is_spent (sym z.2)
+              ∙ sym (ap (λ (o : Option Token). option_map_or is_spent o false) y.1) ∙ none_left,
+          λ is. none-some _ (sym (orphan_gone b.tokens t) ∙ ap (get (without_parent b.tokens t)) (sym is) ∙ y.1),
+        )
+  ]
+
+  -- a token further below it is as it was, unless it ends with the caller
+  pub below_are_left : IsTree b.tokens → (q : Text) (x : Token) → q ≢ t → is_under b.tokens q t ≡ true → get b.tokens q ≡ Some x
+      → x.parent ≢ Some t → (EndsWithCaller b.tokens c t q → ⊥) → get (end_spent d (Some c)).tokens q ≡ Some x
+  below_are_left tree q x other under is parent stays =
+      let ts = without_parent b.tokens t in
+      let off : (has_no_use ts c && is_under ts q c) ≡ false =
+      false_from_ne_true (has_no_use ts c && is_under ts q c) (λ on.
+      let both = and_parts (has_no_use ts c) (is_under ts q c) on in
+      let spent = no_use_before both.0 in
+      let above = above_left b.tokens t tree (len ts) q c other under both.1 in
+      stays (record { spent = spent.0; under_caller = above.1; caller_under = above.0; apart = spent.1 })) in
+      end_spent_leaves d c q ∙ ap (λ us. left_by_caller us c q) is_left
+      ∙ ap (λ v. if v then None else get ts q) off ∙ orphan_unrelated b.tokens t q x other is parent
 
   -- a token that is not under it is as it was, but for the end of the caller
   pub others_stay : IsTree b.tokens → (q : Text) → is_under b.tokens q t ≡ false

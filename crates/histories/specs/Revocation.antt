@@ -99,6 +99,13 @@ has_no_use ts c = option_map_or is_spent (get ts c) false
 abbrev pub left_by_caller : Tokens → Text → Text → Option Token
 left_by_caller ts c q = if has_no_use ts c && is_under ts q c then None else get ts q
 
+-- the token q ends with the caller c, which is under t, apart from it, and has spent its last use
+pub record EndsWithCaller (ts : Tokens) (c t q : Text) : Type 0 where
+  pub spent : has_no_use ts c ≡ true
+  pub under_caller : is_under ts q c ≡ true
+  pub caller_under : is_under ts c t ≡ true
+  pub apart : c ≢ t
+
 -- ---- what is answered later
 
 -- the wrapping token that a command takes a text as
@@ -133,6 +140,10 @@ pub record Revocation (history : History) : Type 0 where
       → q ≢ t → get (spent_by a c).tokens q ≡ Some x → x.parent ≡ Some t
       → (q ≢ c) ⊎ (has_no_use (spent_by a c).tokens c ≡ false)
       → get a.outcome.next.tokens q ≡ Some (record x { parent = None })
+  -- The tokens further below t are as they were, unless they end with a caller that is under t.
+  pub below : (i : ℕ) (a : Asking) (c t q : Text) (x : Token) → AskedAt history i a → RevokesAlone a c t
+      → q ≢ t → is_under (spent_by a c).tokens q t ≡ true → get (spent_by a c).tokens q ≡ Some x
+      → x.parent ≢ Some t → (EndsWithCaller (spent_by a c).tokens c t q → ⊥) → get a.outcome.next.tokens q ≡ Some x
   -- And the tokens not under t are as after the other revocation.
   pub others_alone : (i : ℕ) (a : Asking) (c t q : Text) → AskedAt history i a → RevokesAlone a c t
       → is_under (spent_by a c).tokens q t ≡ false
