@@ -61,7 +61,7 @@ use Rattle.histories.proofs.Lasting.{asked_keeps, evolved_since, kept_evolves}
 use Rattle.histories.proofs.OrderCases.{IsServed, IsTurnedAway, IsTurnedDown, order_cases, spent, with_caller}
 use Rattle.histories.proofs.OrderKeeps.{wrapped_cases}
 use Rattle.histories.proofs.Requests.{asked_at, history_keeps}
-use Rattle.histories.proofs.Revoking.{below_are_left, children_are_orphans, orphaned_is_gone, others_are_left, others_stay, revoked_are_gone}
+use Rattle.histories.proofs.Revoking.{below_are_gone, below_are_left, children_are_orphans, orphaned_is_gone, others_are_left, others_stay, revoked_are_gone}
 
 -- ---- a 204
 
@@ -412,6 +412,14 @@ module _ (proper : OperationsAreProper) (b : Broker) (history : History) (h : Ar
         ap (λ (z : Broker). get z.tokens q) (orphaning_left a is.outcome c t r)
         ∙ below_are_left (spent_by a c) (drop_waiting (broker.revoke_orphan (spent_by a c) t) t) t c refl
         (called_tree a c is.sound) q x other under there parent stays;
+    ended_below = λ i a c t q at r ends.
+        let is = asked_at b history i a h at in
+        record {
+          was = called_was a c q (under_tokens (spent_by a c).tokens q c ends.under_caller).0;
+          gone = inr (ap (λ (z : Broker). get z.tokens q) (orphaning_left a is.outcome c t r)
+              ∙ below_are_gone (spent_by a c) (drop_waiting (broker.revoke_orphan (spent_by a c) t) t) t c refl
+              (called_tree a c is.sound) q ends);
+        };
     others_alone = λ i a c t q at r apart.
         let is = asked_at b history i a h at in
         ap (λ (z : Broker). get z.tokens q) (orphaning_left a is.outcome c t r)

@@ -1,7 +1,7 @@
 -- Laws of what a revocation leaves.
 use Rattle.std.specs.Prelude.{◌≡◌, ◌≢◌, ◌&&◌, ◌||◌, ◌⊎◌, ℕ, zero, suc, ◌∷◌, Bool, true, false, not, cond, if◌then◌else◌}
-use Rattle.std.specs.Prelude.{Option, Some, None, is_none, option_and_then}
-use Rattle.std.specs.List.{list_any}
+use Rattle.std.specs.Prelude.{Option, Some, None, is_none, option_and_then, List, [], ◌==◌}
+use Rattle.std.specs.List.{AllByRecursion, IsDistinct, list_any}
 use Rattle.std.specs.Option.{option_map_or}
 use Rattle.std.proofs.Common.{refl, sym, ◌∙◌, ap, subst, inl, inr}
 use Rattle.std.proofs.lemmas.Bool.{and_parts, false≢true, false_from_ne_true}
@@ -9,16 +9,17 @@ use Rattle.std.proofs.lemmas.Option.{none-some, same_Some}
 use Rattle.broker_types.specs.Text.{Text, same}
 use Rattle.broker_types.specs.Map.{get, len}
 use Rattle.broker_types.specs.Token.{Token, Tokens}
-use Rattle.broker_types.specs.Lineage.{ChainsEnd, climb, ends_within, is_under, without_descendants, without_parent}
+use Rattle.broker_types.specs.Lineage.{ChainsEnd, climb, ends_within, is_under, lineage, without_descendants}
+use Rattle.broker_types.specs.Lineage.{without_parent}
 use Rattle.broker_types.specs.LineageLaws.{climb_above, climb_at, climb_enough, ends_above, ends_at, get-revoke}
-use Rattle.broker_types.specs.LineageLaws.{is_under_trans, revoke_other, revoke_under}
+use Rattle.broker_types.specs.LineageLaws.{climb_distinct, is_under_trans, revoke_other, revoke_under}
 use Rattle.broker_types.specs.Laws.{IsTree}
 use Rattle.broker_types.specs.Broker.{Broker, revoke}
 use Rattle.broker_types.specs.OptionLaws.{found_or_not}
 use Rattle.broker_types.specs.Spending.{end_spent, is_spent}
 use Rattle.broker_types.specs.TextLaws.{same_self, same_true}
 use Rattle.broker_types.specs.TreeLaws.{lineage_child, lineage_orphan, orphan_child, orphan_gone, orphan_none}
-use Rattle.broker_types.specs.TreeLaws.{orphan_tree, orphan_unrelated, orphaned_is, revoke_tree, under_self}
+use Rattle.broker_types.specs.TreeLaws.{orphan_tree, orphan_unrelated, orphaned_is, revoke_tree, under_self, under_tokens}
 use Rattle.histories.specs.Revocation.{EndsWithCaller, has_no_use, left_by_caller}
 
 -- ---- lineages of what is left
@@ -190,6 +191,100 @@ module _ (ts : Tokens) (t : Text) (tree : IsTree ts) where
         ] refl here
   ]
 
+-- none of those that differ from it is it
+none_among : (c : Text) (l : List Text) → AllByRecursion (λ y. same c y ≡ false) l → list_any (same c) l ≡ true → ⊥
+none_among c [] all among = false≢true among
+none_among c (y ∷ ys) (apart, rest) among =
+    none_among c ys rest (ap (λ v. v || list_any (same c) ys) (sym apart) ∙ among)
+
+module _ (ts : Tokens) (t : Text) (tree : IsTree ts) where
+  -- two tokens that are under each other are one
+  not_both_ways : (c : Text) → c ≢ t → is_under ts c t ≡ true → is_under ts t c ≡ true → ⊥
+  unfolding IsDistinct
+  not_both_ways c apart down up = elim (found_or_not (get ts c)) [
+    | inl none ↦ (under_tokens ts c t down).0 none
+    | inr x ↦
+        elim (x.0.parent) as (λ o. x.0.parent ≡ o → ⊥) [
+          | None ↦ λ none.
+              let alone : (same t c || false) ≡ true = sym (ap (list_any (same t)) (lineage_orphan ts c x.0 x.1 none)) ∙ down in
+              elim (same t c) as (λ v. same t c ≡ v → (v || false) ≡ true → ⊥) [
+                | true ↦ λ e _. apart (sym (same_true t c e))
+                | false ↦ λ _ e. false≢true e
+              ] refl alone
+          | Some p ↦ λ parent.
+              let above : is_under ts p t ≡ true = parent_under ts t tree c p x.0 apart down x.1 parent in
+              let again : is_under ts p c ≡ true = is_under_trans ts p t c tree.chains_end above up in
+              let distinct : IsDistinct same (c ∷ lineage ts p) =
+              subst (IsDistinct same) (lineage_child ts c p x.0 tree.chains_end x.1 parent)
+              (climb_distinct (len ts) ts c (tree.chains_end c)) in
+              none_among c (lineage ts p) distinct.0 again
+        ] refl
+  ]
+
+  -- a token that is left has as many uses as before
+  left_there : (q : Text) (x : Token) → q ≢ t → get ts q ≡ Some x
+      → (y : Token) × (get (left_alone ts t tree) q ≡ Some y) × (y.uses_left ≡ x.uses_left)
+  left_there q x other is =
+      elim (x.parent) as
+      (λ o. x.parent ≡ o → (y : Token) × (get (left_alone ts t tree) q ≡ Some y) × (y.uses_left ≡ x.uses_left)) [
+        | None ↦ λ none. (x, orphan_unrelated ts t q x other is (λ e. none-some _ (sym none ∙ e)), refl)
+        | Some r ↦ λ parent.
+            elim (same r t) as
+            (λ v. same r t ≡ v → (y : Token) × (get (left_alone ts t tree) q ≡ Some y) × (y.uses_left ≡ x.uses_left)) [
+              | true ↦ λ e. (
+                record x { parent = None },
+                orphan_child ts t q x other is (parent ∙ ap Some (same_true r t e)),
+                refl,
+              )
+              | false ↦ λ e. (
+                x,
+                orphan_unrelated ts t q x other is
+                    (λ same_parent. false≢true (sym e ∙ ap (λ z. same z t) (same_Some _ _ (sym parent ∙ same_parent)) ∙ same_self t)),
+                refl,
+              )
+            ] refl
+      ] refl
+
+  -- what is under a token that is under t, apart from it, still is
+  still_under : (n : ℕ) (q c : Text) → c ≢ t → is_under ts c t ≡ true → ends_within n ts q ≡ true
+      → list_any (same c) (climb n ts q) ≡ true → is_under (left_alone ts t tree) q c ≡ true
+  still_under zero q c apart down ends above = absurd (false≢true above)
+  still_under (suc n) q c apart down ends above = elim (found_or_not (get ts q)) [
+    | inl none ↦ absurd (false≢true (sym (ap (λ o. list_any (same c) (climb_at n ts q o)) none) ∙ above))
+    | inr x ↦
+        let here : (same c q || list_any (same c) (climb_above n ts x.0.parent)) ≡ true =
+        sym (ap (λ o. list_any (same c) (climb_at n ts q o)) x.1) ∙ above in
+        let ends_here : ends_above n ts x.0.parent ≡ true = sym (ap (ends_at n ts) x.1) ∙ ends in
+        elim (same c q) as
+        (λ v. same c q ≡ v → (v || list_any (same c) (climb_above n ts x.0.parent)) ≡ true
+        → is_under (left_alone ts t tree) q c ≡ true) [
+          | true ↦ λ e _.
+              let is_q : c ≡ q = same_true c q e in
+              let there = left_there q x.0 (λ is_t. apart (is_q ∙ is_t)) x.1 in
+              subst (λ u. is_under (left_alone ts t tree) q u ≡ true) (sym is_q)
+              (under_self (left_alone ts t tree) q (λ none. none-some _ (sym none ∙ there.1)))
+          | false ↦ λ other rest.
+              elim (x.0.parent) as
+              (λ o. x.0.parent ≡ o → ends_above n ts o ≡ true → list_any (same c) (climb_above n ts o) ≡ true
+              → is_under (left_alone ts t tree) q c ≡ true) [
+                | None ↦ λ _ _ h. absurd (false≢true h)
+                | Some p ↦ λ parent fits h.
+                    let up : is_under ts p c ≡ true =
+                    ap (list_any (same c)) (climb_enough (len ts) n ts p (tree.chains_end p) fits) ∙ h in
+                    let q_up : is_under ts q c ≡ true =
+                    ap (list_any (same c)) (lineage_child ts q p x.0 tree.chains_end x.1 parent)
+                    ∙ ap (λ v. v || is_under ts p c) other ∙ up in
+                    let not_t : q ≢ t = λ e. not_both_ways c apart down (subst (λ u. is_under ts u c ≡ true) e q_up) in
+                    let not_child : p ≢ t = λ e. not_both_ways c apart down (subst (λ u. is_under ts u c ≡ true) e up) in
+                    let there : get (left_alone ts t tree) q ≡ Some x.0 =
+                    orphan_unrelated ts t q x.0 not_t x.1 (λ e. not_child (same_Some _ _ (sym parent ∙ e))) in
+                    ap (list_any (same c)) (lineage_child (left_alone ts t tree) q p x.0 (orphan_tree ts t tree).chains_end there parent)
+                    ∙ ap (λ v. v || is_under (left_alone ts t tree) p c) other
+                    ∙ still_under n p c apart down fits h
+              ] refl ends_here rest
+        ] refl here
+  ]
+
 module _ (b d : Broker) (t c : Text) (is_left : d.tokens ≡ without_parent b.tokens t) where
   -- it is gone
   pub orphaned_is_gone : get (end_spent d (Some c)).tokens t ≡ None
@@ -256,6 +351,25 @@ module _ (b d : Broker) (t c : Text) (is_left : d.tokens ≡ without_parent b.to
       stays (record { spent = spent.0; under_caller = above.1; caller_under = above.0; apart = spent.1 })) in
       end_spent_leaves d c q ∙ ap (λ us. left_by_caller us c q) is_left
       ∙ ap (λ v. if v then None else get ts q) off ∙ orphan_unrelated b.tokens t q x other is parent
+
+  -- one that does end with the caller is gone
+  pub below_are_gone : (tree : IsTree b.tokens) (q : Text) → EndsWithCaller b.tokens c t q
+      → get (end_spent d (Some c)).tokens q ≡ None
+  below_are_gone tree q ends =
+      let ts = without_parent b.tokens t in
+      let under : is_under ts q c ≡ true =
+      still_under b.tokens t tree (len b.tokens) q c ends.apart ends.caller_under (tree.chains_end q) ends.under_caller in
+      let spent : has_no_use ts c ≡ true = elim (found_or_not (get b.tokens c)) [
+        | inl none ↦ absurd (false≢true (sym (ap (λ (o : Option Token). option_map_or is_spent o false) none) ∙ ends.spent))
+        | inr x ↦
+            let y = left_there b.tokens t tree c x.0 ends.apart x.1 in
+            ap (λ (o : Option Token). option_map_or is_spent o false) y.1
+            ∙ ap (λ u. option_map_or (λ n. n == 0) u false) y.2
+            ∙ sym (ap (λ (o : Option Token). option_map_or is_spent o false) x.1) ∙ ends.spent
+      ] in
+      end_spent_leaves d c q ∙ ap (λ us. left_by_caller us c q) is_left
+      ∙ ap (λ v. if v && is_under ts q c then None else get ts q) spent
+      ∙ ap (λ v. if v then None else get ts q) under
 
   -- a token that is not under it is as it was, but for the end of the caller
   pub others_stay : IsTree b.tokens → (q : Text) → is_under b.tokens q t ≡ false
