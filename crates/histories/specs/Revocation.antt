@@ -144,7 +144,7 @@ pub record Revocation (history : History) : Type 0 where
   pub below : (i : ℕ) (a : Asking) (c t q : Text) (x : Token) → AskedAt history i a → RevokesAlone a c t
       → q ≢ t → is_under (spent_by a c).tokens q t ≡ true → get (spent_by a c).tokens q ≡ Some x
       → x.parent ≢ Some t → (EndsWithCaller (spent_by a c).tokens c t q → ⊥) → get a.outcome.next.tokens q ≡ Some x
-  -- Those that do end then.
+  -- And those end with it.
   pub ended_below : (i : ℕ) (a : Asking) (c t q : Text) → AskedAt history i a → RevokesAlone a c t
       → EndsWithCaller (spent_by a c).tokens c t q → EndsToken a q
   -- And the tokens not under t are as after the other revocation.

@@ -153,8 +153,8 @@ returns-clause-no_identifier_twice g c = λ honest s represents.
 
 pub returns-in-Err-clause-no_identifier_twice : goal.returns-in-Err-clause-no_identifier_twice
 returns-in-Err-clause-no_identifier_twice g c = λ honest s represents.
-    let w = new_world (begun s) in
     let none : bytes_of c.reserve.new.self.items ≡ [] = ap bytes_of (c.reserve.ensures.items ∙ c.new-replies.ensures.items) in
+    let w = new_world (begun s) in
     keeps_none w (bytes_of c.reserve.new.self.items) (NoIdentifierTwice s) none (c.identifiers_are_given_out_once.ensures.since_start s)
 
 pub returns-in-Err-feed-clause-no_identifier_twice : goal.returns-in-Err-feed-clause-no_identifier_twice
@@ -213,8 +213,8 @@ returns-clause-same_reply g c = λ honest s represents.
 
 pub returns-in-Err-clause-same_reply : goal.returns-in-Err-clause-same_reply
 returns-in-Err-clause-same_reply g c = λ honest s represents.
-    let w = new_world (begun s) in
     let none : bytes_of c.reserve.new.self.items ≡ [] = ap bytes_of (c.reserve.ensures.items ∙ c.new-replies.ensures.items) in
+    let w = new_world (begun s) in
     keeps_none w (bytes_of c.reserve.new.self.items) SameReply none (c.kept_replies_are_the_replies.ensures.since_start s)
 
 pub returns-in-Err-feed-clause-same_reply : goal.returns-in-Err-feed-clause-same_reply
