@@ -1,12 +1,12 @@
 -- A reply that is kept: its identifiers, its rows, and the broker that they represent.
-use Rattle.std.specs.Prelude.{◌≡◌, ◌||◌, ◌×◌, ℕ, List, [], ◌∷◌, Bool, true, false, not, cond, ⊤}
+use Rattle.std.specs.Prelude.{◌≡◌, ◌||◌, ℕ, List, [], ◌∷◌, Bool, true, false, not, cond, ⊤}
 use Rattle.std.specs.Prelude.{Option, Some, None, is_none}
 use Rattle.std.specs.List.{list_any}
-use Rattle.std.proofs.Common.{refl, sym, ◌∙◌, ap, subst}
+use Rattle.std.proofs.Common.{refl, sym, ◌∙◌, ap, subst, inl, inr}
 use Rattle.std.proofs.lemmas.Bool.{false≢true, and_parts}
 use Rattle.broker_types.specs.Broker.{Broker, Waiting}
 use Rattle.broker_types.specs.Evolves.{IsNew}
-use Rattle.broker_types.specs.Map.{Map, get, put}
+use Rattle.broker_types.specs.Map.{Map, get}
 use Rattle.broker_types.specs.MapLaws.{get-put}
 use Rattle.broker_types.specs.Names.{Names, names_of}
 use Rattle.broker_types.specs.Operation as operation
@@ -24,6 +24,7 @@ use Rattle.records.specs.RowForms.{used_row}
 use Rattle.records.specs.Rows.{rows_of}
 use Rattle.records.specs.Table.{table_of, with_row}
 use Rattle.records.specs.Transaction.{Rows}
+use Rattle.wrapping.specs.WaitingRows.{with_response}
 use Rattle.wrapping.specs.Wrapping.{with_waiting}
 use Rattle.api_json.specs.Reply.{reply_text, wrap_reply}
 use Rattle.broker_model.specs.Forms.{forms}
@@ -35,7 +36,7 @@ use Rattle.broker_rows.specs.MarkLaws.{marks_joined}
 use Rattle.broker_rows.specs.Representing.{Represents}
 use Rattle.broker_rows.specs.declared.answered.Answered.{Answered}
 use Rattle.broker.specs.Stages.{IsServed}
-use Rattle.broker.specs.Wraps.{MayWrap, kept_in, waiting_from}
+use Rattle.broker.specs.Wraps.{MayWrap, kept_in, waiting_from, with_kept}
 
 -- ---- the identifiers
 
@@ -75,7 +76,8 @@ module _ (x : Context) (token accessor : Text) (b : Broker) (own : List Text) (d
       × (are_new b.used (names.wrapping_accessor ∷ own) ≡ true)
   of_token =
       let outer = and_parts (is_none (get b.used names.wrapping_token)) _ may.new in
-      (outer.0, and_parts (not (list_any (same names.wrapping_token) (names.wrapping_accessor ∷ own))) _ outer.1)
+      let inner = and_parts (not (list_any (same names.wrapping_token) (names.wrapping_accessor ∷ own))) _ outer.1 in
+      (outer.0, inner.0, inner.1)
 
   -- so both are new after the operation
   pub token_new : IsNew (counted d) token
@@ -120,12 +122,13 @@ module _ (x : Context) (token accessor : Text) (b : Broker) (own : List Text) (d
 
 -- ---- the rows
 
--- the rows of a broker in which a response was stored, and its identifiers were marked
+-- where a response was stored in the rows of a broker, and then its identifiers were marked, they are those of the next
 pub kept_rows : {who : Option Text} (b : Broker) (t : Text) (w : Waiting) (old mid new : Rows) → Represents who old b
     → Tells of_waiting (table_of mid) (with_waiting b t w) → KeepsOthers of_waiting (table_of old) (table_of mid)
-    → table_of new ≡ with_row (with_row (table_of mid) kind.Used w.accessor used_row) kind.Used w.origin used_row
+    → table_of mid ≡ with_response (table_of old) t w → table_of new ≡ with_kept (table_of old) t w
     → table_of new ≡ rows_of (kept_in b t w)
-kept_rows b t w old mid new st tells keeps marks =
+kept_rows b t w old mid new st tells keeps stored marked =
     let c = with_waiting b t w in
-    marks_joined c w.origin w.accessor (table_of mid) (table_of new) marks
+    marks_joined c w.origin w.accessor (table_of mid) (table_of new)
+    (marked ∙ (λ i. with_row (with_row (sym stored i) kind.Used w.accessor used_row) kind.Used w.origin used_row))
     (joined_rows of_waiting (table_of old) (table_of mid) b c st.rows tells keeps (rows_of-other_waiting b c.waiting))

@@ -1,18 +1,25 @@
 -- What a command reads, by the identifiers that it needs.
-use Rattle.std.specs.Prelude.{◌≡◌, ◌||◌, ◌&&◌, not, nat_lt, List, [], ◌∷◌, true, false, is_none, Option, Some, None}
+use Rattle.std.specs.Prelude.{◌≡◌, ◌||◌, ◌&&◌, not, nat_lt, if◌then◌else◌, List, [], ◌∷◌, drop, All, true, false, is_none}
+use Rattle.std.specs.Prelude.{Option, Some, None, ⊤}
 use Rattle.std.specs.List.{list_any}
-use Rattle.std.proofs.Common.{refl}
-use Rattle.std.proofs.lemmas.Bool.{true≢false}
+use Rattle.std.proofs.Common.{refl, sym, ◌∙◌, ap, subst}
+use Rattle.std.proofs.lemmas.Bool.{true≢false, and_parts}
+use Rattle.broker_types.specs.Map.{Map}
+use Rattle.broker_types.specs.Names.{Names}
+use Rattle.broker_types.specs.Sound.{IsIdentifier}
 use Rattle.broker_types.specs.Text.{Text, same}
+use Rattle.broker_types.specs.Used.{are_new}
 use Rattle.broker_types.specs.declared.ask.Ask.{Ask}
 use Rattle.records.specs.Table.{Table}
 use Rattle.records.specs.Transaction.{Rows}
 use Rattle.records.specs.declared.kind.Kind.TheVariants as kind
 use Rattle.broker_model.specs.Command.{Command, on_cubbyhole, on_token, on_secret, on_policy}
 use Rattle.broker_model.specs.Command.{on_mount, on_lease, on_issued, on_wrapping}
+use Rattle.broker_model.specs.Serving.{is_wrapped, needed_by}
 use Rattle.broker_model.specs.Step.{traits}
 use Rattle.broker_model.specs.declared.commands.WrappingCommand.TheVariants as wrapping
 use Rattle.broker_rows.specs.Marks.{are_unmarked}
+use Rattle.broker_rows.specs.Operating.{ArePrinted}
 use Rattle.broker.specs.Answering.{IsReadableBy}
 
 -- identifiers are unmarked as long as their rows stay
@@ -47,3 +54,35 @@ untimed_reads rows (Some c) a (on_policy name command) untimed = absurd (true≢
 untimed_reads rows (Some c) a (on_mount name command) untimed = absurd (true≢false untimed)
 untimed_reads rows (Some c) a (on_lease prefix command) untimed = absurd (true≢false untimed)
 untimed_reads rows (Some c) a (on_issued place command) untimed = absurd (true≢false untimed)
+
+-- ---- what is wrapped
+
+-- the identifiers after those of the wrapping token and of its accessor are new too
+pub own_new : (used : Map ⊤) (i j : Text) (own : List Text) → are_new used (i ∷ j ∷ own) ≡ true → are_new used own ≡ true
+own_new used i j own new =
+    (and_parts _ _ (and_parts _ _ (and_parts _ _ (and_parts _ _ new).1).1).1).1
+
+module _ (a : Ask) (names : Names) (command : Command) (wraps : is_wrapped a command ≡ true) where
+  -- those of the wrapping token and of its accessor come first
+  pub needed_is : needed_by a names command ≡ names.wrapping_token ∷ names.wrapping_accessor ∷ (traits command).own names
+  needed_is =
+      ap (λ v. if v then names.wrapping_token ∷ names.wrapping_accessor ∷ (traits command).own names else (traits command).own names) wraps
+
+  module _ (needed : List Text) (printed : ArePrinted needed (needed_by a names command)) where
+    pub printed_is : needed ≡ names.wrapping_token ∷ names.wrapping_accessor ∷ (traits command).own names
+    printed_is = printed.are ∙ needed_is
+
+    all_good : All IsIdentifier (names.wrapping_token ∷ names.wrapping_accessor ∷ (traits command).own names)
+    all_good = subst (All IsIdentifier) printed_is printed.good
+
+    pub token_good : IsIdentifier names.wrapping_token
+    token_good = all_good.0
+
+    pub accessor_good : IsIdentifier names.wrapping_accessor
+    accessor_good = all_good.1.0
+
+    pub own_printed : ArePrinted (drop 2 needed) ((traits command).own names)
+    own_printed = record {
+      are = ap (drop 2) printed_is;
+      good = subst (All IsIdentifier) (sym (ap (drop 2) printed_is)) all_good.1.1;
+    }

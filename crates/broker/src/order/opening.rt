@@ -1,7 +1,6 @@
 //! Requests that need no caller (Vault's documentation, "/sys/wrapping").
 
-ghost use Rattle.std.specs.Prelude.{◌≡◌, true, None, IfOk, IfErr, OnOk, Option};
-ghost use Rattle.std.specs.Option.{option_map_or};
+ghost use Rattle.std.specs.Prelude.{◌≡◌, ◌≤◌, true, None, IfOk, IfErr, OnOk, length};
 ghost use Rattle.api_json.specs.Reads.{IsRead};
 ghost use Rattle.broker_types.specs.Broker.{Broker};
 ghost use Rattle.broker_types.specs.Fault.{IsNotBadStart};
@@ -11,7 +10,6 @@ ghost use Rattle.broker_types.specs.RequestError.{Ends};
 ghost use Rattle.broker_types.specs.declared.fault.Fault.TheVariants.{Memory};
 ghost use Rattle.records.specs.Calls.{OnAnswer, IsRequestCall};
 ghost use Rattle.records.specs.Transaction.{IsHonest};
-ghost use Rattle.broker_model.specs.Command.{Command};
 ghost use Rattle.broker_model.specs.Serving as serving;
 ghost use Rattle.broker_model.specs.Serving.{answered_openly, served};
 ghost use Rattle.broker_model.specs.parts.WrappingCommands as commands;

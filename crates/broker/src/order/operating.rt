@@ -24,6 +24,7 @@ ghost use Rattle.broker.specs.Stages.{IsServed};
 use crate::answers::PERMISSION_DENIED;
 use crate::command::{Command, has_wrap_ttl, is_wrapped, needed_identifiers};
 use crate::order::keeping::wrap;
+use broker_model::operations_are_proper;
 use broker_rows::{Answered, Asker, Context, are_new};
 use broker_types::{Ask, Reason, Refusal, RequestError, TextBuf};
 use records::RecordsTx;
@@ -92,6 +93,7 @@ fn carry_out<T: RecordsTx>(
         → OnAnswer result (IsReadableBy (T.seen tx.old).rows (who_of asker.now) (meant command.entry)) }
     ensures call { IsRequestCall (T.seen tx.old) (T.seen tx.new) result IsNotBadStart }
 {
+    operations_are_proper();
     if !is_wrapped(ask, &command) {
         return act(alloc, tx, context, asker, needed, command);
     }
