@@ -1,18 +1,24 @@
 -- A run of the hub, one event after another.
-use Rattle.std.proofs.Common.{arith, ◌≡◌, ◌∙◌, ℕ, ◌+◌, ◌<◌, ◌≤◌, List, [], ◌∷◌, ◌++◌, length, take, get_or, sym, ap, subst, None}
+use Rattle.std.proofs.Common.{arith, ◌≡◌, ◌∙◌, ℕ, ◌+◌, ◌<◌, ◌≤◌, List, [], ◌∷◌, ◌++◌, length, take, get_or, refl, sym, ap, subst, None}
 use Rattle.std.proofs.lemmas.List.{take_more, take_all}
 use Rattle.broker_rows.specs.Representing.{Represents}
 use Rattle.broker.specs.Kept.{Kept, IsHonestStore}
 use Rattle.records.specs.Transaction.{Rows}
 use Rattle.broker_types.specs.declared.fault.Fault.{Fault}
 use Rattle.hub.specs.AnyRows.{FaultsAt, NextConnections, RunConnections}
-use Rattle.hub.specs.World.{Connections, World, Next, Run}
+use Rattle.hub.specs.World.{Connections, World, Run}
 use Rattle.hub.specs.Feeding.{IsLater}
 use Rattle.hub.specs.Representing.{HubRepresents, ConnectionsRepresent, hub_store}
 use Rattle.hub.specs.Runs.{Answers, AnswersOne, StopsAt, StopsTurns, TookTurns}
 use Rattle.hub.specs.declared.hub.Hub.{Hub}
 use Rattle.hub.specs.declared.event.Event.{Event}
-use Rattle.hub.proofs.RunLemmas.{Run-push, Run-unique, RunConnections-push}
+use Rattle.broker_types.specs.Broker.{Broker}
+use Rattle.broker_types.specs.Sound.{Sound}
+use Rattle.broker_model.specs.Forms.{forms}
+use Rattle.histories.specs.History.{AreAsked, History}
+use Rattle.hub.specs.Histories.{EventsAsked}
+use Rattle.hub.proofs.RunHistories.{AreAsked-append, AreAsked-one, EventsAsked-append, goes, run_left}
+use Rattle.hub.proofs.RunLemmas.{Run-append, Run-unique, RunConnections-push}
 
 -- the first events, and one more
 take-more : (events : List Event) (i : ℕ) (e : Event) → i < length events → e ≡ get_or events i e
@@ -26,21 +32,51 @@ with_piece e piece = record { conn = e.conn; piece = piece; moment = e.moment; w
 
 -- a run has no other replies
 pub answers_of : {S : Type 0} (seen : S → Kept) (w : World) (events : List Event) (replies : List (List ℕ)) (hub : Hub S) (after : World)
-    → Run w events replies after → HubRepresents seen hub after → Answers seen w events replies hub
-answers_of seen w events replies hub after run represents =
-    record { after = after; run = run; only = λ others other is. (Run-unique w events replies others after other run is).0; represents = represents }
+    → Run w events replies after → (history : History) → EventsAsked w events replies history after → AreAsked w.broker history
+    → HubRepresents seen hub after → Answers seen w events replies hub
+answers_of seen w events replies hub after run history asks asked represents =
+    record {
+      after = after;
+      run = run;
+      history = history;
+      asks = asks;
+      asked = asked;
+      only = λ others other is. (Run-unique w events replies others after other run is).0;
+      represents = represents;
+    }
+
+-- no event, and nothing was asked
+pub answers_none : {S : Type 0} (seen : S → Kept) (w : World) (hub : Hub S) → HubRepresents seen hub w → Answers seen w [] [] hub
+answers_none seen w hub represents = answers_of seen w [] [] hub w refl [] refl tt represents
+
+-- one event of a sound broker
+pub answers_one : {S : Type 0} (seen : S → Kept) (w : World) (e : Event) (bytes : List ℕ) (hub : Hub S) → Sound forms None w.broker
+    → AnswersOne seen w e bytes hub → Answers seen w (e ∷ []) (bytes ∷ []) hub
+answers_one seen w e bytes hub sound n =
+    let g = goes w e bytes n.after n.next in
+    answers_of seen w (e ∷ []) (bytes ∷ []) hub n.after (n.after, n.next, refl) (g.0 ∷ []) (n.after, g.1, refl)
+    (AreAsked-one w.broker g.0 (λ a is. g.2 a is sound)) n.represents
+
+-- events, and others after them
+pub answers_on : {S : Type 0} (seen : S → Kept) (w : World) (es fs : List Event) (rs ss : List (List ℕ)) (old new : Hub S)
+    (a : Answers seen w es rs old) → Answers seen a.after fs ss new → Answers seen w (es ++ fs) (rs ++ ss) new
+answers_on seen w es fs rs ss old new a b =
+    answers_of seen w (es ++ fs) (rs ++ ss) new b.after (Run-append w es fs rs ss a.after b.after a.run b.run) (a.history ++ b.history)
+    (EventsAsked-append w es fs rs ss a.history b.history a.after b.after a.asks b.asks)
+    (AreAsked-append w.broker a.history b.history a.asked
+    (subst (λ (c : Broker). AreAsked c b.history) (run_left w es rs a.history a.after a.asks) b.asked))
+    b.represents
 
 pub answers_more : {S : Type 0} (seen : S → Kept) (w : World) (events : List Event) (i : ℕ) (e : Event) (piece bytes : List ℕ)
     (replies : List (List ℕ)) (old new : Hub S) → i < length events → e ≡ get_or events i e → piece ≡ e.piece → Answers seen w (take i events) replies old
     → ((v : World) → HubRepresents seen old v → AnswersOne seen v (with_piece e piece) bytes new)
     → Answers seen w (take (i + 1) events) (replies ++ bytes ∷ []) new
 answers_more seen w events i e piece bytes replies old new lt is same a next =
-    let n = next a.after a.represents in
-    let one : Next a.after e bytes n.after = subst (λ (l : List ℕ). Next a.after (with_piece e l) bytes n.after) same n.next in
-    answers_of seen w (take (i + 1) events) (replies ++ bytes ∷ []) new n.after
-    (subst (λ (es : List Event). Run w es (replies ++ bytes ∷ []) n.after) (sym (take-more events i e lt is))
-    (Run-push w (take i events) replies a.after e bytes n.after a.run one))
-    n.represents
+    let one : AnswersOne seen a.after e bytes new =
+    subst (λ (l : List ℕ). AnswersOne seen a.after (with_piece e l) bytes new) same (next a.after a.represents) in
+    subst (λ (es : List Event). Answers seen w es (replies ++ bytes ∷ []) new) (sym (take-more events i e lt is))
+    (answers_on seen w (take i events) (e ∷ []) replies (bytes ∷ []) old new a
+    (answers_one seen a.after e bytes new a.represents.broker.sound one))
 
 pub honest_before : (a b : Kept) → a.mismatches ≤ b.mismatches → IsHonestStore b → IsHonestStore a
 honest_before a b le honest = omega (arith, le, honest)

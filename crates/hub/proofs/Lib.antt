@@ -6,6 +6,7 @@ pub mod HubLemmas
 pub mod KnownLemmas
 pub mod ListedLemmas
 pub mod NumberLemmas
+pub mod RunHistories
 pub mod RunLemmas
 pub mod ServeLemmas
 pub mod ServingLemmas

@@ -19,22 +19,16 @@ use Rattle.hub.specs.Representing.{ConnectionsRepresent, HubRepresents, hub_stor
 use Rattle.hub.specs.Runs.{AnswersOne}
 use Rattle.hub.specs.Serving.{Exchange, read_in, sent_in, Proceeds, Stops, LeavesClosed, LeavesOthers, IsEventOf, longest_piece}
 use Rattle.hub.specs.Serving.{HasEnded, IsAnswered}
-use Rattle.hub.specs.World.{Connections, History, Run, World, history_at, put_history}
+use Rattle.hub.specs.World.{Connections, History, World, history_at, put_history}
 use Rattle.hub.specs.declared.event.Event.{Event}
 use Rattle.hub.specs.declared.hub.Hub.{Hub}
 use Rattle.hub.specs.declared.serve.ConnectionFault.{ConnectionFault}
 use Rattle.hub.specs.declared.serve.ConnectionFault.TheVariants.{Broker as OfBroker, Read, Write}
-use Rattle.hub.proofs.AnswersLemmas.{answers_of}
+use Rattle.hub.proofs.AnswersLemmas.{answers_none, answers_on, answers_one}
 use Rattle.hub.proofs.KnownLemmas.{Appends-nil}
+use Rattle.hub.proofs.RunLemmas.{Run-append}
 
 -- ---- runs
-
-Run-append : (w : World) (es fs : List Event) (rs ss : List (List ℕ)) (mid after : World) → Run w es rs mid → Run mid fs ss after
-    → Run w (es ++ fs) (rs ++ ss) after
-Run-append w [] fs [] ss mid after run next = subst (λ (v : World). Run v fs ss after) run next
-Run-append w [] fs (r ∷ rs) ss mid after run next = absurd run
-Run-append w (e ∷ es) fs [] ss mid after run next = absurd run
-Run-append w (e ∷ es) fs (r ∷ rs) ss mid after (v, first, run) next = (v, first, Run-append v es fs rs ss mid after run next)
 
 RunConnections-append : (all : Connections) (es fs : List Event) (rs ss : List (List ℕ)) (mid after : Connections)
     → RunConnections all es rs mid → RunConnections mid fs ss after → RunConnections all (es ++ fs) (rs ++ ss) after
@@ -94,9 +88,8 @@ proceeds_on seen conn P Q R T U V old mid new reads writes before p q =
       writes = subst V (sym (sent_on conn p.exchange q.exchange)) (writes (sent_in p.exchange) (sent_in q.exchange) p.writes q.writes);
       answers = λ honest w represents.
           let a = p.answers (before honest) w represents in
-          let b = q.answers honest a.after a.represents in
-          answers_of seen w (p.exchange.events ++ q.exchange.events) (p.exchange.replies ++ q.exchange.replies) new b.after
-          (Run-append w p.exchange.events q.exchange.events p.exchange.replies q.exchange.replies a.after b.after a.run b.run) b.represents;
+          answers_on seen w p.exchange.events q.exchange.events p.exchange.replies q.exchange.replies mid new a
+          (q.answers honest a.after a.represents);
       turns = λ all represents.
           let a = p.turns all represents in
           let b = q.turns a.after a.represents in
@@ -150,7 +143,7 @@ proceeds_none seen conn P T hub p t =
       exchange = exchange_none conn;
       reads = p;
       writes = t;
-      answers = λ honest w represents. answers_of seen w [] [] hub w refl represents;
+      answers = λ honest w represents. answers_none seen w hub represents;
       turns = λ all represents. record { after = all; run = refl; represents = represents };
     }
 
@@ -205,9 +198,7 @@ proceeds_one seen conn piece m ws bytes before after old new f written =
       exchange = exchange_fed seen conn piece m ws bytes old new f;
       reads = append-nil piece;
       writes = subst (Appends before after) (sym (append-nil bytes)) written;
-      answers = λ honest w represents.
-          let a = f.answers honest w represents in
-          answers_of seen w (e ∷ []) (bytes ∷ []) new a.after (a.after, a.next, refl) a.represents;
+      answers = λ honest w represents. answers_one seen w e bytes new represents.broker.sound (f.answers honest w represents);
       turns = λ all represents.
           let a = f.gives all represents in
           record { after = a.0; run = (a.0, a.2, refl); represents = a.1 };

@@ -5,7 +5,9 @@ use Rattle.std.specs.declared.alloc.Global.{Global}
 use Rattle.broker_types.specs.declared.fault.Fault.{Fault}
 use Rattle.broker_types.specs.declared.fault.Fault.TheVariants.{Memory}
 use Rattle.broker.specs.Kept.{Kept}
+use Rattle.histories.specs.History.{AreAsked, History}
 use Rattle.hub.specs.AnyRows.{FaultsAt, RunConnections}
+use Rattle.hub.specs.Histories.{EventsAsked}
 use Rattle.hub.specs.World.{Connections, World, Next, Run}
 use Rattle.hub.specs.Representing.{ConnectionsRepresent, HubRepresents}
 use Rattle.hub.specs.declared.event.Event.{Event}
@@ -22,11 +24,15 @@ pub record AnswersOne {S : Type 0} (seen : S → Kept) (w : World) (event : Even
   pub next : Next w event bytes after
   pub represents : HubRepresents seen hub after
 
--- the events were answered so, no other replies are a run's, and the hub represents the world after them
+-- The events were answered so, no other replies are a run's, the history is what they asked, one after another, of
+-- sound brokers, and the hub represents the world after them.
 pub record Answers {S : Type 0} (seen : S → Kept) (w : World) (events : List Event)
     (replies : List (List ℕ)) (hub : Hub S) : Type 0 where
   pub after : World
   pub run : Run w events replies after
+  pub history : History
+  pub asks : EventsAsked w events replies history after
+  pub asked : AreAsked w.broker history
   pub only : (others : List (List ℕ)) (other : World) → Run w events others other → replies ≡ others
   pub represents : HubRepresents seen hub after
 

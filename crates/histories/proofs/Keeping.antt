@@ -1,0 +1,51 @@
+-- What one request keeps, on which the laws of histories rest.
+use Rattle.std.specs.Prelude.{◌≡◌, ◌<◌, ◌⊎◌, ℕ, true, [], ◌∷◌, Some, None, ⊤}
+use Rattle.std.specs.List.{list_any}
+use Rattle.broker_types.specs.Text.{Text, same}
+use Rattle.broker_types.specs.Map.{get}
+use Rattle.broker_types.specs.Broker.{Broker, Waiting}
+use Rattle.broker_types.specs.Evolves.{Evolves, OriginIsGone, IsTakenOut, WaitedBefore}
+use Rattle.broker_types.specs.Used.{are_new, use_up}
+use Rattle.broker_model.specs.Responses.{ok}
+use Rattle.histories.specs.History.{Asking, AskedAt, History, clocked}
+
+-- The response of the origin o is handed out: it waited at the request's clock, its text is the answer, and neither its
+-- origin nor its wrapping token waits any more.
+pub record HandedOut (a : Asking) (o : Text) : Type 0 where
+  pub token : Text
+  pub entry : Waiting
+  pub waited : get (clocked a).waiting token ≡ Some entry
+  pub origin : entry.origin ≡ o
+  pub response : a.outcome.response ≡ ok entry.reply
+  pub gone : OriginIsGone a.outcome.next o
+  pub out : IsTakenOut a.outcome.next token
+
+-- the wrapping of this request made the origin of the response w, whose text is the body
+pub record IsBorn (a : Asking) (body : Text) (w : Waiting) : Type 0 where
+  pub origin : a.outcome.born ≡ Some w.origin
+  pub reply : w.reply ≡ body
+
+-- What a request keeps; body is that of its reply without a wrap TTL.
+pub record Keeps (body : Asking → Text) (a : Asking) : Type 0 where
+  pub evolves : Evolves (clocked a) a.outcome.next
+  pub taken_are_new : are_new a.broker.used a.outcome.taken ≡ true
+  pub taken_are_used : a.outcome.next.used ≡ use_up a.broker.used a.outcome.taken
+  pub hands_out : (o : Text) → a.outcome.handed ≡ Some o → HandedOut a o
+  pub born_is_taken : (o : Text) → a.outcome.born ≡ Some o → list_any (same o) a.outcome.taken ≡ true
+  pub waits : (t : Text) (w : Waiting) → get a.outcome.next.waiting t ≡ Some w
+      → WaitedBefore a.broker w ⊎ IsBorn a (body a) w
+
+-- from the broker b on, each request was asked of the broker that the one before it left, and keeps that
+abbrev pub EachKeeps : (Asking → Text) → Broker → History → Type 0
+EachKeeps body b [] = ⊤
+EachKeeps body b (None ∷ later) = EachKeeps body b later
+EachKeeps body b (Some a ∷ later) = (a.broker ≡ b) × Keeps body a × EachKeeps body a.outcome.next later
+
+-- an earlier request than that at the place made the origin of the response w, whose text is its body
+pub record WasBorn (body : Asking → Text) (history : History) (place_of_it : ℕ) (w : Waiting) : Type 0 where
+  pub place : ℕ
+  pub earlier : place < place_of_it
+  pub asking : Asking
+  pub asked : AskedAt history place asking
+  pub origin : asking.outcome.born ≡ Some w.origin
+  pub reply : w.reply ≡ body asking

@@ -1,0 +1,308 @@
+-- Responses that were kept are handed out once, as they were.
+use Rattle.std.specs.Prelude.{◌≡◌, ◌≢◌, ◌⊎◌, ◌&&◌, nat_lt, ℕ, [], ◌∷◌, Bool, true, false, cond, is_some, if◌then◌else◌}
+use Rattle.std.specs.Prelude.{Option, Some, None, Ok, option_map}
+use Rattle.std.specs.Option.{option_map_or}
+use Rattle.std.proofs.Common.{refl, sym, ◌∙◌, ap, subst, inl, inr, arith}
+use Rattle.std.proofs.lemmas.Bool.{false≢true, false_from_ne_true}
+use Rattle.std.proofs.lemmas.Option.{none-some}
+use Rattle.broker_types.specs.Text.{Text, same}
+use Rattle.broker_types.specs.TextLaws.{same_true}
+use Rattle.broker_types.specs.Map.{Map, get, without}
+use Rattle.broker_types.specs.MapLaws.{get-put, get-without_self, no_entry}
+use Rattle.broker_types.specs.Answer.{refused}
+use Rattle.broker_types.specs.Broker as broker
+use Rattle.broker_types.specs.Broker.{Broker, Waiting}
+use Rattle.broker_types.specs.Evolves.{IsTakenOut}
+use Rattle.broker_types.specs.Names.{names_of}
+use Rattle.broker_types.specs.Operation.{Done}
+use Rattle.broker_types.specs.OptionLaws.{found_or_not, mapped}
+use Rattle.broker_types.specs.Places.{token_identifier, wrapping_token}
+use Rattle.broker_types.specs.Refuse.{◌>>=◌, some_or}
+use Rattle.broker_types.specs.RefuseLaws.{no_ok, ok_step}
+use Rattle.broker_types.specs.Sound.{Sound}
+use Rattle.broker_types.specs.Spending.{spend, drop_waiting}
+use Rattle.broker_types.specs.Status.{status_code}
+use Rattle.broker_types.specs.TokenText.{token_text}
+use Rattle.broker_types.specs.Used.{are_new, use_up}
+use Rattle.broker_types.specs.declared.refusal.Refusal.{Refusal}
+use Rattle.broker_types.specs.declared.refusal.Refusal.TheVariants as refusal
+use Rattle.broker_types.specs.declared.refusal.Reason.TheVariants as reason
+use Rattle.broker_types.specs.declared.status.Status.TheVariants as status
+use Rattle.records.specs.ValueLaws.{ok_inj}
+use Rattle.wrapping.specs.Wrapping.{moved, with_waiting}
+use Rattle.broker_model.specs.Act.{act}
+use Rattle.broker_model.specs.Command.{Command, on_wrapping, command_of}
+use Rattle.broker_model.specs.Forms.{forms}
+use Rattle.broker_model.specs.Laws.{OperationsAreProper}
+use Rattle.broker_model.specs.Order.{Outcome, Wrapped, denied, finish, for_caller, permission_denied, serve, wrapped, wraps}
+use Rattle.broker_model.specs.Permission.{permits}
+use Rattle.broker_model.specs.Responses.{ok}
+use Rattle.broker_model.specs.Step.{request_of, step, traits}
+use Rattle.broker_model.specs.declared.commands.WrappingCommand.{WrappingCommand}
+use Rattle.broker_model.specs.declared.commands.WrappingCommand.TheVariants as response
+use Rattle.broker_model.specs.parts.WrappingCommands.{wrapping_names}
+use Rattle.broker_model.specs.parts.Wrappings.{FoundResponse, found, found_at, found_under, handed_out, rewrapped}
+use Rattle.broker_model.specs.parts.Wrappings.{act_on_wrappings}
+use Rattle.histories.specs.History.{AreAsked, Asking, AskedAt, Beginning, History, begun, clocked, spent_by}
+use Rattle.histories.specs.Kept.{HandedOutOnce, HandsOutKept, HasAsClient, IsKeptReply, Rewraps, SameReply, TakesTokenOut}
+use Rattle.histories.specs.Kept.{Unwraps, WaitedFirst, unwrapped_body}
+use Rattle.histories.specs.Revocation.{Revokes, RevokesAlone}
+use Rattle.histories.proofs.Cover.{one_birth}
+use Rattle.histories.proofs.Ending.{out_lasts}
+use Rattle.histories.proofs.Keeping.{EachKeeps, Keeps}
+use Rattle.histories.proofs.Lasting.{asked_keeps, evolved_since, handed_once, kept_evolves, waited_before, waits_since}
+use Rattle.histories.proofs.OrderCases.{IsServed, IsTurnedAway, IsTurnedDown, order_cases, spent}
+use Rattle.histories.proofs.OrderKeeps.{end_spent_waiting, first_new, own_new, spent_used, spent_waiting, wrapped_cases}
+use Rattle.histories.proofs.Requests.{acts_same, asked_at, history_keeps, means_at_clock}
+use Rattle.histories.proofs.RevocationLasts.{orphaning_left, revocation_left}
+
+-- ---- a 200
+
+-- no refusal is a 200
+refused_is_success : (why : Refusal) → (refused why).status ≡ status.Success → ⊥
+refused_is_success (refusal.BadRequest r) e = absurd (omega (arith, ap status_code e))
+refused_is_success (refusal.Forbidden d) e = absurd (omega (arith, ap status_code e))
+refused_is_success refusal.NotFound e = absurd (omega (arith, ap status_code e))
+refused_is_success (refusal.MethodNotAllowed ms) e = absurd (omega (arith, ap status_code e))
+refused_is_success refusal.IdentifierUsed e = absurd (omega (arith, ap status_code e))
+
+module _ (a : Asking) (is : a.outcome ≡ step a.broker a.moment a.words a.ask) (success : a.outcome.response.status ≡ status.Success)
+    (command : WrappingCommand) (means : command_of (clocked a).mounts a.ask ≡ Ok (on_wrapping command)) where
+  abbrev Served : Type 0
+  Served = IsServed permits traits act (clocked a) (request_of a.ask) (names_of a.words) a.outcome
+
+  by_cases : IsTurnedAway (clocked a) (request_of a.ask) a.outcome ⊎ (IsTurnedDown (clocked a) a.outcome ⊎ Served) → Served
+  by_cases (inl s) = absurd (refused_is_success permission_denied (sym (ap (λ (x : Outcome). x.response.status) s.outcome) ∙ success))
+  by_cases (inr (inl s)) = absurd (refused_is_success s.why (sym (ap (λ (x : Outcome). x.response.status) s.outcome) ∙ success))
+  by_cases (inr (inr s)) = s
+
+  pub served : Served
+  unfolding step
+  served = by_cases (subst (λ (o : Outcome). IsTurnedAway (clocked a) (request_of a.ask) o ⊎ (IsTurnedDown (clocked a) o
+      ⊎ IsServed permits traits act (clocked a) (request_of a.ask) (names_of a.words) o)) (sym is)
+      (order_cases permits traits act a.broker a.moment (request_of a.ask) (names_of a.words)))
+
+  pub command_is : served.command ≡ on_wrapping command
+  command_is = ok_inj (sym (means_at_clock a served.caller served.command served.means) ∙ means)
+
+  -- the operation ran
+  pub acted : act_on_wrappings (spent (clocked a) served.caller) (names_of a.words) command ≡ Ok served.done
+  acted =
+      sym (acts_same (spent (clocked a) served.caller) served.caller (names_of a.words) command)
+      ∙ ap (λ (k : Command). act (spent (clocked a) served.caller) served.caller (names_of a.words) k) (sym command_is)
+      ∙ served.acted
+
+-- what an operation left is wrapped or not, and hands out the same
+handed_same : (a : Asking) (s : IsServed permits traits act (clocked a) (request_of a.ask) (names_of a.words) a.outcome)
+    → a.outcome.handed ≡ s.done.handed
+handed_same a s =
+    let start = spent (clocked a) s.caller in
+    ap (λ (x : Outcome). x.handed) s.outcome
+    ∙ elim (wrapped_cases permits traits act start (request_of a.ask) (names_of a.words) s.command s.done) [
+      | inl e ↦ ap (λ (x : Wrapped). x.done.handed) e
+      | inr (r, made, wraps_, answered, is_wrapped) ↦ ap (λ (x : Wrapped). x.done.handed) is_wrapped
+    ]
+
+abbrev bad : Refusal
+bad = refusal.BadRequest reason.InvalidWrappingToken
+
+-- a 200 to an unwrap handed out
+unwrap_hands_out : (a : Asking) (t o : Text) → a.outcome ≡ step a.broker a.moment a.words a.ask → Unwraps a t o → a.outcome.handed ≡ Some o
+unwrap_hands_out a t o is u =
+    let s = served a is u.success (response.Unwrap (Some t)) u.means in
+    let start = spent (clocked a) s.caller in
+    let there : get start.waiting t ≡ Some u.entry = ap (λ (m : Map Waiting). get m t) (spent_waiting (clocked a) s.caller) ∙ u.waited in
+    let done : handed_out start (found_under t u.entry) ≡ s.done =
+    ok_inj (ap (λ x. some_or bad (option_map (found_under t) x) >>= (λ f. Ok (handed_out start f))) (sym there)
+    ∙ acted a is u.success (response.Unwrap (Some t)) u.means) in
+    handed_same a s ∙ ap (λ (d : Done). d.handed) (sym done) ∙ ap Some u.origin
+
+-- and there was something to hand out
+some_of : {A : Type 0} {x : A} (r : Refusal) (o : Option A) → some_or r o ≡ Ok x → o ≡ Some x
+some_of r None e = no_ok e
+some_of r (Some y) e = ap Some (ok_inj e)
+
+found_is : (b : Broker) (meant : Option Text) (f : FoundResponse) → found_at b meant ≡ Some f
+    → (t : Text) × (w : Waiting) × (meant ≡ Some t) × (get b.waiting t ≡ Some w)
+found_is b None f e = absurd (none-some _ e)
+found_is b (Some t) f e = let w = mapped (found_under t) (get b.waiting t) f e in (t, w.0, refl, w.1)
+
+unwrap_found : (a : Asking) (meant : Option Text) → a.outcome ≡ step a.broker a.moment a.words a.ask
+    → command_of (clocked a).mounts a.ask ≡ Ok (on_wrapping (response.Unwrap meant)) → a.outcome.response.status ≡ status.Success
+    → (t : Text) × (o : Text) × (meant ≡ Some t) × Unwraps a t o
+unwrap_found a meant is means success =
+    let s = served a is success (response.Unwrap meant) means in
+    let start = spent (clocked a) s.caller in
+    let f = ok_step (found start meant) (λ f. Ok (handed_out start f)) s.done (acted a is success (response.Unwrap meant) means) in
+    let w = found_is start meant f.0 (some_of bad (found_at start meant) f.1) in (
+      w.0,
+      (w.1).origin,
+      w.2,
+      record {
+        means = means ∙ ap (λ m. Ok (on_wrapping (response.Unwrap m))) w.2;
+        success = success;
+        entry = w.1;
+        waited = ap (λ (m : Map Waiting). get m w.0) (sym (spent_waiting (clocked a) s.caller)) ∙ w.3;
+        origin = refl;
+      },
+    )
+
+-- ---- wrapping tokens that are taken out
+
+-- a rewrap is not wrapped itself
+next_waiting : (a : Asking) {meant : Option Text} (s : IsServed permits traits act (clocked a) (request_of a.ask) (names_of a.words) a.outcome)
+    → s.command ≡ on_wrapping (response.Rewrap meant) → a.outcome.next.waiting ≡ s.done.next.waiting
+next_waiting a s is =
+    let start = spent (clocked a) s.caller in
+    let v = wrapped permits traits act start (request_of a.ask) (names_of a.words) s.command s.done in
+    ap (λ (x : Outcome). x.next.waiting) s.outcome
+    ∙ end_spent_waiting (record v.done.next { used = use_up v.done.next.used v.done.taken }) s.caller
+    ∙ elim (wrapped_cases permits traits act start (request_of a.ask) (names_of a.words) s.command s.done) [
+      | inl e ↦ ap (λ (x : Wrapped). x.done.next.waiting) e
+      | inr (r, made, wraps_, answered, is_wrapped) ↦
+          absurd (never (nat_lt 0 a.ask.wrap_ttl) (sym (ap (λ (k : Command). wraps permits traits act (request_of a.ask) k) is) ∙ wraps_))
+    ]
+  where
+    never : (v : Bool) → (v && false) ≡ true → ⊥
+    never true e = false≢true e
+    never false e = false≢true e
+
+module _ (a : Asking) (sound : Sound forms None a.broker) (keeps : Keeps unwrapped_body a)
+    (is : a.outcome ≡ step a.broker a.moment a.words a.ask) (t : Text) (waited : get (clocked a).waiting t ≢ None) where
+  used_before : get a.broker.used (token_identifier t) ≢ None
+  used_before = elim (found_or_not (get (clocked a).waiting t)) [
+    | inl none ↦ absurd (waited none)
+    | inr w ↦ sound.identifiers.all_used (wrapping_token t) (token_identifier t)
+        (ap (option_map (λ (z : Waiting). token_identifier t)) (waited_before a t w.0 w.1).0)
+  ]
+
+  out : get a.outcome.next.waiting t ≡ None → IsTakenOut a.outcome.next t
+  out gone = record { used = (kept_evolves unwrapped_body a keeps).used (token_identifier t) used_before; gone = gone }
+
+  by_client : HasAsClient a t → get a.outcome.next.waiting t ≡ None
+  unfolding step
+  by_client c =
+      let go : Text → Outcome = λ u. finish (spend (clocked a) u) (Some u)
+      (serve permits traits act (spend (clocked a) u) (Some u) (request_of a.ask) (names_of a.words)) in
+      ap (λ (x : Outcome). get x.next.waiting t) is
+      ∙ ap (λ v. get (if v then finish (clocked a) None (serve permits traits act (clocked a) None (request_of a.ask) (names_of a.words))
+      else for_caller (clocked a) a.ask.token go).next.waiting t) c.closed
+      ∙ ap (λ (o : Option Text). get (for_caller (clocked a) o go).next.waiting t) c.token
+      ∙ elim (found_or_not (get (clocked a).waiting t)) [
+        | inl none ↦ absurd (waited none)
+        | inr w ↦ ap (λ (o : Option Waiting). get (if is_some o then denied (drop_waiting (clocked a) t)
+            else (if is_some (get (clocked a).tokens t) then go t else denied (clocked a))).next.waiting t) w.1
+            ∙ get-without_self (clocked a).waiting t
+      ]
+
+  by_revocation : (c : Text) → Revokes a c t → get a.outcome.next.waiting t ≡ None
+  by_revocation c r =
+      ap (λ (z : Broker). get z.waiting t) (revocation_left a is c t r)
+      ∙ ap (λ (m : Map Waiting). get m t) (end_spent_waiting (drop_waiting (broker.revoke (spent_by a c) t) t) (Some c))
+      ∙ get-without_self (spent_by a c).waiting t
+
+  by_orphaning : (c : Text) → RevokesAlone a c t → get a.outcome.next.waiting t ≡ None
+  by_orphaning c r =
+      ap (λ (z : Broker). get z.waiting t) (orphaning_left a is c t r)
+      ∙ ap (λ (m : Map Waiting). get m t) (end_spent_waiting (drop_waiting (broker.revoke_orphan (spent_by a c) t) t) (Some c))
+      ∙ get-without_self (spent_by a c).waiting t
+
+  by_rewrap : Rewraps a t → get a.outcome.next.waiting t ≡ None
+  by_rewrap r = elim (found_or_not (get (clocked a).waiting t)) [
+    | inl none ↦ absurd (waited none)
+    | inr w ↦
+        let rewrap = response.Rewrap (Some t) in
+        let s = served a is r.success rewrap r.means in
+        let start = spent (clocked a) s.caller in
+        let names = names_of a.words in
+        let u = token_text names.wrapping_token in
+        let there : get start.waiting t ≡ Some w.0 = ap (λ (m : Map Waiting). get m t) (spent_waiting (clocked a) s.caller) ∙ w.1 in
+        let done : rewrapped start names (found_under t w.0) ≡ s.done =
+        ok_inj (ap (λ x. some_or bad (option_map (found_under t) x) >>= (λ f. Ok (rewrapped start names f))) (sym there)
+        ∙ acted a is r.success rewrap r.means) in
+        let new : are_new start.used (wrapping_names names) ≡ true =
+        subst (λ (k : Command). are_new start.used ((traits k).own names) ≡ true) (command_is a is r.success rewrap r.means)
+        (own_new permits traits act start.used (request_of a.ask) names s.command s.new) in
+        let fresh : get start.used names.wrapping_token ≡ None = first_new start.used names.wrapping_token (names.wrapping_accessor ∷ []) new in
+        let apart : same t u ≡ false =
+        false_from_ne_true (same t u) (λ e. used_before
+        (ap (get a.broker.used) (ap token_identifier (same_true t u e))
+        ∙ ap (λ m. get m names.wrapping_token) (sym (spent_used (clocked a) s.caller)) ∙ fresh)) in
+        let entry = moved names.wrapping_accessor start.clock w.0 in
+        ap (λ (m : Map Waiting). get m t) (next_waiting a s (command_is a is r.success rewrap r.means))
+        ∙ ap (λ (d : Done). get d.next.waiting t) (sym done)
+        ∙ ap (λ (o : Option Waiting). get (option_map_or (λ v. with_waiting (drop_waiting start t) u
+        (moved names.wrapping_accessor start.clock v)) o start).waiting t) there
+        ∙ get-put (without start.waiting t) u entry t
+        ∙ ap (λ v. cond v (Some entry) (get (without start.waiting t) t)) apart
+        ∙ get-without_self start.waiting t
+  ]
+
+  -- a request that took it out left it out
+  pub taken_out : TakesTokenOut a t → IsTakenOut a.outcome.next t
+  taken_out k = out (elim k.how [
+    | inl c ↦ by_client c
+    | inr x ↦ elim x [
+      | inl r ↦ by_revocation r.0 r.1
+      | inr y ↦ elim y [ inl r ↦ by_orphaning r.0 r.1 | inr r ↦ by_rewrap r ]
+    ]
+  ])
+
+-- ---- the laws
+
+module _ (proper : OperationsAreProper) (b : Broker) (history : History) (h : AreAsked b history) where
+  abbrev keep_all : EachKeeps unwrapped_body b history
+  keep_all = history_keeps proper b history h
+
+  -- a response is handed out once
+  pub hands_out_once : HandedOutOnce history
+  hands_out_once = record {
+    each = λ i a meant at means success. unwrap_found a meant (asked_at b history i a h at).outcome means success;
+    once = λ i j a x t u o one p other q.
+        handed_once unwrapped_body b history keep_all i j a x o
+        one (unwrap_hands_out a t o (asked_at b history i a h one).outcome p)
+        other (unwrap_hands_out x u o (asked_at b history j x h other).outcome q);
+    in_time = λ i a t o one p. (waited_before a t p.entry p.waited).1;
+    still_in = λ i j a x t o one takes other lt p.
+        let gone = out_lasts a.outcome.next x.broker t (evolved_since unwrapped_body b history i j a x keep_all one other lt)
+        (taken_out a (asked_at b history i a h one).sound (asked_keeps unwrapped_body b history i a keep_all one)
+        (asked_at b history i a h one).outcome t takes.waited takes) in
+        none-some _ (sym gone.gone ∙ (waited_before x t p.entry p.waited).0);
+  }
+
+  kept_or_first : (j : ℕ) (x : Asking) (t o : Text) → AskedAt history j x → Unwraps x t o
+      → IsKeptReply history j x o ⊎ WaitedFirst b x o
+  kept_or_first j x t o at u =
+      let k = (asked_keeps unwrapped_body b history j x keep_all at).hands_out o
+      (unwrap_hands_out x t o (asked_at b history j x h at).outcome u) in
+      elim (waits_since unwrapped_body b history j x keep_all at k.token k.entry (waited_before x k.token k.entry k.waited).0) [
+        | inl (s, v, there, same_origin, same_reply) ↦ inr (record {
+          token = s;
+          entry = v;
+          waited = there;
+          origin = sym same_origin ∙ k.origin;
+          body = k.response ∙ ap ok same_reply;
+        })
+        | inr r ↦ inl (record {
+          place = r.place;
+          earlier = r.earlier;
+          asking = r.asking;
+          asked = r.asked;
+          born = r.origin ∙ ap Some k.origin;
+          body = k.response ∙ ap ok r.reply;
+        })
+      ]
+
+  -- what is handed out is what was kept
+  pub hands_out_kept : HandsOutKept b history
+  hands_out_kept = record { one_birth = one_birth unwrapped_body b history keep_all; same = kept_or_first }
+
+-- from a start on, where nothing waits, it is the reply to a request
+pub same_reply : OperationsAreProper → (s : Beginning) (history : History) → AreAsked (begun s) history → SameReply history
+same_reply proper s history h = record {
+  one_birth = (hands_out_kept proper (begun s) history h).one_birth;
+  same = λ j x t o at u. elim ((hands_out_kept proper (begun s) history h).same j x t o at u) [
+    | inl kept ↦ kept
+    | inr first ↦ absurd (no_entry first.token first.entry first.waited)
+  ];
+}

@@ -1,0 +1,13 @@
+pub mod Cover
+pub mod Ending
+pub mod GivenOut
+pub mod Keeping
+pub mod KeptReplies
+pub mod Lasting
+pub mod OrderCases
+pub mod OrderKeeps
+pub mod Plain
+pub mod Requests
+pub mod RevocationLasts
+pub mod Revoking
+pub mod Used

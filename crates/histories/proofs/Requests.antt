@@ -1,0 +1,225 @@
+-- What each request of a history keeps.
+use Rattle.std.specs.Prelude.{◌≡◌, ℕ, zero, suc, List, [], ◌∷◌, Bool, true, false, Option, Some, None, Result, Ok, Err}
+use Rattle.std.proofs.Common.{refl, sym, ◌∙◌, ap, subst}
+use Rattle.std.proofs.lemmas.Bool.{false≢true}
+use Rattle.std.proofs.lemmas.Option.{none-some, same_Some}
+use Rattle.serde_json.specs.Data.{object}
+use Rattle.serde_json.specs.Written.{compact_text}
+use Rattle.broker_types.specs.Text.{Text}
+use Rattle.broker_types.specs.Map.{Map}
+use Rattle.broker_types.specs.Answer.{Response}
+use Rattle.broker_types.specs.Broker.{Broker, Mount}
+use Rattle.broker_types.specs.Names.{Names, names_of}
+use Rattle.broker_types.specs.Operation.{reply, Done}
+use Rattle.broker_types.specs.Refuse.{◌>>=◌}
+use Rattle.broker_types.specs.RefuseLaws.{ok_step}
+use Rattle.broker_types.specs.Sound.{Sound}
+use Rattle.broker_types.specs.declared.ask.Ask.{Ask}
+use Rattle.broker_types.specs.declared.refusal.Refusal.{Refusal}
+use Rattle.broker_types.specs.declared.reply.Reply.{Reply}
+use Rattle.broker_types.specs.declared.words.Words.{Words}
+use Rattle.records.specs.ValueLaws.{ok_inj}
+use Rattle.mounts.specs.Route.{Route, route_of}
+use Rattle.mounts.specs.declared.operation.Operation.{Operation}
+use Rattle.mounts.specs.declared.operation.Operation.TheVariants as operation
+use Rattle.mounts.specs.declared.operation.WrappingOperation.{WrappingOperation}
+use Rattle.mounts.specs.declared.operation.WrappingOperation.TheVariants as of_responses
+use Rattle.api_json.specs.Json.{body_members}
+use Rattle.api_json.specs.Readers as reader
+use Rattle.api_json.specs.Reply.{plain_reply, reply_text}
+use Rattle.broker_model.specs.Act.{act}
+use Rattle.broker_model.specs.Command.{Command, on_cubbyhole, on_token, on_secret, on_policy, on_mount, on_lease}
+use Rattle.broker_model.specs.Command.{on_issued, on_wrapping, command_by, command_for, command_of, meant_by}
+use Rattle.broker_model.specs.Forms.{forms}
+use Rattle.broker_model.specs.Laws.{OperationsAreProper}
+use Rattle.broker_model.specs.Order.{Outcome, ordered}
+use Rattle.broker_model.specs.Permission.{permits}
+use Rattle.broker_model.specs.Request.{Request}
+use Rattle.broker_model.specs.Step.{request_of, step, traits, unwrapped_ask}
+use Rattle.broker_model.specs.declared.commands.WrappingCommand.{WrappingCommand}
+use Rattle.broker_model.specs.declared.commands.WrappingCommand.TheVariants as response
+use Rattle.broker_model.specs.parts.WrappingCommands.{opens, token_meant, wrapping_command}
+use Rattle.broker_model.specs.parts.Wrappings.{act_on_wrappings}
+use Rattle.histories.specs.History.{AreAsked, Asking, AskedAt, History, IsAsked, clocked}
+use Rattle.histories.specs.Kept.{body_by, object_text, unwrapped_body}
+use Rattle.histories.proofs.Keeping.{EachKeeps, Keeps}
+use Rattle.histories.proofs.OrderCases.{spent}
+use Rattle.histories.proofs.OrderKeeps.{request_keeps}
+use Rattle.histories.proofs.Plain.{plain, plain_tells}
+
+-- ---- an ask without its wrap TTL
+
+-- the wrap TTL of an ask means nothing for its command
+command_by_plain : (o : Operation) (r : Route) (a : Ask) → command_by o r (unwrapped_ask a) ≡ command_by o r a
+command_by_plain (operation.Cubbyholes o) r a = refl
+command_by_plain (operation.Tokens o) r a = refl
+command_by_plain (operation.Secrets o) r a = refl
+command_by_plain (operation.Policies o) r a = refl
+command_by_plain (operation.Mounts o) r a = refl
+command_by_plain (operation.Leases o) r a = refl
+command_by_plain (operation.Issued o) r a = refl
+command_by_plain (operation.Wrappings o) r a = refl
+
+command_plain : (mounts : Map Mount) (a : Ask) → command_of mounts (unwrapped_ask a) ≡ command_of mounts a
+command_plain mounts a =
+    elim (route_of mounts a.verb a.path) as
+    (λ (found : Result Route Refusal). (found >>= (λ r. command_for r (unwrapped_ask a))) ≡ (found >>= (λ r. command_for r a))) [
+      | Ok r ↦ command_by_plain r.operation r a
+      | Err e ↦ refl
+    ]
+
+request_plain : (a : Ask) → request_of (unwrapped_ask a) ≡ plain (request_of a)
+request_plain a = λ i. record {
+  verb = a.verb;
+  path = a.path;
+  token = a.token;
+  wrap_ttl = 0;
+  command = λ b. command_plain b.mounts a i;
+  is_open = opens a.verb a.path a.token a.body;
+}
+
+-- the step of an ask without its wrap TTL
+step_plain : (b : Broker) (moment : ℕ) (words : Words) (a : Ask)
+    → step b moment words (unwrapped_ask a) ≡ ordered permits traits act b moment (plain (request_of a)) (names_of words)
+unfolding step
+step_plain b moment words a = ap (λ (q : Request Command). ordered permits traits act b moment q (names_of words)) (request_plain a)
+
+-- ---- an ask to wrap
+
+abbrev is_of_responses : Command → Bool
+is_of_responses (on_wrapping command) = true
+is_of_responses _ = false
+
+-- no other part means to wrap
+module _ {C : Type 0} (on : C → Command) (apart : (x : C) → is_of_responses (on x) ≡ false) where
+  no_wrap : (m : Result C Refusal) (k : WrappingCommand) {P : Type 0} → meant_by on m ≡ Ok (on_wrapping k) → P
+  no_wrap m k e =
+      let x = ok_step m (λ command. Ok (on command)) (on_wrapping k) e in
+      absurd (false≢true (sym (apart x.0) ∙ ap is_of_responses (ok_inj x.2)))
+
+is_wrap_of : {x y : WrappingCommand} → on_wrapping x ≡ on_wrapping y → x ≡ y
+is_wrap_of e = cc
+
+-- the text of an ask to wrap is the object of its body
+by_wrapping : (o : WrappingOperation) (client : Option Text) (body : List ℕ) (text : Text)
+    → wrapping_command o client body ≡ Ok (response.Wrap text) → object_text (body_members body) ≡ text
+by_wrapping of_responses.Wrap client body text e =
+    let m = ok_step (body_members body) (λ members. Ok (response.Wrap (compact_text (object members)))) (response.Wrap text) e in
+    ap object_text m.1 ∙ same_wrap (ok_inj m.2)
+  where
+    same_wrap : {s t : Text} → response.Wrap s ≡ response.Wrap t → s ≡ t
+    same_wrap e = cc
+by_wrapping of_responses.LookUp client body text e =
+    let m = ok_step (body_members body) _ (response.Wrap text) e in
+    let n = ok_step (reader.wrapping_token m.0) (λ named. Ok (response.LookUp (token_meant client named))) (response.Wrap text) m.2 in
+    absurd (apart (ok_inj n.2))
+  where
+    apart : {o : Option Text} → response.LookUp o ≡ response.Wrap text → ⊥
+    apart e = cc
+by_wrapping of_responses.Rewrap client body text e =
+    let m = ok_step (body_members body) _ (response.Wrap text) e in
+    let n = ok_step (reader.wrapping_token m.0) (λ named. Ok (response.Rewrap (token_meant client named))) (response.Wrap text) m.2 in
+    absurd (apart (ok_inj n.2))
+  where
+    apart : {o : Option Text} → response.Rewrap o ≡ response.Wrap text → ⊥
+    apart e = cc
+by_wrapping of_responses.Unwrap client body text e =
+    let m = ok_step (body_members body) _ (response.Wrap text) e in
+    let n = ok_step (reader.wrapping_token m.0) (λ named. Ok (response.Unwrap (token_meant client named))) (response.Wrap text) m.2 in
+    absurd (apart (ok_inj n.2))
+  where
+    apart : {o : Option Text} → response.Unwrap o ≡ response.Wrap text → ⊥
+    apart e = cc
+
+by_operation : (o : Operation) (r : Route) (a : Ask) (text : Text)
+    → command_by o r a ≡ Ok (on_wrapping (response.Wrap text)) → object_text (body_members a.body) ≡ text
+by_operation (operation.Cubbyholes o) r a text e = no_wrap (on_cubbyhole r.parameter) (λ x. refl) _ (response.Wrap text) e
+by_operation (operation.Tokens o) r a text e = no_wrap on_token (λ x. refl) _ (response.Wrap text) e
+by_operation (operation.Secrets o) r a text e = no_wrap (on_secret _) (λ x. refl) _ (response.Wrap text) e
+by_operation (operation.Policies o) r a text e = no_wrap (on_policy r.parameter) (λ x. refl) _ (response.Wrap text) e
+by_operation (operation.Mounts o) r a text e = no_wrap (on_mount r.parameter) (λ x. refl) _ (response.Wrap text) e
+by_operation (operation.Leases o) r a text e = no_wrap (on_lease r.parameter) (λ x. refl) _ (response.Wrap text) e
+by_operation (operation.Issued o) r a text e = no_wrap (on_issued _) (λ x. refl) _ (response.Wrap text) e
+by_operation (operation.Wrappings o) r a text e =
+    let x = ok_step (wrapping_command o a.token a.body) (λ command. Ok (on_wrapping command)) (on_wrapping (response.Wrap text)) e in
+    by_wrapping o a.token a.body text (x.1 ∙ ap Ok (is_wrap_of (ok_inj x.2)))
+
+wraps_object : (mounts : Map Mount) (a : Ask) (text : Text) → command_of mounts a ≡ Ok (on_wrapping (response.Wrap text))
+    → object_text (body_members a.body) ≡ text
+wraps_object mounts a text e =
+    let r = ok_step (route_of mounts a.verb a.path) (λ r. command_for r a) (on_wrapping (response.Wrap text)) e in
+    by_operation r.0.operation r.0 a text r.2
+
+-- ---- what each request keeps
+
+-- a command on responses is the same with or without a caller
+pub acts_same : (b : Broker) (caller : Option Text) (names : Names) (command : WrappingCommand)
+    → act b caller names (on_wrapping command) ≡ act_on_wrappings b names command
+acts_same b None names command = refl
+acts_same b (Some c) names command = refl
+
+same_reply_of : {r : Reply} {made : Option Text} {z : Reply} → reply z None ≡ reply r made → reply_text z ≡ reply_text r
+same_reply_of e = cc
+
+-- the text of what an operation replied is the body
+tells_by : (b : Broker) (caller : Option Text) (names : Names) (body : List ℕ) (text : Text) (command : Command) (d : Done)
+    (r : Reply) (made : Option Text) → act b caller names command ≡ Ok d → d.answered ≡ reply r made
+    → ((wrapped : Text) → command ≡ on_wrapping (response.Wrap wrapped) → object_text (body_members body) ≡ wrapped)
+    → ((traits command).must_wrap ≡ false → text ≡ reply_text r) → body_by names body text (Ok command) ≡ reply_text r
+tells_by b caller names body text (on_cubbyhole path command) d r made acted answered object_is plainly_ = plainly_ refl
+tells_by b caller names body text (on_token command) d r made acted answered object_is plainly_ = plainly_ refl
+tells_by b caller names body text (on_secret place command) d r made acted answered object_is plainly_ = plainly_ refl
+tells_by b caller names body text (on_policy name command) d r made acted answered object_is plainly_ = plainly_ refl
+tells_by b caller names body text (on_mount name command) d r made acted answered object_is plainly_ = plainly_ refl
+tells_by b caller names body text (on_lease prefix command) d r made acted answered object_is plainly_ = plainly_ refl
+tells_by b caller names body text (on_issued place command) d r made acted answered object_is plainly_ = plainly_ refl
+tells_by b caller names body text (on_wrapping (response.LookUp t)) d r made acted answered object_is plainly_ = plainly_ refl
+tells_by b caller names body text (on_wrapping (response.Rewrap t)) d r made acted answered object_is plainly_ = plainly_ refl
+tells_by b caller names body text (on_wrapping (response.Unwrap t)) d r made acted answered object_is plainly_ = plainly_ refl
+tells_by b caller names body text (on_wrapping (response.Wrap wrapped)) d r made acted answered object_is plainly_ =
+    ap (λ z. reply_text (plain_reply names.request z)) (object_is wrapped refl)
+    ∙ same_reply_of (ap (λ (z : Done). z.answered) (ok_inj (sym (acts_same b caller names (response.Wrap wrapped)) ∙ acted)) ∙ answered)
+
+spent_mounts : (b : Broker) (who : Option Text) → (spent b who).mounts ≡ b.mounts
+spent_mounts b None = refl
+spent_mounts b (Some c) = refl
+
+-- what a request that was served means at its clock
+pub means_at_clock : (a : Asking) (caller : Option Text) (command : Command)
+    → (request_of a.ask).command (spent (clocked a) caller) ≡ Ok command → command_of (clocked a).mounts a.ask ≡ Ok command
+means_at_clock a caller command means = ap (λ (m : Map Mount). command_of m a.ask) (sym (spent_mounts (clocked a) caller)) ∙ means
+
+module _ (proper : OperationsAreProper) where
+  asked_keep : (b : Broker) (a : Asking) → IsAsked b a → Keeps unwrapped_body a
+  unfolding step
+  asked_keep b a is =
+      let sound : Sound forms None a.broker = subst (Sound forms None) (sym is.broker) is.sound in
+      let outcome : a.outcome ≡ step a.broker a.moment a.words a.ask =
+      is.outcome ∙ ap (λ c. step c a.moment a.words a.ask) (sym is.broker) in
+      request_keeps permits traits act unwrapped_body a (request_of a.ask) (names_of a.words)
+      (λ c caller command d new done. proper c caller a.words command d new done)
+      sound.identifiers sound.waiting
+      (λ s r made answered.
+      let text = (step a.broker a.moment a.words (unwrapped_ask a.ask)).response.text in
+      let means = means_at_clock a s.caller s.command s.means in
+      sym (ap (body_by (names_of a.words) a.ask.body text) means
+      ∙ tells_by (spent (clocked a) s.caller) s.caller (names_of a.words) a.ask.body text s.command s.done r made s.acted answered
+      (λ wrapped is_wrap. wraps_object (clocked a).mounts a.ask wrapped (means ∙ ap Ok is_wrap))
+      (λ free. ap (λ (x : Outcome). x.response.text) (step_plain a.broker a.moment a.words a.ask)
+      ∙ ap (λ (x : Response). x.text)
+      (plain_tells permits traits act a.broker a.moment (request_of a.ask) (names_of a.words) a.outcome s free r made answered))))
+      outcome
+
+  pub history_keeps : (b : Broker) (history : History) → AreAsked b history → EachKeeps unwrapped_body b history
+  history_keeps b [] h = tt
+  history_keeps b (None ∷ later) h = history_keeps b later h
+  history_keeps b (Some a ∷ later) (is, h) = (is.broker, asked_keep b a is, history_keeps a.outcome.next later h)
+
+-- what is asked at a place is asked of a sound broker
+pub asked_at : (b : Broker) (history : History) (i : ℕ) (a : Asking) → AreAsked b history → AskedAt history i a → IsAsked a.broker a
+asked_at b [] i a h at = absurd (none-some _ at)
+asked_at b (None ∷ later) zero a h at = absurd (none-some _ at)
+asked_at b (None ∷ later) (suc i) a h at = asked_at b later i a h at
+asked_at b (Some x ∷ later) zero a (is, h) at =
+    subst (λ (y : Asking). IsAsked y.broker y) (same_Some _ _ at) (subst (λ c. IsAsked c x) (sym is.broker) is)
+asked_at b (Some x ∷ later) (suc i) a (is, h) at = asked_at x.outcome.next later i a h at

@@ -1,0 +1,432 @@
+-- What is revoked, and whatever else ended, does not come back.
+use Rattle.std.specs.Prelude.{◌≡◌, ◌≢◌, ◌<◌, ◌≤◌, ◌⊎◌, ◌||◌, ◌&&◌, not, nat_lt, ℕ, max, List, [], ◌∷◌, Bool, true, false}
+use Rattle.std.specs.Prelude.{is_some, if◌then◌else◌, Option, Some, None, Result, Ok, Err, option_map, option_and_then}
+use Rattle.std.specs.Prelude.{slice_index_or}
+use Rattle.std.proofs.Common.{refl, sym, ◌∙◌, ap, subst, inl, inr, arith}
+use Rattle.std.proofs.lemmas.Bool.{false≢true}
+use Rattle.std.proofs.lemmas.Option.{none-some, same_Some}
+use Rattle.std.proofs.Math.Nat.{eq-or-lt_of_le}
+use Rattle.broker_types.specs.Text.{Text, same}
+use Rattle.broker_types.specs.Map.{get}
+use Rattle.broker_types.specs.MapLaws.{valued_is}
+use Rattle.broker_types.specs.Answer.{Response, refused}
+use Rattle.broker_types.specs.Broker as broker
+use Rattle.broker_types.specs.Broker.{Broker, Waiting}
+use Rattle.broker_types.specs.Evolves.{Evolves, HasEnded}
+use Rattle.broker_types.specs.EvolvesLaws.{evolves_trans}
+use Rattle.broker_types.specs.FewerLaws.{tree_of}
+use Rattle.broker_types.specs.Laws.{IsTree}
+use Rattle.broker_types.specs.Names.{Names, names_of}
+use Rattle.broker_types.specs.Operation.{Done}
+use Rattle.broker_types.specs.OptionLaws.{found_or_not}
+use Rattle.broker_types.specs.Places.{lease_of, token_identifier}
+use Rattle.broker_types.specs.Places as place
+use Rattle.broker_types.specs.Refuse.{◌>>=◌, some_or, unless}
+use Rattle.broker_types.specs.RemovalLaws.{at_moment_evolves}
+use Rattle.broker_types.specs.Sound.{Sound}
+use Rattle.broker_types.specs.Spending.{spend, drop_waiting, end_spent, one_less}
+use Rattle.broker_types.specs.Status.{status_code}
+use Rattle.broker_types.specs.Token.{Token, Lease}
+use Rattle.broker_types.specs.TreeLaws.{alive_is, alive_tree, under_tokens, values_tree}
+use Rattle.broker_types.specs.Used.{are_new, use_up}
+use Rattle.broker_types.specs.declared.refusal.Refusal.{Refusal}
+use Rattle.broker_types.specs.declared.refusal.Refusal.TheVariants as refusal
+use Rattle.broker_types.specs.declared.refusal.Reason.TheVariants as reason
+use Rattle.records.specs.ValueLaws.{ok_inj}
+use Rattle.broker_model.specs.Act.{act}
+use Rattle.broker_model.specs.Command.{Command, on_cubbyhole, on_token, on_secret, on_policy, on_mount, on_lease}
+use Rattle.broker_model.specs.Command.{on_issued, on_wrapping, command_of}
+use Rattle.broker_model.specs.Forms.{forms}
+use Rattle.broker_model.specs.Laws.{OperationsAreProper}
+use Rattle.broker_model.specs.Order.{Outcome, Wrapped, denied, finish, for_caller, needed, permission_denied, response_to}
+use Rattle.broker_model.specs.Order.{serve, unwrapped, wrapped}
+use Rattle.broker_model.specs.Permission.{permits}
+use Rattle.broker_model.specs.Request.{Request}
+use Rattle.broker_model.specs.Responses.{ok, no_content}
+use Rattle.broker_model.specs.Serving.{is_open}
+use Rattle.broker_model.specs.Step.{request_of, step, traits}
+use Rattle.broker_model.specs.declared.commands.TokenCommand.{TokenCommand}
+use Rattle.broker_model.specs.declared.commands.TokenCommand.TheVariants as token
+use Rattle.broker_model.specs.declared.commands.WrappingCommand.{WrappingCommand}
+use Rattle.broker_model.specs.declared.commands.WrappingCommand.TheVariants as response
+use Rattle.broker_model.specs.parts.Tokens.{act_on_tokens, revoke, revoke_alone}
+use Rattle.broker_model.specs.parts.Wrappings.{FoundResponse, found, found_under, rewrapped, act_on_wrappings}
+use Rattle.histories.specs.History.{AreAsked, Asking, AskedAt, History, clocked, spent_by}
+use Rattle.histories.specs.Kept.{unwrapped_body}
+use Rattle.histories.specs.Revocation.{EndsToken, FindsNone, IsGone, IsGranted, Revocation, Revokes, RevokesAlone}
+use Rattle.histories.specs.Revocation.{orphaning_by, orphaning_of, revoked_by, revoked_of, taken_as}
+use Rattle.histories.proofs.Ending.{IsLeaseGone, ended_lasts, gone_has_ended, lease_lasts, leases_are_gone}
+use Rattle.histories.proofs.Keeping.{EachKeeps, Keeps}
+use Rattle.histories.proofs.Lasting.{asked_keeps, evolved_since, kept_evolves}
+use Rattle.histories.proofs.OrderCases.{IsServed, IsTurnedAway, IsTurnedDown, order_cases, spent, with_caller}
+use Rattle.histories.proofs.OrderKeeps.{wrapped_cases}
+use Rattle.histories.proofs.Requests.{asked_at, history_keeps}
+use Rattle.histories.proofs.Revoking.{below_are_gone, below_are_left, children_are_orphans, orphaned_is_gone, others_are_left, others_stay, revoked_are_gone}
+
+-- ---- a 204
+
+-- the code of a response's status
+abbrev code : Response → ℕ
+code r = status_code r.status
+
+-- no refusal is a 204
+refused_is_content : (why : Refusal) → refused why ≡ no_content → ⊥
+refused_is_content (refusal.BadRequest r) e = absurd (omega (arith, ap code e))
+refused_is_content (refusal.Forbidden d) e = absurd (omega (arith, ap code e))
+refused_is_content refusal.NotFound e = absurd (omega (arith, ap code e))
+refused_is_content (refusal.MethodNotAllowed ms) e = absurd (omega (arith, ap code e))
+refused_is_content refusal.IdentifierUsed e = absurd (omega (arith, ap code e))
+
+-- nor is a reply
+reply_is_content : (t : Text) → ok t ≡ no_content → ⊥
+reply_is_content t e = absurd (omega (arith, ap code e))
+
+-- what a 204 left
+abbrev left_by : Asking → Text → Done → Broker
+left_by a c d = end_spent (record d.next { used = use_up d.next.used d.taken }) (Some c)
+
+-- a 204 was an operation of the caller
+pub record Did (a : Asking) (c : Text) (command : Command) : Type 0 where
+  pub done : Done
+  pub acted : act (spent_by a c) (Some c) (names_of a.words) command ≡ Ok done
+  pub next : a.outcome.next ≡ left_by a c done
+
+module _ (a : Asking) (c : Text) (command : Command) (is : a.outcome ≡ step a.broker a.moment a.words a.ask)
+    (d : IsGranted a c command) where
+  abbrev q : Request Command
+  q = request_of a.ask
+
+  abbrev Served : Type 0
+  Served = IsServed permits traits act (clocked a) q (names_of a.words) a.outcome
+
+  by_cases : IsTurnedAway (clocked a) q a.outcome ⊎ (IsTurnedDown (clocked a) a.outcome ⊎ Served) → Served
+  by_cases (inl s) = absurd (refused_is_content permission_denied (sym (ap (λ (x : Outcome). x.response) s.outcome) ∙ d.response))
+  by_cases (inr (inl s)) = absurd (refused_is_content s.why (sym (ap (λ (x : Outcome). x.response) s.outcome) ∙ d.response))
+  by_cases (inr (inr s)) = s
+
+  served : Served
+  unfolding step
+  served = by_cases (subst (λ (o : Outcome). IsTurnedAway (clocked a) q o ⊎ (IsTurnedDown (clocked a) o
+      ⊎ IsServed permits traits act (clocked a) q (names_of a.words) o)) (sym is)
+      (order_cases permits traits act a.broker a.moment q (names_of a.words)))
+
+  caller_is : served.caller ≡ Some c
+  caller_is = elim served.asked [
+    | inl open_ ↦ absurd (false≢true (sym d.closed ∙ open_.0))
+    | inr (t, closed, is_token, caller, no_wait, there) ↦ caller ∙ sym is_token ∙ d.caller
+  ]
+
+  command_is : (caller : Option Text) → caller ≡ Some c → q.command (spent (clocked a) caller) ≡ Ok served.command
+      → served.command ≡ command
+  command_is caller is_c means =
+      ok_inj (sym (subst (λ (o : Option Text). q.command (spent (clocked a) o) ≡ Ok served.command) is_c means) ∙ d.means)
+
+  pub did : Did a c command
+  did =
+      let s = served in
+      let start = spent (clocked a) s.caller in
+      let is_command = command_is s.caller caller_is s.means in
+      let v = wrapped permits traits act start q (names_of a.words) s.command s.done in
+      let response : response_to v.done.answered ≡ no_content = sym (ap (λ (x : Outcome). x.response) s.outcome) ∙ d.response in
+      let plain_answer : v ≡ unwrapped s.done =
+      elim (wrapped_cases permits traits act start q (names_of a.words) s.command s.done) [
+        | inl e ↦ e
+        | inr (r, made, wraps_, answered, is_wrapped) ↦
+            absurd (reply_is_content _ (sym (ap (λ (x : Wrapped). response_to x.done.answered) is_wrapped) ∙ response))
+      ] in
+      record {
+        done = s.done;
+        acted = subst (λ (k : Command). act (spent_by a c) (Some c) (names_of a.words) k ≡ Ok s.done) is_command
+            (subst (λ (o : Option Text). act (spent (clocked a) o) o (names_of a.words) s.command ≡ Ok s.done) caller_is s.acted);
+        next = ap (λ (x : Outcome). x.next) s.outcome
+            ∙ ap (λ (x : Wrapped). end_spent (record x.done.next { used = use_up x.done.next.used x.done.taken }) s.caller) plain_answer
+            ∙ ap (λ (o : Option Text). end_spent (record s.done.next { used = use_up s.done.next.used s.done.taken }) o) caller_is;
+      }
+
+-- ---- revocations
+
+module _ (a : Asking) (is : a.outcome ≡ step a.broker a.moment a.words a.ask) (c t : Text) where
+  abbrev start : Broker
+  start = spent_by a c
+
+  -- what a command of tokens that revokes t does
+  revokes : (command : TokenCommand) (d : Done) → revoked_of start c command ≡ Some t
+      → act_on_tokens start c (names_of a.words) command ≡ Ok d → d ≡ revoke start t
+  revokes (token.Revoke u) d names done = sym (ok_inj done) ∙ ap (revoke start) (same_Some _ _ names)
+  revokes (token.RevokeAccessor accessor) d names done =
+      sym (ok_inj (ap (λ o. some_or (refusal.BadRequest reason.InvalidAccessor) o >>= (λ u. Ok (revoke start u))) (sym names) ∙ done))
+  revokes token.RevokeSelf d names done = sym (ok_inj done) ∙ ap (revoke start) (same_Some _ _ names)
+  revokes (token.Create making asked) d names done = absurd (none-some _ names)
+  revokes (token.LookUp u) d names done = absurd (none-some _ names)
+  revokes (token.LookUpAccessor u) d names done = absurd (none-some _ names)
+  revokes token.LookUpSelf d names done = absurd (none-some _ names)
+  revokes (token.Renew asked) d names done = absurd (none-some _ names)
+  revokes (token.RenewSelf n) d names done = absurd (none-some _ names)
+  revokes (token.RevokeOrphan u) d names done = absurd (none-some _ names)
+  revokes token.ListAccessors d names done = absurd (none-some _ names)
+
+  revokes_by : (command : Command) (d : Done) → revoked_by start c command ≡ Some t
+      → act start (Some c) (names_of a.words) command ≡ Ok d → d ≡ revoke start t
+  revokes_by (on_token command) d names done = revokes command d names done
+  revokes_by (on_cubbyhole path command) d names done = absurd (none-some _ names)
+  revokes_by (on_secret place command) d names done = absurd (none-some _ names)
+  revokes_by (on_policy name command) d names done = absurd (none-some _ names)
+  revokes_by (on_mount name command) d names done = absurd (none-some _ names)
+  revokes_by (on_lease prefix command) d names done = absurd (none-some _ names)
+  revokes_by (on_issued place command) d names done = absurd (none-some _ names)
+  revokes_by (on_wrapping command) d names done = absurd (none-some _ names)
+
+  -- what a revocation left
+  pub revocation_left : Revokes a c t → a.outcome.next ≡ end_spent (drop_waiting (broker.revoke start t) t) (Some c)
+  revocation_left r =
+      let k = did a c r.command is r.granted in
+      k.next ∙ ap (left_by a c) (revokes_by r.command k.done r.text k.acted)
+
+  orphans : (command : TokenCommand) (d : Done) → orphaning_of command ≡ Some t
+      → act_on_tokens start c (names_of a.words) command ≡ Ok d → d ≡ revoke_alone start t
+  orphans (token.RevokeOrphan u) d names done = sym (ok_inj done) ∙ ap (revoke_alone start) (same_Some _ _ names)
+  orphans (token.Revoke u) d names done = absurd (none-some _ names)
+  orphans (token.RevokeAccessor accessor) d names done = absurd (none-some _ names)
+  orphans token.RevokeSelf d names done = absurd (none-some _ names)
+  orphans (token.Create making asked) d names done = absurd (none-some _ names)
+  orphans (token.LookUp u) d names done = absurd (none-some _ names)
+  orphans (token.LookUpAccessor u) d names done = absurd (none-some _ names)
+  orphans token.LookUpSelf d names done = absurd (none-some _ names)
+  orphans (token.Renew asked) d names done = absurd (none-some _ names)
+  orphans (token.RenewSelf n) d names done = absurd (none-some _ names)
+  orphans token.ListAccessors d names done = absurd (none-some _ names)
+
+  orphans_by : (command : Command) (d : Done) → orphaning_by command ≡ Some t
+      → act start (Some c) (names_of a.words) command ≡ Ok d → d ≡ revoke_alone start t
+  orphans_by (on_token command) d names done = orphans command d names done
+  orphans_by (on_cubbyhole path command) d names done = absurd (none-some _ names)
+  orphans_by (on_secret place command) d names done = absurd (none-some _ names)
+  orphans_by (on_policy name command) d names done = absurd (none-some _ names)
+  orphans_by (on_mount name command) d names done = absurd (none-some _ names)
+  orphans_by (on_lease prefix command) d names done = absurd (none-some _ names)
+  orphans_by (on_issued place command) d names done = absurd (none-some _ names)
+  orphans_by (on_wrapping command) d names done = absurd (none-some _ names)
+
+  -- what a revocation of one token left
+  pub orphaning_left : RevokesAlone a c t → a.outcome.next ≡ end_spent (drop_waiting (broker.revoke_orphan start t) t) (Some c)
+  orphaning_left r =
+      let k = did a c r.command is r.granted in
+      k.next ∙ ap (left_by a c) (orphans_by r.command k.done r.text k.acted)
+
+-- ---- the law of revocation
+
+-- a token at the caller's clock was one before
+called_was : (a : Asking) (c q : Text) → get (spent_by a c).tokens q ≢ None → get a.broker.tokens q ≢ None
+called_was a c q there none = elim (found_or_not (get (spent_by a c).tokens q)) [
+  | inl gone ↦ there gone
+  | inr y ↦
+      let x = valued_is (λ u (z : Token). if same u c then one_less z else z) (clocked a).tokens q y.0 y.1 in
+      let w = alive_is (max a.broker.clock a.moment) a.broker.tokens q x.0 x.1 in
+      none-some _ (sym none ∙ w.1)
+]
+
+called_tree : (a : Asking) (c : Text) → Sound forms None a.broker → IsTree (spent_by a c).tokens
+called_tree a c sound =
+    values_tree (λ u (z : Token). if same u c then one_less z else z) (clocked a).tokens
+    (λ u z. elim (same u c) as (λ v. (if v then one_less z else z).parent ≡ z.parent) [ true ↦ refl | false ↦ refl ])
+    (alive_tree (max a.broker.clock a.moment) a.broker.tokens (tree_of forms None None a.broker sound))
+
+-- a request by a client token that has ended is denied
+denied_if_gone : (a : Asking) (q : Text) → a.outcome ≡ step a.broker a.moment a.words a.ask → a.ask.token ≡ Some q
+    → is_open a.ask ≡ false → HasEnded (clocked a) q → a.outcome.response ≡ refused permission_denied
+unfolding step
+denied_if_gone a q is is_token closed ended =
+    let go : Text → Outcome = λ c. finish (spend (clocked a) c) (Some c)
+    (serve permits traits act (spend (clocked a) c) (Some c) (request_of a.ask) (names_of a.words)) in
+    ap (λ (x : Outcome). x.response) is
+    ∙ ap (λ v. (if v then finish (clocked a) None (serve permits traits act (clocked a) None (request_of a.ask) (names_of a.words))
+    else for_caller (clocked a) a.ask.token go).response) closed
+    ∙ ap (λ (o : Option Text). (for_caller (clocked a) o go).response) is_token
+    ∙ ap (λ (o : Option Waiting). (if is_some o then denied (drop_waiting (clocked a) q)
+    else (if is_some (get (clocked a).tokens q) then go q else denied (clocked a))).response) ended.not_waiting
+    ∙ ap (λ (o : Option Token). (if is_some o then go q else denied (clocked a)).response) ended.gone
+
+-- an open request of a wrapping token under which nothing waits is refused
+module _ (a : Asking) (q : Text) (is : a.outcome ≡ step a.broker a.moment a.words a.ask)
+    (open_ : is_open a.ask ≡ true) (none : get (clocked a).waiting q ≡ None) where
+  abbrev names : Names
+  names = names_of a.words
+
+  abbrev r : Request Command
+  r = request_of a.ask
+
+  abbrev last_steps : Command → Result Wrapped Refusal
+  last_steps command = do
+    fresh ← unless (are_new (clocked a).used (needed permits traits act r names command)) refusal.IdentifierUsed
+    asked ← unless (not (traits command).must_wrap || nat_lt 0 r.wrap_ttl) (refusal.BadRequest reason.WrappingRequired)
+    done ← act (clocked a) None names command
+    Ok (wrapped permits traits act (clocked a) r names command done)
+
+  open_step : (command : Command) → command_of (clocked a).mounts a.ask ≡ Ok command
+      → a.outcome.response ≡ (finish (clocked a) None (last_steps command)).response
+  unfolding step
+  open_step command means =
+      ap (λ (x : Outcome). x.response) is
+      ∙ ap (λ (x : Outcome). x.response) (with_caller permits traits act a.broker a.moment r names None (inl (open_, refl)))
+      ∙ ap (λ v. (finish (clocked a) None (unless (v || permits (clocked a) None a.ask.verb a.ask.path) permission_denied
+      >>= (λ allowed. command_of (clocked a).mounts a.ask >>= last_steps))).response) open_
+      ∙ ap (λ (x : Result Command Refusal). (finish (clocked a) None (x >>= last_steps)).response) means
+
+  abbrev bad : Refusal
+  bad = refusal.BadRequest reason.InvalidWrappingToken
+
+  none_found : found (clocked a) (Some q) ≡ Err bad
+  none_found = ap (λ o. some_or bad (option_map (found_under q) o)) none
+
+  no_wrap : (v : Bool) → (v && false) ≡ false
+  no_wrap true = refl
+  no_wrap false = refl
+
+  -- the last steps of a look-up or an unwrap
+  refused_400 : (own : List Text) → own ≡ [] → (f : FoundResponse → Result Done Refusal) (g : Done → Result Wrapped Refusal)
+      → (unless (are_new (clocked a).used own) refusal.IdentifierUsed >>= (λ fresh. (found (clocked a) (Some q) >>= f) >>= g)) ≡ Err bad
+  refused_400 own empty_ f g =
+      ap (λ is. unless (are_new (clocked a).used is) refusal.IdentifierUsed >>= (λ fresh. (found (clocked a) (Some q) >>= f) >>= g)) empty_
+      ∙ ap (λ (x : Result FoundResponse Refusal). (x >>= f) >>= g) none_found
+
+  refused_now : (x : Result Wrapped Refusal) (why : Refusal) → x ≡ Err why → (finish (clocked a) None x).response ≡ refused why
+  refused_now x why e = ap (λ (y : Result Wrapped Refusal). (finish (clocked a) None y).response) e
+
+  pub finds_none : (command : WrappingCommand) → command_of (clocked a).mounts a.ask ≡ Ok (on_wrapping command)
+      → taken_as command ≡ Some q → FindsNone a command q
+  finds_none (response.Wrap text) means as_q = absurd (none-some _ as_q)
+  finds_none (response.LookUp meant) means as_q =
+      inl (open_step (on_wrapping (response.LookUp meant)) means
+      ∙ ap (λ u. (finish (clocked a) None (last_steps (on_wrapping (response.LookUp u)))).response) as_q
+      ∙ refused_now (last_steps (on_wrapping (response.LookUp (Some q)))) bad
+      (refused_400 (needed permits traits act r names (on_wrapping (response.LookUp (Some q))))
+      (ap (λ v. if v then names.wrapping_token ∷ names.wrapping_accessor ∷ [] else []) (no_wrap (nat_lt 0 a.ask.wrap_ttl))) _ _))
+  finds_none (response.Unwrap meant) means as_q =
+      inl (open_step (on_wrapping (response.Unwrap meant)) means
+      ∙ ap (λ u. (finish (clocked a) None (last_steps (on_wrapping (response.Unwrap u)))).response) as_q
+      ∙ refused_now (last_steps (on_wrapping (response.Unwrap (Some q)))) bad
+      (refused_400 (needed permits traits act r names (on_wrapping (response.Unwrap (Some q))))
+      (ap (λ v. if v then names.wrapping_token ∷ names.wrapping_accessor ∷ [] else []) (no_wrap (nat_lt 0 a.ask.wrap_ttl))) _ _))
+  finds_none (response.Rewrap meant) means as_q =
+      let rewrap : Command = on_wrapping (response.Rewrap (Some q)) in
+      let start : a.outcome.response ≡ (finish (clocked a) None (last_steps rewrap)).response =
+      open_step (on_wrapping (response.Rewrap meant)) means
+      ∙ ap (λ u. (finish (clocked a) None (last_steps (on_wrapping (response.Rewrap u)))).response) as_q in
+      elim (are_new (clocked a).used (needed permits traits act r names rewrap)) as
+      (λ v. are_new (clocked a).used (needed permits traits act r names rewrap) ≡ v → FindsNone a (response.Rewrap meant) q) [
+        | true ↦ λ new. inl (start ∙ refused_now (last_steps rewrap) bad
+            (ap (λ v. unless v refusal.IdentifierUsed >>= (λ fresh. act_on_wrappings (clocked a) names (response.Rewrap (Some q))
+            >>= (λ done. Ok (wrapped permits traits act (clocked a) r names rewrap done)))) new
+            ∙ ap (λ (x : Result FoundResponse Refusal). (x >>= (λ f. Ok (rewrapped (clocked a) names f)))
+            >>= (λ done. Ok (wrapped permits traits act (clocked a) r names rewrap done))) none_found))
+        | false ↦ λ old. inr (
+          ap response.Rewrap as_q,
+          start ∙ refused_now (last_steps rewrap) refusal.IdentifierUsed
+              (ap (λ v. unless v refusal.IdentifierUsed >>= (λ fresh. act_on_wrappings (clocked a) names (response.Rewrap (Some q))
+              >>= (λ done. Ok (wrapped permits traits act (clocked a) r names rewrap done)))) old),
+        )
+      ] refl
+
+module _ (a : Asking) (sound : Sound forms None a.broker) (keeps : Keeps unwrapped_body a) (q : Text) (ends : EndsToken a q) where
+  none_after : get a.outcome.next.tokens q ≡ None
+  none_after = elim ends.gone [
+    | inr e ↦ e
+    | inl e ↦ elim (found_or_not (get a.outcome.next.tokens q)) [
+      | inl none ↦ none
+      | inr y ↦ elim (keeps.evolves.tokens q y.0 y.1) [
+        | inl stood ↦ absurd (stood e)
+        | inr new ↦ elim (found_or_not (get a.broker.tokens q)) [
+          | inl none ↦ absurd (ends.was none)
+          | inr x ↦ absurd (sound.identifiers.all_used (place.token q) (token_identifier q)
+              (ap (option_map (λ (z : Token). token_identifier q)) x.1) new)
+        ]
+      ]
+    ]
+  ]
+
+  token_ended : HasEnded a.outcome.next q
+  token_ended = gone_has_ended a.broker a.outcome.next sound.identifiers (kept_evolves unwrapped_body a keeps) q none_after ends.was
+
+  lease_gone : (lease_id : Text) (l : Lease) → lease_of a.broker q lease_id ≡ Some l → IsLeaseGone a.outcome.next lease_id l
+  lease_gone = leases_are_gone a.broker a.outcome.next sound.identifiers (kept_evolves unwrapped_body a keeps) q none_after
+
+  nothing_left : (b : Broker) → (a.outcome.next ≡ b) ⊎ Evolves a.outcome.next b → IsGone a q b
+  nothing_left b (inl e) = subst (IsGone a q) e (record {
+    no_token = none_after;
+    no_cubbyhole = λ path. ap (option_and_then (λ (x : Token). get x.cubbyhole path)) none_after;
+    no_lease = λ lease_id l was t other_id k is. (lease_gone lease_id l was).gone t other_id k is;
+  })
+  nothing_left b (inr e) =
+      let gone = (ended_lasts a.outcome.next b q e token_ended).gone in
+      record {
+        no_token = gone;
+        no_cubbyhole = λ path. ap (option_and_then (λ (x : Token). get x.cubbyhole path)) gone;
+        no_lease = λ lease_id l was t other_id k is.
+            (lease_lasts a.outcome.next b lease_id l e (lease_gone lease_id l was)).gone t other_id k is;
+      }
+
+module _ (proper : OperationsAreProper) (b : Broker) (history : History) (h : AreAsked b history) where
+  keep_all : EachKeeps unwrapped_body b history
+  keep_all = history_keeps proper b history h
+
+  lasts : (i j : ℕ) (a x : Asking) (q : Text) → AskedAt history i a → EndsToken a q → AskedAt history j x → i ≤ j
+      → IsGone a q x.outcome.next
+  lasts i j a x q one ends other le =
+      nothing_left a (asked_at b history i a h one).sound (asked_keeps unwrapped_body b history i a keep_all one) q ends x.outcome.next
+      (elim (eq-or-lt_of_le le) [
+        | inl e ↦ inl (ap (λ (z : Asking). z.outcome.next)
+            (same_Some _ _ (sym one ∙ ap (λ n. slice_index_or history n None) e ∙ other)))
+        | inr lt ↦ inr (evolves_trans a.outcome.next x.broker x.outcome.next
+            (evolved_since unwrapped_body b history i j a x keep_all one other lt)
+            (kept_evolves unwrapped_body x (asked_keeps unwrapped_body b history j x keep_all other)))
+      ])
+
+  ended_then : (i j : ℕ) (a x : Asking) (q : Text) → AskedAt history i a → EndsToken a q → AskedAt history j x → i < j
+      → HasEnded (clocked x) q
+  ended_then i j a x q one ends other lt =
+      let ended = token_ended a (asked_at b history i a h one).sound (asked_keeps unwrapped_body b history i a keep_all one) q ends in
+      let still = ended_lasts a.outcome.next x.broker q (evolved_since unwrapped_body b history i j a x keep_all one other lt) ended in
+      ended_lasts x.broker (clocked x) q (at_moment_evolves x.broker x.moment) still
+
+  pub revocation : Revocation history
+  revocation = record {
+    revoked = λ i a c t q at r under. record {
+      was = called_was a c q (under_tokens (spent_by a c).tokens q t under).0;
+      gone = inr (ap (λ (z : Broker). get z.tokens q) (revocation_left a (asked_at b history i a h at).outcome c t r)
+          ∙ revoked_are_gone (spent_by a c) (drop_waiting (broker.revoke (spent_by a c) t) t) t c refl q under);
+    };
+    others = λ i a c t q at r apart.
+        let is = asked_at b history i a h at in
+        ap (λ (z : Broker). get z.tokens q) (revocation_left a is.outcome c t r)
+        ∙ others_are_left (spent_by a c) (drop_waiting (broker.revoke (spent_by a c) t) t) t c refl (called_tree a c is.sound) q apart;
+    alone = λ i a c t at r there. record {
+      was = called_was a c t there;
+      gone = inr (ap (λ (z : Broker). get z.tokens t) (orphaning_left a (asked_at b history i a h at).outcome c t r)
+          ∙ orphaned_is_gone (spent_by a c) (drop_waiting (broker.revoke_orphan (spent_by a c) t) t) t c refl);
+    };
+    children = λ i a c t q x at r other is parent free.
+        ap (λ (z : Broker). get z.tokens q) (orphaning_left a (asked_at b history i a h at).outcome c t r)
+        ∙ children_are_orphans (spent_by a c) (drop_waiting (broker.revoke_orphan (spent_by a c) t) t) t c refl q x other is parent free;
+    below = λ i a c t q x at r other under there parent stays.
+        let is = asked_at b history i a h at in
+        ap (λ (z : Broker). get z.tokens q) (orphaning_left a is.outcome c t r)
+        ∙ below_are_left (spent_by a c) (drop_waiting (broker.revoke_orphan (spent_by a c) t) t) t c refl
+        (called_tree a c is.sound) q x other under there parent stays;
+    ended_below = λ i a c t q at r ends.
+        let is = asked_at b history i a h at in
+        record {
+          was = called_was a c q (under_tokens (spent_by a c).tokens q c ends.under_caller).0;
+          gone = inr (ap (λ (z : Broker). get z.tokens q) (orphaning_left a is.outcome c t r)
+              ∙ below_are_gone (spent_by a c) (drop_waiting (broker.revoke_orphan (spent_by a c) t) t) t c refl
+              (called_tree a c is.sound) q ends);
+        };
+    others_alone = λ i a c t q at r apart.
+        let is = asked_at b history i a h at in
+        ap (λ (z : Broker). get z.tokens q) (orphaning_left a is.outcome c t r)
+        ∙ others_stay (spent_by a c) (drop_waiting (broker.revoke_orphan (spent_by a c) t) t) t c refl (called_tree a c is.sound) q apart;
+    lasts = lasts;
+    denied = λ i j a x q one ends other lt is_token closed.
+        denied_if_gone x q (asked_at b history j x h other).outcome is_token closed (ended_then i j a x q one ends other lt);
+    not_waiting = λ i j a x q command one ends other lt open_ means as_q.
+        finds_none x q (asked_at b history j x h other).outcome open_ (ended_then i j a x q one ends other lt).not_waiting command means as_q;
+  }

@@ -1,0 +1,132 @@
+-- Laws of the identifiers that were given out.
+use Rattle.std.specs.Prelude.{◌≡◌, ◌≢◌, ◌⊎◌, ◌++◌, List, [], ◌∷◌, Bool, true, false, not, ◌&&◌, ◌||◌, cond}
+use Rattle.std.specs.Prelude.{Some, None, is_none, ⊤}
+use Rattle.std.specs.List.{list_any, IsDistinct, AllByRecursion}
+use Rattle.std.proofs.Common.{refl, sym, ◌∙◌, ap, subst, inl, inr}
+use Rattle.std.proofs.lemmas.Bool.{false≢true, and_parts}
+use Rattle.std.proofs.lemmas.Option.{none-some}
+use Rattle.broker_types.specs.Text.{Text, same}
+use Rattle.broker_types.specs.Map.{Map, get, put}
+use Rattle.broker_types.specs.MapLaws.{get-put}
+use Rattle.broker_types.specs.OptionLaws.{is_nothing}
+use Rattle.broker_types.specs.TextLaws.{same_self, same_true}
+use Rattle.broker_types.specs.Used.{are_new, use_up}
+
+-- ---- truth values
+
+pub join : (a b : Bool) → a ≡ true → b ≡ true → (a && b) ≡ true
+join true b e f = f
+join false b e f = absurd (false≢true e)
+
+not_true : (a : Bool) → not a ≡ true → a ≡ false
+not_true true e = absurd (false≢true e)
+not_true false e = refl
+
+-- ---- lists
+
+any_append : (i : Text) (xs ys : List Text) → list_any (same i) xs ≡ false → list_any (same i) ys ≡ false
+    → not (list_any (same i) (xs ++ ys)) ≡ true
+any_append i [] ys h k = ap not k
+any_append i (x ∷ xs) ys h k =
+    elim (same i x) as (λ b. (b || list_any (same i) xs) ≡ false → not (b || list_any (same i) (xs ++ ys)) ≡ true) [
+      | true ↦ λ e. absurd (false≢true (sym e))
+      | false ↦ λ e. any_append i xs ys e k
+    ] h
+
+none_same : (i : Text) (xs : List Text) → list_any (same i) xs ≡ false → AllByRecursion (λ y. same i y ≡ false) xs
+none_same i [] h = tt
+none_same i (x ∷ xs) h =
+    elim (same i x) as (λ b. same i x ≡ b → (b || list_any (same i) xs) ≡ false
+    → AllByRecursion (λ y. same i y ≡ false) (x ∷ xs)) [
+      | true ↦ λ _ e. absurd (false≢true (sym e))
+      | false ↦ λ apart e. (apart, none_same i xs e)
+    ] refl h
+
+same_sym : (a b : Text) → same a b ≡ true → same b a ≡ true
+same_sym a b e = subst (λ z. same z a ≡ true) (same_true a b e) (same_self a)
+
+-- ---- new identifiers
+
+-- what is new beside one more is new, and is not that one
+weaken : (m : Map ⊤) (x : Text) (ys : List Text) → are_new (put m x tt) ys ≡ true
+    → (are_new m ys ≡ true) × (list_any (same x) ys ≡ false)
+weaken m x [] h = (refl, refl)
+weaken m x (y ∷ ys) h =
+    let p = and_parts _ _ h in
+    let q = and_parts _ _ p.1 in
+    let rest = weaken m x ys q.1 in
+    let here : is_none (cond (same y x) (Some tt) (get m y)) ≡ true = ap is_none (sym (get-put m x tt y)) ∙ p.0 in
+    let apart : same y x ≡ false =
+    elim (same y x) as (λ b. is_none (cond b (Some tt) (get m y)) ≡ true → b ≡ false) [
+      | true ↦ λ e. absurd (false≢true e)
+      | false ↦ λ _. refl
+    ] here in
+    let other : same x y ≡ false = elim (same x y) as (λ b. same x y ≡ b → b ≡ false) [
+      | true ↦ λ e. absurd (false≢true (sym apart ∙ same_sym x y e))
+      | false ↦ λ _. refl
+    ] refl in (
+      join _ _ (ap (λ b. is_none (cond b (Some tt) (get m y))) (sym apart) ∙ here) (join _ _ q.0 rest.0),
+      ap (λ b. b || list_any (same x) ys) other ∙ rest.1,
+    )
+
+-- identifiers that are given out one list after another are new together
+pub new_append : (m : Map ⊤) (xs ys : List Text) → are_new m xs ≡ true → are_new (use_up m xs) ys ≡ true
+    → are_new m (xs ++ ys) ≡ true
+new_append m [] ys h k = k
+new_append m (x ∷ xs) ys h k =
+    let p = and_parts _ _ h in
+    let q = and_parts _ _ p.1 in
+    let w = weaken (use_up m xs) x ys k in
+    join _ _ p.0 (join _ _ (any_append x xs ys (not_true _ q.0) w.1) (new_append m xs ys q.1 w.0))
+
+-- new identifiers all differ
+pub new_differ : (m : Map ⊤) (xs : List Text) → are_new m xs ≡ true → IsDistinct same xs
+unfolding IsDistinct
+new_differ m [] h = tt
+new_differ m (x ∷ xs) h =
+    let p = and_parts _ _ h in
+    let q = and_parts _ _ p.1 in
+    (none_same x xs (not_true _ q.0), new_differ m xs q.1)
+
+-- ---- one of many
+
+-- what is used with these is one of them, or was used before
+pub used_or : (m : Map ⊤) (is : List Text) (i : Text) → get (use_up m is) i ≢ None → (list_any (same i) is ≡ true) ⊎ (get m i ≢ None)
+used_or m [] i used = inr used
+used_or m (j ∷ js) i used =
+    elim (same i j) as (λ v. (cond v (Some (tt {0})) (get (use_up m js) i) ≢ None)
+    → ((v || list_any (same i) js) ≡ true) ⊎ (get m i ≢ None)) [
+      | true ↦ λ _. inl refl
+      | false ↦ λ rest. used_or m js i rest
+    ] (λ none. used (get-put (use_up m js) j (tt {0}) i ∙ none))
+
+pub any_left : (i : Text) (xs ys : List Text) → list_any (same i) xs ≡ true → list_any (same i) (xs ++ ys) ≡ true
+any_left i (x ∷ xs) ys h =
+    elim (same i x) as (λ v. (v || list_any (same i) xs) ≡ true → (v || list_any (same i) (xs ++ ys)) ≡ true) [
+      | true ↦ λ _. refl
+      | false ↦ λ e. any_left i xs ys e
+    ] h
+any_left i [] ys h = absurd (false≢true h)
+
+pub any_right : (i : Text) (xs ys : List Text) → list_any (same i) ys ≡ true → list_any (same i) (xs ++ ys) ≡ true
+any_right i [] ys h = h
+any_right i (x ∷ xs) ys h = elim (same i x) as (λ v. (v || list_any (same i) (xs ++ ys)) ≡ true) [ true ↦ refl | false ↦ any_right i xs ys h ]
+
+-- one of new identifiers is new
+pub member_new : (m : Map ⊤) (is : List Text) (i : Text) → are_new m is ≡ true → list_any (same i) is ≡ true → get m i ≡ None
+member_new m [] i new among = absurd (false≢true among)
+member_new m (j ∷ js) i new among =
+    let p = and_parts (is_none (get m j)) (not (list_any (same j) js) && are_new m js) new in
+    elim (same i j) as (λ v. same i j ≡ v → (v || list_any (same i) js) ≡ true → get m i ≡ None) [
+      | true ↦ λ e _. ap (get m) (same_true i j e) ∙ is_nothing (get m j) p.0
+      | false ↦ λ _ rest. member_new m js i (and_parts (not (list_any (same j) js)) (are_new m js) p.1).1 rest
+    ] refl among
+
+-- what is given out is used then
+pub member_used : (m : Map ⊤) (is : List Text) (i : Text) → list_any (same i) is ≡ true → get (use_up m is) i ≢ None
+member_used m [] i among none = absurd (false≢true among)
+member_used m (j ∷ js) i among none =
+    elim (same i j) as (λ v. (v || list_any (same i) js) ≡ true → cond v (Some (tt {0})) (get (use_up m js) i) ≡ None → ⊥) [
+      | true ↦ λ _ e. none-some _ (sym e)
+      | false ↦ λ rest e. member_used m js i rest e
+    ] among (sym (get-put (use_up m js) j (tt {0}) i) ∙ none)

@@ -1,0 +1,121 @@
+-- The laws of responses that were kept, as statements: each is handed out once, and is the reply that was kept (Vault's
+-- documentation, "Response wrapping").
+use Rattle.std.specs.Prelude.{◌≡◌, ◌≢◌, ◌<◌, ◌⊎◌, ℕ, List, false, Option, Some, None, Result, Ok, Err, []}
+use Rattle.serde_json.specs.Data.{Members, object}
+use Rattle.serde_json.specs.Written.{compact_text}
+use Rattle.broker_types.specs.Text.{Text}
+use Rattle.broker_types.specs.Map.{get}
+use Rattle.broker_types.specs.Broker.{Broker, Waiting, waiting_ends}
+use Rattle.broker_types.specs.Names.{Names, names_of}
+use Rattle.broker_types.specs.declared.refusal.Refusal.{Refusal}
+use Rattle.broker_types.specs.declared.status.Status.TheVariants as status
+use Rattle.api_json.specs.Json.{body_members}
+use Rattle.api_json.specs.Reply.{plain_reply, reply_text}
+use Rattle.broker_model.specs.Command.{Command, on_wrapping, command_of}
+use Rattle.broker_model.specs.Responses.{ok}
+use Rattle.broker_model.specs.Serving.{is_open}
+use Rattle.broker_model.specs.Step.{step, unwrapped_ask}
+use Rattle.broker_model.specs.declared.commands.WrappingCommand.TheVariants as response
+use Rattle.histories.specs.History.{Asking, AskedAt, History, clocked}
+use Rattle.histories.specs.Revocation.{Revokes, RevokesAlone}
+
+-- ---- what was asked, and answered
+
+-- The request was a 200 to an unwrap of the wrapping token t, and the response that waited there has the origin o.
+pub record Unwraps (a : Asking) (t o : Text) : Type 0 where
+  pub means : command_of (clocked a).mounts a.ask ≡ Ok (on_wrapping (response.Unwrap (Some t)))
+  pub success : a.outcome.response.status ≡ status.Success
+  pub entry : Waiting
+  pub waited : get (clocked a).waiting t ≡ Some entry
+  pub origin : entry.origin ≡ o
+
+-- the request had the wrapping token t as client token, and was not open
+pub record HasAsClient (a : Asking) (t : Text) : Type 0 where
+  pub token : a.ask.token ≡ Some t
+  pub closed : is_open a.ask ≡ false
+
+-- the request was a 200 to a rewrap of the wrapping token t
+pub record Rewraps (a : Asking) (t : Text) : Type 0 where
+  pub means : command_of (clocked a).mounts a.ask ≡ Ok (on_wrapping (response.Rewrap (Some t)))
+  pub success : a.outcome.response.status ≡ status.Success
+
+-- The request took the wrapping token t out, under which a response waited: it spent it as client token, revoked it by
+-- its text or its accessor, or rewrapped it.
+pub record TakesTokenOut (a : Asking) (t : Text) : Type 0 where
+  pub waited : get (clocked a).waiting t ≢ None
+  pub how : HasAsClient a t
+      ⊎ (((c : Text) × Revokes a c t) ⊎ (((c : Text) × RevokesAlone a c t) ⊎ Rewraps a t))
+
+-- ---- handed out once
+
+pub record HandedOutOnce (history : History) : Type 0 where
+  -- Each 200 to an unwrap hands out a response that waited under the wrapping token that was meant.
+  pub each : (i : ℕ) (a : Asking) (meant : Option Text) → AskedAt history i a
+      → command_of (clocked a).mounts a.ask ≡ Ok (on_wrapping (response.Unwrap meant))
+      → a.outcome.response.status ≡ status.Success
+      → (t : Text) × (o : Text) × (meant ≡ Some t) × Unwraps a t o
+  -- For each origin at most one event hands out its response, whatever rewraps came between.
+  pub once : (i j : ℕ) (a x : Asking) (t u o : Text) → AskedAt history i a → Unwraps a t o → AskedAt history j x
+      → Unwraps x u o → i ≡ j
+  -- At that event the clock is before the end of the wrapping token that is unwrapped.
+  pub in_time : (i : ℕ) (a : Asking) (t o : Text) → AskedAt history i a → (h : Unwraps a t o)
+      → (clocked a).clock < waiting_ends h.entry
+  -- No earlier event took that token out: no 204 that revoked it by its text or its accessor, no 403 that spent it as
+  -- client token, no rewrap of it.
+  pub still_in : (i j : ℕ) (a x : Asking) (t o : Text) → AskedAt history i a → TakesTokenOut a t
+      → AskedAt history j x → i < j → Unwraps x t o → ⊥
+
+-- ---- the same reply
+
+-- the object that was read, in its compact form
+abbrev pub object_text : Result Members Refusal → Text
+object_text (Ok members) = compact_text (object members)
+object_text (Err r) = []
+
+-- The body of the reply: that to an ask to wrap has the object of the ask's body as its data; that to another is the
+-- text that its step answers.
+abbrev pub body_by : Names → List ℕ → Text → Result Command Refusal → Text
+body_by names body text (Ok (on_wrapping (response.Wrap wrapped))) =
+    reply_text (plain_reply names.request (object_text (body_members body)))
+body_by names body text _ = text
+
+-- The body of the reply to the ask without its wrap TTL, in the state, with the moment and the words of the request.
+abbrev pub unwrapped_body : Asking → Text
+unwrapped_body a =
+    body_by (names_of a.words) a.ask.body (step a.broker a.moment a.words (unwrapped_ask a.ask)).response.text
+    (command_of (clocked a).mounts a.ask)
+
+-- The answer of event j is 200 with the body that an earlier event would have been answered, which made the origin o.
+pub record IsKeptReply (history : History) (j : ℕ) (x : Asking) (o : Text) : Type 0 where
+  pub place : ℕ
+  pub earlier : place < j
+  pub asking : Asking
+  pub asked : AskedAt history place asking
+  pub born : asking.outcome.born ≡ Some o
+  pub body : x.outcome.response ≡ ok (unwrapped_body asking)
+
+-- Or it is 200 with the text of a response of that origin that waited in b.
+pub record WaitedFirst (b : Broker) (x : Asking) (o : Text) : Type 0 where
+  pub token : Text
+  pub entry : Waiting
+  pub waited : get b.waiting token ≡ Some entry
+  pub origin : entry.origin ≡ o
+  pub body : x.outcome.response ≡ ok entry.reply
+
+-- From the broker b on, what is handed out is what was kept.
+pub record HandsOutKept (b : Broker) (history : History) : Type 0 where
+  -- at most one event makes an origin
+  pub one_birth : (i j : ℕ) (a x : Asking) (o : Text) → AskedAt history i a → AskedAt history j x
+      → a.outcome.born ≡ Some o → x.outcome.born ≡ Some o → i ≡ j
+  -- what is handed out is the reply that the event which made its origin would have answered, or waited in b
+  pub same : (j : ℕ) (x : Asking) (t o : Text) → AskedAt history j x → Unwraps x t o
+      → IsKeptReply history j x o ⊎ WaitedFirst b x o
+
+-- From a start on, where nothing waits yet:
+pub record SameReply (history : History) : Type 0 where
+  -- At most one event makes an origin.
+  pub one_birth : (i j : ℕ) (a x : Asking) (o : Text) → AskedAt history i a → AskedAt history j x
+      → a.outcome.born ≡ Some o → x.outcome.born ≡ Some o → i ≡ j
+  -- Where a response is handed out, the body of the answer is, byte for byte, what the event that made its origin would
+  -- have been answered without a wrap TTL, in the state, with the moment and the words of that event.
+  pub same : (j : ℕ) (x : Asking) (t o : Text) → AskedAt history j x → Unwraps x t o → IsKeptReply history j x o

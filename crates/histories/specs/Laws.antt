@@ -1,0 +1,44 @@
+-- The laws over all histories, as statements (this project's).
+use Rattle.std.specs.Prelude.{◌<◌, ℕ}
+use Rattle.broker_types.specs.Broker.{Broker}
+use Rattle.broker_types.specs.Evolves.{Evolves}
+use Rattle.histories.specs.History.{AreAsked, Asking, AskedAt, Beginning, History, begun}
+use Rattle.histories.specs.Identifiers.{GivesOutNew, NoIdentifierTwice}
+use Rattle.histories.specs.Kept.{HandedOutOnce, HandsOutKept, SameReply}
+use Rattle.histories.specs.Revocation.{Revocation}
+
+-- each request lets the broker evolve
+abbrev pub EachEvolves : Type 0
+EachEvolves =
+    (b : Broker) (history : History) (i : ℕ) (a : Asking) → AreAsked b history → AskedAt history i a
+    → Evolves a.broker a.outcome.next
+
+-- and a later one is asked of a broker that evolved from what the earlier one left
+abbrev pub LaterOnesEvolved : Type 0
+LaterOnesEvolved =
+    (b : Broker) (history : History) (i j : ℕ) (a x : Asking) → AreAsked b history → AskedAt history i a
+    → AskedAt history j x → i < j → Evolves a.outcome.next x.broker
+
+-- what is given out is new, whatever the first broker is
+abbrev pub AllGiveOutNew : Type 0
+AllGiveOutNew = (b : Broker) (history : History) → AreAsked b history → GivesOutNew b history
+
+-- from a start on, no identifier is given out twice
+abbrev pub NoneIsGivenTwice : Type 0
+NoneIsGivenTwice = (s : Beginning) (history : History) → AreAsked (begun s) history → NoIdentifierTwice s history
+
+-- a response is handed out once, whatever the first broker is
+abbrev pub AllAreHandedOutOnce : Type 0
+AllAreHandedOutOnce = (b : Broker) (history : History) → AreAsked b history → HandedOutOnce history
+
+-- what is revoked, and whatever else ended, does not come back, whatever the first broker is
+abbrev pub RevocationLasts : Type 0
+RevocationLasts = (b : Broker) (history : History) → AreAsked b history → Revocation history
+
+-- what is handed out is what was kept, whatever the first broker is
+abbrev pub AllHandOutKept : Type 0
+AllHandOutKept = (b : Broker) (history : History) → AreAsked b history → HandsOutKept b history
+
+-- from a start on, it is the reply to the request that made its origin
+abbrev pub AllAreTheReplies : Type 0
+AllAreTheReplies = (s : Beginning) (history : History) → AreAsked (begun s) history → SameReply history

@@ -1,0 +1,5 @@
+pub mod History
+pub mod Identifiers
+pub mod Kept
+pub mod Laws
+pub mod Revocation

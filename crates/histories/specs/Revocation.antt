@@ -1,0 +1,166 @@
+-- The law of revocation, as a statement (Vault's documentation, "Tokens", token hierarchies and orphan tokens, use
+-- limits; "Lease, renew, and revoke").
+use Rattle.std.specs.Prelude.{◌≡◌, ◌≢◌, ◌<◌, ◌≤◌, ◌⊎◌, ◌&&◌, ℕ, Bool, true, false, if◌then◌else◌}
+use Rattle.std.specs.Prelude.{Option, Some, None, Ok}
+use Rattle.std.specs.Option.{option_map_or}
+use Rattle.broker_types.specs.Text.{Text}
+use Rattle.broker_types.specs.Map.{get}
+use Rattle.broker_types.specs.Token.{Token, Tokens, Lease}
+use Rattle.broker_types.specs.Lineage.{is_under}
+use Rattle.broker_types.specs.Broker.{Broker}
+use Rattle.broker_types.specs.Places.{lease_of, lease_identifier}
+use Rattle.broker_types.specs.Spending.{is_spent}
+use Rattle.broker_types.specs.Answer.{refused}
+use Rattle.broker_types.specs.declared.refusal.Refusal.TheVariants as refusal
+use Rattle.broker_types.specs.declared.refusal.Reason.TheVariants as reason
+use Rattle.cubbyhole.specs.Cubbyhole.{object_at}
+use Rattle.token_tree.specs.Tokens as tree
+use Rattle.wrapping.specs.Wrapping as wrapping
+use Rattle.broker_model.specs.Command.{Command, on_token, on_wrapping, command_of}
+use Rattle.broker_model.specs.Order.{permission_denied}
+use Rattle.broker_model.specs.Responses.{no_content}
+use Rattle.broker_model.specs.Serving.{is_open}
+use Rattle.broker_model.specs.declared.commands.TokenCommand.{TokenCommand}
+use Rattle.broker_model.specs.declared.commands.TokenCommand.TheVariants as token
+use Rattle.broker_model.specs.declared.commands.WrappingCommand.{WrappingCommand}
+use Rattle.broker_model.specs.declared.commands.WrappingCommand.TheVariants as response
+use Rattle.histories.specs.History.{Asking, AskedAt, History, clocked, spent_by}
+
+-- ---- which commands revoke
+
+-- what an accessor names: a token, else a wrapping token
+abbrev pub named_by : Broker → Text → Option Text
+named_by b accessor = option_map_or Some (tree.find_accessor b accessor) (wrapping.find_accessor b accessor)
+
+-- the text that a command of the caller c revokes, with all under it
+abbrev pub revoked_of : Broker → Text → TokenCommand → Option Text
+revoked_of b c (token.Revoke t) = Some t
+revoked_of b c (token.RevokeAccessor accessor) = named_by b accessor
+revoked_of b c token.RevokeSelf = Some c
+revoked_of b c _ = None
+
+-- the same of a command of any part
+abbrev pub revoked_by : Broker → Text → Command → Option Text
+revoked_by b c (on_token command) = revoked_of b c command
+revoked_by b c _ = None
+
+-- the text that a command revokes alone
+abbrev pub orphaning_of : TokenCommand → Option Text
+orphaning_of (token.RevokeOrphan t) = Some t
+orphaning_of _ = None
+
+-- the same of a command of any part
+abbrev pub orphaning_by : Command → Option Text
+orphaning_by (on_token command) = orphaning_of command
+orphaning_by _ = None
+
+-- ---- what was asked, and answered
+
+-- the caller c asked for the command, and was answered 204
+pub record IsGranted (a : Asking) (c : Text) (command : Command) : Type 0 where
+  pub caller : a.ask.token ≡ Some c
+  pub closed : is_open a.ask ≡ false
+  pub means : command_of (clocked a).mounts a.ask ≡ Ok command
+  pub response : a.outcome.response ≡ no_content
+
+-- the request, by the caller c, was a 204 that revoked t with all under it
+pub record Revokes (a : Asking) (c t : Text) : Type 0 where
+  pub command : Command
+  pub granted : IsGranted a c command
+  pub text : revoked_by (spent_by a c) c command ≡ Some t
+
+-- the request, by the caller c, was a 204 that revoked t alone
+pub record RevokesAlone (a : Asking) (c t : Text) : Type 0 where
+  pub command : Command
+  pub granted : IsGranted a c command
+  pub text : orphaning_by command ≡ Some t
+
+-- ---- what ended
+
+-- The token q ended with the request, in whichever way: it was one before it, and it is none at its clock or after it.
+pub record EndsToken (a : Asking) (q : Text) : Type 0 where
+  pub was : get a.broker.tokens q ≢ None
+  pub gone : (get (clocked a).tokens q ≡ None) ⊎ (get a.outcome.next.tokens q ≡ None)
+
+-- What is left in the broker b of the token q that ended with the request: no token, no cubbyhole, and no lease with
+-- the identifier or the credential of one of its leases.
+pub record IsGone (a : Asking) (q : Text) (b : Broker) : Type 0 where
+  pub no_token : get b.tokens q ≡ None
+  pub no_cubbyhole : (path : Text) → object_at b q path ≡ None
+  pub no_lease : (lease_id : Text) (l : Lease) → lease_of a.broker q lease_id ≡ Some l
+      → (t other_id : Text) (k : Lease) → lease_of b t other_id ≡ Some k
+      → (lease_identifier other_id ≢ lease_identifier lease_id) × (k.credential ≢ l.credential)
+
+-- whether the token c has spent its last use
+abbrev pub has_no_use : Tokens → Text → Bool
+has_no_use ts c = option_map_or is_spent (get ts c) false
+
+-- the token at q, unless it ends with the caller c, which has spent its last use
+abbrev pub left_by_caller : Tokens → Text → Text → Option Token
+left_by_caller ts c q = if has_no_use ts c && is_under ts q c then None else get ts q
+
+-- the token q ends with the caller c, which is under t, apart from it, and has spent its last use
+pub record EndsWithCaller (ts : Tokens) (c t q : Text) : Type 0 where
+  pub spent : has_no_use ts c ≡ true
+  pub under_caller : is_under ts q c ≡ true
+  pub caller_under : is_under ts c t ≡ true
+  pub apart : c ≢ t
+
+-- ---- what is answered later
+
+-- the wrapping token that a command takes a text as
+abbrev pub taken_as : WrappingCommand → Option Text
+taken_as (response.Wrap text) = None
+taken_as (response.LookUp meant) = meant
+taken_as (response.Rewrap meant) = meant
+taken_as (response.Unwrap meant) = meant
+
+-- 400 `wrapping token is not valid or does not exist`, or 500 to a rewrap whose words are not new
+abbrev pub FindsNone : Asking → WrappingCommand → Text → Type 0
+FindsNone x command q =
+    (x.outcome.response ≡ refused (refusal.BadRequest reason.InvalidWrappingToken))
+    ⊎ ((command ≡ response.Rewrap (Some q)) × (x.outcome.response ≡ refused refusal.IdentifierUsed))
+
+-- ---- the law
+
+pub record Revocation (history : History) : Type 0 where
+  -- A 204 that revoked t ended each token that was under it then.
+  pub revoked : (i : ℕ) (a : Asking) (c t q : Text) → AskedAt history i a → Revokes a c t
+      → is_under (spent_by a c).tokens q t ≡ true → EndsToken a q
+  -- The tokens not under t are after that event just as they were at its clock, apart from the caller's spent use and,
+  -- after its last one, its end with its descendants.
+  pub others : (i : ℕ) (a : Asking) (c t q : Text) → AskedAt history i a → Revokes a c t
+      → is_under (spent_by a c).tokens q t ≡ false
+      → get a.outcome.next.tokens q ≡ left_by_caller (spent_by a c).tokens c q
+  -- A 204 that revoked t alone ended t.
+  pub alone : (i : ℕ) (a : Asking) (c t : Text) → AskedAt history i a → RevokesAlone a c t
+      → get (spent_by a c).tokens t ≢ None → EndsToken a t
+  -- Its children, but for a caller on its last use, stand without parent then.
+  pub children : (i : ℕ) (a : Asking) (c t q : Text) (x : Token) → AskedAt history i a → RevokesAlone a c t
+      → q ≢ t → get (spent_by a c).tokens q ≡ Some x → x.parent ≡ Some t
+      → (q ≢ c) ⊎ (has_no_use (spent_by a c).tokens c ≡ false)
+      → get a.outcome.next.tokens q ≡ Some (record x { parent = None })
+  -- The tokens further below t are as they were, unless they end with a caller that is under t.
+  pub below : (i : ℕ) (a : Asking) (c t q : Text) (x : Token) → AskedAt history i a → RevokesAlone a c t
+      → q ≢ t → is_under (spent_by a c).tokens q t ≡ true → get (spent_by a c).tokens q ≡ Some x
+      → x.parent ≢ Some t → (EndsWithCaller (spent_by a c).tokens c t q → ⊥) → get a.outcome.next.tokens q ≡ Some x
+  -- And those end with it.
+  pub ended_below : (i : ℕ) (a : Asking) (c t q : Text) → AskedAt history i a → RevokesAlone a c t
+      → EndsWithCaller (spent_by a c).tokens c t q → EndsToken a q
+  -- And the tokens not under t are as after the other revocation.
+  pub others_alone : (i : ℕ) (a : Asking) (c t q : Text) → AskedAt history i a → RevokesAlone a c t
+      → is_under (spent_by a c).tokens q t ≡ false
+      → get a.outcome.next.tokens q ≡ left_by_caller (spent_by a c).tokens c q
+  -- No token that ended, by revocation, by its end or by its last use, stands in any later state, nor does its
+  -- cubbyhole, nor a lease with an id or a credential of its leases.
+  pub lasts : (i j : ℕ) (a x : Asking) (q : Text) → AskedAt history i a → EndsToken a q → AskedAt history j x → i ≤ j
+      → IsGone a q x.outcome.next
+  -- A later request whose client token is such a token is answered 403 `permission denied`, unless it is open.
+  pub denied : (i j : ℕ) (a x : Asking) (q : Text) → AskedAt history i a → EndsToken a q → AskedAt history j x → i < j
+      → x.ask.token ≡ Some q → is_open x.ask ≡ false → x.outcome.response ≡ refused permission_denied
+  -- To an open one, where it is taken as wrapping token and the body can be read, the answer is 400, or 500 where the
+  -- words of a rewrap are not new.
+  pub not_waiting : (i j : ℕ) (a x : Asking) (q : Text) (command : WrappingCommand) → AskedAt history i a
+      → EndsToken a q → AskedAt history j x → i < j → is_open x.ask ≡ true
+      → command_of (clocked x).mounts x.ask ≡ Ok (on_wrapping command) → taken_as command ≡ Some q
+      → FindsNone x command q

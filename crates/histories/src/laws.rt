@@ -1,0 +1,49 @@
+//! Laws over histories, each the contract of a function that does nothing.
+
+ghost use Rattle.histories.specs.Laws.{AllGiveOutNew, NoneIsGivenTwice, AllAreHandedOutOnce, RevocationLasts};
+ghost use Rattle.histories.specs.Laws.{AllHandOutKept, AllAreTheReplies, EachEvolves, LaterOnesEvolved};
+
+use broker_model::operations_are_proper;
+
+/// A law: each request lets the broker evolve, and so do all between two of them. So what ended, or is gone, stays so.
+pub fn requests_evolve()
+    ensures each { EachEvolves }
+    ensures between { LaterOnesEvolved }
+{
+    operations_are_proper();
+}
+
+/// A law: the identifiers that requests give out are new, and no two of them are equal; nothing else is in any place of
+/// identifiers. So from a start on, no identifier is given out twice.
+pub fn identifiers_are_given_out_once()
+    ensures since { AllGiveOutNew }
+    ensures since_start { NoneIsGivenTwice }
+{
+    operations_are_proper();
+}
+
+/// A law: the response of an origin is handed out by at most one request, before the end of its wrapping token, and
+/// through no wrapping token that an earlier request took out (Vault's documentation, "Response wrapping").
+pub fn responses_are_handed_out_once()
+    ensures { AllAreHandedOutOnce }
+{
+    operations_are_proper();
+}
+
+/// A law: a token that a revocation ended, with all under it, or that ended in another way, is in no later state, nor
+/// are its cubbyhole and its leases; the others are as they were. Later requests of it are denied (Vault's
+/// documentation, "Tokens", token hierarchies and orphan tokens).
+pub fn revocation_lasts()
+    ensures { RevocationLasts }
+{
+    operations_are_proper();
+}
+
+/// A law: what is handed out is what was kept. From a start on it is, byte for byte, what the request that made its
+/// origin would have been answered without a wrap TTL, then and there (Vault's documentation, "Response wrapping").
+pub fn kept_replies_are_the_replies()
+    ensures since { AllHandOutKept }
+    ensures since_start { AllAreTheReplies }
+{
+    operations_are_proper();
+}
