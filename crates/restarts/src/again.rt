@@ -71,15 +71,20 @@ fn both(alloc: Global, script: &Script, last: &Event) -> Result<Two, Fault> {
     let all = script.events.as_slice();
     let before = &all[..all.len().saturating_sub(1)];
     Ok(Two {
-        without: known(alloc, script, before, last)?,
-        with: known(alloc, script, all, last)?,
+        without: known_after(alloc, script, before, last)?,
+        with: known_after(alloc, script, all, last)?,
         times_without: 0,
         times_with: 0,
     })
 }
 
 /// The broker after the start and these events.
-fn known(alloc: Global, script: &Script, events: &[Event], last: &Event) -> Result<Known, Fault> {
+fn known_after(
+    alloc: Global,
+    script: &Script,
+    events: &[Event],
+    last: &Event,
+) -> Result<Known, Fault> {
     Ok(Known {
         rows: rows_after(alloc, script, events)?,
         reply: reply_after(alloc, script, events, last)?,
