@@ -4,7 +4,7 @@ use Rattle.std.specs.Prelude.{Option, Some, None, ⊤}
 use Rattle.std.specs.List.{list_any}
 use Rattle.std.proofs.Common.{refl, sym, ◌∙◌, ap, subst}
 use Rattle.std.proofs.lemmas.Bool.{true≢false, and_parts}
-use Rattle.std.proofs.lemmas.List.Elements.{All-head, All-tail}
+use Rattle.std.proofs.lemmas.List.Elements.{All-cons, All-head, All-tail}
 use Rattle.broker_types.specs.Map.{Map, get}
 use Rattle.broker_types.specs.Names.{Names}
 use Rattle.broker_types.specs.Sound.{IsIdentifier}
@@ -81,14 +81,27 @@ module _ (a : Ask) (names : Names) (command : Command) (wraps : is_wrapped a com
     all_good = subst (All IsIdentifier) printed_is printed.good
 
     pub token_good : IsIdentifier names.wrapping_token
-    token_good = All-head IsIdentifier _ _ all_good
+    token_good = All-head IsIdentifier names.wrapping_token (names.wrapping_accessor ∷ (traits command).own names) all_good
 
     pub accessor_good : IsIdentifier names.wrapping_accessor
-    accessor_good = All-head IsIdentifier _ _ (All-tail IsIdentifier _ _ all_good)
+    accessor_good =
+        All-head IsIdentifier names.wrapping_accessor ((traits command).own names)
+        (All-tail IsIdentifier names.wrapping_token (names.wrapping_accessor ∷ (traits command).own names) all_good)
 
     pub own_printed : ArePrinted (drop 2 needed) ((traits command).own names)
     own_printed = record {
       are = ap (drop 2) printed_is;
       good = subst (All IsIdentifier) (sym (ap (drop 2) printed_is))
-          (All-tail IsIdentifier _ _ (All-tail IsIdentifier _ _ all_good));
+          (All-tail IsIdentifier names.wrapping_accessor ((traits command).own names)
+          (All-tail IsIdentifier names.wrapping_token (names.wrapping_accessor ∷ (traits command).own names) all_good));
     }
+
+-- the identifiers of the words are printed in this order
+pub needed_printed : (a : Ask) (names : Names) (command : Command) → is_wrapped a command ≡ true → (own : List Text)
+    → ArePrinted own ((traits command).own names) → IsIdentifier names.wrapping_token → IsIdentifier names.wrapping_accessor
+    → ArePrinted (names.wrapping_token ∷ names.wrapping_accessor ∷ own) (needed_by a names command)
+needed_printed a names command wraps own printed token accessor = record {
+  are = (λ i. names.wrapping_token ∷ names.wrapping_accessor ∷ printed.are i) ∙ sym (needed_is a names command wraps);
+  good = All-cons IsIdentifier names.wrapping_token (names.wrapping_accessor ∷ own) token
+      (All-cons IsIdentifier names.wrapping_accessor own accessor printed.good);
+}

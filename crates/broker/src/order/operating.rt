@@ -97,7 +97,8 @@ fn carry_out<T: RecordsTx>(
     if !is_wrapped(ask, &command) {
         return act(alloc, tx, context, asker, needed, command);
     }
-    let answered = act(alloc, tx, context, asker, &needed[2..], command)?;
+    let own = &needed[2..];
+    let answered = act(alloc, tx, context, asker, own, command)?;
     let token = needed[0].as_str();
     let accessor = needed[1].as_str();
     let path = ask.path.as_str();

@@ -1,5 +1,7 @@
-use Rattle.std.specs.Prelude.{List}
+use Rattle.std.specs.Prelude.{List, drop, take}
 use Rattle.std.proofs.Common.{◌≡◌, true, Err, sym, ap, ◌∙◌, subst, get_or}
+use Rattle.std.proofs.Math.Seq.{take-length}
+use Rattle.std.proofs.lemmas.List.{length-drop}
 use Rattle.std.proofs.lemmas.Result.{err_from_is_err_and}
 use Rattle.broker_types.specs.Names.{names_of}
 use Rattle.broker_types.specs.Operation.{Done}
@@ -7,11 +9,13 @@ use Rattle.broker_types.specs.Sound.{IsIdentifier}
 use Rattle.broker_types.specs.Text.{Text}
 use Rattle.broker_types.specs.Used.{are_new}
 use Rattle.records.specs.CallLaws.{honest_before}
+use Rattle.broker_model.specs.Order.{wrap_200}
 use Rattle.broker_model.specs.Serving.{is_wrapped}
 use Rattle.broker_model.specs.Step.{traits}
 use Rattle.broker_rows.specs.Operating.{ArePrinted}
 use Rattle.broker.specs.Askers.{who_of}
 use Rattle.broker.specs.Meant.{meant}
+use Rattle.broker.specs.Stages.{IsServed}
 use Rattle.broker.proofs.Asked.{begins_clock}
 use Rattle.broker.proofs.NeededIdentifiers.{accessor_good, needed_is, own_new, own_printed, printed_is, token_good}
 use Rattle.broker.proofs.Routes.{acted_not, acted_wrapped}
@@ -23,8 +27,9 @@ act-requires-2-clause-own g c =
     let ask = c.args.ask.now in
     let names = names_of c.args.context.now.words in
     let wraps : is_wrapped ask command ≡ true = sym c.is_wrapped.ensures ∙ c.if-not-is_wrapped.false in
-    subst (λ (own : List Text). ArePrinted own ((traits command).own names)) (sym c.range_from.ensures.value)
-    (own_printed ask names command wraps c.args.needed.now c.requires.needed)
+    let needed = c.args.needed.now in
+    let rest = ap (λ n. take n (drop 2 needed)) (sym (length-drop 2 needed)) ∙ take-length (drop 2 needed) in
+    subst (λ (own : List Text). ArePrinted own ((traits command).own names)) (sym rest) (own_printed ask names command wraps needed c.requires.needed)
 
 pub returns-in_err-answered-clause-told : goal.returns-in_err-answered-clause-told
 returns-in_err-answered-clause-told g c placed honest b begins fresh =
@@ -79,11 +84,13 @@ returns-clause-told g c placed honest b begins fresh =
     acted_wrapped b who names ask command new mid c.in_ok-answered.answered c.in_ok-wrap.field-0 wraps
     (c.in_ok-answered.ensures.told placed before b begins own)
     (λ (d : Done) does done.
-        c.in_ok-wrap.ensures.told honest who b ((traits command).own names) d
-        (record {
-          clock = begins_clock c.args.asker.now c.args.context.now old b begins;
-          token_named = c.as_str-token.ensures ∙ c.index-needed-0.is ∙ ap (λ (needed : List Text). get_or needed 0 c.index-needed-0.result) printed;
-          accessor_named = c.as_str-accessor.ensures ∙ c.index-needed-1.is ∙ ap (λ (needed : List Text). get_or needed 1 c.index-needed-1.result) printed;
-          new = all_new;
-          proper = c.operations_are_proper.ensures b who c.args.context.now.words command d own does;
-        }) done)
+    subst (λ (path : Text). IsServed who new c.in_ok-wrap.field-0 (wrap_200 b path ask.wrap_ttl names d d.answered))
+    c.as_str-path.ensures.text
+    (c.in_ok-wrap.ensures.told honest who b ((traits command).own names) d
+    (record {
+      clock = begins_clock c.args.asker.now c.args.context.now old b begins;
+      token_named = c.as_str-token.ensures ∙ c.index-needed-0.is ∙ ap (λ (needed : List Text). get_or needed 0 c.index-needed-0.result) printed;
+      accessor_named = c.as_str-accessor.ensures ∙ c.index-needed-1.is ∙ ap (λ (needed : List Text). get_or needed 1 c.index-needed-1.result) printed;
+      new = all_new;
+      proper = c.operations_are_proper.ensures b who c.args.context.now.words command d own does;
+    }) done))

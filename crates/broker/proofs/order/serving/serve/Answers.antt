@@ -1,6 +1,8 @@
 use Rattle.std.specs.Prelude.{is_some}
 use Rattle.std.proofs.Common.{◌≡◌, Some, Err, true, false, refl, sym, ap, ◌∙◌, subst, inl, inr}
+use Rattle.std.proofs.lemmas.Option.{same_Some}
 use Rattle.std.proofs.lemmas.Result.{err_from_is_err_and}
+use Rattle.records.specs.Ranges.{IsTokenInRange}
 use Rattle.records.specs.CallLaws.{honest_before, on_answer_weaker}
 use Rattle.records.specs.Transaction.{Rows}
 use Rattle.records.specs.ValueLaws.{none_of, ok_inj}
@@ -8,7 +10,7 @@ use Rattle.broker_types.specs.declared.request_error.RequestError.TheVariants.{R
 use Rattle.broker_types.specs.Names.{names_of}
 use Rattle.broker_model.specs.Command.{Command, command_for}
 use Rattle.broker_model.specs.Permission.{permits}
-use Rattle.broker_rows.specs.Caller.{AreRulesAt}
+use Rattle.broker_rows.specs.Caller.{Asker, AreRulesAt}
 use Rattle.broker_rows.specs.Operating.{BeginsBy, IsWellFormed}
 use Rattle.broker_rows.specs.RepresentingLaws.{mounts_there, still_represented}
 use Rattle.broker_rows.specs.declared.answered.Answered.{Answered}
@@ -96,7 +98,7 @@ returns-in_err-found-2-clause-readable g c honest at =
 -- ---- the body is read
 
 pub operate-requires : goal.operate-requires
-operate-requires g c = record { in_range = c.in_ok-command.ensures.in_range; known = c.requires }
+operate-requires g c = record { in_range = c.in_ok-command.ensures.in_range; known = λ x is. subst (λ (a : Asker). IsTokenInRange a.caller.known) (same_Some _ _ is) c.requires }
 
 pub returns-in_err-command-clause-told : goal.returns-in_err-command-clause-told
 returns-in_err-command-clause-told g c shut honest b starts =
