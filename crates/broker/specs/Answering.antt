@@ -112,9 +112,9 @@ IsForbiddenThen moment t old new ask r =
 
 -- ---- what is answered, whatever the rows are
 
--- The client token is t, and the rows decide whether it may ask. If it may, its command is not answered if a row that it
--- reads is damaged; else it is told that it may not, and nothing is done. Either way t has ended then, if it has no uses
--- left.
+-- The client token is t, and the rows decide whether it may ask. If it may, its command is not answered if a row that
+-- it reads is damaged, unless an identifier that it needs was given out; else it is told that it may not, and nothing is
+-- done. Either way t has ended then, if it has no uses left.
 pub record IsAskedBy (moment : ℕ) (t : Text) (names : Names) (old new : Rows) (ask : Ask) (r : Response) :
     Type 0 where
   pub token : ask.token ≡ Some t
@@ -138,7 +138,8 @@ abbrev pub IsReadableOpenAsk : Rows → Names → Ask → Type 0
 IsReadableOpenAsk rows names ask =
     (command : Command) → Asks rows ask command → IsReadableIfNew rows None names ask command
 
--- The ask needs no caller. Once what was due has ended, its command is not answered if a row that it reads is damaged.
+-- The ask needs no caller. Once what was due has ended, its command is not answered if a row that it reads is damaged,
+-- unless an identifier that it needs was given out.
 pub record IsAskedOpenly (moment : ℕ) (names : Names) (old : Rows) (ask : Ask) : Type 0 where
   pub opens : is_open ask ≡ true
   pub now : ℕ

@@ -52,4 +52,5 @@ module _ (b : Broker) (i j : Text) (mid new : Table)
   pub marks_joined : mid ≡ rows_of b → new ≡ rows_of (marked b i j)
   marks_joined told =
       joined_rows of_used mid new b (marked b i j) told
-      (marks_told (λ q. ap (λ (table : Table). table kind.Used q) told)) marks_keep (rows_of-other_used b (use_up b.used (i ∷ j ∷ [])))
+      (marks_told (λ q. ap (λ (table : Table). table kind.Used q) told)) marks_keep
+      (rows_of-other_used b (use_up b.used (i ∷ j ∷ [])))

@@ -30,8 +30,8 @@ use broker_types::{Answer, Ask, CowText, Fault, RequestError, TextBuf, Verb};
 use records::RecordsTx;
 use std::alloc::Global;
 
-/// Whether an ask needs no caller: a look-up of a wrapping token, and an unwrap or a rewrap of the client token. The only
-/// fault is running out of memory.
+/// Whether an ask needs no caller: a look-up of a wrapping token, and an unwrap or a rewrap of the client token. The
+/// only fault is running out of memory.
 pub(crate) fn is_open(alloc: Global, ask: &Ask<'_>) -> Result<bool, Fault>
     ensures value { IfOk result (λ v. v ≡ serving.is_open ask.now) }
     ensures memory { IfErr result (λ fault. fault ≡ Memory) }
@@ -111,7 +111,8 @@ pub(crate) fn answer_openly<T: RecordsTx>(
         → Begins None context.now (T.seen tx.old).rows b
         → IfOk result (λ a. Gives a (T.seen tx.new).rows (answered_openly b (names_of context.now.words) ask.now)) }
 
-    // Whatever the rows are: it is not answered if a row that its command reads is damaged.
+    // Whatever the rows are: it is not answered if a row that its command reads is damaged, unless an identifier that it
+    // needs was given out.
     ensures readable { IsHonest (T.seen tx.new)
         → OnOk result (IsReadableOpenAsk (T.seen tx.old).rows (names_of context.now.words) ask.now) }
     ensures safely { AnswersSafely (T.seen tx.old) (T.seen tx.new)
@@ -137,7 +138,8 @@ fn serve_openly<T: RecordsTx>(
         → Ends (IsServed None (T.seen tx.new).rows) (Represents None (T.seen tx.new).rows b)
         result (served b None (names_of context.now.words) ask.now) }
 
-    // Whatever the rows are: it is neither answered nor refused if a row that its command reads is damaged.
+    // Whatever the rows are: it is neither answered nor refused if a row that its command reads is damaged, unless an
+    // identifier that it needs was given out.
     ensures readable { IsHonest (T.seen tx.new)
         → OnAnswer result (IsReadableOpenAsk (T.seen tx.old).rows (names_of context.now.words) ask.now) }
     ensures call { IsRequestCall (T.seen tx.old) (T.seen tx.new) result IsNotBadStart }

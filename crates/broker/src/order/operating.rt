@@ -33,8 +33,8 @@ use std::alloc::Global;
 use system_operations::{act_on_leases, act_on_mounts, act_on_policies, act_on_wrappings};
 use token_operations::act_on_tokens;
 
-/// Does what a command of an ask means, if the identifiers that it needs are new, and if it has the wrap TTL that it must
-/// have. The identifiers are printed here, once.
+/// Does what a command of an ask means, if the identifiers that it needs are new, and if it has the wrap TTL that it
+/// must have. The identifiers are printed here, once.
 pub(crate) fn operate<T: RecordsTx>(
     alloc: Global,
     tx: &mut T,
