@@ -85,13 +85,33 @@ def leases(root, _):
     root.sys.disable_secrets_engine(path="hvac-db")
 
 
+def wrapping(root, url):
+    """A secret that is handed on as a wrapping token, which another client object opens once."""
+    root.write("cubbyhole/hvac", user="app")
+    wrapped = root.read("cubbyhole/hvac", wrap_ttl="1m")["wrap_info"]
+    told = hvac.Client(url=url).write("sys/wrapping/lookup", token=wrapped["token"])["data"]
+    expect(told["creation_path"] == "cubbyhole/hvac", "another path is told")
+    reader = hvac.Client(url=url, token=wrapped["token"])
+    expect(reader.sys.unwrap()["data"] == {"user": "app"}, "another reply is handed out")
+    try:
+        reader.sys.unwrap()
+        raise AssertionError("a reply is handed out twice")
+    except hvac.exceptions.InvalidRequest:
+        pass
+    made = root.auth.token.create(policies=["default"], wrap_ttl="1m")
+    expect(made["auth"] is None, "a token is told beside its wrapping token")
+    child = hvac.Client(url=url, token=root.sys.unwrap(token=made["wrap_info"]["token"])["auth"]["client_token"])
+    found = child.auth.token.lookup_self()["data"]["accessor"]
+    expect(found == made["wrap_info"]["wrapped_accessor"], "another accessor")
+
+
 def main():
     if hvac is None:
         print("hvac is not installed for this Python: its calls are skipped")
         print("0 passed, 0 failed")
         return 0
     url = f"http://127.0.0.1:{sys.argv[1]}"
-    calls, failed = [secrets, tokens, mounts, leases], 0
+    calls, failed = [secrets, tokens, mounts, leases, wrapping], 0
     if hasattr(hvac.Client(url=url).sys, "create_or_update_acl_policy"):  # older ones only have `sys/policy`
         calls.append(policies)
     for call in calls:
