@@ -50,6 +50,7 @@ use Rattle.broker_model.specs.declared.commands.TokenCommand.TheVariants as toke
 use Rattle.broker_model.specs.declared.commands.WrappingCommand.{WrappingCommand}
 use Rattle.broker_model.specs.declared.commands.WrappingCommand.TheVariants as response
 use Rattle.broker_model.specs.parts.Tokens.{act_on_tokens, revoke, revoke_alone}
+use Rattle.broker_model.specs.parts.WrappingCommands.{wrapping_names}
 use Rattle.broker_model.specs.parts.Wrappings.{FoundResponse, found, found_under, rewrapped, act_on_wrappings}
 use Rattle.histories.specs.History.{AreAsked, Asking, AskedAt, History, clocked, spent_by}
 use Rattle.histories.specs.Kept.{unwrapped_body}
@@ -278,9 +279,12 @@ module _ (a : Asking) (q : Text) (is : a.outcome ≡ step a.broker a.moment a.wo
   none_found : found (clocked a) (Some q) ≡ Err bad
   none_found = ap (λ o. some_or bad (option_map (found_under q) o)) none
 
-  no_wrap : (v : Bool) → (v && false) ≡ false
-  no_wrap true = refl
-  no_wrap false = refl
+  -- what is not wrapped needs its own identifiers alone
+  own_alone : (own : List Text)
+      → (if nat_lt 0 a.ask.wrap_ttl && false then names.wrapping_token ∷ names.wrapping_accessor ∷ own else own) ≡ own
+  own_alone own =
+      elim (nat_lt 0 a.ask.wrap_ttl) as
+      (λ v. (if v && false then names.wrapping_token ∷ names.wrapping_accessor ∷ own else own) ≡ own) [ true ↦ refl | false ↦ refl ]
 
   -- the last steps of a look-up or an unwrap
   refused_400 : (own : List Text) → own ≡ [] → (f : FoundResponse → Result Done Refusal) (g : Done → Result Wrapped Refusal)
@@ -293,39 +297,33 @@ module _ (a : Asking) (q : Text) (is : a.outcome ≡ step a.broker a.moment a.wo
   refused_now x why e = ap (λ (y : Result Wrapped Refusal). (finish (clocked a) None y).response) e
 
   pub finds_none : (command : WrappingCommand) → command_of (clocked a).mounts a.ask ≡ Ok (on_wrapping command)
-      → taken_as command ≡ Some q → FindsNone a command q
+      → taken_as command ≡ Some q → FindsNone a command
   finds_none (response.Wrap text) means as_q = absurd (none-some _ as_q)
   finds_none (response.LookUp meant) means as_q =
-      inl (open_step (on_wrapping (response.LookUp meant)) means
+      open_step (on_wrapping (response.LookUp meant)) means
       ∙ ap (λ u. (finish (clocked a) None (last_steps (on_wrapping (response.LookUp u)))).response) as_q
       ∙ refused_now (last_steps (on_wrapping (response.LookUp (Some q)))) bad
-      (refused_400 (needed permits traits act r names (on_wrapping (response.LookUp (Some q))))
-      (ap (λ v. if v then names.wrapping_token ∷ names.wrapping_accessor ∷ [] else []) (no_wrap (nat_lt 0 a.ask.wrap_ttl))) _ _))
+      (refused_400 (needed permits traits act r names (on_wrapping (response.LookUp (Some q)))) (own_alone []) _ _)
   finds_none (response.Unwrap meant) means as_q =
-      inl (open_step (on_wrapping (response.Unwrap meant)) means
+      open_step (on_wrapping (response.Unwrap meant)) means
       ∙ ap (λ u. (finish (clocked a) None (last_steps (on_wrapping (response.Unwrap u)))).response) as_q
       ∙ refused_now (last_steps (on_wrapping (response.Unwrap (Some q)))) bad
-      (refused_400 (needed permits traits act r names (on_wrapping (response.Unwrap (Some q))))
-      (ap (λ v. if v then names.wrapping_token ∷ names.wrapping_accessor ∷ [] else []) (no_wrap (nat_lt 0 a.ask.wrap_ttl))) _ _))
+      (refused_400 (needed permits traits act r names (on_wrapping (response.Unwrap (Some q)))) (own_alone []) _ _)
   finds_none (response.Rewrap meant) means as_q =
       let rewrap : Command = on_wrapping (response.Rewrap (Some q)) in
-      let start : a.outcome.response ≡ (finish (clocked a) None (last_steps rewrap)).response =
+      let steps : Bool → Result Wrapped Refusal = λ v. unless v refusal.IdentifierUsed >>= (λ fresh.
+      act_on_wrappings (clocked a) names (response.Rewrap (Some q))
+      >>= (λ done. Ok (wrapped permits traits act (clocked a) r names rewrap done))) in
       open_step (on_wrapping (response.Rewrap meant)) means
-      ∙ ap (λ u. (finish (clocked a) None (last_steps (on_wrapping (response.Rewrap u)))).response) as_q in
-      elim (are_new (clocked a).used (needed permits traits act r names rewrap)) as
-      (λ v. are_new (clocked a).used (needed permits traits act r names rewrap) ≡ v → FindsNone a (response.Rewrap meant) q) [
-        | true ↦ λ new. inl (start ∙ refused_now (last_steps rewrap) bad
-            (ap (λ v. unless v refusal.IdentifierUsed >>= (λ fresh. act_on_wrappings (clocked a) names (response.Rewrap (Some q))
-            >>= (λ done. Ok (wrapped permits traits act (clocked a) r names rewrap done)))) new
-            ∙ ap (λ (x : Result FoundResponse Refusal). (x >>= (λ f. Ok (rewrapped (clocked a) names f)))
-            >>= (λ done. Ok (wrapped permits traits act (clocked a) r names rewrap done))) none_found))
-        | false ↦ λ old. inr (
-          ap response.Rewrap as_q,
-          start ∙ refused_now (last_steps rewrap) refusal.IdentifierUsed
-              (ap (λ v. unless v refusal.IdentifierUsed >>= (λ fresh. act_on_wrappings (clocked a) names (response.Rewrap (Some q))
-              >>= (λ done. Ok (wrapped permits traits act (clocked a) r names rewrap done)))) old),
-        )
-      ] refl
+      ∙ ap (λ u. (finish (clocked a) None (last_steps (on_wrapping (response.Rewrap u)))).response) as_q
+      ∙ ap (λ is. (finish (clocked a) None (steps (are_new (clocked a).used is))).response) (own_alone (wrapping_names names))
+      ∙ elim (are_new (clocked a).used (wrapping_names names)) as
+      (λ v. (finish (clocked a) None (steps v)).response ≡ refused (if v then bad else refusal.IdentifierUsed)) [
+        | true ↦ refused_now (steps true) bad
+            (ap (λ (x : Result FoundResponse Refusal). (x >>= (λ f. Ok (rewrapped (clocked a) names f)))
+            >>= (λ done. Ok (wrapped permits traits act (clocked a) r names rewrap done))) none_found)
+        | false ↦ refl
+      ]
 
 module _ (a : Asking) (sound : Sound forms None a.broker) (keeps : Keeps unwrapped_body a) (q : Text) (ends : EndsToken a q) where
   none_after : get a.outcome.next.tokens q ≡ None
