@@ -44,8 +44,8 @@ use Rattle.broker_model.specs.parts.WrappingCommands.{wrapping_names}
 use Rattle.broker_model.specs.parts.Wrappings.{FoundResponse, found, found_at, found_under, handed_out, rewrapped}
 use Rattle.broker_model.specs.parts.Wrappings.{act_on_wrappings}
 use Rattle.histories.specs.History.{AreAsked, Asking, AskedAt, Beginning, History, begun, clocked, spent_by}
-use Rattle.histories.specs.Kept.{HandedOutOnce, HandsOutKept, HasAsClient, IsKeptReply, Rewraps, SameReply, TakesTokenOut}
-use Rattle.histories.specs.Kept.{Unwraps, WaitedFirst, unwrapped_body}
+use Rattle.histories.specs.Kept.{HandedOutOnce, HandsOutKept, HasAsClient, IsKeptReply, KeepsReply, Rewraps, SameReply}
+use Rattle.histories.specs.Kept.{TakesTokenOut, Unwraps, WaitedFirst, unwrapped_body}
 use Rattle.histories.specs.Revocation.{Revokes, RevokesAlone}
 use Rattle.histories.proofs.Cover.{one_birth}
 use Rattle.histories.proofs.Ending.{out_lasts}
@@ -288,8 +288,9 @@ module _ (proper : OperationsAreProper) (b : Broker) (history : History) (h : Ar
           earlier = r.earlier;
           asking = r.asking;
           asked = r.asked;
-          born = r.origin ∙ ap Some k.origin;
-          body = k.response ∙ ap ok r.reply;
+          born = r.born.origin ∙ ap Some k.origin;
+          kept = subst (KeepsReply r.asking (unwrapped_body r.asking)) k.origin r.born.kept;
+          body = k.response ∙ ap ok r.born.reply;
         })
       ]
 
