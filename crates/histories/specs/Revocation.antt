@@ -15,6 +15,7 @@ use Rattle.broker_types.specs.Used.{are_new}
 use Rattle.broker_types.specs.Answer.{refused}
 use Rattle.broker_types.specs.declared.refusal.Refusal.TheVariants as refusal
 use Rattle.broker_types.specs.declared.refusal.Reason.TheVariants as reason
+use Rattle.broker_types.specs.declared.status.Status.TheVariants as status
 use Rattle.cubbyhole.specs.Cubbyhole.{object_at}
 use Rattle.token_tree.specs.Tokens as tree
 use Rattle.wrapping.specs.Wrapping as wrapping
@@ -56,6 +57,18 @@ orphaning_of _ = None
 abbrev pub orphaning_by : Command → Option Text
 orphaning_by (on_token command) = orphaning_of command
 orphaning_by _ = None
+
+-- whether a command revokes a text with all under it
+abbrev pub is_revocation : TokenCommand → Bool
+is_revocation (token.Revoke t) = true
+is_revocation (token.RevokeAccessor accessor) = true
+is_revocation token.RevokeSelf = true
+is_revocation _ = false
+
+-- whether it revokes a text alone
+abbrev pub is_orphaning : TokenCommand → Bool
+is_orphaning (token.RevokeOrphan t) = true
+is_orphaning _ = false
 
 -- ---- what was asked, and answered
 
@@ -134,6 +147,14 @@ FindsNone x command =
 -- ---- the law
 
 pub record Revocation (history : History) : Type 0 where
+  -- Each 204 to a command that revokes is a revocation by a caller of what the command names.
+  pub each : (i : ℕ) (a : Asking) (command : TokenCommand) → AskedAt history i a
+      → command_of (clocked a).mounts a.ask ≡ Ok (on_token command) → is_revocation command ≡ true
+      → a.outcome.response.status ≡ status.NoContent → (c : Text) × (t : Text) × Revokes a c t
+  -- So is each 204 to a command that revokes a text alone.
+  pub each_alone : (i : ℕ) (a : Asking) (command : TokenCommand) → AskedAt history i a
+      → command_of (clocked a).mounts a.ask ≡ Ok (on_token command) → is_orphaning command ≡ true
+      → a.outcome.response.status ≡ status.NoContent → (c : Text) × (t : Text) × RevokesAlone a c t
   -- A 204 that revoked t ended each token that was under it then.
   pub revoked : (i : ℕ) (a : Asking) (c t q : Text) → AskedAt history i a → Revokes a c t
       → is_under (spent_by a c).tokens q t ≡ true → EndsToken a q
