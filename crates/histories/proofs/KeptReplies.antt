@@ -240,7 +240,9 @@ module _ (proper : OperationsAreProper) (b : Broker) (history : History) (h : Ar
         handed_once unwrapped_body b history keep_all i j a x o
         one (unwrap_hands_out a t o (asked_at b history i a h one).outcome p)
         other (unwrap_hands_out x u o (asked_at b history j x h other).outcome q);
-    in_time = λ i a t o one p. (waited_before a t p.entry p.waited).1;
+    in_time = λ i a t o one p.
+        let before = (waited_before a t p.entry p.waited).1 in
+        (before, omega (arith, before));
     still_in = λ i j a x t o one takes other lt p.
         let gone = out_lasts a.outcome.next x.broker t (evolved_since unwrapped_body b history i j a x keep_all one other lt)
         (taken_out a (asked_at b history i a h one).sound (asked_keeps unwrapped_body b history i a keep_all one)

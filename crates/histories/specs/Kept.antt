@@ -59,9 +59,10 @@ pub record HandedOutOnce (history : History) : Type 0 where
   -- For each origin at most one event hands out its response, whatever rewraps came between.
   pub once : (i j : ℕ) (a x : Asking) (t u o : Text) → AskedAt history i a → Unwraps a t o → AskedAt history j x
       → Unwraps x u o → i ≡ j
-  -- At that event the clock is before the end of the wrapping token that is unwrapped.
+  -- At that event the clock, and the moment of the event itself, are before the end of the wrapping token that is
+  -- unwrapped.
   pub in_time : (i : ℕ) (a : Asking) (t o : Text) → AskedAt history i a → (h : Unwraps a t o)
-      → (clocked a).clock < waiting_ends h.entry
+      → ((clocked a).clock < waiting_ends h.entry) × (a.moment < waiting_ends h.entry)
   -- No earlier event took that token out: no 204 that revoked it by its text or its accessor, no 403 that spent it as
   -- client token, no rewrap of it.
   pub still_in : (i j : ℕ) (a x : Asking) (t o : Text) → AskedAt history i a → TakesTokenOut a t
