@@ -8,6 +8,7 @@ use Rattle.broker_types.specs.Evolves.{Evolves, OriginIsGone, IsTakenOut, Waited
 use Rattle.broker_types.specs.Used.{are_new, use_up}
 use Rattle.broker_model.specs.Responses.{ok}
 use Rattle.histories.specs.History.{Asking, AskedAt, History, clocked}
+use Rattle.histories.specs.Kept.{KeepsReply}
 
 -- The response of the origin o is handed out: it waited at the request's clock, its text is the answer, and neither its
 -- origin nor its wrapping token waits any more.
@@ -20,10 +21,11 @@ pub record HandedOut (a : Asking) (o : Text) : Type 0 where
   pub gone : OriginIsGone a.outcome.next o
   pub out : IsTakenOut a.outcome.next token
 
--- the wrapping of this request made the origin of the response w, whose text is the body
+-- the wrapping of this request made the origin of the response w, whose text is the body; it told its wrapping token
 pub record IsBorn (a : Asking) (body : Text) (w : Waiting) : Type 0 where
   pub origin : a.outcome.born ≡ Some w.origin
   pub reply : w.reply ≡ body
+  pub kept : KeepsReply a body w.origin
 
 -- What a request keeps; body is that of its reply without a wrap TTL.
 pub record Keeps (body : Asking → Text) (a : Asking) : Type 0 where
@@ -47,5 +49,4 @@ pub record WasBorn (body : Asking → Text) (history : History) (place_of_it : �
   pub earlier : place < place_of_it
   pub asking : Asking
   pub asked : AskedAt history place asking
-  pub origin : asking.outcome.born ≡ Some w.origin
-  pub reply : w.reply ≡ body asking
+  pub born : IsBorn asking (body asking) w

@@ -9,7 +9,6 @@ use Rattle.broker_types.specs.Text.{Text, same}
 use Rattle.broker_types.specs.TextLaws.{same_true}
 use Rattle.broker_types.specs.Map.{Map, get, without}
 use Rattle.broker_types.specs.MapLaws.{get-put, get-without_self, no_entry}
-use Rattle.broker_types.specs.Answer.{refused}
 use Rattle.broker_types.specs.Broker as broker
 use Rattle.broker_types.specs.Broker.{Broker, Waiting}
 use Rattle.broker_types.specs.Evolves.{IsTakenOut}
@@ -18,7 +17,7 @@ use Rattle.broker_types.specs.Operation.{Done}
 use Rattle.broker_types.specs.OptionLaws.{found_or_not, mapped}
 use Rattle.broker_types.specs.Places.{token_identifier, wrapping_token}
 use Rattle.broker_types.specs.Refuse.{◌>>=◌, some_or}
-use Rattle.broker_types.specs.RefuseLaws.{no_ok, ok_step}
+use Rattle.broker_types.specs.RefuseLaws.{ok_step}
 use Rattle.broker_types.specs.Sound.{Sound}
 use Rattle.broker_types.specs.Spending.{spend, drop_waiting}
 use Rattle.broker_types.specs.Status.{status_code}
@@ -34,7 +33,7 @@ use Rattle.broker_model.specs.Act.{act}
 use Rattle.broker_model.specs.Command.{Command, on_wrapping, command_of}
 use Rattle.broker_model.specs.Forms.{forms}
 use Rattle.broker_model.specs.Laws.{OperationsAreProper}
-use Rattle.broker_model.specs.Order.{Outcome, Wrapped, denied, finish, for_caller, permission_denied, serve, wrapped, wraps}
+use Rattle.broker_model.specs.Order.{Outcome, Wrapped, denied, finish, for_caller, serve, wrapped, wraps}
 use Rattle.broker_model.specs.Permission.{permits}
 use Rattle.broker_model.specs.Responses.{ok}
 use Rattle.broker_model.specs.Step.{request_of, step, traits}
@@ -44,56 +43,39 @@ use Rattle.broker_model.specs.parts.WrappingCommands.{wrapping_names}
 use Rattle.broker_model.specs.parts.Wrappings.{FoundResponse, found, found_at, found_under, handed_out, rewrapped}
 use Rattle.broker_model.specs.parts.Wrappings.{act_on_wrappings}
 use Rattle.histories.specs.History.{AreAsked, Asking, AskedAt, Beginning, History, begun, clocked, spent_by}
-use Rattle.histories.specs.Kept.{HandedOutOnce, HandsOutKept, HasAsClient, IsKeptReply, Rewraps, SameReply, TakesTokenOut}
-use Rattle.histories.specs.Kept.{Unwraps, WaitedFirst, unwrapped_body}
+use Rattle.histories.specs.Kept.{HandedOutOnce, HandsOutKept, HasAsClient, IsKeptReply, KeepsReply, Rewraps, SameReply}
+use Rattle.histories.specs.Kept.{TakesTokenOut, Unwraps, WaitedFirst, unwrapped_body}
 use Rattle.histories.specs.Revocation.{Revokes, RevokesAlone}
 use Rattle.histories.proofs.Cover.{one_birth}
 use Rattle.histories.proofs.Ending.{out_lasts}
 use Rattle.histories.proofs.Keeping.{EachKeeps, Keeps}
 use Rattle.histories.proofs.Lasting.{asked_keeps, evolved_since, handed_once, kept_evolves, waited_before, waits_since}
-use Rattle.histories.proofs.OrderCases.{IsServed, IsTurnedAway, IsTurnedDown, order_cases, spent}
+use Rattle.histories.proofs.OrderCases.{some_ok, spent}
 use Rattle.histories.proofs.OrderKeeps.{end_spent_waiting, first_new, own_new, spent_used, spent_waiting, wrapped_cases}
 use Rattle.histories.proofs.Requests.{acts_same, asked_at, history_keeps, means_at_clock}
 use Rattle.histories.proofs.RevocationLasts.{orphaning_left, revocation_left}
+use Rattle.histories.proofs.Served.{Served, served}
 
 -- ---- a 200
 
--- no refusal is a 200
-refused_is_success : (why : Refusal) → (refused why).status ≡ status.Success → ⊥
-refused_is_success (refusal.BadRequest r) e = absurd (omega (arith, ap status_code e))
-refused_is_success (refusal.Forbidden d) e = absurd (omega (arith, ap status_code e))
-refused_is_success refusal.NotFound e = absurd (omega (arith, ap status_code e))
-refused_is_success (refusal.MethodNotAllowed ms) e = absurd (omega (arith, ap status_code e))
-refused_is_success refusal.IdentifierUsed e = absurd (omega (arith, ap status_code e))
-
 module _ (a : Asking) (is : a.outcome ≡ step a.broker a.moment a.words a.ask) (success : a.outcome.response.status ≡ status.Success)
     (command : WrappingCommand) (means : command_of (clocked a).mounts a.ask ≡ Ok (on_wrapping command)) where
-  abbrev Served : Type 0
-  Served = IsServed permits traits act (clocked a) (request_of a.ask) (names_of a.words) a.outcome
+  pub served_200 : Served a
+  served_200 = served a is (omega (arith, ap status_code success))
 
-  by_cases : IsTurnedAway (clocked a) (request_of a.ask) a.outcome ⊎ (IsTurnedDown (clocked a) a.outcome ⊎ Served) → Served
-  by_cases (inl s) = absurd (refused_is_success permission_denied (sym (ap (λ (x : Outcome). x.response.status) s.outcome) ∙ success))
-  by_cases (inr (inl s)) = absurd (refused_is_success s.why (sym (ap (λ (x : Outcome). x.response.status) s.outcome) ∙ success))
-  by_cases (inr (inr s)) = s
-
-  pub served : Served
-  unfolding step
-  served = by_cases (subst (λ (o : Outcome). IsTurnedAway (clocked a) (request_of a.ask) o ⊎ (IsTurnedDown (clocked a) o
-      ⊎ IsServed permits traits act (clocked a) (request_of a.ask) (names_of a.words) o)) (sym is)
-      (order_cases permits traits act a.broker a.moment (request_of a.ask) (names_of a.words)))
-
-  pub command_is : served.command ≡ on_wrapping command
-  command_is = ok_inj (sym (means_at_clock a served.caller served.command served.means) ∙ means)
+  pub command_is : served_200.command ≡ on_wrapping command
+  command_is = ok_inj (sym (means_at_clock a served_200.caller served_200.command served_200.means) ∙ means)
 
   -- the operation ran
-  pub acted : act_on_wrappings (spent (clocked a) served.caller) (names_of a.words) command ≡ Ok served.done
+  pub acted : act_on_wrappings (spent (clocked a) served_200.caller) (names_of a.words) command ≡ Ok served_200.done
   acted =
-      sym (acts_same (spent (clocked a) served.caller) served.caller (names_of a.words) command)
-      ∙ ap (λ (k : Command). act (spent (clocked a) served.caller) served.caller (names_of a.words) k) (sym command_is)
-      ∙ served.acted
+      let caller = served_200.caller in
+      sym (acts_same (spent (clocked a) caller) caller (names_of a.words) command)
+      ∙ ap (λ (k : Command). act (spent (clocked a) caller) caller (names_of a.words) k) (sym command_is)
+      ∙ served_200.acted
 
 -- what an operation left is wrapped or not, and hands out the same
-handed_same : (a : Asking) (s : IsServed permits traits act (clocked a) (request_of a.ask) (names_of a.words) a.outcome)
+handed_same : (a : Asking) (s : Served a)
     → a.outcome.handed ≡ s.done.handed
 handed_same a s =
     let start = spent (clocked a) s.caller in
@@ -109,7 +91,7 @@ bad = refusal.BadRequest reason.InvalidWrappingToken
 -- a 200 to an unwrap handed out
 unwrap_hands_out : (a : Asking) (t o : Text) → a.outcome ≡ step a.broker a.moment a.words a.ask → Unwraps a t o → a.outcome.handed ≡ Some o
 unwrap_hands_out a t o is u =
-    let s = served a is u.success (response.Unwrap (Some t)) u.means in
+    let s = served_200 a is u.success (response.Unwrap (Some t)) u.means in
     let start = spent (clocked a) s.caller in
     let there : get start.waiting t ≡ Some u.entry = ap (λ (m : Map Waiting). get m t) (spent_waiting (clocked a) s.caller) ∙ u.waited in
     let done : handed_out start (found_under t u.entry) ≡ s.done =
@@ -118,10 +100,6 @@ unwrap_hands_out a t o is u =
     handed_same a s ∙ ap (λ (d : Done). d.handed) (sym done) ∙ ap Some u.origin
 
 -- and there was something to hand out
-some_of : {A : Type 0} {x : A} (r : Refusal) (o : Option A) → some_or r o ≡ Ok x → o ≡ Some x
-some_of r None e = no_ok e
-some_of r (Some y) e = ap Some (ok_inj e)
-
 found_is : (b : Broker) (meant : Option Text) (f : FoundResponse) → found_at b meant ≡ Some f
     → (t : Text) × (w : Waiting) × (meant ≡ Some t) × (get b.waiting t ≡ Some w)
 found_is b None f e = absurd (none-some _ e)
@@ -131,10 +109,10 @@ unwrap_found : (a : Asking) (meant : Option Text) → a.outcome ≡ step a.broke
     → command_of (clocked a).mounts a.ask ≡ Ok (on_wrapping (response.Unwrap meant)) → a.outcome.response.status ≡ status.Success
     → (t : Text) × (o : Text) × (meant ≡ Some t) × Unwraps a t o
 unwrap_found a meant is means success =
-    let s = served a is success (response.Unwrap meant) means in
+    let s = served_200 a is success (response.Unwrap meant) means in
     let start = spent (clocked a) s.caller in
     let f = ok_step (found start meant) (λ f. Ok (handed_out start f)) s.done (acted a is success (response.Unwrap meant) means) in
-    let w = found_is start meant f.0 (some_of bad (found_at start meant) f.1) in (
+    let w = found_is start meant f.0 (some_ok bad (found_at start meant) f.1) in (
       w.0,
       (w.1).origin,
       w.2,
@@ -150,7 +128,7 @@ unwrap_found a meant is means success =
 -- ---- wrapping tokens that are taken out
 
 -- a rewrap is not wrapped itself
-next_waiting : (a : Asking) {meant : Option Text} (s : IsServed permits traits act (clocked a) (request_of a.ask) (names_of a.words) a.outcome)
+next_waiting : (a : Asking) {meant : Option Text} (s : Served a)
     → s.command ≡ on_wrapping (response.Rewrap meant) → a.outcome.next.waiting ≡ s.done.next.waiting
 next_waiting a s is =
     let start = spent (clocked a) s.caller in
@@ -212,7 +190,7 @@ module _ (a : Asking) (sound : Sound forms None a.broker) (keeps : Keeps unwrapp
     | inl none ↦ absurd (waited none)
     | inr w ↦
         let rewrap = response.Rewrap (Some t) in
-        let s = served a is r.success rewrap r.means in
+        let s = served_200 a is r.success rewrap r.means in
         let start = spent (clocked a) s.caller in
         let names = names_of a.words in
         let u = token_text names.wrapping_token in
@@ -262,7 +240,9 @@ module _ (proper : OperationsAreProper) (b : Broker) (history : History) (h : Ar
         handed_once unwrapped_body b history keep_all i j a x o
         one (unwrap_hands_out a t o (asked_at b history i a h one).outcome p)
         other (unwrap_hands_out x u o (asked_at b history j x h other).outcome q);
-    in_time = λ i a t o one p. (waited_before a t p.entry p.waited).1;
+    in_time = λ i a t o one p.
+        let before = (waited_before a t p.entry p.waited).1 in
+        (before, omega (arith, before));
     still_in = λ i j a x t o one takes other lt p.
         let gone = out_lasts a.outcome.next x.broker t (evolved_since unwrapped_body b history i j a x keep_all one other lt)
         (taken_out a (asked_at b history i a h one).sound (asked_keeps unwrapped_body b history i a keep_all one)
@@ -288,8 +268,9 @@ module _ (proper : OperationsAreProper) (b : Broker) (history : History) (h : Ar
           earlier = r.earlier;
           asking = r.asking;
           asked = r.asked;
-          born = r.origin ∙ ap Some k.origin;
-          body = k.response ∙ ap ok r.reply;
+          born = r.born.origin ∙ ap Some k.origin;
+          kept = subst (KeepsReply r.asking (unwrapped_body r.asking)) k.origin r.born.kept;
+          body = k.response ∙ ap ok r.born.reply;
         })
       ]
 

@@ -14,6 +14,7 @@ use Rattle.broker_types.specs.SearchLaws.{kept_get}
 use Rattle.broker_types.specs.SpendingLaws.{evolves_self}
 use Rattle.broker_types.specs.Used.{are_new, use_up}
 use Rattle.histories.specs.History.{Asking, AskedAt, History, clocked, given_out}
+use Rattle.histories.specs.Kept.{KeepsReply}
 use Rattle.histories.proofs.Ending.{origin_lasts}
 use Rattle.histories.proofs.Keeping.{EachKeeps, Keeps, WasBorn}
 use Rattle.histories.proofs.Used.{new_append}
@@ -123,8 +124,7 @@ waits_since body b (None ∷ later) (suc j) x h at t w is = elim (waits_since bo
     earlier = omega (arith, r.earlier);
     asking = r.asking;
     asked = r.asked;
-    origin = r.origin;
-    reply = r.reply;
+    born = r.born;
   })
 ]
 waits_since body b (Some a ∷ later) zero x (is, keeps, h) at t w waits =
@@ -140,8 +140,11 @@ waits_since body b (Some a ∷ later) (suc j) x (is, keeps, h) at t w waits =
           earlier = omega (arith);
           asking = a;
           asked = refl;
-          origin = born.origin ∙ ap Some (sym same_origin);
-          reply = same_reply ∙ born.reply;
+          born = record {
+            origin = born.origin ∙ ap Some (sym same_origin);
+            reply = same_reply ∙ born.reply;
+            kept = subst (KeepsReply a (body a)) (sym same_origin) born.kept;
+          };
         })
       ]
       | inr r ↦ inr (record {
@@ -149,7 +152,6 @@ waits_since body b (Some a ∷ later) (suc j) x (is, keeps, h) at t w waits =
         earlier = omega (arith, r.earlier);
         asking = r.asking;
         asked = r.asked;
-        origin = r.origin;
-        reply = r.reply;
+        born = r.born;
       })
     ]

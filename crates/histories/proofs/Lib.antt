@@ -10,4 +10,5 @@ pub mod Plain
 pub mod Requests
 pub mod RevocationLasts
 pub mod Revoking
+pub mod Served
 pub mod Used

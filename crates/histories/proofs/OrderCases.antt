@@ -7,7 +7,7 @@ use Rattle.broker_types.specs.Map.{get}
 use Rattle.broker_types.specs.Broker.{Broker, at_moment}
 use Rattle.broker_types.specs.Names.{Names}
 use Rattle.broker_types.specs.Operation.{Done}
-use Rattle.broker_types.specs.Refuse.{unless}
+use Rattle.broker_types.specs.Refuse.{some_or, unless}
 use Rattle.broker_types.specs.RefuseLaws.{no_ok, ok_step}
 use Rattle.broker_types.specs.Spending.{spend, drop_waiting}
 use Rattle.broker_types.specs.Used.{are_new}
@@ -27,6 +27,11 @@ use Rattle.broker_model.specs.Request.{Request}
 pub unless_ok : (b : Bool) (z : Refusal) (u : ⊤) → unless b z ≡ Ok u → b ≡ true
 unless_ok true z u e = refl
 unless_ok false z u e = no_ok e
+
+-- there was what was asked for
+pub some_ok : {A : Type 0} {x : A} (r : Refusal) (o : Option A) → some_or r o ≡ Ok x → o ≡ Some x
+some_ok r None e = no_ok e
+some_ok r (Some y) e = ap Some (ok_inj e)
 
 -- ---- the cases of a request
 

@@ -4,18 +4,18 @@ use Rattle.std.specs.Prelude.{if◌then◌else◌, Option, Some, None, Result, O
 use Rattle.std.specs.List.{list_any}
 use Rattle.std.specs.Option.{option_map_or}
 use Rattle.std.proofs.Common.{refl, sym, ◌∙◌, ap, subst, inl, inr}
-use Rattle.std.proofs.lemmas.Bool.{false≢true, and_parts}
+use Rattle.std.proofs.lemmas.Bool.{false≢true, and_parts, ltb-true}
 use Rattle.std.proofs.lemmas.Option.{none-some, same_Some}
 use Rattle.broker_types.specs.Text.{Text, same}
 use Rattle.broker_types.specs.Map.{Map, get, without}
-use Rattle.broker_types.specs.MapLaws.{get-put, get-without_self, without_is}
+use Rattle.broker_types.specs.MapLaws.{get-put, get-put_self, get-without_self, without_is}
 use Rattle.broker_types.specs.PutLaws.{put_is}
 use Rattle.broker_types.specs.TextLaws.{same_self}
 use Rattle.broker_types.specs.TokenText.{token_text}
 use Rattle.broker_types.specs.Broker.{Broker, Waiting, at_moment, revoke, waiting_ends}
 use Rattle.broker_types.specs.Evolves.{Evolves, WaitedBefore, IsNew}
 use Rattle.broker_types.specs.EvolvesLaws.{evolves_trans}
-use Rattle.broker_types.specs.Names.{Names}
+use Rattle.broker_types.specs.Names.{Names, names_of}
 use Rattle.broker_types.specs.OptionLaws.{is_nothing}
 use Rattle.broker_types.specs.Operation.{Answered, nothing, reply, kept_text, missing, Done}
 use Rattle.broker_types.specs.Places.{IsUsed, token_identifier, wrapping_token}
@@ -31,15 +31,17 @@ use Rattle.broker_types.specs.declared.refusal.Refusal.{Refusal}
 use Rattle.wrapping.specs.SoundLaws.{store_evolves}
 use Rattle.wrapping.specs.Wrapping.{with_waiting}
 use Rattle.histories.specs.History.{Asking, clocked}
+use Rattle.histories.specs.Kept.{KeepsReply, first_entry}
 use Rattle.histories.proofs.Keeping.{HandedOut, IsBorn, Keeps}
 use Rattle.broker_model.specs.Order.{Outcome}
 use Rattle.histories.proofs.Lasting.{waited_before}
 use Rattle.broker_model.specs.Order.{Traits, Wrapped, denied, finish, kept_entry, needed, ordered, response_to}
-use Rattle.broker_model.specs.Order.{unwrapped, wrap, wrap_200, wrapped, wraps}
+use Rattle.broker_model.specs.Order.{unwrapped, wrap, wrap_200, wrap_info, wrapped, wraps}
 use Rattle.broker_model.specs.Order.{IsProper}
 use Rattle.histories.proofs.OrderCases.{IsServed, IsTurnedAway, IsTurnedDown, order_cases, spent}
-use Rattle.api_json.specs.Reply.{reply_text}
+use Rattle.api_json.specs.Reply.{reply_text, wrap_reply}
 use Rattle.broker_model.specs.Request.{Request}
+use Rattle.broker_model.specs.Responses.{ok}
 use Rattle.histories.proofs.Used.{join}
 
 -- ---- identifiers
@@ -107,6 +109,10 @@ pub spent_used : (b : Broker) (who : Option Text) → (spent b who).used ≡ b.u
 spent_used b None = refl
 spent_used b (Some c) = refl
 
+spent_clock : (b : Broker) (who : Option Text) → (spent b who).clock ≡ b.clock
+spent_clock b None = refl
+spent_clock b (Some c) = refl
+
 pub spent_waiting : (b : Broker) (who : Option Text) → (spent b who).waiting ≡ b.waiting
 spent_waiting b None = refl
 spent_waiting b (Some c) = refl
@@ -167,7 +173,7 @@ module _ {Command : Type 0} (permits : Broker → Option Text → Verb → Text 
   -- ---- what serving leaves
 
   -- what a wrapped or unwrapped answer keeps
-  record LeftBy (b : Broker) (q : Request Command) (d : Done) (v : Wrapped) : Type 0 where
+  record LeftBy (b : Broker) (q : Request Command) (names : Names) (command : Command) (d : Done) (v : Wrapped) : Type 0 where
     pub new : are_new b.used v.done.taken ≡ true
     pub used : v.done.next.used ≡ b.used
     pub evolves : Evolves b v.done.next
@@ -175,7 +181,7 @@ module _ {Command : Type 0} (permits : Broker → Option Text → Verb → Text 
     pub born : (o : Text) → v.born ≡ Some o → list_any (same o) v.done.taken ≡ true
     pub kept : (t : Text) → d.answered ≡ kept_text t → v ≡ unwrapped d
     pub waits : (t : Text) (w : Waiting) → get v.done.next.waiting t ≡ Some w
-        → WaitedBefore b w ⊎ ((v.born ≡ Some w.origin) × ((r : Reply) × (made : Option Text) × (d.answered ≡ reply r made) × (w.reply ≡ reply_text r)))
+        → WaitedBefore b w ⊎ ((x : IsWrapped b q names command d v) × (w ≡ kept_entry b q.path q.wrap_ttl names x.0))
 
   taken_new : (used : Map ⊤) (own taken : List Text) → (taken ≡ []) ⊎ (taken ≡ own) → are_new used own ≡ true → are_new used taken ≡ true
   taken_new used own taken (inl e) h = ap (are_new used) e
@@ -184,8 +190,8 @@ module _ {Command : Type 0} (permits : Broker → Option Text → Verb → Text 
   module _ (b : Broker) (q : Request Command) (names : Names) (command : Command) (d : Done)
       (new : are_new b.used (needed permits traits act q names command) ≡ true)
       (proper : IsProper b ((traits command).own names) d) where
-    left_unwrapped : (v : Wrapped) → v ≡ unwrapped d → LeftBy b q d v
-    left_unwrapped v is = subst (LeftBy b q d) (sym is) (record {
+    left_unwrapped : (v : Wrapped) → v ≡ unwrapped d → LeftBy b q names command d v
+    left_unwrapped v is = subst (LeftBy b q names command d) (sym is) (record {
       new = taken_new b.used ((traits command).own names) d.taken proper.gives_own (own_new b.used q names command new);
       used = proper.used;
       evolves = proper.evolves;
@@ -207,14 +213,14 @@ module _ {Command : Type 0} (permits : Broker → Option Text → Verb → Text 
           | inr e ↦ ap (λ is. are_new b.used (names.wrapping_token ∷ names.wrapping_accessor ∷ is)) e ∙ all_new
         ]
 
-    left_wrapped : (v : Wrapped) → IsWrapped b q names command d v → LeftBy b q d v
+    left_wrapped : (v : Wrapped) → IsWrapped b q names command d v → LeftBy b q names command d v
     left_wrapped v (r, made, h, answered, is) =
         let entry = kept_entry b q.path q.wrap_ttl names r in
         let taken = wrap_taken h in
         let fresh : IsNew d.next names.wrapping_token =
         ap (λ (m : Map ⊤). get m names.wrapping_token) proper.used
         ∙ first_new b.used names.wrapping_token (names.wrapping_accessor ∷ d.taken) taken in
-        subst (LeftBy b q d) (sym is) (record {
+        subst (LeftBy b q names command d) (sym is) (record {
           new = taken;
           used = proper.used;
           evolves = evolves_trans b d.next (with_waiting d.next (token_text names.wrapping_token) entry) proper.evolves
@@ -224,17 +230,14 @@ module _ {Command : Type 0} (permits : Broker → Option Text → Verb → Text 
               ∙ ap (λ u. u || list_any (same names.wrapping_token) (names.wrapping_accessor ∷ d.taken)) (same_self names.wrapping_token);
           kept = λ t e. absurd (not_both t (sym answered ∙ e));
           waits = λ t w e. put_is d.next.waiting (token_text names.wrapping_token) entry t w _ e
-              (λ at here. inr (
-                ap Some (ap (λ (z : Waiting). z.origin) (sym here)),
-                (r, made, answered, ap (λ (z : Waiting). z.reply) here),
-              ))
+              (λ at here. inr ((r, made, h, answered, refl), here))
               (λ old. inl (proper.none_born t w old));
         })
       where
         not_both : (t : Text) → reply r made ≡ kept_text t → ⊥
         not_both t e = cc
 
-    left : LeftBy b q d (wrapped permits traits act b q names command d)
+    left : LeftBy b q names command d (wrapped permits traits act b q names command d)
     left = elim (wrapped_cases b q names command d) [
       | inl plain ↦ left_unwrapped (wrapped permits traits act b q names command d) plain
       | inr wrapped_ ↦ left_wrapped (wrapped permits traits act b q names command d) wrapped_
@@ -253,10 +256,14 @@ same_waited b c w e (t, v, is, origin, text) = (t, v, ap (λ (m : Map Waiting). 
 
 module _ {Command : Type 0} (permits : Broker → Option Text → Verb → Text → Bool) (traits : Command → Traits)
     (act : Broker → Option Text → Names → Command → Result Done Refusal) (body : Asking → Text) (a : Asking)
-    (q : Request Command) (names : Names) (proper : AreProper permits traits act names)
+    (q : Request Command) (same_path : q.path ≡ a.ask.path) (same_ttl : q.wrap_ttl ≡ a.ask.wrap_ttl)
+    (proper : AreProper permits traits act (names_of a.words))
     (ids : SoundIdentifiers a.broker) (waiting : SoundWaiting a.broker.waiting) where
   abbrev now : Broker
   now = clocked a
+
+  abbrev names : Names
+  names = names_of a.words
 
   -- the body is the text of what the operation replied
   abbrev pub TellsBody : Type 0
@@ -315,7 +322,7 @@ module _ {Command : Type 0} (permits : Broker → Option Text → Verb → Text 
     is_proper : IsProper start ((traits s.command).own names) s.done
     is_proper = proper start s.caller s.command s.done (own_new permits traits act start.used q names s.command s.new) s.acted
 
-    what_is_left : LeftBy permits traits act start q s.done v
+    what_is_left : LeftBy permits traits act start q names s.command s.done v
     what_is_left = left permits traits act start q names s.command s.done s.new is_proper
 
     next_is : a.outcome.next ≡ end_spent (with_used v.done.next v.done.taken) s.caller
@@ -372,12 +379,48 @@ module _ {Command : Type 0} (permits : Broker → Option Text → Verb → Text 
           };
         }
 
+    -- the response that was kept has the ask's path and wrap TTL
+    entry_is : (r : Reply) (made : Option Text) → s.done.answered ≡ reply r made
+        → kept_entry start q.path q.wrap_ttl names r ≡ first_entry a (body a)
+    entry_is r made answered =
+        let clock = spent_clock now s.caller in
+        let text = tells s r made answered in
+        λ i. record {
+          accessor = names.wrapping_accessor;
+          created = clock i;
+          ttl = same_ttl i;
+          path = same_path i;
+          origin = names.wrapping_token;
+          reply = text i;
+        }
+
+    was_kept : (w : Waiting) (x : IsWrapped permits traits act start q names s.command s.done v)
+        → w ≡ kept_entry start q.path q.wrap_ttl names x.0 → KeepsReply a (body a) w.origin
+    was_kept w (r, made, wraps_, answered, is) here =
+        let token = token_text names.wrapping_token in
+        let entry = kept_entry start q.path q.wrap_ttl names r in
+        let is_first = entry_is r made answered in
+        record {
+          ttl = ltb-true 0 a.ask.wrap_ttl
+              (ap (nat_lt 0) (sym same_ttl) ∙ (and_parts (nat_lt 0 q.wrap_ttl) (traits s.command).may_wrap wraps_).0);
+          origin = ap (λ (z : Waiting). z.origin) here;
+          made = made;
+          told = ap (λ (x : Outcome). x.response) s.outcome ∙ ap (λ (x : Wrapped). response_to x.done.answered) is
+              ∙ ap (λ (z : Waiting). ok (reply_text (wrap_reply names.request (wrap_info token z made)))) is_first;
+          waits = ap (λ (z : Waiting). get a.outcome.next.waiting (token_text z.origin)) here
+              ∙ ap (λ (m : Map Waiting). get m token) waiting_is
+              ∙ ap (λ (x : Wrapped). get x.done.next.waiting token) is
+              ∙ get-put_self s.done.next.waiting token entry ∙ ap Some is_first;
+        }
+
     served_waits : (t : Text) (w : Waiting) → get a.outcome.next.waiting t ≡ Some w → WaitedBefore a.broker w ⊎ IsBorn a (body a) w
     served_waits t w e = elim (what_is_left.waits t w (ap (λ (m : Map Waiting). get m t) (sym waiting_is) ∙ e)) [
       | inl old ↦ inl (was_waiting a.broker a.moment w (same_waited now start w (spent_waiting now s.caller) old))
-      | inr (origin, (r, made, answered, text)) ↦ inr (record {
-        origin = ap (λ (x : Outcome). x.born) s.outcome ∙ origin;
-        reply = text ∙ tells s r made answered;
+      | inr (x, here) ↦ inr (record {
+        origin = ap (λ (z : Outcome). z.born) s.outcome ∙ ap (λ (z : Wrapped). z.born) x.4
+            ∙ ap Some (sym (ap (λ (z : Waiting). z.origin) here));
+        reply = ap (λ (z : Waiting). z.reply) here ∙ tells s x.0 x.1 x.3;
+        kept = was_kept w x here;
       })
     ]
 

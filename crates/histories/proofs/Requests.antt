@@ -196,7 +196,7 @@ module _ (proper : OperationsAreProper) where
       let sound : Sound forms None a.broker = subst (Sound forms None) (sym is.broker) is.sound in
       let outcome : a.outcome ≡ step a.broker a.moment a.words a.ask =
       is.outcome ∙ ap (λ c. step c a.moment a.words a.ask) (sym is.broker) in
-      request_keeps permits traits act unwrapped_body a (request_of a.ask) (names_of a.words)
+      request_keeps permits traits act unwrapped_body a (request_of a.ask) refl refl
       (λ c caller command d new done. proper c caller a.words command d new done)
       sound.identifiers sound.waiting
       (λ s r made answered.

@@ -17,7 +17,7 @@ use Rattle.broker_types.specs.EvolvesLaws.{evolves_trans}
 use Rattle.broker_types.specs.FewerLaws.{tree_of}
 use Rattle.broker_types.specs.Laws.{IsTree}
 use Rattle.broker_types.specs.Names.{Names, names_of}
-use Rattle.broker_types.specs.Operation.{Done}
+use Rattle.broker_types.specs.Operation.{Answered, nothing, reply, kept_text, missing, Done}
 use Rattle.broker_types.specs.OptionLaws.{found_or_not}
 use Rattle.broker_types.specs.Places.{lease_of, token_identifier}
 use Rattle.broker_types.specs.Places as place
@@ -32,6 +32,8 @@ use Rattle.broker_types.specs.Used.{are_new, use_up}
 use Rattle.broker_types.specs.declared.refusal.Refusal.{Refusal}
 use Rattle.broker_types.specs.declared.refusal.Refusal.TheVariants as refusal
 use Rattle.broker_types.specs.declared.refusal.Reason.TheVariants as reason
+use Rattle.broker_types.specs.declared.status.Status.TheVariants as status
+use Rattle.broker_types.specs.RefuseLaws.{no_ok, ok_step}
 use Rattle.records.specs.ValueLaws.{ok_inj}
 use Rattle.broker_model.specs.Act.{act}
 use Rattle.broker_model.specs.Command.{Command, on_cubbyhole, on_token, on_secret, on_policy, on_mount, on_lease}
@@ -49,19 +51,21 @@ use Rattle.broker_model.specs.declared.commands.TokenCommand.{TokenCommand}
 use Rattle.broker_model.specs.declared.commands.TokenCommand.TheVariants as token
 use Rattle.broker_model.specs.declared.commands.WrappingCommand.{WrappingCommand}
 use Rattle.broker_model.specs.declared.commands.WrappingCommand.TheVariants as response
-use Rattle.broker_model.specs.parts.Tokens.{act_on_tokens, revoke, revoke_alone}
+use Rattle.broker_model.specs.parts.Tokens.{act_on_tokens, holder, revoke, revoke_alone}
+use Rattle.broker_model.specs.parts.WrappingCommands.{wrapping_names}
 use Rattle.broker_model.specs.parts.Wrappings.{FoundResponse, found, found_under, rewrapped, act_on_wrappings}
 use Rattle.histories.specs.History.{AreAsked, Asking, AskedAt, History, clocked, spent_by}
 use Rattle.histories.specs.Kept.{unwrapped_body}
 use Rattle.histories.specs.Revocation.{EndsToken, FindsNone, IsGone, IsGranted, Revocation, Revokes, RevokesAlone}
-use Rattle.histories.specs.Revocation.{orphaning_by, orphaning_of, revoked_by, revoked_of, taken_as}
+use Rattle.histories.specs.Revocation.{is_orphaning, is_revocation, named_by, orphaning_by, orphaning_of, revoked_by, revoked_of, taken_as}
 use Rattle.histories.proofs.Ending.{IsLeaseGone, ended_lasts, gone_has_ended, lease_lasts, leases_are_gone}
 use Rattle.histories.proofs.Keeping.{EachKeeps, Keeps}
 use Rattle.histories.proofs.Lasting.{asked_keeps, evolved_since, kept_evolves}
-use Rattle.histories.proofs.OrderCases.{IsServed, IsTurnedAway, IsTurnedDown, order_cases, spent, with_caller}
+use Rattle.histories.proofs.OrderCases.{IsCaller, some_ok, spent, with_caller}
 use Rattle.histories.proofs.OrderKeeps.{wrapped_cases}
-use Rattle.histories.proofs.Requests.{asked_at, history_keeps}
+use Rattle.histories.proofs.Requests.{asked_at, history_keeps, means_at_clock}
 use Rattle.histories.proofs.Revoking.{below_are_gone, below_are_left, children_are_orphans, orphaned_is_gone, others_are_left, others_stay, revoked_are_gone}
+use Rattle.histories.proofs.Served.{Served, served}
 
 -- ---- a 204
 
@@ -69,15 +73,7 @@ use Rattle.histories.proofs.Revoking.{below_are_gone, below_are_left, children_a
 abbrev code : Response → ℕ
 code r = status_code r.status
 
--- no refusal is a 204
-refused_is_content : (why : Refusal) → refused why ≡ no_content → ⊥
-refused_is_content (refusal.BadRequest r) e = absurd (omega (arith, ap code e))
-refused_is_content (refusal.Forbidden d) e = absurd (omega (arith, ap code e))
-refused_is_content refusal.NotFound e = absurd (omega (arith, ap code e))
-refused_is_content (refusal.MethodNotAllowed ms) e = absurd (omega (arith, ap code e))
-refused_is_content refusal.IdentifierUsed e = absurd (omega (arith, ap code e))
-
--- nor is a reply
+-- no reply is a 204
 reply_is_content : (t : Text) → ok t ≡ no_content → ⊥
 reply_is_content t e = absurd (omega (arith, ap code e))
 
@@ -96,34 +92,23 @@ module _ (a : Asking) (c : Text) (command : Command) (is : a.outcome ≡ step a.
   abbrev q : Request Command
   q = request_of a.ask
 
-  abbrev Served : Type 0
-  Served = IsServed permits traits act (clocked a) q (names_of a.words) a.outcome
+  served_204 : Served a
+  served_204 = served a is (omega (arith, ap code d.response))
 
-  by_cases : IsTurnedAway (clocked a) q a.outcome ⊎ (IsTurnedDown (clocked a) a.outcome ⊎ Served) → Served
-  by_cases (inl s) = absurd (refused_is_content permission_denied (sym (ap (λ (x : Outcome). x.response) s.outcome) ∙ d.response))
-  by_cases (inr (inl s)) = absurd (refused_is_content s.why (sym (ap (λ (x : Outcome). x.response) s.outcome) ∙ d.response))
-  by_cases (inr (inr s)) = s
-
-  served : Served
-  unfolding step
-  served = by_cases (subst (λ (o : Outcome). IsTurnedAway (clocked a) q o ⊎ (IsTurnedDown (clocked a) o
-      ⊎ IsServed permits traits act (clocked a) q (names_of a.words) o)) (sym is)
-      (order_cases permits traits act a.broker a.moment q (names_of a.words)))
-
-  caller_is : served.caller ≡ Some c
-  caller_is = elim served.asked [
+  caller_is : served_204.caller ≡ Some c
+  caller_is = elim served_204.asked [
     | inl open_ ↦ absurd (false≢true (sym d.closed ∙ open_.0))
     | inr (t, closed, is_token, caller, no_wait, there) ↦ caller ∙ sym is_token ∙ d.caller
   ]
 
-  command_is : (caller : Option Text) → caller ≡ Some c → q.command (spent (clocked a) caller) ≡ Ok served.command
-      → served.command ≡ command
+  command_is : (caller : Option Text) → caller ≡ Some c → q.command (spent (clocked a) caller) ≡ Ok served_204.command
+      → served_204.command ≡ command
   command_is caller is_c means =
-      ok_inj (sym (subst (λ (o : Option Text). q.command (spent (clocked a) o) ≡ Ok served.command) is_c means) ∙ d.means)
+      ok_inj (sym (subst (λ (o : Option Text). q.command (spent (clocked a) o) ≡ Ok served_204.command) is_c means) ∙ d.means)
 
   pub did : Did a c command
   did =
-      let s = served in
+      let s = served_204 in
       let start = spent (clocked a) s.caller in
       let is_command = command_is s.caller caller_is s.means in
       let v = wrapped permits traits act start q (names_of a.words) s.command s.done in
@@ -213,6 +198,86 @@ module _ (a : Asking) (is : a.outcome ≡ step a.broker a.moment a.words a.ask) 
       let k = did a c r.command is r.granted in
       k.next ∙ ap (left_by a c) (orphans_by r.command k.done r.text k.acted)
 
+-- a response to an operation that is a 204
+content_is : (x : Answered) (r : Response) → r ≡ response_to x → r.status ≡ status.NoContent → r ≡ no_content
+content_is nothing r is code_is = is
+content_is (reply y made) r is code_is = absurd (omega (arith, ap code is, ap status_code code_is))
+content_is (kept_text t) r is code_is = absurd (omega (arith, ap code is, ap status_code code_is))
+content_is (missing y) r is code_is = absurd (omega (arith, ap code is, ap status_code code_is))
+
+-- what a command that revokes and was carried out revoked
+revoked_text : (b : Broker) (c : Text) (names : Names) (command : TokenCommand) (d : Done) → is_revocation command ≡ true
+    → act_on_tokens b c names command ≡ Ok d → (t : Text) × (revoked_of b c command ≡ Some t)
+revoked_text b c names (token.Revoke u) d does done = (u, refl)
+revoked_text b c names (token.RevokeAccessor accessor) d does done =
+    let t = ok_step (holder b accessor) (λ u. Ok (revoke b u)) d done in
+    (t.0, some_ok (refusal.BadRequest reason.InvalidAccessor) (named_by b accessor) t.1)
+revoked_text b c names token.RevokeSelf d does done = (c, refl)
+revoked_text b c names (token.Create making asked) d does done = absurd (false≢true does)
+revoked_text b c names (token.LookUp u) d does done = absurd (false≢true does)
+revoked_text b c names (token.LookUpAccessor u) d does done = absurd (false≢true does)
+revoked_text b c names token.LookUpSelf d does done = absurd (false≢true does)
+revoked_text b c names (token.Renew asked) d does done = absurd (false≢true does)
+revoked_text b c names (token.RenewSelf n) d does done = absurd (false≢true does)
+revoked_text b c names (token.RevokeOrphan u) d does done = absurd (false≢true does)
+revoked_text b c names token.ListAccessors d does done = absurd (false≢true does)
+
+-- and one that revokes alone
+orphaned_text : (command : TokenCommand) → is_orphaning command ≡ true → (t : Text) × (orphaning_of command ≡ Some t)
+orphaned_text (token.RevokeOrphan u) does = (u, refl)
+orphaned_text (token.Revoke u) does = absurd (false≢true does)
+orphaned_text (token.RevokeAccessor accessor) does = absurd (false≢true does)
+orphaned_text token.RevokeSelf does = absurd (false≢true does)
+orphaned_text (token.Create making asked) does = absurd (false≢true does)
+orphaned_text (token.LookUp u) does = absurd (false≢true does)
+orphaned_text (token.LookUpAccessor u) does = absurd (false≢true does)
+orphaned_text token.LookUpSelf does = absurd (false≢true does)
+orphaned_text (token.Renew asked) does = absurd (false≢true does)
+orphaned_text (token.RenewSelf n) does = absurd (false≢true does)
+orphaned_text token.ListAccessors does = absurd (false≢true does)
+
+-- a 204 to a command of tokens was granted to a caller
+module _ (a : Asking) (is : a.outcome ≡ step a.broker a.moment a.words a.ask) (command : TokenCommand)
+    (means : command_of (clocked a).mounts a.ask ≡ Ok (on_token command)) (empty_ : a.outcome.response.status ≡ status.NoContent) where
+  was_served : Served a
+  was_served = served a is (omega (arith, ap status_code empty_))
+
+  abbrev Acted : Option Text → Type 0
+  Acted caller = act (spent (clocked a) caller) caller (names_of a.words) (on_token command) ≡ Ok was_served.done
+
+  by_caller : (caller : Option Text) → IsCaller (clocked a) (request_of a.ask) caller → Acted caller
+      → (c : Text) × IsGranted a c (on_token command) × Acted (Some c)
+  by_caller caller (inl (open_, none)) done = no_ok (subst Acted none done)
+  by_caller caller (inr (c, closed, is_token, is_c, no_wait, there)) done = (
+    c,
+    record {
+      caller = is_token;
+      closed = closed;
+      means = means;
+      response = content_is _ a.outcome.response (ap (λ (x : Outcome). x.response) was_served.outcome) empty_;
+    },
+    subst Acted is_c done,
+  )
+
+  granted : (c : Text) × IsGranted a c (on_token command) × Acted (Some c)
+  granted =
+      let s = was_served in
+      let is_command : s.command ≡ on_token command = ok_inj (sym (means_at_clock a s.caller s.command s.means) ∙ means) in
+      by_caller s.caller s.asked
+      (subst (λ (k : Command). act (spent (clocked a) s.caller) s.caller (names_of a.words) k ≡ Ok s.done) is_command s.acted)
+
+  revokes_at_204 : is_revocation command ≡ true → (c : Text) × (t : Text) × Revokes a c t
+  revokes_at_204 does =
+      let g = granted in
+      let t = revoked_text (spent_by a g.0) g.0 (names_of a.words) command was_served.done does g.2 in
+      (g.0, t.0, record { command = on_token command; granted = g.1; text = t.1 })
+
+  orphans_at_204 : is_orphaning command ≡ true → (c : Text) × (t : Text) × RevokesAlone a c t
+  orphans_at_204 does =
+      let g = granted in
+      let t = orphaned_text command does in
+      (g.0, t.0, record { command = on_token command; granted = g.1; text = t.1 })
+
 -- ---- the law of revocation
 
 -- a token at the caller's clock was one before
@@ -278,9 +343,12 @@ module _ (a : Asking) (q : Text) (is : a.outcome ≡ step a.broker a.moment a.wo
   none_found : found (clocked a) (Some q) ≡ Err bad
   none_found = ap (λ o. some_or bad (option_map (found_under q) o)) none
 
-  no_wrap : (v : Bool) → (v && false) ≡ false
-  no_wrap true = refl
-  no_wrap false = refl
+  -- what is not wrapped needs its own identifiers alone
+  own_alone : (own : List Text)
+      → (if nat_lt 0 a.ask.wrap_ttl && false then names.wrapping_token ∷ names.wrapping_accessor ∷ own else own) ≡ own
+  own_alone own =
+      elim (nat_lt 0 a.ask.wrap_ttl) as
+      (λ v. (if v && false then names.wrapping_token ∷ names.wrapping_accessor ∷ own else own) ≡ own) [ true ↦ refl | false ↦ refl ]
 
   -- the last steps of a look-up or an unwrap
   refused_400 : (own : List Text) → own ≡ [] → (f : FoundResponse → Result Done Refusal) (g : Done → Result Wrapped Refusal)
@@ -293,39 +361,33 @@ module _ (a : Asking) (q : Text) (is : a.outcome ≡ step a.broker a.moment a.wo
   refused_now x why e = ap (λ (y : Result Wrapped Refusal). (finish (clocked a) None y).response) e
 
   pub finds_none : (command : WrappingCommand) → command_of (clocked a).mounts a.ask ≡ Ok (on_wrapping command)
-      → taken_as command ≡ Some q → FindsNone a command q
+      → taken_as command ≡ Some q → FindsNone a command
   finds_none (response.Wrap text) means as_q = absurd (none-some _ as_q)
   finds_none (response.LookUp meant) means as_q =
-      inl (open_step (on_wrapping (response.LookUp meant)) means
+      open_step (on_wrapping (response.LookUp meant)) means
       ∙ ap (λ u. (finish (clocked a) None (last_steps (on_wrapping (response.LookUp u)))).response) as_q
       ∙ refused_now (last_steps (on_wrapping (response.LookUp (Some q)))) bad
-      (refused_400 (needed permits traits act r names (on_wrapping (response.LookUp (Some q))))
-      (ap (λ v. if v then names.wrapping_token ∷ names.wrapping_accessor ∷ [] else []) (no_wrap (nat_lt 0 a.ask.wrap_ttl))) _ _))
+      (refused_400 (needed permits traits act r names (on_wrapping (response.LookUp (Some q)))) (own_alone []) _ _)
   finds_none (response.Unwrap meant) means as_q =
-      inl (open_step (on_wrapping (response.Unwrap meant)) means
+      open_step (on_wrapping (response.Unwrap meant)) means
       ∙ ap (λ u. (finish (clocked a) None (last_steps (on_wrapping (response.Unwrap u)))).response) as_q
       ∙ refused_now (last_steps (on_wrapping (response.Unwrap (Some q)))) bad
-      (refused_400 (needed permits traits act r names (on_wrapping (response.Unwrap (Some q))))
-      (ap (λ v. if v then names.wrapping_token ∷ names.wrapping_accessor ∷ [] else []) (no_wrap (nat_lt 0 a.ask.wrap_ttl))) _ _))
+      (refused_400 (needed permits traits act r names (on_wrapping (response.Unwrap (Some q)))) (own_alone []) _ _)
   finds_none (response.Rewrap meant) means as_q =
       let rewrap : Command = on_wrapping (response.Rewrap (Some q)) in
-      let start : a.outcome.response ≡ (finish (clocked a) None (last_steps rewrap)).response =
+      let steps : Bool → Result Wrapped Refusal = λ v. unless v refusal.IdentifierUsed >>= (λ fresh.
+      act_on_wrappings (clocked a) names (response.Rewrap (Some q))
+      >>= (λ done. Ok (wrapped permits traits act (clocked a) r names rewrap done))) in
       open_step (on_wrapping (response.Rewrap meant)) means
-      ∙ ap (λ u. (finish (clocked a) None (last_steps (on_wrapping (response.Rewrap u)))).response) as_q in
-      elim (are_new (clocked a).used (needed permits traits act r names rewrap)) as
-      (λ v. are_new (clocked a).used (needed permits traits act r names rewrap) ≡ v → FindsNone a (response.Rewrap meant) q) [
-        | true ↦ λ new. inl (start ∙ refused_now (last_steps rewrap) bad
-            (ap (λ v. unless v refusal.IdentifierUsed >>= (λ fresh. act_on_wrappings (clocked a) names (response.Rewrap (Some q))
-            >>= (λ done. Ok (wrapped permits traits act (clocked a) r names rewrap done)))) new
-            ∙ ap (λ (x : Result FoundResponse Refusal). (x >>= (λ f. Ok (rewrapped (clocked a) names f)))
-            >>= (λ done. Ok (wrapped permits traits act (clocked a) r names rewrap done))) none_found))
-        | false ↦ λ old. inr (
-          ap response.Rewrap as_q,
-          start ∙ refused_now (last_steps rewrap) refusal.IdentifierUsed
-              (ap (λ v. unless v refusal.IdentifierUsed >>= (λ fresh. act_on_wrappings (clocked a) names (response.Rewrap (Some q))
-              >>= (λ done. Ok (wrapped permits traits act (clocked a) r names rewrap done)))) old),
-        )
-      ] refl
+      ∙ ap (λ u. (finish (clocked a) None (last_steps (on_wrapping (response.Rewrap u)))).response) as_q
+      ∙ ap (λ is. (finish (clocked a) None (steps (are_new (clocked a).used is))).response) (own_alone (wrapping_names names))
+      ∙ elim (are_new (clocked a).used (wrapping_names names)) as
+      (λ v. (finish (clocked a) None (steps v)).response ≡ refused (if v then bad else refusal.IdentifierUsed)) [
+        | true ↦ refused_now (steps true) bad
+            (ap (λ (x : Result FoundResponse Refusal). (x >>= (λ f. Ok (rewrapped (clocked a) names f)))
+            >>= (λ done. Ok (wrapped permits traits act (clocked a) r names rewrap done))) none_found)
+        | false ↦ refl
+      ]
 
 module _ (a : Asking) (sound : Sound forms None a.broker) (keeps : Keeps unwrapped_body a) (q : Text) (ends : EndsToken a q) where
   none_after : get a.outcome.next.tokens q ≡ None
@@ -390,6 +452,8 @@ module _ (proper : OperationsAreProper) (b : Broker) (history : History) (h : Ar
 
   pub revocation : Revocation history
   revocation = record {
+    each = λ i a command at means does is_204. revokes_at_204 a (asked_at b history i a h at).outcome command means is_204 does;
+    each_alone = λ i a command at means does is_204. orphans_at_204 a (asked_at b history i a h at).outcome command means is_204 does;
     revoked = λ i a c t q at r under. record {
       was = called_was a c q (under_tokens (spent_by a c).tokens q t under).0;
       gone = inr (ap (λ (z : Broker). get z.tokens q) (revocation_left a (asked_at b history i a h at).outcome c t r)

@@ -7,11 +7,13 @@ use Rattle.broker_types.specs.Text.{Text}
 use Rattle.broker_types.specs.Map.{get}
 use Rattle.broker_types.specs.Broker.{Broker, Waiting, waiting_ends}
 use Rattle.broker_types.specs.Names.{Names, names_of}
+use Rattle.broker_types.specs.TokenText.{token_text}
 use Rattle.broker_types.specs.declared.refusal.Refusal.{Refusal}
 use Rattle.broker_types.specs.declared.status.Status.TheVariants as status
 use Rattle.api_json.specs.Json.{body_members}
-use Rattle.api_json.specs.Reply.{plain_reply, reply_text}
+use Rattle.api_json.specs.Reply.{plain_reply, reply_text, wrap_reply}
 use Rattle.broker_model.specs.Command.{Command, on_wrapping, command_of}
+use Rattle.broker_model.specs.Order.{wrap_info}
 use Rattle.broker_model.specs.Responses.{ok}
 use Rattle.broker_model.specs.Serving.{is_open}
 use Rattle.broker_model.specs.Step.{step, unwrapped_ask}
@@ -57,9 +59,10 @@ pub record HandedOutOnce (history : History) : Type 0 where
   -- For each origin at most one event hands out its response, whatever rewraps came between.
   pub once : (i j : ℕ) (a x : Asking) (t u o : Text) → AskedAt history i a → Unwraps a t o → AskedAt history j x
       → Unwraps x u o → i ≡ j
-  -- At that event the clock is before the end of the wrapping token that is unwrapped.
+  -- At that event the clock, and the moment of the event itself, are before the end of the wrapping token that is
+  -- unwrapped.
   pub in_time : (i : ℕ) (a : Asking) (t o : Text) → AskedAt history i a → (h : Unwraps a t o)
-      → (clocked a).clock < waiting_ends h.entry
+      → ((clocked a).clock < waiting_ends h.entry) × (a.moment < waiting_ends h.entry)
   -- No earlier event took that token out: no 204 that revoked it by its text or its accessor, no 403 that spent it as
   -- client token, no rewrap of it.
   pub still_in : (i j : ℕ) (a x : Asking) (t o : Text) → AskedAt history i a → TakesTokenOut a t
@@ -85,13 +88,44 @@ unwrapped_body a =
     body_by (names_of a.words) a.ask.body (step a.broker a.moment a.words (unwrapped_ask a.ask)).response.text
     (command_of (clocked a).mounts a.ask)
 
--- The answer of event j is 200 with the body that an earlier event would have been answered, which made the origin o.
+-- the text, kept as the reply to the ask, for its wrap TTL from its clock on; the identifiers are those of its words
+abbrev pub first_entry : Asking → Text → Waiting
+first_entry a text =
+    let names = names_of a.words in
+    record {
+      accessor = names.wrapping_accessor;
+      created = (clocked a).clock;
+      ttl = a.ask.wrap_ttl;
+      path = a.ask.path;
+      origin = names.wrapping_token;
+      reply = text;
+    }
+
+-- the body that tells the wrapping token of that, and the accessor of the token that was made, if one was
+abbrev pub telling_body : Asking → Text → Option Text → Text
+telling_body a text made =
+    let names = names_of a.words in
+    let token = token_text names.wrapping_token in
+    reply_text (wrap_reply names.request (wrap_info token (first_entry a text) made))
+
+-- The ask has a wrap TTL. Its answer is 200, and tells the wrapping token under which the text waits then, kept as its
+-- reply; the origin o is the identifier of that token.
+pub record KeepsReply (a : Asking) (text o : Text) : Type 0 where
+  pub ttl : 0 < a.ask.wrap_ttl
+  pub origin : o ≡ (names_of a.words).wrapping_token
+  pub made : Option Text
+  pub told : a.outcome.response ≡ ok (telling_body a text made)
+  pub waits : get a.outcome.next.waiting (token_text o) ≡ Some (first_entry a text)
+
+-- The answer of event j is 200 with the body that an earlier event would have been answered, which made the origin o,
+-- told its wrapping token, and kept that body under it.
 pub record IsKeptReply (history : History) (j : ℕ) (x : Asking) (o : Text) : Type 0 where
   pub place : ℕ
   pub earlier : place < j
   pub asking : Asking
   pub asked : AskedAt history place asking
   pub born : asking.outcome.born ≡ Some o
+  pub kept : KeepsReply asking (unwrapped_body asking) o
   pub body : x.outcome.response ≡ ok (unwrapped_body asking)
 
 -- Or it is 200 with the text of a response of that origin that waited in b.

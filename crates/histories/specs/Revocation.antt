@@ -8,11 +8,14 @@ use Rattle.broker_types.specs.Map.{get}
 use Rattle.broker_types.specs.Token.{Token, Tokens, Lease}
 use Rattle.broker_types.specs.Lineage.{is_under}
 use Rattle.broker_types.specs.Broker.{Broker}
+use Rattle.broker_types.specs.Names.{names_of}
 use Rattle.broker_types.specs.Places.{lease_of, lease_identifier}
 use Rattle.broker_types.specs.Spending.{is_spent}
+use Rattle.broker_types.specs.Used.{are_new}
 use Rattle.broker_types.specs.Answer.{refused}
 use Rattle.broker_types.specs.declared.refusal.Refusal.TheVariants as refusal
 use Rattle.broker_types.specs.declared.refusal.Reason.TheVariants as reason
+use Rattle.broker_types.specs.declared.status.Status.TheVariants as status
 use Rattle.cubbyhole.specs.Cubbyhole.{object_at}
 use Rattle.token_tree.specs.Tokens as tree
 use Rattle.wrapping.specs.Wrapping as wrapping
@@ -24,6 +27,7 @@ use Rattle.broker_model.specs.declared.commands.TokenCommand.{TokenCommand}
 use Rattle.broker_model.specs.declared.commands.TokenCommand.TheVariants as token
 use Rattle.broker_model.specs.declared.commands.WrappingCommand.{WrappingCommand}
 use Rattle.broker_model.specs.declared.commands.WrappingCommand.TheVariants as response
+use Rattle.broker_model.specs.parts.WrappingCommands.{wrapping_names}
 use Rattle.histories.specs.History.{Asking, AskedAt, History, clocked, spent_by}
 
 -- ---- which commands revoke
@@ -53,6 +57,18 @@ orphaning_of _ = None
 abbrev pub orphaning_by : Command → Option Text
 orphaning_by (on_token command) = orphaning_of command
 orphaning_by _ = None
+
+-- whether a command revokes a text with all under it
+abbrev pub is_revocation : TokenCommand → Bool
+is_revocation (token.Revoke t) = true
+is_revocation (token.RevokeAccessor accessor) = true
+is_revocation token.RevokeSelf = true
+is_revocation _ = false
+
+-- whether it revokes a text alone
+abbrev pub is_orphaning : TokenCommand → Bool
+is_orphaning (token.RevokeOrphan t) = true
+is_orphaning _ = false
 
 -- ---- what was asked, and answered
 
@@ -115,15 +131,30 @@ taken_as (response.LookUp meant) = meant
 taken_as (response.Rewrap meant) = meant
 taken_as (response.Unwrap meant) = meant
 
--- 400 `wrapping token is not valid or does not exist`, or 500 to a rewrap whose words are not new
-abbrev pub FindsNone : Asking → WrappingCommand → Text → Type 0
-FindsNone x command q =
-    (x.outcome.response ≡ refused (refusal.BadRequest reason.InvalidWrappingToken))
-    ⊎ ((command ≡ response.Rewrap (Some q)) × (x.outcome.response ≡ refused refusal.IdentifierUsed))
+-- whether the identifiers that the command needs are new: a rewrap needs those of another wrapping token
+abbrev pub has_new_names : Asking → WrappingCommand → Bool
+has_new_names x (response.Wrap text) = true
+has_new_names x (response.LookUp meant) = true
+has_new_names x (response.Rewrap meant) = are_new (clocked x).used (wrapping_names (names_of x.words))
+has_new_names x (response.Unwrap meant) = true
+
+-- 400 `wrapping token is not valid or does not exist`; but 500 to a rewrap whose words are not new, and to no other
+abbrev pub FindsNone : Asking → WrappingCommand → Type 0
+FindsNone x command =
+    x.outcome.response ≡ refused
+    (if has_new_names x command then refusal.BadRequest reason.InvalidWrappingToken else refusal.IdentifierUsed)
 
 -- ---- the law
 
 pub record Revocation (history : History) : Type 0 where
+  -- Each 204 to a command that revokes is a revocation by a caller of what the command names.
+  pub each : (i : ℕ) (a : Asking) (command : TokenCommand) → AskedAt history i a
+      → command_of (clocked a).mounts a.ask ≡ Ok (on_token command) → is_revocation command ≡ true
+      → a.outcome.response.status ≡ status.NoContent → (c : Text) × (t : Text) × Revokes a c t
+  -- So is each 204 to a command that revokes a text alone.
+  pub each_alone : (i : ℕ) (a : Asking) (command : TokenCommand) → AskedAt history i a
+      → command_of (clocked a).mounts a.ask ≡ Ok (on_token command) → is_orphaning command ≡ true
+      → a.outcome.response.status ≡ status.NoContent → (c : Text) × (t : Text) × RevokesAlone a c t
   -- A 204 that revoked t ended each token that was under it then.
   pub revoked : (i : ℕ) (a : Asking) (c t q : Text) → AskedAt history i a → Revokes a c t
       → is_under (spent_by a c).tokens q t ≡ true → EndsToken a q
@@ -158,9 +189,9 @@ pub record Revocation (history : History) : Type 0 where
   -- A later request whose client token is such a token is answered 403 `permission denied`, unless it is open.
   pub denied : (i j : ℕ) (a x : Asking) (q : Text) → AskedAt history i a → EndsToken a q → AskedAt history j x → i < j
       → x.ask.token ≡ Some q → is_open x.ask ≡ false → x.outcome.response ≡ refused permission_denied
-  -- To an open one, where it is taken as wrapping token and the body can be read, the answer is 400, or 500 where the
-  -- words of a rewrap are not new.
+  -- To an open one, where it is taken as wrapping token and the body can be read, the answer is 400; but it is 500 to a
+  -- rewrap whose words are not new, and to no other.
   pub not_waiting : (i j : ℕ) (a x : Asking) (q : Text) (command : WrappingCommand) → AskedAt history i a
       → EndsToken a q → AskedAt history j x → i < j → is_open x.ask ≡ true
       → command_of (clocked x).mounts x.ask ≡ Ok (on_wrapping command) → taken_as command ≡ Some q
-      → FindsNone x command q
+      → FindsNone x command

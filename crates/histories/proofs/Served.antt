@@ -1,0 +1,45 @@
+-- A request whose answer is no refusal was served.
+use Rattle.std.specs.Prelude.{◌≡◌, ◌<◌, ◌≤◌, ◌⊎◌, ℕ}
+use Rattle.std.proofs.Common.{sym, ap, subst, inl, inr, arith}
+use Rattle.broker_types.specs.Answer.{refused}
+use Rattle.broker_types.specs.Names.{names_of}
+use Rattle.broker_types.specs.Status.{status_code}
+use Rattle.broker_types.specs.declared.refusal.Refusal.{Refusal}
+use Rattle.broker_types.specs.declared.refusal.Refusal.TheVariants as refusal
+use Rattle.broker_model.specs.Act.{act}
+use Rattle.broker_model.specs.Order.{Outcome, permission_denied}
+use Rattle.broker_model.specs.Permission.{permits}
+use Rattle.broker_model.specs.Step.{request_of, step, traits}
+use Rattle.histories.specs.History.{Asking, clocked}
+use Rattle.histories.proofs.OrderCases.{IsServed, IsTurnedAway, IsTurnedDown, order_cases}
+
+-- the code of its answer
+abbrev pub code : Asking → ℕ
+code a = status_code a.outcome.response.status
+
+-- the request was served
+abbrev pub Served : Asking → Type 0
+Served a = IsServed permits traits act (clocked a) (request_of a.ask) (names_of a.words) a.outcome
+
+-- a refusal is 400 or more
+refused_code : (why : Refusal) → 400 ≤ status_code (refused why).status
+refused_code (refusal.BadRequest r) = omega (arith)
+refused_code (refusal.Forbidden d) = omega (arith)
+refused_code refusal.NotFound = omega (arith)
+refused_code (refusal.MethodNotAllowed ms) = omega (arith)
+refused_code refusal.IdentifierUsed = omega (arith)
+
+module _ (a : Asking) (is : a.outcome ≡ step a.broker a.moment a.words a.ask) (answered : code a < 400) where
+  not_refused : (why : Refusal) → code a ≡ status_code (refused why).status → ⊥
+  not_refused why e = omega (arith, answered, refused_code why, e)
+
+  by_cases : IsTurnedAway (clocked a) (request_of a.ask) a.outcome ⊎ (IsTurnedDown (clocked a) a.outcome ⊎ Served a) → Served a
+  by_cases (inl s) = absurd (not_refused permission_denied (ap (λ (x : Outcome). status_code x.response.status) s.outcome))
+  by_cases (inr (inl s)) = absurd (not_refused s.why (ap (λ (x : Outcome). status_code x.response.status) s.outcome))
+  by_cases (inr (inr s)) = s
+
+  pub served : Served a
+  unfolding step
+  served = by_cases (subst (λ (o : Outcome). IsTurnedAway (clocked a) (request_of a.ask) o ⊎ (IsTurnedDown (clocked a) o
+      ⊎ IsServed permits traits act (clocked a) (request_of a.ask) (names_of a.words) o)) (sym is)
+      (order_cases permits traits act a.broker a.moment (request_of a.ask) (names_of a.words)))
