@@ -3,7 +3,7 @@ use Rattle.std.specs.Prelude.{◌≡◌, ◌⊎◌, ◌||◌, not, ℕ, take, []
 use Rattle.std.specs.FinMap.{get-empty}
 use Rattle.std.specs.List.{list_any}
 use Rattle.std.proofs.Common.{refl, sym, ap, inl, inr}
-use Rattle.std.proofs.lemmas.Bool.{false_from_ne_true}
+use Rattle.std.proofs.lemmas.Bool.{false≢true, false_from_ne_true}
 use Rattle.broker_types.specs.Text.{Text, same, text_cmp}
 use Rattle.broker_types.specs.TextLaws.{same_true}
 use Rattle.broker_types.specs.Map.{get, empty}
@@ -14,11 +14,13 @@ use Rattle.broker_types.specs.Places.{IsUsed, Place, identifier_at}
 use Rattle.broker_types.specs.Used.{are_new}
 use Rattle.broker_model.specs.Laws.{OperationsAreProper}
 use Rattle.histories.specs.History.{AreAsked, Asking, AskedAt, Beginning, History, begun, given_out}
-use Rattle.histories.specs.Identifiers.{GivesOutNew, NoIdentifierTwice}
+use Rattle.histories.specs.Identifiers.{EachIsTold, GivesOutNew, NoIdentifierTwice}
 use Rattle.histories.specs.Kept.{unwrapped_body}
 use Rattle.histories.proofs.Cover.{used_is_given}
 use Rattle.histories.proofs.Lasting.{given_out_new}
+use Rattle.histories.proofs.Placed.{moment_placed}
 use Rattle.histories.proofs.Requests.{asked_at, history_keeps}
+use Rattle.histories.proofs.RequestsPlace.{requests_tell}
 use Rattle.histories.proofs.Used.{any_left, any_right, join, member_new, new_append, new_differ, used_or}
 
 module _ (proper : OperationsAreProper) (b : Broker) (history : History) (h : AreAsked b history) where
@@ -31,11 +33,21 @@ module _ (proper : OperationsAreProper) (b : Broker) (history : History) (h : Ar
       used_is_given unwrapped_body b history j x i (history_keeps proper b history h) at
       ((asked_at b history j x h at).sound.identifiers.all_used p i there)
 
+  each_is_told : EachIsTold history
+  each_is_told j x p i at there = elim (requests_tell x (asked_at b history j x h at).outcome p i there) [
+    | inl was ↦ elim (moment_placed x.broker [] x.moment p i was) [
+      | inl before ↦ inl (before, was)
+      | inr none ↦ absurd (false≢true none)
+    ]
+    | inr here ↦ inr here
+  ]
+
   -- what is given out is new
   pub gives_out_new : GivesOutNew b history
   gives_out_new = record {
     once = new_differ b.used (given_out history) all_new;
     unused = λ i among. member_new b.used (given_out history) i all_new among;
+    each = each_is_told;
     all = used_or_given;
   }
 
@@ -67,5 +79,6 @@ module _ (proper : OperationsAreProper) (s : Beginning) (history : History) (h :
     once = new_differ empty (id s.accessor_word ∷ id s.token_word ∷ given_out history)
         (new_append empty (id s.accessor_word ∷ id s.token_word ∷ []) (given_out history) start_new
         (all_new proper (begun s) history h));
+    each = each_is_told proper (begun s) history h;
     all = all_given;
   }

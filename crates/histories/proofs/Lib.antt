@@ -4,10 +4,13 @@ pub mod GivenOut
 pub mod Keeping
 pub mod KeptReplies
 pub mod Lasting
+pub mod OperationsPlace
 pub mod OrderCases
 pub mod OrderKeeps
+pub mod Placed
 pub mod Plain
 pub mod Requests
+pub mod RequestsPlace
 pub mod RevocationLasts
 pub mod Revoking
 pub mod Served

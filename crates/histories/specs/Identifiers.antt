@@ -6,7 +6,18 @@ use Rattle.broker_types.specs.Broker.{Broker}
 use Rattle.broker_types.specs.Evolves.{IsNew}
 use Rattle.broker_types.specs.Identifier.{id}
 use Rattle.broker_types.specs.Places.{IsUsed, Place, identifier_at}
-use Rattle.histories.specs.History.{Asking, AskedAt, Beginning, History, given_out}
+use Rattle.histories.specs.History.{Asking, AskedAt, Beginning, History, clocked, given_out}
+
+-- the identifier was in the place before the event, and at its clock still
+abbrev pub WasThere : Asking → Place → Text → Type 0
+WasThere x p i = (identifier_at x.broker p ≡ Some i) × (identifier_at (clocked x) p ≡ Some i)
+
+-- Each identifier in a place of the broker that an event left (of a token, an accessor, a lease, a credential, a
+-- wrapping token or its accessor) was in that place before it and at its clock, or is one that the event gave out.
+abbrev pub EachIsTold : History → Type 0
+EachIsTold history =
+    (j : ℕ) (x : Asking) (p : Place) (i : Text) → AskedAt history j x → identifier_at x.outcome.next p ≡ Some i
+    → WasThere x p i ⊎ (list_any (same i) x.outcome.taken ≡ true)
 
 -- From the broker b on, the identifiers that the events give out are new, and no two of them are equal.
 pub record GivesOutNew (b : Broker) (history : History) : Type 0 where
@@ -14,8 +25,11 @@ pub record GivesOutNew (b : Broker) (history : History) : Type 0 where
   pub once : IsDistinct same (given_out history)
   -- and none of them had been given out before
   pub unused : (i : Text) → list_any (same i) (given_out history) ≡ true → IsNew b i
-  -- Nothing else is given out: each identifier in a place of a broker that is asked (of a token, an accessor, a lease,
-  -- a credential, a wrapping token or its accessor) was given out before b, or is one that an earlier event gave out.
+  -- Nothing else is given out, not even again: what is in a place after an event, and was not in that place before, is
+  -- one of those that this event gave out.
+  pub each : EachIsTold history
+  -- And each identifier in a place of a broker that is asked was given out before b, or is one that an earlier event
+  -- gave out.
   pub all : (j : ℕ) (x : Asking) (p : Place) (i : Text) → AskedAt history j x → identifier_at x.broker p ≡ Some i
       → IsUsed b i ⊎ (list_any (same i) (given_out (take j history)) ≡ true)
 
@@ -23,7 +37,9 @@ pub record GivesOutNew (b : Broker) (history : History) : Type 0 where
 pub record NoIdentifierTwice (s : Beginning) (history : History) : Type 0 where
   -- the two of the start and those that all events gave out, one after another, differ
   pub once : IsDistinct same (id s.accessor_word ∷ id s.token_word ∷ given_out history)
-  -- and nothing else is given out: each identifier in a place of a broker that is asked is one of the two, or one that
-  -- an earlier event gave out
+  -- nothing else is given out, not even again: what is in a place after an event, and was not in that place before, is
+  -- one of those that this event gave out
+  pub each : EachIsTold history
+  -- and each identifier in a place of a broker that is asked is one of the two, or one that an earlier event gave out
   pub all : (j : ℕ) (x : Asking) (p : Place) (i : Text) → AskedAt history j x → identifier_at x.broker p ≡ Some i
       → list_any (same i) (id s.accessor_word ∷ id s.token_word ∷ given_out (take j history)) ≡ true

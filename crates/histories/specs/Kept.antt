@@ -101,7 +101,7 @@ first_entry a text =
       reply = text;
     }
 
--- the body that tells the wrapping token of that, and the accessor of the token that was made, if one was
+-- the body that tells the wrapping token of that, with the accessor of a token that was made, if one was
 abbrev pub telling_body : Asking → Text → Option Text → Text
 telling_body a text made =
     let names = names_of a.words in
@@ -109,7 +109,7 @@ telling_body a text made =
     reply_text (wrap_reply names.request (wrap_info token (first_entry a text) made))
 
 -- The ask has a wrap TTL. Its answer is 200, and tells the wrapping token under which the text waits then, kept as its
--- reply; the origin o is the identifier of that token.
+-- reply; the origin o is the identifier of that token. Which token was made, if one was, is not said.
 pub record KeepsReply (a : Asking) (text o : Text) : Type 0 where
   pub ttl : 0 < a.ask.wrap_ttl
   pub origin : o ≡ (names_of a.words).wrapping_token

@@ -13,8 +13,9 @@ pub fn requests_evolve()
     operations_are_proper();
 }
 
-/// A law: the identifiers that requests give out are new, and no two of them are equal; nothing else is in any place of
-/// identifiers. So from a start on, no identifier is given out twice.
+/// A law: the identifiers that requests give out are new, and no two of them are equal. Nothing else is given out: what
+/// is in a place of identifiers after a request was there before, or the request gave it out. So from a start on, no
+/// identifier is given out twice.
 pub fn identifiers_are_given_out_once()
     ensures since { AllGiveOutNew }
     ensures since_start { NoneIsGivenTwice }
@@ -22,17 +23,18 @@ pub fn identifiers_are_given_out_once()
     operations_are_proper();
 }
 
-/// A law: the response of an origin is handed out by at most one request, before the end of its wrapping token, and
-/// through no wrapping token that an earlier request took out (Vault's documentation, "Response wrapping").
+/// A law: each 200 to an unwrap hands out a response that waited. That of an origin is handed out by at most one
+/// request, before the end of its wrapping token, and through no wrapping token that an earlier request took out
+/// (Vault's documentation, "Response wrapping").
 pub fn responses_are_handed_out_once()
     ensures { AllAreHandedOutOnce }
 {
     operations_are_proper();
 }
 
-/// A law: a token that a revocation ended, with all under it, or that ended in another way, is in no later state, nor
-/// are its cubbyhole and its leases; the others are as they were. Later requests of it are denied (Vault's
-/// documentation, "Tokens", token hierarchies and orphan tokens).
+/// A law: each 204 to a command that revokes is a revocation. A token that it ended, with all under it, or that ended
+/// in another way, is in no later state, nor are its cubbyhole and its leases; the others are as they were. Later
+/// requests of it are denied (Vault's documentation, "Tokens", token hierarchies and orphan tokens).
 pub fn revocation_lasts()
     ensures { RevocationLasts }
 {
@@ -40,7 +42,8 @@ pub fn revocation_lasts()
 }
 
 /// A law: what is handed out is what was kept. From a start on it is, byte for byte, what the request that made its
-/// origin would have been answered without a wrap TTL, then and there (Vault's documentation, "Response wrapping").
+/// origin, and told its wrapping token, would have been answered without a wrap TTL, then and there (Vault's
+/// documentation, "Response wrapping").
 pub fn kept_replies_are_the_replies()
     ensures since { AllHandOutKept }
     ensures since_start { AllAreTheReplies }
