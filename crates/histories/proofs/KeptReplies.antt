@@ -6,6 +6,7 @@ use Rattle.std.proofs.Common.{refl, sym, ◌∙◌, ap, subst, inl, inr, arith}
 use Rattle.std.proofs.lemmas.Bool.{false≢true, false_from_ne_true}
 use Rattle.std.proofs.lemmas.Option.{none-some}
 use Rattle.broker_types.specs.Text.{Text, same}
+use Rattle.broker_types.specs.Answer.{Response}
 use Rattle.broker_types.specs.TextLaws.{same_true}
 use Rattle.broker_types.specs.Map.{Map, get, without}
 use Rattle.broker_types.specs.MapLaws.{get-put, get-without_self, no_entry}
@@ -44,7 +45,7 @@ use Rattle.broker_model.specs.parts.Wrappings.{FoundResponse, found, found_at, f
 use Rattle.broker_model.specs.parts.Wrappings.{act_on_wrappings}
 use Rattle.histories.specs.History.{AreAsked, Asking, AskedAt, Beginning, History, begun, clocked, spent_by}
 use Rattle.histories.specs.Kept.{HandedOutOnce, HandsOutKept, HasAsClient, IsKeptReply, KeepsReply, Rewraps, SameReply}
-use Rattle.histories.specs.Kept.{TakesTokenOut, Unwraps, WaitedFirst, unwrapped_body}
+use Rattle.histories.specs.Kept.{TakesTokenOut, Unwraps, WaitedFirst, unwrapped_answer, unwrapped_body}
 use Rattle.histories.specs.Revocation.{Revokes, RevokesAlone}
 use Rattle.histories.proofs.Cover.{one_birth}
 use Rattle.histories.proofs.Ending.{out_lasts}
@@ -52,7 +53,7 @@ use Rattle.histories.proofs.Keeping.{EachKeeps, Keeps}
 use Rattle.histories.proofs.Lasting.{asked_keeps, evolved_since, handed_once, kept_evolves, waited_before, waits_since}
 use Rattle.histories.proofs.OrderCases.{some_ok, spent}
 use Rattle.histories.proofs.OrderKeeps.{end_spent_waiting, first_new, own_new, spent_used, spent_waiting, wrapped_cases}
-use Rattle.histories.proofs.Requests.{acts_same, asked_at, history_keeps, means_at_clock}
+use Rattle.histories.proofs.Requests.{acts_same, answers_plainly, asked_at, history_keeps, means_at_clock}
 use Rattle.histories.proofs.RevocationLasts.{orphaning_left, revocation_left}
 use Rattle.histories.proofs.Served.{Served, served}
 
@@ -226,6 +227,21 @@ module _ (a : Asking) (sound : Sound forms None a.broker) (keeps : Keeps unwrapp
     ]
   ])
 
+-- ---- the plain answer
+
+-- a reply that was kept would have been a 200
+plain_200 : (a : Asking) (o text : Text) → a.outcome ≡ step a.broker a.moment a.words a.ask → a.outcome.born ≡ Some o
+    → a.outcome.response ≡ ok text → unwrapped_answer a ≡ ok (unwrapped_body a)
+plain_200 a o text is born told =
+    let s = served a is (omega (arith, ap (λ (x : Response). status_code x.status) told)) in
+    let start = spent (clocked a) s.caller in
+    elim (wrapped_cases permits traits act start (request_of a.ask) (names_of a.words) s.command s.done) [
+      | inl e ↦ absurd (none-some _ (sym (ap (λ (x : Outcome). x.born) s.outcome ∙ ap (λ (x : Wrapped). x.born) e) ∙ born))
+      | inr (r, made, wraps_, answered, is_wrapped) ↦
+          let e = answers_plainly a s r made answered in
+          e ∙ ap (λ (x : Response). ok x.text) (sym e)
+    ]
+
 -- ---- the laws
 
 module _ (proper : OperationsAreProper) (b : Broker) (history : History) (h : AreAsked b history) where
@@ -270,6 +286,7 @@ module _ (proper : OperationsAreProper) (b : Broker) (history : History) (h : Ar
           asked = r.asked;
           born = r.born.origin ∙ ap Some k.origin;
           kept = subst (KeepsReply r.asking (unwrapped_body r.asking)) k.origin r.born.kept;
+          plain = plain_200 r.asking _ _ (asked_at b history r.place r.asking h r.asked).outcome r.born.origin r.born.kept.told;
           body = k.response ∙ ap ok r.born.reply;
         })
       ]

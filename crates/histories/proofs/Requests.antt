@@ -35,15 +35,16 @@ use Rattle.broker_model.specs.Laws.{OperationsAreProper}
 use Rattle.broker_model.specs.Order.{Outcome, ordered}
 use Rattle.broker_model.specs.Permission.{permits}
 use Rattle.broker_model.specs.Request.{Request}
+use Rattle.broker_model.specs.Responses.{ok}
 use Rattle.broker_model.specs.Step.{request_of, step, traits, unwrapped_ask}
 use Rattle.broker_model.specs.declared.commands.WrappingCommand.{WrappingCommand}
 use Rattle.broker_model.specs.declared.commands.WrappingCommand.TheVariants as response
 use Rattle.broker_model.specs.parts.WrappingCommands.{opens, token_meant, wrapping_command}
 use Rattle.broker_model.specs.parts.Wrappings.{act_on_wrappings}
 use Rattle.histories.specs.History.{AreAsked, Asking, AskedAt, History, IsAsked, clocked}
-use Rattle.histories.specs.Kept.{body_by, object_text, unwrapped_body}
+use Rattle.histories.specs.Kept.{answer_by, object_text, unwrapped_answer, unwrapped_body}
 use Rattle.histories.proofs.Keeping.{EachKeeps, Keeps}
-use Rattle.histories.proofs.OrderCases.{spent}
+use Rattle.histories.proofs.OrderCases.{IsServed, spent}
 use Rattle.histories.proofs.OrderKeeps.{request_keeps}
 use Rattle.histories.proofs.Plain.{plain, plain_tells}
 
@@ -161,24 +162,24 @@ acts_same b (Some c) names command = refl
 same_reply_of : {r : Reply} {made : Option Text} {z : Reply} → reply z None ≡ reply r made → reply_text z ≡ reply_text r
 same_reply_of e = cc
 
--- the text of what an operation replied is the body
-tells_by : (b : Broker) (caller : Option Text) (names : Names) (body : List ℕ) (text : Text) (command : Command) (d : Done)
+-- what an operation replied is the answer
+tells_by : (b : Broker) (caller : Option Text) (names : Names) (body : List ℕ) (answer : Response) (command : Command) (d : Done)
     (r : Reply) (made : Option Text) → act b caller names command ≡ Ok d → d.answered ≡ reply r made
     → ((wrapped : Text) → command ≡ on_wrapping (response.Wrap wrapped) → object_text (body_members body) ≡ wrapped)
-    → ((traits command).must_wrap ≡ false → text ≡ reply_text r) → body_by names body text (Ok command) ≡ reply_text r
-tells_by b caller names body text (on_cubbyhole path command) d r made acted answered object_is plainly_ = plainly_ refl
-tells_by b caller names body text (on_token command) d r made acted answered object_is plainly_ = plainly_ refl
-tells_by b caller names body text (on_secret place command) d r made acted answered object_is plainly_ = plainly_ refl
-tells_by b caller names body text (on_policy name command) d r made acted answered object_is plainly_ = plainly_ refl
-tells_by b caller names body text (on_mount name command) d r made acted answered object_is plainly_ = plainly_ refl
-tells_by b caller names body text (on_lease prefix command) d r made acted answered object_is plainly_ = plainly_ refl
-tells_by b caller names body text (on_issued place command) d r made acted answered object_is plainly_ = plainly_ refl
-tells_by b caller names body text (on_wrapping (response.LookUp t)) d r made acted answered object_is plainly_ = plainly_ refl
-tells_by b caller names body text (on_wrapping (response.Rewrap t)) d r made acted answered object_is plainly_ = plainly_ refl
-tells_by b caller names body text (on_wrapping (response.Unwrap t)) d r made acted answered object_is plainly_ = plainly_ refl
-tells_by b caller names body text (on_wrapping (response.Wrap wrapped)) d r made acted answered object_is plainly_ =
-    ap (λ z. reply_text (plain_reply names.request z)) (object_is wrapped refl)
-    ∙ same_reply_of (ap (λ (z : Done). z.answered) (ok_inj (sym (acts_same b caller names (response.Wrap wrapped)) ∙ acted)) ∙ answered)
+    → ((traits command).must_wrap ≡ false → answer ≡ ok (reply_text r)) → answer_by names body answer (Ok command) ≡ ok (reply_text r)
+tells_by b caller names body answer (on_cubbyhole path command) d r made acted answered object_is plainly_ = plainly_ refl
+tells_by b caller names body answer (on_token command) d r made acted answered object_is plainly_ = plainly_ refl
+tells_by b caller names body answer (on_secret place command) d r made acted answered object_is plainly_ = plainly_ refl
+tells_by b caller names body answer (on_policy name command) d r made acted answered object_is plainly_ = plainly_ refl
+tells_by b caller names body answer (on_mount name command) d r made acted answered object_is plainly_ = plainly_ refl
+tells_by b caller names body answer (on_lease prefix command) d r made acted answered object_is plainly_ = plainly_ refl
+tells_by b caller names body answer (on_issued place command) d r made acted answered object_is plainly_ = plainly_ refl
+tells_by b caller names body answer (on_wrapping (response.LookUp t)) d r made acted answered object_is plainly_ = plainly_ refl
+tells_by b caller names body answer (on_wrapping (response.Rewrap t)) d r made acted answered object_is plainly_ = plainly_ refl
+tells_by b caller names body answer (on_wrapping (response.Unwrap t)) d r made acted answered object_is plainly_ = plainly_ refl
+tells_by b caller names body answer (on_wrapping (response.Wrap wrapped)) d r made acted answered object_is plainly_ =
+    ap (λ z. ok (reply_text (plain_reply names.request z))) (object_is wrapped refl)
+    ∙ ap ok (same_reply_of (ap (λ (z : Done). z.answered) (ok_inj (sym (acts_same b caller names (response.Wrap wrapped)) ∙ acted)) ∙ answered))
 
 spent_mounts : (b : Broker) (who : Option Text) → (spent b who).mounts ≡ b.mounts
 spent_mounts b None = refl
@@ -188,6 +189,20 @@ spent_mounts b (Some c) = refl
 pub means_at_clock : (a : Asking) (caller : Option Text) (command : Command)
     → (request_of a.ask).command (spent (clocked a) caller) ≡ Ok command → command_of (clocked a).mounts a.ask ≡ Ok command
 means_at_clock a caller command means = ap (λ (m : Map Mount). command_of m a.ask) (sym (spent_mounts (clocked a) caller)) ∙ means
+
+-- without a wrap TTL, what a request that was served replied is the answer
+pub answers_plainly : (a : Asking)
+    (s : IsServed permits traits act (clocked a) (request_of a.ask) (names_of a.words) a.outcome) (r : Reply) (made : Option Text)
+    → s.done.answered ≡ reply r made → unwrapped_answer a ≡ ok (reply_text r)
+unfolding step
+answers_plainly a s r made answered =
+    let answer = (step a.broker a.moment a.words (unwrapped_ask a.ask)).response in
+    let means = means_at_clock a s.caller s.command s.means in
+    ap (answer_by (names_of a.words) a.ask.body answer) means
+    ∙ tells_by (spent (clocked a) s.caller) s.caller (names_of a.words) a.ask.body answer s.command s.done r made s.acted answered
+    (λ wrapped is_wrap. wraps_object (clocked a).mounts a.ask wrapped (means ∙ ap Ok is_wrap))
+    (λ free. ap (λ (x : Outcome). x.response) (step_plain a.broker a.moment a.words a.ask)
+    ∙ plain_tells permits traits act a.broker a.moment (request_of a.ask) (names_of a.words) a.outcome s free r made answered)
 
 module _ (proper : OperationsAreProper) where
   asked_keep : (b : Broker) (a : Asking) → IsAsked b a → Keeps unwrapped_body a
@@ -199,15 +214,7 @@ module _ (proper : OperationsAreProper) where
       request_keeps permits traits act unwrapped_body a (request_of a.ask) refl refl
       (λ c caller command d new done. proper c caller a.words command d new done)
       sound.identifiers sound.waiting
-      (λ s r made answered.
-      let text = (step a.broker a.moment a.words (unwrapped_ask a.ask)).response.text in
-      let means = means_at_clock a s.caller s.command s.means in
-      sym (ap (body_by (names_of a.words) a.ask.body text) means
-      ∙ tells_by (spent (clocked a) s.caller) s.caller (names_of a.words) a.ask.body text s.command s.done r made s.acted answered
-      (λ wrapped is_wrap. wraps_object (clocked a).mounts a.ask wrapped (means ∙ ap Ok is_wrap))
-      (λ free. ap (λ (x : Outcome). x.response.text) (step_plain a.broker a.moment a.words a.ask)
-      ∙ ap (λ (x : Response). x.text)
-      (plain_tells permits traits act a.broker a.moment (request_of a.ask) (names_of a.words) a.outcome s free r made answered))))
+      (λ s r made answered. sym (ap (λ (x : Response). x.text) (answers_plainly a s r made answered)))
       outcome
 
   pub history_keeps : (b : Broker) (history : History) → AreAsked b history → EachKeeps unwrapped_body b history

@@ -4,6 +4,7 @@ use Rattle.std.specs.Prelude.{◌≡◌, ◌≢◌, ◌<◌, ◌⊎◌, ℕ, Lis
 use Rattle.serde_json.specs.Data.{Members, object}
 use Rattle.serde_json.specs.Written.{compact_text}
 use Rattle.broker_types.specs.Text.{Text}
+use Rattle.broker_types.specs.Answer.{Response}
 use Rattle.broker_types.specs.Map.{get}
 use Rattle.broker_types.specs.Broker.{Broker, Waiting, waiting_ends}
 use Rattle.broker_types.specs.Names.{Names, names_of}
@@ -75,18 +76,22 @@ abbrev pub object_text : Result Members Refusal → Text
 object_text (Ok members) = compact_text (object members)
 object_text (Err r) = []
 
--- The body of the reply: that to an ask to wrap has the object of the ask's body as its data; that to another is the
--- text that its step answers.
-abbrev pub body_by : Names → List ℕ → Text → Result Command Refusal → Text
-body_by names body text (Ok (on_wrapping (response.Wrap wrapped))) =
-    reply_text (plain_reply names.request (object_text (body_members body)))
-body_by names body text _ = text
+-- The answer: that to an ask to wrap, whose step is refused, would be a 200 with the object of the ask's body as its
+-- data; that to another is what its step answers.
+abbrev pub answer_by : Names → List ℕ → Response → Result Command Refusal → Response
+answer_by names body answer (Ok (on_wrapping (response.Wrap wrapped))) =
+    ok (reply_text (plain_reply names.request (object_text (body_members body))))
+answer_by names body answer _ = answer
 
--- The body of the reply to the ask without its wrap TTL, in the state, with the moment and the words of the request.
-abbrev pub unwrapped_body : Asking → Text
-unwrapped_body a =
-    body_by (names_of a.words) a.ask.body (step a.broker a.moment a.words (unwrapped_ask a.ask)).response.text
+-- The answer to the ask without its wrap TTL, in the state, with the moment and the words of the request.
+abbrev pub unwrapped_answer : Asking → Response
+unwrapped_answer a =
+    answer_by (names_of a.words) a.ask.body (step a.broker a.moment a.words (unwrapped_ask a.ask)).response
     (command_of (clocked a).mounts a.ask)
+
+-- its body
+abbrev pub unwrapped_body : Asking → Text
+unwrapped_body a = (unwrapped_answer a).text
 
 -- the text, kept as the reply to the ask, for its wrap TTL from its clock on; the identifiers are those of its words
 abbrev pub first_entry : Asking → Text → Waiting
@@ -117,8 +122,8 @@ pub record KeepsReply (a : Asking) (text o : Text) : Type 0 where
   pub told : a.outcome.response ≡ ok (telling_body a text made)
   pub waits : get a.outcome.next.waiting (token_text o) ≡ Some (first_entry a text)
 
--- The answer of event j is 200 with the body that an earlier event would have been answered, which made the origin o,
--- told its wrapping token, and kept that body under it.
+-- The answer of event j is 200 with the body that an earlier event would have been answered, as a 200 too; that event
+-- made the origin o, told its wrapping token, and kept that body under it.
 pub record IsKeptReply (history : History) (j : ℕ) (x : Asking) (o : Text) : Type 0 where
   pub place : ℕ
   pub earlier : place < j
@@ -126,6 +131,7 @@ pub record IsKeptReply (history : History) (j : ℕ) (x : Asking) (o : Text) : T
   pub asked : AskedAt history place asking
   pub born : asking.outcome.born ≡ Some o
   pub kept : KeepsReply asking (unwrapped_body asking) o
+  pub plain : unwrapped_answer asking ≡ ok (unwrapped_body asking)
   pub body : x.outcome.response ≡ ok (unwrapped_body asking)
 
 -- Or it is 200 with the text of a response of that origin that waited in b.
@@ -150,6 +156,7 @@ pub record SameReply (history : History) : Type 0 where
   -- At most one event makes an origin.
   pub one_birth : (i j : ℕ) (a x : Asking) (o : Text) → AskedAt history i a → AskedAt history j x
       → a.outcome.born ≡ Some o → x.outcome.born ≡ Some o → i ≡ j
-  -- Where a response is handed out, the body of the answer is, byte for byte, what the event that made its origin would
-  -- have been answered without a wrap TTL, in the state, with the moment and the words of that event.
+  -- Where a response is handed out, the answer is a 200, and so is what the event that made its origin would have been
+  -- answered without a wrap TTL, in the state, with the moment and the words of that event. The two bodies are the same,
+  -- byte for byte.
   pub same : (j : ℕ) (x : Asking) (t o : Text) → AskedAt history j x → Unwraps x t o → IsKeptReply history j x o
