@@ -9,7 +9,7 @@ use Rattle.std.proofs.Math.Nat.{eq-or-lt_of_le}
 use Rattle.broker_types.specs.Text.{Text, same}
 use Rattle.broker_types.specs.Map.{get}
 use Rattle.broker_types.specs.MapLaws.{valued_is}
-use Rattle.broker_types.specs.Answer.{Response, refused}
+use Rattle.broker_types.specs.Answer.{IsRefused, Response, refused}
 use Rattle.broker_types.specs.Broker as broker
 use Rattle.broker_types.specs.Broker.{Broker, Waiting}
 use Rattle.broker_types.specs.Evolves.{Evolves, HasEnded}
@@ -32,6 +32,7 @@ use Rattle.broker_types.specs.Used.{are_new, use_up}
 use Rattle.broker_types.specs.declared.refusal.Refusal.{Refusal}
 use Rattle.broker_types.specs.declared.refusal.Refusal.TheVariants as refusal
 use Rattle.broker_types.specs.declared.refusal.Reason.TheVariants as reason
+use Rattle.broker_types.specs.declared.reply.Reply.{Reply}
 use Rattle.broker_types.specs.declared.status.Status.TheVariants as status
 use Rattle.broker_types.specs.RefuseLaws.{no_ok, ok_step}
 use Rattle.records.specs.ValueLaws.{ok_inj}
@@ -65,7 +66,7 @@ use Rattle.histories.proofs.OrderCases.{IsCaller, some_ok, spent, with_caller}
 use Rattle.histories.proofs.OrderKeeps.{wrapped_cases}
 use Rattle.histories.proofs.Requests.{asked_at, history_keeps, means_at_clock}
 use Rattle.histories.proofs.Revoking.{below_are_gone, below_are_left, children_are_orphans, orphaned_is_gone, others_are_left, others_stay, revoked_are_gone}
-use Rattle.histories.proofs.Served.{Served, served}
+use Rattle.histories.proofs.Served.{Served, refused_or_served, served}
 
 -- ---- a 204
 
@@ -204,6 +205,54 @@ content_is nothing r is code_is = is
 content_is (reply y made) r is code_is = absurd (omega (arith, ap code is, ap status_code code_is))
 content_is (kept_text t) r is code_is = absurd (omega (arith, ap code is, ap status_code code_is))
 content_is (missing y) r is code_is = absurd (omega (arith, ap code is, ap status_code code_is))
+
+-- a command that revokes and was carried out is a 204
+answers_204 : (b : Broker) (c : Text) (names : Names) (command : TokenCommand) (d : Done)
+    → (is_revocation command || is_orphaning command) ≡ true → act_on_tokens b c names command ≡ Ok d → d.answered ≡ nothing
+answers_204 b c names (token.Revoke u) d does done = ap (λ (z : Done). z.answered) (sym (ok_inj done))
+answers_204 b c names (token.RevokeOrphan u) d does done = ap (λ (z : Done). z.answered) (sym (ok_inj done))
+answers_204 b c names token.RevokeSelf d does done = ap (λ (z : Done). z.answered) (sym (ok_inj done))
+answers_204 b c names (token.RevokeAccessor accessor) d does done =
+    ap (λ (z : Done). z.answered) (sym (ok_inj (ok_step (holder b accessor) (λ u. Ok (revoke b u)) d done).2))
+answers_204 b c names (token.Create making asked) d does done = absurd (false≢true does)
+answers_204 b c names (token.LookUp u) d does done = absurd (false≢true does)
+answers_204 b c names (token.LookUpAccessor u) d does done = absurd (false≢true does)
+answers_204 b c names token.LookUpSelf d does done = absurd (false≢true does)
+answers_204 b c names (token.Renew asked) d does done = absurd (false≢true does)
+answers_204 b c names (token.RenewSelf n) d does done = absurd (false≢true does)
+answers_204 b c names token.ListAccessors d does done = absurd (false≢true does)
+
+-- by a caller, for none else is served
+called_204 : (b : Broker) (caller : Option Text) (names : Names) (command : TokenCommand) (d : Done)
+    → (is_revocation command || is_orphaning command) ≡ true → act b caller names (on_token command) ≡ Ok d → d.answered ≡ nothing
+called_204 b None names command d does done = no_ok done
+called_204 b (Some c) names command d does done = answers_204 b c names command d does done
+
+nothing_is_no_reply : {x : Answered} {r : Reply} {made : Option Text} → x ≡ nothing → x ≡ reply r made → ⊥
+nothing_is_no_reply none some = apart (sym none ∙ some)
+  where
+    apart : {r : Reply} {made : Option Text} → nothing ≡ reply r made → ⊥
+    apart e = cc
+
+-- one that is asked is a 204, or refused
+revoking_answer : (a : Asking) → a.outcome ≡ step a.broker a.moment a.words a.ask → (command : TokenCommand)
+    → command_of (clocked a).mounts a.ask ≡ Ok (on_token command) → (is_revocation command || is_orphaning command) ≡ true
+    → (a.outcome.response ≡ no_content) ⊎ IsRefused a.outcome.response
+revoking_answer a is command means does = elim (refused_or_served a is) [
+  | inl r ↦ inr r
+  | inr s ↦
+      let start = spent (clocked a) s.caller in
+      let names = names_of a.words in
+      let is_command : s.command ≡ on_token command = ok_inj (sym (means_at_clock a s.caller s.command s.means) ∙ means) in
+      let answered : s.done.answered ≡ nothing =
+      called_204 start s.caller names command s.done does
+      (subst (λ (k : Command). act start s.caller names k ≡ Ok s.done) is_command s.acted) in
+      inl (ap (λ (x : Outcome). x.response) s.outcome
+      ∙ elim (wrapped_cases permits traits act start (request_of a.ask) names s.command s.done) [
+        | inl e ↦ ap (λ (x : Wrapped). response_to x.done.answered) e ∙ ap response_to answered
+        | inr (r, made, wraps_, replied, is_wrapped) ↦ absurd (nothing_is_no_reply answered replied)
+      ])
+]
 
 -- what a command that revokes and was carried out revoked
 revoked_text : (b : Broker) (c : Text) (names : Names) (command : TokenCommand) (d : Done) → is_revocation command ≡ true
@@ -452,6 +501,7 @@ module _ (proper : OperationsAreProper) (b : Broker) (history : History) (h : Ar
 
   pub revocation : Revocation history
   revocation = record {
+    answered = λ i a command at means does. revoking_answer a (asked_at b history i a h at).outcome command means does;
     each = λ i a command at means does is_204. revokes_at_204 a (asked_at b history i a h at).outcome command means is_204 does;
     each_alone = λ i a command at means does is_204. orphans_at_204 a (asked_at b history i a h at).outcome command means is_204 does;
     revoked = λ i a c t q at r under. record {

@@ -1,7 +1,7 @@
 -- A request whose answer is no refusal was served.
 use Rattle.std.specs.Prelude.{◌≡◌, ◌<◌, ◌≤◌, ◌⊎◌, ℕ}
 use Rattle.std.proofs.Common.{sym, ap, subst, inl, inr, arith}
-use Rattle.broker_types.specs.Answer.{refused}
+use Rattle.broker_types.specs.Answer.{IsRefused, refused}
 use Rattle.broker_types.specs.Names.{names_of}
 use Rattle.broker_types.specs.Status.{status_code}
 use Rattle.broker_types.specs.declared.refusal.Refusal.{Refusal}
@@ -43,3 +43,17 @@ module _ (a : Asking) (is : a.outcome ≡ step a.broker a.moment a.words a.ask) 
   served = by_cases (subst (λ (o : Outcome). IsTurnedAway (clocked a) (request_of a.ask) o ⊎ (IsTurnedDown (clocked a) o
       ⊎ IsServed permits traits act (clocked a) (request_of a.ask) (names_of a.words) o)) (sym is)
       (order_cases permits traits act a.broker a.moment (request_of a.ask) (names_of a.words)))
+
+-- a request was refused, or served
+pub refused_or_served : (a : Asking) → a.outcome ≡ step a.broker a.moment a.words a.ask
+    → IsRefused a.outcome.response ⊎ Served a
+unfolding step
+refused_or_served a is = by_case (subst (λ (o : Outcome). IsTurnedAway (clocked a) (request_of a.ask) o ⊎ (IsTurnedDown (clocked a) o
+    ⊎ IsServed permits traits act (clocked a) (request_of a.ask) (names_of a.words) o)) (sym is)
+    (order_cases permits traits act a.broker a.moment (request_of a.ask) (names_of a.words)))
+  where
+    by_case : IsTurnedAway (clocked a) (request_of a.ask) a.outcome ⊎ (IsTurnedDown (clocked a) a.outcome ⊎ Served a)
+        → IsRefused a.outcome.response ⊎ Served a
+    by_case (inl s) = inl (permission_denied, ap (λ (x : Outcome). x.response) s.outcome)
+    by_case (inr (inl s)) = inl (s.why, ap (λ (x : Outcome). x.response) s.outcome)
+    by_case (inr (inr s)) = inr s

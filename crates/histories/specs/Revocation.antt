@@ -1,6 +1,6 @@
 -- The law of revocation, as a statement (Vault's documentation, "Tokens", token hierarchies and orphan tokens, use
 -- limits; "Lease, renew, and revoke").
-use Rattle.std.specs.Prelude.{◌≡◌, ◌≢◌, ◌<◌, ◌≤◌, ◌⊎◌, ◌&&◌, ℕ, Bool, true, false, if◌then◌else◌}
+use Rattle.std.specs.Prelude.{◌≡◌, ◌≢◌, ◌<◌, ◌≤◌, ◌⊎◌, ◌&&◌, ◌||◌, ℕ, Bool, true, false, if◌then◌else◌}
 use Rattle.std.specs.Prelude.{Option, Some, None, Ok}
 use Rattle.std.specs.Option.{option_map_or}
 use Rattle.broker_types.specs.Text.{Text}
@@ -12,7 +12,7 @@ use Rattle.broker_types.specs.Names.{names_of}
 use Rattle.broker_types.specs.Places.{lease_of, lease_identifier}
 use Rattle.broker_types.specs.Spending.{is_spent}
 use Rattle.broker_types.specs.Used.{are_new}
-use Rattle.broker_types.specs.Answer.{refused}
+use Rattle.broker_types.specs.Answer.{IsRefused, refused}
 use Rattle.broker_types.specs.declared.refusal.Refusal.TheVariants as refusal
 use Rattle.broker_types.specs.declared.refusal.Reason.TheVariants as reason
 use Rattle.broker_types.specs.declared.status.Status.TheVariants as status
@@ -147,6 +147,11 @@ FindsNone x command =
 -- ---- the law
 
 pub record Revocation (history : History) : Type 0 where
+  -- A command that revokes a text, with all under it or alone, is answered with 204, or refused.
+  pub answered : (i : ℕ) (a : Asking) (command : TokenCommand) → AskedAt history i a
+      → command_of (clocked a).mounts a.ask ≡ Ok (on_token command)
+      → (is_revocation command || is_orphaning command) ≡ true
+      → (a.outcome.response ≡ no_content) ⊎ IsRefused a.outcome.response
   -- Each 204 to a command that revokes is a revocation by a caller of what the command names.
   pub each : (i : ℕ) (a : Asking) (command : TokenCommand) → AskedAt history i a
       → command_of (clocked a).mounts a.ask ≡ Ok (on_token command) → is_revocation command ≡ true
