@@ -1,20 +1,20 @@
 -- Responses that were kept are handed out once, as they were.
 use Rattle.std.specs.Prelude.{◌≡◌, ◌≢◌, ◌⊎◌, ◌&&◌, nat_lt, ℕ, [], ◌∷◌, Bool, true, false, cond, is_some, if◌then◌else◌}
-use Rattle.std.specs.Prelude.{Option, Some, None, Ok, option_map}
+use Rattle.std.specs.Prelude.{Option, Some, None, Result, Ok, option_map}
 use Rattle.std.specs.Option.{option_map_or}
 use Rattle.std.proofs.Common.{refl, sym, ◌∙◌, ap, subst, inl, inr, arith}
 use Rattle.std.proofs.lemmas.Bool.{false≢true, false_from_ne_true}
 use Rattle.std.proofs.lemmas.Option.{none-some}
 use Rattle.broker_types.specs.Text.{Text, same}
-use Rattle.broker_types.specs.Answer.{Response}
+use Rattle.broker_types.specs.Answer.{IsRefused, Response}
 use Rattle.broker_types.specs.TextLaws.{same_true}
 use Rattle.broker_types.specs.Map.{Map, get, without}
 use Rattle.broker_types.specs.MapLaws.{get-put, get-without_self, no_entry}
 use Rattle.broker_types.specs.Broker as broker
 use Rattle.broker_types.specs.Broker.{Broker, Waiting}
 use Rattle.broker_types.specs.Evolves.{IsTakenOut}
-use Rattle.broker_types.specs.Names.{names_of}
-use Rattle.broker_types.specs.Operation.{Done}
+use Rattle.broker_types.specs.Names.{Names, names_of}
+use Rattle.broker_types.specs.Operation.{reply, plainly, Done}
 use Rattle.broker_types.specs.OptionLaws.{found_or_not, mapped}
 use Rattle.broker_types.specs.Places.{token_identifier, wrapping_token}
 use Rattle.broker_types.specs.Refuse.{◌>>=◌, some_or}
@@ -30,22 +30,23 @@ use Rattle.broker_types.specs.declared.refusal.Reason.TheVariants as reason
 use Rattle.broker_types.specs.declared.status.Status.TheVariants as status
 use Rattle.records.specs.ValueLaws.{ok_inj}
 use Rattle.wrapping.specs.Wrapping.{moved, with_waiting}
+use Rattle.api_json.specs.Reply.{reply_text, wrap_reply}
 use Rattle.broker_model.specs.Act.{act}
 use Rattle.broker_model.specs.Command.{Command, on_wrapping, command_of}
 use Rattle.broker_model.specs.Forms.{forms}
 use Rattle.broker_model.specs.Laws.{OperationsAreProper}
-use Rattle.broker_model.specs.Order.{Outcome, Wrapped, denied, finish, for_caller, serve, wrapped, wraps}
+use Rattle.broker_model.specs.Order.{Outcome, Wrapped, denied, finish, for_caller, response_to, serve, wrap_info, wrapped, wraps}
 use Rattle.broker_model.specs.Permission.{permits}
 use Rattle.broker_model.specs.Responses.{ok}
 use Rattle.broker_model.specs.Step.{request_of, step, traits}
 use Rattle.broker_model.specs.declared.commands.WrappingCommand.{WrappingCommand}
 use Rattle.broker_model.specs.declared.commands.WrappingCommand.TheVariants as response
-use Rattle.broker_model.specs.parts.WrappingCommands.{wrapping_names}
-use Rattle.broker_model.specs.parts.Wrappings.{FoundResponse, found, found_at, found_under, handed_out, rewrapped}
+use Rattle.broker_model.specs.parts.WrappingCommands.{wrapping_names, wrapping_traits}
+use Rattle.broker_model.specs.parts.Wrappings.{FoundResponse, found, found_at, found_under, handed_out, rewrapped, shown}
 use Rattle.broker_model.specs.parts.Wrappings.{act_on_wrappings}
 use Rattle.histories.specs.History.{AreAsked, Asking, AskedAt, Beginning, History, begun, clocked, spent_by}
 use Rattle.histories.specs.Kept.{HandedOutOnce, HandsOutKept, HasAsClient, IsKeptReply, KeepsReply, Rewraps, SameReply}
-use Rattle.histories.specs.Kept.{TakesTokenOut, Unwraps, WaitedFirst, unwrapped_answer, unwrapped_body}
+use Rattle.histories.specs.Kept.{looked_up_text, rewrapped_text, TakesTokenOut, Tells, Unwraps, WaitedFirst, unwrapped_answer, unwrapped_body}
 use Rattle.histories.specs.Revocation.{Revokes, RevokesAlone}
 use Rattle.histories.proofs.Cover.{one_birth}
 use Rattle.histories.proofs.Ending.{out_lasts}
@@ -55,7 +56,7 @@ use Rattle.histories.proofs.OrderCases.{some_ok, spent}
 use Rattle.histories.proofs.OrderKeeps.{end_spent_waiting, first_new, own_new, spent_used, spent_waiting, wrapped_cases}
 use Rattle.histories.proofs.Requests.{acts_same, answers_plainly, asked_at, history_keeps, means_at_clock}
 use Rattle.histories.proofs.RevocationLasts.{orphaning_left, revocation_left}
-use Rattle.histories.proofs.Served.{Served, served}
+use Rattle.histories.proofs.Served.{Served, refused_or_served, served}
 
 -- ---- a 200
 
@@ -126,6 +127,59 @@ unwrap_found a meant is means success =
       },
     )
 
+-- ---- what is told
+
+never : (v : Bool) → (v && false) ≡ true → ⊥
+never true e = false≢true e
+never false e = false≢true e
+
+spent_clock : (b : Broker) (caller : Option Text) → (spent b caller).clock ≡ b.clock
+spent_clock b None = refl
+spent_clock b (Some c) = refl
+
+-- what was found waited under the wrapping token that was meant
+found_under_meant : (b : Broker) (meant : Option Text) (f : FoundResponse) → found_at b meant ≡ Some f
+    → (t : Text) × (w : Waiting) × (meant ≡ Some t) × (get b.waiting t ≡ Some w) × (f ≡ found_under t w)
+found_under_meant b None f e = absurd (none-some _ e)
+found_under_meant b (Some t) f e = let w = mapped (found_under t) (get b.waiting t) f e in (t, w.0, refl, w.1, w.2)
+
+-- a command whose reply is not wrapped, and that does something with what it finds, tells of that, or is refused
+module _ (a : Asking) (is : a.outcome ≡ step a.broker a.moment a.words a.ask) (command : WrappingCommand)
+    (means : command_of (clocked a).mounts a.ask ≡ Ok (on_wrapping command)) (plain : (wrapping_traits command).may_wrap ≡ false)
+    (meant : Option Text) (go : Broker → FoundResponse → Done) (text : Waiting → Text)
+    (does : (b : Broker) → act_on_wrappings b (names_of a.words) command ≡ (found b meant >>= (λ f. Ok (go b f))))
+    (tells : (caller : Option Text) (t : Text) (w : Waiting)
+    → response_to (go (spent (clocked a) caller) (found_under t w)).answered ≡ ok (text w)) where
+  pub tells_or_refuses : IsRefused a.outcome.response ⊎ Tells a meant text
+  tells_or_refuses = elim (refused_or_served a is) [
+    | inl r ↦ inl r
+    | inr s ↦
+        let start = spent (clocked a) s.caller in
+        let names = names_of a.words in
+        let is_command : s.command ≡ on_wrapping command = ok_inj (sym (means_at_clock a s.caller s.command s.means) ∙ means) in
+        let ran : (found start meant >>= (λ f. Ok (go start f))) ≡ Ok s.done =
+        sym (does start) ∙ sym (acts_same start s.caller names command)
+        ∙ subst (λ (k : Command). act start s.caller names k ≡ Ok s.done) is_command s.acted in
+        let f = ok_step (found start meant) (λ f. Ok (go start f)) s.done ran in
+        let w = found_under_meant start meant f.0 (some_ok bad (found_at start meant) f.1) in
+        inr (record {
+          token = w.0;
+          is_meant = w.2;
+          entry = w.1;
+          waited = ap (λ (m : Map Waiting). get m w.0) (sym (spent_waiting (clocked a) s.caller)) ∙ w.3;
+          response = ap (λ (x : Outcome). x.response) s.outcome
+              ∙ elim (wrapped_cases permits traits act start (request_of a.ask) names s.command s.done) [
+                | inl e ↦ ap (λ (x : Wrapped). response_to x.done.answered) e
+                | inr (r, made, wraps_, answered, is_wrapped) ↦
+                    absurd (never (nat_lt 0 a.ask.wrap_ttl) (sym (ap (λ v. nat_lt 0 a.ask.wrap_ttl && v) plain)
+                    ∙ sym (ap (λ (k : Command). wraps permits traits act (request_of a.ask) k) is_command) ∙ wraps_))
+              ]
+              ∙ ap (λ (d : Done). response_to d.answered) (sym (ok_inj f.2))
+              ∙ ap (λ (x : FoundResponse). response_to (go start x).answered) w.4
+              ∙ tells s.caller w.0 w.1;
+        })
+  ]
+
 -- ---- wrapping tokens that are taken out
 
 -- a rewrap is not wrapped itself
@@ -141,10 +195,6 @@ next_waiting a s is =
       | inr (r, made, wraps_, answered, is_wrapped) ↦
           absurd (never (nat_lt 0 a.ask.wrap_ttl) (sym (ap (λ (k : Command). wraps permits traits act (request_of a.ask) k) is) ∙ wraps_))
     ]
-  where
-    never : (v : Bool) → (v && false) ≡ true → ⊥
-    never true e = false≢true e
-    never false e = false≢true e
 
 module _ (a : Asking) (sound : Sound forms None a.broker) (keeps : Keeps unwrapped_body a)
     (is : a.outcome ≡ step a.broker a.moment a.words a.ask) (t : Text) (waited : get (clocked a).waiting t ≢ None) where
@@ -264,6 +314,18 @@ module _ (proper : OperationsAreProper) (b : Broker) (history : History) (h : Ar
         (taken_out a (asked_at b history i a h one).sound (asked_keeps unwrapped_body b history i a keep_all one)
         (asked_at b history i a h one).outcome t takes.waited takes) in
         none-some _ (sym gone.gone ∙ (waited_before x t p.entry p.waited).0);
+    unwraps = λ i a meant at means.
+        tells_or_refuses a (asked_at b history i a h at).outcome (response.Unwrap meant) means refl meant handed_out
+        (λ w. w.reply) (λ start. refl) (λ caller t w. refl);
+    looks_up = λ i a meant at means.
+        tells_or_refuses a (asked_at b history i a h at).outcome (response.LookUp meant) means refl meant
+        (λ start f. plainly (reply (shown (names_of a.words) f) None) start) (looked_up_text a) (λ start. refl) (λ caller t w. refl);
+    rewraps = λ i a meant at means.
+        let names = names_of a.words in
+        tells_or_refuses a (asked_at b history i a h at).outcome (response.Rewrap meant) means refl meant
+        (λ start f. rewrapped start names f) (rewrapped_text a) (λ start. refl)
+        (λ caller t w. ap (λ n. ok (reply_text (wrap_reply names.request
+        (wrap_info (token_text names.wrapping_token) (moved names.wrapping_accessor n w) None)))) (spent_clock (clocked a) caller));
   }
 
   kept_or_first : (j : ℕ) (x : Asking) (t o : Text) → AskedAt history j x → Unwraps x t o

@@ -4,7 +4,7 @@ use Rattle.std.specs.Prelude.{◌≡◌, ◌≢◌, ◌<◌, ◌⊎◌, ℕ, Lis
 use Rattle.serde_json.specs.Data.{Members, object}
 use Rattle.serde_json.specs.Written.{compact_text}
 use Rattle.broker_types.specs.Text.{Text}
-use Rattle.broker_types.specs.Answer.{Response}
+use Rattle.broker_types.specs.Answer.{IsRefused, Response}
 use Rattle.broker_types.specs.Map.{get}
 use Rattle.broker_types.specs.Broker.{Broker, Waiting, waiting_ends}
 use Rattle.broker_types.specs.Names.{Names, names_of}
@@ -12,6 +12,7 @@ use Rattle.broker_types.specs.TokenText.{token_text}
 use Rattle.broker_types.specs.declared.refusal.Refusal.{Refusal}
 use Rattle.broker_types.specs.declared.status.Status.TheVariants as status
 use Rattle.api_json.specs.Json.{body_members}
+use Rattle.api_json.specs.Objects.{waiting_object, wrap_object}
 use Rattle.api_json.specs.Reply.{plain_reply, reply_text, wrap_reply}
 use Rattle.broker_model.specs.Command.{Command, on_wrapping, command_of}
 use Rattle.broker_model.specs.Order.{wrap_info}
@@ -49,6 +50,34 @@ pub record TakesTokenOut (a : Asking) (t : Text) : Type 0 where
   pub how : HasAsClient a t
       ⊎ (((c : Text) × Revokes a c t) ⊎ (((c : Text) × RevokesAlone a c t) ⊎ Rewraps a t))
 
+-- ---- what is told of a response that waits
+
+-- a look-up: the path of its request, when its wrapping token was made, and for how long it waits
+abbrev pub looked_up_text : Asking → Waiting → Text
+looked_up_text a w =
+    reply_text (plain_reply (names_of a.words).request (waiting_object w.path w.created w.ttl))
+
+-- a rewrap: its new wrapping token, made at the clock, with the accessor of that; path and TTL are those it had
+abbrev pub rewrapped_text : Asking → Waiting → Text
+rewrapped_text a w =
+    let names = names_of a.words in
+    reply_text (wrap_reply names.request (wrap_object (record {
+      accessor = names.wrapping_accessor;
+      creation_path = w.path;
+      created = (clocked a).clock;
+      token = token_text names.wrapping_token;
+      ttl = w.ttl;
+      wrapped_accessor = None;
+    })))
+
+-- the answer is a 200 with this text of what waited under the wrapping token that was meant
+pub record Tells (a : Asking) (meant : Option Text) (text : Waiting → Text) : Type 0 where
+  pub token : Text
+  pub is_meant : meant ≡ Some token
+  pub entry : Waiting
+  pub waited : get (clocked a).waiting token ≡ Some entry
+  pub response : a.outcome.response ≡ ok (text entry)
+
 -- ---- handed out once
 
 pub record HandedOutOnce (history : History) : Type 0 where
@@ -68,6 +97,18 @@ pub record HandedOutOnce (history : History) : Type 0 where
   -- client token, no rewrap of it.
   pub still_in : (i j : ℕ) (a x : Asking) (t o : Text) → AskedAt history i a → TakesTokenOut a t
       → AskedAt history j x → i < j → Unwraps x t o → ⊥
+  -- An unwrap, a look-up and a rewrap are refused, or answered with a 200. That to an unwrap has the text that was kept,
+  -- byte for byte. Those to the two others depend on nothing of the entry but its path, its TTL and, for a look-up, when
+  -- its wrapping token was made: they don't tell that text.
+  pub unwraps : (i : ℕ) (a : Asking) (meant : Option Text) → AskedAt history i a
+      → command_of (clocked a).mounts a.ask ≡ Ok (on_wrapping (response.Unwrap meant))
+      → IsRefused a.outcome.response ⊎ Tells a meant (λ w. w.reply)
+  pub looks_up : (i : ℕ) (a : Asking) (meant : Option Text) → AskedAt history i a
+      → command_of (clocked a).mounts a.ask ≡ Ok (on_wrapping (response.LookUp meant))
+      → IsRefused a.outcome.response ⊎ Tells a meant (looked_up_text a)
+  pub rewraps : (i : ℕ) (a : Asking) (meant : Option Text) → AskedAt history i a
+      → command_of (clocked a).mounts a.ask ≡ Ok (on_wrapping (response.Rewrap meant))
+      → IsRefused a.outcome.response ⊎ Tells a meant (rewrapped_text a)
 
 -- ---- the same reply
 
