@@ -1,5 +1,5 @@
--- The laws of responses that were kept, as statements: each is handed out once, and is the reply that was kept (Vault's
--- documentation, "Response wrapping").
+-- The laws of responses that were kept, as statements: each is handed out once, by an unwrap, and is the reply that was
+-- kept (Vault's documentation, "Response wrapping").
 use Rattle.std.specs.Prelude.{◌≡◌, ◌≢◌, ◌<◌, ◌⊎◌, ℕ, List, false, Option, Some, None, Result, Ok, Err, []}
 use Rattle.serde_json.specs.Data.{Members, object}
 use Rattle.serde_json.specs.Written.{compact_text}
@@ -97,9 +97,9 @@ pub record HandedOutOnce (history : History) : Type 0 where
   -- client token, no rewrap of it.
   pub still_in : (i j : ℕ) (a x : Asking) (t o : Text) → AskedAt history i a → TakesTokenOut a t
       → AskedAt history j x → i < j → Unwraps x t o → ⊥
-  -- An unwrap, a look-up and a rewrap are refused, or answered with a 200. That to an unwrap has the text that was kept,
-  -- byte for byte. Those to the two others depend on nothing of the entry but its path, its TTL and, for a look-up, when
-  -- its wrapping token was made: they don't tell that text.
+  -- An unwrap, a look-up and a rewrap are refused, or answered with a 200. That to an unwrap has the text that waited,
+  -- byte for byte. Those to the two others have of what waited no more than its path, its TTL and, for a look-up, when
+  -- its wrapping token was made. So they don't depend on the text.
   pub unwraps : (i : ℕ) (a : Asking) (meant : Option Text) → AskedAt history i a
       → command_of (clocked a).mounts a.ask ≡ Ok (on_wrapping (response.Unwrap meant))
       → IsRefused a.outcome.response ⊎ Tells a meant (λ w. w.reply)
@@ -198,6 +198,6 @@ pub record SameReply (history : History) : Type 0 where
   pub one_birth : (i j : ℕ) (a x : Asking) (o : Text) → AskedAt history i a → AskedAt history j x
       → a.outcome.born ≡ Some o → x.outcome.born ≡ Some o → i ≡ j
   -- Where a response is handed out, the answer is a 200, and so is what the event that made its origin would have been
-  -- answered without a wrap TTL, in the state, with the moment and the words of that event. The two bodies are the same,
-  -- byte for byte.
+  -- answered without a wrap TTL, in the state, with the moment and the words of that event. The two bodies are the
+  -- same, byte for byte.
   pub same : (j : ℕ) (x : Asking) (t o : Text) → AskedAt history j x → Unwraps x t o → IsKeptReply history j x o

@@ -24,17 +24,18 @@ pub fn identifiers_are_given_out_once()
 }
 
 /// A law: each 200 to an unwrap hands out a response that waited. That of an origin is handed out by at most one
-/// request, before the end of its wrapping token, and through no wrapping token that an earlier request took out
-/// (Vault's documentation, "Response wrapping").
+/// request, before the end of its wrapping token, and through no wrapping token that an earlier request took out. What
+/// a look-up or a rewrap answers doesn't depend on its text (Vault's documentation, "Response wrapping").
 pub fn responses_are_handed_out_once()
     ensures { AllAreHandedOutOnce }
 {
     operations_are_proper();
 }
 
-/// A law: each 204 to a command that revokes is a revocation. A token that it ended, with all under it, or that ended
-/// in another way, is in no later state, nor are its cubbyhole and its leases; the others are as they were. Later
-/// requests of it are denied (Vault's documentation, "Tokens", token hierarchies and orphan tokens).
+/// A law: a command that revokes is answered with 204, or refused, and each 204 to one is a revocation. A token that it
+/// ended, with all under it, or that ended in another way, is in no later state, nor are its cubbyhole and its leases;
+/// the others are as they were. Later requests of it are denied (Vault's documentation, "Tokens", token hierarchies and
+/// orphan tokens).
 pub fn revocation_lasts()
     ensures { RevocationLasts }
 {
@@ -42,7 +43,7 @@ pub fn revocation_lasts()
 }
 
 /// A law: what is handed out is what was kept. From a start on it is, byte for byte, what the request that made its
-/// origin, and told its wrapping token, would have been answered without a wrap TTL, then and there (Vault's
+/// origin, and told its wrapping token, would have been answered without a wrap TTL, then and there, as a 200 (Vault's
 /// documentation, "Response wrapping").
 pub fn kept_replies_are_the_replies()
     ensures since { AllHandOutKept }
