@@ -1,12 +1,12 @@
 #!/usr/bin/env python3
 """Runs a program on every stored run, and compares what it wrote and its status with what is stored.
 
-    python3 run.py [--more | --runs FILE] PROGRAM [NAME...]
+    python3 run.py [--runs FILE] PROGRAM [NAME...]
 
 The program is called as `PROGRAM replay` with the run's input on its standard input. With names, only
-the runs whose names begin with one of them are tried; with `--more`, the runs of `more_runs.jsonl` are
-taken in place of those of `runs.jsonl`, and with `--runs` those of a file that `draw.py --answer` wrote.
-The last line is `N passed, M failed`; the status is 0 if nothing failed.
+the runs whose names begin with one of them are tried; with `--runs`, those of a file that
+`draw.py --answer` wrote are taken in place of the stored ones. The last line is `N passed, M failed`;
+the status is 0 if nothing failed.
 """
 
 import argparse
@@ -18,8 +18,7 @@ import pathlib
 import subprocess
 import sys
 
-RUNS = pathlib.Path(__file__).with_name("runs.jsonl")
-MORE_RUNS = pathlib.Path(__file__).with_name("more_runs.jsonl")
+STORED = [pathlib.Path(__file__).with_name(name) for name in ("runs.jsonl", "more_runs.jsonl")]
 SECONDS = 60  # for one run
 EXCERPT = 48  # bytes that are shown from where two outputs differ, and half as many before
 
@@ -31,9 +30,9 @@ def data_of(value):
     return base64.b64decode(value["base64"])
 
 
-def stored_runs(file, names):
-    """The runs stored in a file whose names begin with one of the names, or all."""
-    lines = file.read_bytes().splitlines()
+def stored_runs(files, names):
+    """The runs stored in files whose names begin with one of the names, or all."""
+    lines = [line for file in files for line in file.read_bytes().splitlines()]
     runs = [json.loads(line) for line in lines]
     return [run for run in runs if not names or run["name"].startswith(tuple(names))]
 
@@ -73,16 +72,12 @@ def try_all(program, runs):
 
 def main():
     parser = argparse.ArgumentParser(description="compares a program with the stored runs")
-    files = parser.add_mutually_exclusive_group()
-    files.add_argument("--more", action="store_const", dest="runs", const=MORE_RUNS,
-                       help="take the runs of more_runs.jsonl")
-    files.add_argument("--runs", type=pathlib.Path, metavar="FILE", help="take the runs of a file")
-    parser.set_defaults(runs=RUNS)
+    parser.add_argument("--runs", type=pathlib.Path, metavar="FILE", help="take the runs of a file")
     parser.add_argument("program")
     parser.add_argument("names", nargs="*", metavar="NAME")
     arguments = parser.parse_args()
     program = os.path.abspath(arguments.program)
-    runs = stored_runs(arguments.runs, arguments.names)
+    runs = stored_runs([arguments.runs] if arguments.runs else STORED, arguments.names)
     if not runs or not os.access(program, os.X_OK):
         print("no such run" if not runs else f"no program {program}", file=sys.stderr)
         print("0 passed, 1 failed")

@@ -1,0 +1,71 @@
+"""What the scripts of this folder know of the repository: its crates, and how a must-fail edit is applied."""
+
+import os
+from pathlib import Path
+
+TOP = Path(__file__).resolve().parent.parent
+
+
+def read_crates():
+    """The crates of crates.txt, from the lowest on, each with the libraries that it names."""
+    crates = {}
+    for line in (TOP / "crates.txt").read_text(encoding="utf-8").splitlines():
+        head, colon, libraries = line.split("#")[0].partition(":")
+        if colon:
+            crates[head.split()[0]] = libraries.split()
+    return crates
+
+
+def libraries_below(crate, crates):
+    """All libraries that a crate is built with, those of the toolchain too."""
+    found, wanted = {"core", "std"}, list(crates.get(crate, []))
+    while wanted:
+        library = wanted.pop()
+        if library not in found:
+            found.add(library)
+            wanted.extend(crates.get(library, []))
+    return found
+
+
+class NotApplied(Exception):
+    """An edit that cannot be applied; its text says why."""
+
+
+def changes_of(edit):
+    """The changes that an edit lists: the path of a file in the crate, the old text and the new one."""
+    path, old, changes = "", None, []
+    for line in edit.read_text(encoding="utf-8").split("\n"):
+        if line.startswith("file: "):
+            path = line[6:].strip()
+        elif line.startswith("old: "):
+            old = line[5:]
+        elif line.startswith("new:") and old is not None:
+            changes.append((path, old, line[4:].removeprefix(" ")))
+            old = None
+    if not changes:
+        raise NotApplied("it has no old and new text")
+    return changes
+
+
+def applied(changes, texts, folder):
+    """The texts of files by path, with the changes: those that `texts` lacks are read from the crate's folder."""
+    made = dict(texts)
+    for path, old, new in changes:
+        if path not in made:
+            if not (folder / path).is_file():
+                raise NotApplied(f"there is no file {path}")
+            made[path] = (folder / path).read_text(encoding="utf-8")
+        if made[path].count(old) != 1:
+            raise NotApplied(f"an old text occurs {made[path].count(old)} times in {path}")
+        made[path] = made[path].replace(old, new)
+    return made
+
+
+def side_by_side():
+    """How many checks run at once: RT_JOBS, or one for each processor that has 4 GB of memory."""
+    jobs = os.environ.get("RT_JOBS", "")
+    if jobs.isdigit() and int(jobs) > 0:
+        return int(jobs)
+    lines = Path("/proc/meminfo").read_text(encoding="utf-8").splitlines()
+    kilobytes = next(int(line.split()[1]) for line in lines if line.startswith("MemAvailable:"))
+    return max(1, min(len(os.sched_getaffinity(0)), kilobytes // 4_000_000))
