@@ -16,11 +16,11 @@ use Rattle.records.specs.Children.{has}
 use Rattle.records.specs.PartLaws.{AgreeOutside}
 use Rattle.records.specs.Parts.{of_leases, Tells}
 use Rattle.records.specs.Table.{Table}
-use Rattle.leases.specs.Leases.{edited, issue, with_renewed, renewed_end, revoke, revoke_under, drop_owner}
+use Rattle.leases.specs.Leases.{edited, issue, with_renewed, renewed, revoke, revoke_under, drop_owner}
 use Rattle.leases.specs.Leases.{without_expired, live}
 use Rattle.leases.specs.Endings.{Ending, EndsLeases, AreReadable, Leaves, either, are_owned, has_come}
 use Rattle.leases.specs.LeaseRows.{RepresentsLeases}
-use Rattle.leases.specs.Roles.{set_role, remove_role, drop_roles, lease_id, new_lease, first_ttl, longest}
+use Rattle.leases.specs.Roles.{set_role, remove_role, drop_roles, lease_id, new_lease}
 
 -- ---- a new lease
 
@@ -49,13 +49,24 @@ IdsEndWithIdentifiers =
     (mount name identifier : Text) → IsIdentifier identifier
     → lease_identifier (lease_id mount name identifier) ≡ identifier
 
--- no lease is made for longer than it may last, and none lasts longer than 32 days
-abbrev pub LeasesAreBounded : Type 0
-LeasesAreBounded = (r : Role) → (first_ttl r ≤ longest r) × (longest r ≤ longest_ttl)
+-- a lease ends within its longest time, which is no longer than its role says, nor than 32 days
+pub record IsBounded (r : Role) (l : Lease) : Type 0 where
+  pub ends : l.ends ≤ l.issued + l.max_ttl
+  pub role : r.max_ttl ≢ 0 → l.max_ttl ≤ r.max_ttl
+  pub days : l.max_ttl ≤ longest_ttl
 
--- nor is it renewed beyond
+-- so does each lease that is made for a role
+abbrev pub LeasesAreBounded : Type 0
+LeasesAreBounded = (now : ℕ) (r : Role) (credential : Text) → IsBounded r (new_lease now r credential)
+
+-- what a renewal leaves of a lease: when it was made, its longest time, and an end within it
+pub record StaysBounded (l m : Lease) : Type 0 where
+  pub issued : m.issued ≡ l.issued
+  pub max_ttl : m.max_ttl ≡ l.max_ttl
+  pub ends : m.ends ≤ m.issued + m.max_ttl
+
 abbrev pub RenewalsAreBounded : Type 0
-RenewalsAreBounded = (now increment : ℕ) (l : Lease) → renewed_end now increment l ≤ l.issued + l.max_ttl
+RenewalsAreBounded = (now increment : ℕ) (l : Lease) → StaysBounded l (renewed now increment l)
 
 -- ---- soundness is kept, whoever may have spent its last use
 
