@@ -117,6 +117,11 @@ ask_by_curl() {
     ask "look-up" 200 '"policies":["app","default"]' -d "{\"token\":\"$child\"}" "$url/auth/token/lookup"
     ask "revocation" 204 '' -d "{\"token\":\"$child\"}" "$url/auth/token/revoke"
     ask "look-up of a revoked token" 403 'bad token' -d "{\"token\":\"$child\"}" "$url/auth/token/lookup"
+    ask "the year of the start" 200 "\"issue_time\":\"$(date -u +%Y)-" "$url/auth/token/lookup-self"
+    ask "a token of a second" 200 '"lease_duration":1' -d '{"policies":["app"],"ttl":1}' "$url/auth/token/create"
+    child=$(sed 's/.*"client_token":"\([^"]*\)".*/\1/' "$found/body")
+    sleep 2
+    ask "look-up of a token that expired" 403 'bad token' -d "{\"token\":\"$child\"}" "$url/auth/token/lookup"
     ask "a body that is too long" 413 'errors' -H 'Expect:' --data-binary "@$found/long" "$url/secret/data/app"
     token=hvs.00000000-0000-0000-0000-000000000000 ask "a stranger" 403 'permission denied' "$url/secret/data/app"
 }
@@ -170,6 +175,15 @@ keep_in_a_file() {
     token=$wrapping ask "unwrap after a restart" 200 '"data":{"user":"app"}' -X POST "$url/sys/wrapping/unwrap"
     token=$wrapping ask "another unwrap after a restart" 400 'wrapping token' -X POST "$url/sys/wrapping/unwrap"
     stop
+    python3 -c "
+import sqlite3
+with sqlite3.connect('$file') as database:
+    database.execute(\"UPDATE broker_rows SET body = x'02' WHERE kind = 11\")"
+    start 4294967295 --db "$file"
+    curl -s -m 20 -o "$found/body" -H "X-Vault-Token: $token" "http://127.0.0.1:$port/v1/secret/data/app"
+    wait "$pid"
+    if [ $? -eq 1 ] && [ "$(cat "$found/served.err")" = 'fault 3' ]; then pass; else fail "a damaged row" "it is served on"; fi
+    pid=
     python3 -c "
 import sqlite3
 with sqlite3.connect('$file') as database:
