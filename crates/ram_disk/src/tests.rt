@@ -1,5 +1,4 @@
-use crate::{RamFile, open};
-use sqlite::{Error, params};
+use crate::RamFile;
 use sqlite_disk::Disk;
 use std::alloc::Global;
 use std::io;
@@ -21,22 +20,5 @@ fn written(alloc: Global) -> io::Result<bool> {
 #[test]
 fn bytes_are_read_as_they_were_written(rt: HostRuntime) -> Result<(), Fail> {
     assert!(rt; written(rt.alloc())?);
-    Ok(())
-}
-
-/// Writes rows in a transaction, and more in one that is rolled back, and counts them.
-fn count_rows(alloc: Global) -> Result<i64, Error> {
-    let mut conn = open(alloc)?;
-    conn.execute_batch("CREATE TABLE note (title TEXT NOT NULL PRIMARY KEY) STRICT; BEGIN")?;
-    for title in ["a", "b", "c"] {
-        conn.execute("INSERT INTO note VALUES (?1)", params![title])?;
-    }
-    conn.execute_batch("COMMIT; BEGIN; DELETE FROM note; ROLLBACK")?;
-    conn.query_row("SELECT count(*) FROM note", &[])?.get(0)
-}
-
-#[test]
-fn rows_are_kept(rt: HostRuntime) -> Result<(), Fail> {
-    assert!(rt; count_rows(rt.alloc())? == 3);
     Ok(())
 }
