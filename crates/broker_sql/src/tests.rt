@@ -4,7 +4,6 @@ use broker_types::{
     Ask, BodyBytes, CowBytes, CowText, Fault, Moment, Path, Seconds, Status, Verb, Words, WrapTtl,
 };
 use ram_disk::RamFile;
-use records_sql::SqlRecords;
 use sqlite::FileStore;
 use std::alloc::Global;
 use std::borrow::{CowSlice, CowStr};
@@ -55,42 +54,5 @@ fn answers_once_started(alloc: Global) -> Result<bool, Fault> {
 #[test]
 fn a_store_is_started_once(rt: HostRuntime) -> Result<(), Fail> {
     assert!(rt; answers_once_started(rt.alloc())?);
-    Ok(())
-}
-
-/// A store in memory that was started, and then asked these statements.
-fn started_with(alloc: Global, sql: &str) -> Result<SqlStore<FileStore<RamFile>>, Fault> {
-    let mut store = SqlStore::in_memory(alloc)?;
-    store.start(moment()?, &Words([0, 1, 2, 3, 4, 5, 6, 7]))?;
-    let mut conn = store.into_records().into_connection();
-    if conn.execute_batch(sql).is_err() {
-        return Err(Fault::Damaged);
-    }
-    SqlStore::adopt(alloc, SqlRecords::adopt(alloc, conn)?)
-}
-
-/// Whether a store that was started answers once it was adopted.
-fn answers_once_adopted(alloc: Global) -> Result<bool, Fault> {
-    let mut store = started_with(alloc, "")?;
-    let words = Words([16, 17, 18, 19, 20, 21, 22, 23]);
-    Ok(store.is_started()? && store.one(moment()?, &words, &lookup()?)?.status == Status::Success)
-}
-
-#[test]
-fn a_store_is_adopted(rt: HostRuntime) -> Result<(), Fail> {
-    assert!(rt; answers_once_adopted(rt.alloc())?);
-    Ok(())
-}
-
-/// Whether a store without a row is adopted, and tells that it was not started.
-fn adopts_no_row(alloc: Global) -> Result<bool, Fault> {
-    Ok(!started_with(alloc, "DELETE FROM broker_rows")?.is_started()?)
-}
-
-#[test]
-fn rows_without_a_clock_are_refused(rt: HostRuntime) -> Result<(), Fail> {
-    let without = started_with(rt.alloc(), "DELETE FROM broker_rows WHERE kind = 1");
-    assert!(rt; matches!(without, Err(Fault::BadStart)));
-    assert!(rt; adopts_no_row(rt.alloc())?);
     Ok(())
 }

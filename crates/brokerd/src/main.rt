@@ -112,6 +112,3 @@ fn refuse<R: Eprint + Print>(rt: &R, error: &Error) -> anyhow::Result<ExitCode>
     error.print(rt)?;
     Ok(ExitCode::from(error.exit_code() as u8))
 }
-
-#[cfg(test)]
-mod tests;

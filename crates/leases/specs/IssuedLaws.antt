@@ -1,8 +1,8 @@
 -- A lease made under new identifiers leaves a sound broker sound, and lets it evolve.
-use Rattle.std.specs.Prelude.{◌≡◌, ◌≤◌, ◌+◌, ◌-◌, ◌++◌, ℕ, drop, length, codes, true, false}
+use Rattle.std.specs.Prelude.{◌≡◌, ◌≢◌, ◌≤◌, ◌+◌, ◌-◌, ◌++◌, ℕ, min, drop, length, codes, true, false}
 use Rattle.std.specs.Prelude.{if◌then◌else◌, Option, Some, None, option_map, option_and_then}
 use Rattle.std.proofs.Common.{refl, sym, ◌∙◌, ap, subst, inl, inr, length-append}
-use Rattle.std.proofs.Math.Nat.{le_trans, min-le_right, add-le-add, add-sub_cancel}
+use Rattle.std.proofs.Math.Nat.{le_refl, le_trans, min-le_left, min-le_right, add-le-add, add-sub_cancel}
 use Rattle.std.proofs.Math.Seq.{drop-append_seam}
 use Rattle.std.proofs.lemmas.Option.{none-some}
 use Rattle.broker_types.specs.Text.{Text, same}
@@ -21,8 +21,8 @@ use Rattle.broker_types.specs.NewPlaceLaws.{HasTwoMore, still_marked, sound_with
 use Rattle.broker_types.specs.OptionLaws.{mapped}
 use Rattle.broker_types.specs.PutLaws.{put_is}
 use Rattle.broker_types.specs.TextLaws.{same_true}
-use Rattle.leases.specs.Leases.{with_leases}
-use Rattle.leases.specs.Laws.{issued, MayBeIssued}
+use Rattle.leases.specs.Leases.{with_leases, or_if_zero}
+use Rattle.leases.specs.Laws.{issued, MayBeIssued, IsBounded}
 use Rattle.leases.specs.Roles.{lease_id, new_lease, first_ttl, longest}
 use Rattle.leases.specs.SoundLaws.{lease_of-edited, at_token, sound_with}
 
@@ -139,6 +139,19 @@ ttl_bound r = min-le_right _ (longest r)
 -- and none lasts longer than 32 days
 pub longest_bound : (r : Role) → longest r ≤ longest_ttl
 longest_bound r = min-le_right _ longest_ttl
+
+-- nor longer than a role with a longest time says
+role_bound : (n : ℕ) → n ≢ 0 → min (or_if_zero n longest_ttl) longest_ttl ≤ n
+role_bound 0 not_zero = absurd (not_zero refl)
+role_bound (suc n) not_zero = min-le_left (suc n) longest_ttl
+
+-- so a lease that is made for a role is bounded by it
+pub new_lease_bounded : (now : ℕ) (r : Role) (credential : Text) → IsBounded r (new_lease now r credential)
+new_lease_bounded now r credential = record {
+  ends = add-le-add (le_refl now) (ttl_bound r);
+  role = role_bound r.max_ttl;
+  days = longest_bound r;
+}
 
 -- the lease of a role is sound
 pub new_lease_sound : (mount name identifier other : Text) (now : ℕ) (r : Role) → is_mount_name mount ≡ true

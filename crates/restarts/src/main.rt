@@ -94,6 +94,3 @@ fn tell<R: Eprint>(rt: &R, end: End) -> anyhow::Result<ExitCode>
         }
     }
 }
-
-#[cfg(test)]
-mod tests;

@@ -65,6 +65,3 @@ fn tell<R: Eprint>(rt: &R, exit: Exit) -> anyhow::Result<ExitCode>
         }
     }
 }
-
-#[cfg(test)]
-mod tests;
