@@ -1,9 +1,10 @@
 -- A lease made under new identifiers leaves a sound broker sound, and lets it evolve.
-use Rattle.std.specs.Prelude.{◌≡◌, ◌≢◌, ◌≤◌, ◌+◌, ◌-◌, ◌++◌, ℕ, min, drop, length, codes, true, false}
+use Rattle.std.specs.Prelude.{◌≡◌, ◌≢◌, ◌≤◌, ◌+◌, ◌-◌, ◌++◌, ◌==◌, ℕ, min, drop, length, codes, true, false}
 use Rattle.std.specs.Prelude.{if◌then◌else◌, Option, Some, None, option_map, option_and_then}
-use Rattle.std.proofs.Common.{refl, sym, ◌∙◌, ap, subst, inl, inr, length-append}
+use Rattle.std.proofs.Common.{arith, refl, sym, ◌∙◌, ap, subst, inl, inr, length-append}
 use Rattle.std.proofs.Math.Nat.{le_refl, le_trans, min-le_left, min-le_right, add-le-add, add-sub_cancel}
 use Rattle.std.proofs.Math.Seq.{drop-append_seam}
+use Rattle.std.proofs.lemmas.Bool.Decides.{nat_tests}
 use Rattle.std.proofs.lemmas.Option.{none-some}
 use Rattle.broker_types.specs.Text.{Text, same}
 use Rattle.broker_types.specs.Limits.{longest_ttl}
@@ -142,12 +143,14 @@ longest_bound r = min-le_right _ longest_ttl
 
 -- nor longer than a role with a longest time says
 role_bound : (n : ℕ) → n ≢ 0 → min (or_if_zero n longest_ttl) longest_ttl ≤ n
-role_bound 0 not_zero = absurd (not_zero refl)
-role_bound (suc n) not_zero = min-le_left (suc n) longest_ttl
+role_bound n not_zero = subst (λ b. min (if b then longest_ttl else n) longest_ttl ≤ n) (sym is_none) (min-le_left n longest_ttl)
+  where
+    is_none : (n == 0) ≡ false
+    is_none = grind (arith, nat_tests)
 
 -- so a lease that is made for a role is bounded by it
 pub new_lease_bounded : (now : ℕ) (r : Role) (credential : Text) → IsBounded r (new_lease now r credential)
-new_lease_bounded now r credential = record {
+new_lease_bounded now r other = record {
   ends = add-le-add (le_refl now) (ttl_bound r);
   role = role_bound r.max_ttl;
   days = longest_bound r;
