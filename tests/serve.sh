@@ -212,6 +212,9 @@ run "an address that is taken" 1 'fault 5' serve --listen "127.0.0.1:$port"
 if kill -0 "$pid" 2> /dev/null && [ ! -s "$found/served.err" ]; then pass; else fail "the program" "it has ended"; fi
 stop
 
+run "no command" 2 'Usage:'
+run "another command" 2 'Usage:' reply
+run "a command with too many words" 2 'Usage:' replay twice
 run "no address" 2 '--listen <ADDR>' serve
 run "no connections" 2 '--connections <N>' serve --listen 127.0.0.1:0 --connections 0
 run "too many connections" 2 '--connections <N>' serve --listen 127.0.0.1:0 --connections 4294967296
@@ -231,5 +234,6 @@ pid=
 if [ "$status" -eq 0 ] && [ ! -s "$found/served.err" ]; then pass; else fail "after three connections" "status $status"; fi
 
 keep_in_a_file
+count python3 tests/clients/databases.py "$program"
 count python3 tests/clients/slow_peers.py "$program"
 finish

@@ -10,6 +10,3 @@ mod tx;
 
 pub use sql_records::SqlRecords;
 pub use tx::SqlTx;
-
-#[cfg(test)]
-mod tests;

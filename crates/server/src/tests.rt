@@ -1,19 +1,15 @@
 //! One process that is both ends of its connections.
 
 use crate::waiting::{Wait, patience};
-use crate::{SystemClock, prepare, seeded, serve};
+use crate::{SystemClock, seeded, serve};
 use broker::ListStore;
-use broker_types::{Fault, Moment, Words};
+use broker_types::{Moment, Words};
 use hub::{Clock, Hub, WordSource};
-use records_sql::SqlRecords;
-use std::alloc::Global;
 use std::io;
 use std::io::Write;
 use std::net::{Shutdown, TcpListener, TcpStream};
 use std::test::Fail;
 use std::time::Duration;
-
-const ROOT: &str = "hvs.00000000-0000-0000-0000-000000000001";
 
 const WRITE: &str = "PUT /v1/cubbyhole/a HTTP/1.1\r\nHost: b\r\n\
     X-Vault-Token: hvs.00000000-0000-0000-0000-000000000001\r\n\
@@ -103,21 +99,5 @@ fn words_differ(rt: HostRuntime) -> Result<(), Fail> {
     assert!(rt; first != words.words());
     assert!(rt; first != seeded(&rt)?.words());
     assert!(rt; SystemClock::new(&rt).now().seconds() > 1_700_000_000);
-    Ok(())
-}
-
-/// Whether records in memory are started once: the root token is told, and no more once they are opened again.
-fn is_prepared_once(alloc: Global) -> Result<bool, Fault> {
-    let moment = Moment::new(1_700_000_000).ok_or(Fault::Damaged)?;
-    let words = Words([0, 1, 2, 3, 4, 5, 6, 7]);
-    let (store, root) = prepare(alloc, SqlRecords::in_memory(alloc)?, moment, &words)?;
-    let again = SqlRecords::adopt(alloc, store.into_records().into_connection())?;
-    let (_, none) = prepare(alloc, again, moment, &words)?;
-    Ok(root.is_some_and(|token| token.as_str() == ROOT) && none.is_none())
-}
-
-#[test]
-fn a_broker_is_started_once(rt: HostRuntime) -> Result<(), Fail> {
-    assert!(rt; is_prepared_once(rt.alloc())?);
     Ok(())
 }
