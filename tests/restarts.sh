@@ -58,11 +58,24 @@ again() {
     fi
 }
 
+# A wrong command line has to be refused with a usage message: refuse ARGUMENT..
+refuse() {
+    bin/restarts "$@" < /dev/null > "$found/out" 2> "$found/err"
+    if [ $? -eq 2 ] && [ ! -s "$found/out" ] && grep -q '^usage: restarts ' "$found/err"; then
+        pass
+    else
+        fail "the command line '$*'" "it is taken: $(head -c 200 "$found/err")"
+    fi
+}
+
 run_rows
 for row in first_run orphan_survives rewrapped_reply eleven_versions; do
     stop "$row"
 done
 again wrapped_reply_once
+refuse
+refuse stop
+refuse reopened stopped
 
 echo "$passed passed, $failed failed"
 [ "$failed" -eq 0 ]

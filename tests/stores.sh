@@ -46,6 +46,16 @@ replies() {
     grep -ac "^HTTP/1.1 $1" "$found/list"
 }
 
+# A wrong command line has to be refused with a usage message: refuse ARGUMENT..
+refuse() {
+    bin/stores "$@" < /dev/null > "$found/out" 2> "$found/err"
+    if [ $? -eq 2 ] && [ ! -s "$found/out" ] && grep -q '^usage: stores ' "$found/err"; then
+        pass
+    else
+        fail "the command line '$*'" "it is taken: $(head -c 200 "$found/err")"
+    fi
+}
+
 run_rows list
 run_rows sql
 run numbers /dev/null "$found/numbers"
@@ -59,6 +69,9 @@ expect "requests that are served" [ "$(replies '20[04] ')" -ge 2500 ]
 expect "replies that are wrapped" [ "$(grep -ac '"wrap_info":{' "$found/list")" -ge 300 ]
 python3 tests/reference/reference_broker.py replay < "$found/drawn" > "$found/reference"
 expect "the reference broker" cmp "$found/list" "$found/reference"
+refuse
+refuse lists
+refuse list sql
 
 echo "$passed passed, $failed failed"
 [ "$failed" -eq 0 ]
