@@ -1,11 +1,9 @@
 -- What is revoked, and whatever else ended, does not come back.
 use Rattle.std.specs.Prelude.{◌≡◌, ◌≢◌, ◌<◌, ◌≤◌, ◌⊎◌, ◌||◌, ◌&&◌, not, nat_lt, ℕ, max, List, [], ◌∷◌, Bool, true, false}
 use Rattle.std.specs.Prelude.{is_some, if◌then◌else◌, Option, Some, None, Result, Ok, Err, option_map, option_and_then}
-use Rattle.std.specs.Prelude.{slice_index_or}
 use Rattle.std.proofs.Common.{refl, sym, ◌∙◌, ap, subst, inl, inr, arith}
 use Rattle.std.proofs.lemmas.Bool.{false≢true}
 use Rattle.std.proofs.lemmas.Option.{none-some, same_Some}
-use Rattle.std.proofs.Math.Nat.{eq-or-lt_of_le}
 use Rattle.broker_types.specs.Text.{Text, same}
 use Rattle.broker_types.specs.Map.{get}
 use Rattle.broker_types.specs.MapLaws.{valued_is}
@@ -13,7 +11,6 @@ use Rattle.broker_types.specs.Answer.{IsRefused, Response, refused}
 use Rattle.broker_types.specs.Broker as broker
 use Rattle.broker_types.specs.Broker.{Broker, Waiting}
 use Rattle.broker_types.specs.Evolves.{Evolves, HasEnded}
-use Rattle.broker_types.specs.EvolvesLaws.{evolves_trans}
 use Rattle.broker_types.specs.FewerLaws.{tree_of}
 use Rattle.broker_types.specs.Laws.{IsTree}
 use Rattle.broker_types.specs.Names.{Names, names_of}
@@ -61,7 +58,7 @@ use Rattle.histories.specs.Revocation.{EndsToken, FindsNone, IsGone, IsGranted, 
 use Rattle.histories.specs.Revocation.{is_orphaning, is_revocation, named_by, orphaning_by, orphaning_of, revoked_by, revoked_of, taken_as}
 use Rattle.histories.proofs.Ending.{IsLeaseGone, ended_lasts, gone_has_ended, lease_lasts, leases_are_gone}
 use Rattle.histories.proofs.Keeping.{EachKeeps, Keeps}
-use Rattle.histories.proofs.Lasting.{asked_keeps, evolved_since, kept_evolves}
+use Rattle.histories.proofs.Lasting.{asked_keeps, evolved_since, kept_evolves, left_since}
 use Rattle.histories.proofs.OrderCases.{IsCaller, some_ok, spent, with_caller}
 use Rattle.histories.proofs.OrderKeeps.{wrapped_cases}
 use Rattle.histories.proofs.Requests.{asked_at, history_keeps, means_at_clock}
@@ -484,13 +481,7 @@ module _ (proper : OperationsAreProper) (b : Broker) (history : History) (h : Ar
       → IsGone a q x.outcome.next
   lasts i j a x q one ends other le =
       nothing_left a (asked_at b history i a h one).sound (asked_keeps unwrapped_body b history i a keep_all one) q ends x.outcome.next
-      (elim (eq-or-lt_of_le le) [
-        | inl e ↦ inl (ap (λ (z : Asking). z.outcome.next)
-            (same_Some _ _ (sym one ∙ ap (λ n. slice_index_or history n None) e ∙ other)))
-        | inr lt ↦ inr (evolves_trans a.outcome.next x.broker x.outcome.next
-            (evolved_since unwrapped_body b history i j a x keep_all one other lt)
-            (kept_evolves unwrapped_body x (asked_keeps unwrapped_body b history j x keep_all other)))
-      ])
+      (left_since unwrapped_body b history i j a x keep_all one other le)
 
   ended_then : (i j : ℕ) (a x : Asking) (q : Text) → AskedAt history i a → EndsToken a q → AskedAt history j x → i < j
       → HasEnded (clocked x) q

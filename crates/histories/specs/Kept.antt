@@ -1,6 +1,6 @@
 -- The laws of responses that were kept, as statements: each is handed out once, by an unwrap, and is the reply that was
 -- kept (Vault's documentation, "Response wrapping").
-use Rattle.std.specs.Prelude.{◌≡◌, ◌≢◌, ◌<◌, ◌⊎◌, ℕ, List, false, Option, Some, None, Result, Ok, Err, []}
+use Rattle.std.specs.Prelude.{◌≡◌, ◌≢◌, ◌<◌, ◌≤◌, ◌⊎◌, ℕ, List, false, Option, Some, None, Result, Ok, Err, []}
 use Rattle.serde_json.specs.Data.{Members, object}
 use Rattle.serde_json.specs.Written.{compact_text}
 use Rattle.broker_types.specs.Text.{Text}
@@ -50,6 +50,12 @@ pub record TakesTokenOut (a : Asking) (t : Text) : Type 0 where
   pub how : HasAsClient a t
       ⊎ (((c : Text) × Revokes a c t) ⊎ (((c : Text) × RevokesAlone a c t) ⊎ Rewraps a t))
 
+-- The wrapping token t ended with the request, in whichever way: a response waited under it before, and none does at the
+-- clock or after it.
+pub record EndsWrappingToken (a : Asking) (t : Text) : Type 0 where
+  pub was : get a.broker.waiting t ≢ None
+  pub gone : (get (clocked a).waiting t ≡ None) ⊎ (get a.outcome.next.waiting t ≡ None)
+
 -- ---- what is told of a response that waits
 
 -- a look-up: the path of its request, when its wrapping token was made, and for how long it waits
@@ -97,6 +103,12 @@ pub record HandedOutOnce (history : History) : Type 0 where
   -- client token, no rewrap of it.
   pub still_in : (i j : ℕ) (a x : Asking) (t o : Text) → AskedAt history i a → TakesTokenOut a t
       → AskedAt history j x → i < j → Unwraps x t o → ⊥
+  -- Each such event, and each 200 to an unwrap, ended the token.
+  pub ended : (i : ℕ) (a : Asking) (t : Text) → AskedAt history i a
+      → TakesTokenOut a t ⊎ ((o : Text) × Unwraps a t o) → EndsWrappingToken a t
+  -- No wrapping token that ended, in these ways or by its end, is in any later state. So it is not looked up either.
+  pub out : (i j : ℕ) (a x : Asking) (t : Text) → AskedAt history i a → EndsWrappingToken a t → AskedAt history j x
+      → i ≤ j → get x.outcome.next.waiting t ≡ None
   -- An unwrap, a look-up and a rewrap are refused, or answered with a 200. That to an unwrap has the text that waited,
   -- byte for byte. Those to the two others have of what waited no more than its path, its TTL and, for a look-up, when
   -- its wrapping token was made. So they don't depend on the text.
