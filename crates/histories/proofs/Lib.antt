@@ -4,6 +4,7 @@ pub mod GivenOut
 pub mod Keeping
 pub mod KeptReplies
 pub mod Lasting
+pub mod OpenRequests
 pub mod OperationsPlace
 pub mod OrderCases
 pub mod OrderKeeps
@@ -13,5 +14,6 @@ pub mod Requests
 pub mod RequestsPlace
 pub mod RevocationLasts
 pub mod Revoking
+pub mod Routes
 pub mod Served
 pub mod Used

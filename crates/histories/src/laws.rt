@@ -2,8 +2,10 @@
 
 ghost use Rattle.histories.specs.Laws.{AllGiveOutNew, NoneIsGivenTwice, AllAreHandedOutOnce, RevocationLasts};
 ghost use Rattle.histories.specs.Laws.{AllHandOutKept, AllAreTheReplies, EachEvolves, LaterOnesEvolved};
+ghost use Rattle.histories.specs.Open.{OpenMeansItsOwn, OpenChangesNoToken};
 
-use broker_model::operations_are_proper;
+use broker_model::{operations_are_proper, wrapping_commands_are_proper};
+use mounts::{patterns_are_found_by_form, tables_are_in_order};
 
 /// A law: each request lets the broker evolve, and so do all between two of them. So what ended, or is gone, stays so.
 pub fn requests_evolve()
@@ -50,4 +52,16 @@ pub fn kept_replies_are_the_replies()
     ensures since_start { AllAreTheReplies }
 {
     operations_are_proper();
+}
+
+/// A law: an open request, which needs no caller, means a look-up, or a rewrap or an unwrap of its own client token, and
+/// nothing else. It spends no use and changes no token, beside what comes to its end at that moment; nothing changes but
+/// which responses wait (Vault's documentation, "/sys/wrapping").
+pub fn open_requests_mean_their_own()
+    ensures means { OpenMeansItsOwn }
+    ensures leaves { OpenChangesNoToken }
+{
+    wrapping_commands_are_proper();
+    patterns_are_found_by_form();
+    tables_are_in_order();
 }
