@@ -21,11 +21,15 @@ use Rattle.mounts.specs.Types.{type_at}
 use Rattle.mounts.specs.declared.mount_type.MountType.{MountType}
 use Rattle.mounts.specs.declared.mount_type.MountType.TheVariants as mount
 use Rattle.mounts.specs.declared.operation.Operation.{Operation}
-use Rattle.mounts.specs.declared.operation.Operation.TheVariants.{Wrappings}
+use Rattle.mounts.specs.declared.operation.Operation.TheVariants.{Tokens, Wrappings}
+use Rattle.mounts.specs.declared.operation.TokenOperation.TheVariants as of_tokens
 use Rattle.mounts.specs.declared.operation.WrappingOperation.TheVariants as of_responses
+use Rattle.api_json.specs.Readers as reader
 use Rattle.broker_model.specs.Command.{Command, command_for}
+use Rattle.broker_model.specs.declared.commands.TokenCommand.TheVariants as token
 use Rattle.broker_model.specs.declared.commands.WrappingCommand.TheVariants as response
-use Rattle.histories.specs.Paths.{WrittenMeans, on_named}
+use Rattle.broker_model.specs.declared.making.Making.TheVariants.{OfCaller, WithoutParent}
+use Rattle.histories.specs.Paths.{PathsMeanCommands, WrittenMeans, on_found, on_named, on_none, on_object}
 
 -- ---- a pattern that alone has the form of a path
 
@@ -117,3 +121,63 @@ module _ (found : FoundByForm) (none : NoneFoundByForm) (ordered : AreInOrder) w
   unwraps =
       means mount.System (codes "sys") (codes "wrapping/unwrap") (codes "sys/wrapping/unwrap") (Wrappings of_responses.Unwrap)
       (λ o. refl) refl refl refl refl refl
+
+  pub wraps : WrittenMeans (codes "sys/wrapping/wrap") on_object
+  unfolding same
+  wraps =
+      means mount.System (codes "sys") (codes "wrapping/wrap") (codes "sys/wrapping/wrap") (Wrappings of_responses.Wrap)
+      (λ o. refl) refl refl refl refl refl
+
+  -- ---- tokens
+
+  pub creates : WrittenMeans (codes "auth/token/create") (on_found reader.token_creation (token.Create OfCaller))
+  unfolding same
+  creates =
+      means mount.Token (codes "auth") (codes "token/create") (codes "auth/token/create") (Tokens of_tokens.Create)
+      (λ o. refl) refl refl refl refl refl
+
+  pub creates_orphan : WrittenMeans (codes "auth/token/create-orphan") (on_found reader.token_creation (token.Create WithoutParent))
+  unfolding same
+  creates_orphan =
+      means mount.Token (codes "auth") (codes "token/create-orphan") (codes "auth/token/create-orphan") (Tokens of_tokens.CreateOrphan)
+      (λ o. refl) refl refl refl refl refl
+
+  pub revokes : WrittenMeans (codes "auth/token/revoke") (on_found reader.token token.Revoke)
+  unfolding same
+  revokes =
+      means mount.Token (codes "auth") (codes "token/revoke") (codes "auth/token/revoke") (Tokens of_tokens.Revoke)
+      (λ o. refl) refl refl refl refl refl
+
+  pub revokes_self : WrittenMeans (codes "auth/token/revoke-self") (on_none token.RevokeSelf)
+  unfolding same
+  revokes_self =
+      means mount.Token (codes "auth") (codes "token/revoke-self") (codes "auth/token/revoke-self") (Tokens of_tokens.RevokeSelf)
+      (λ o. refl) refl refl refl refl refl
+
+  pub revokes_orphan : WrittenMeans (codes "auth/token/revoke-orphan") (on_found reader.token token.RevokeOrphan)
+  unfolding same
+  revokes_orphan =
+      means mount.Token (codes "auth") (codes "token/revoke-orphan") (codes "auth/token/revoke-orphan") (Tokens of_tokens.RevokeOrphan)
+      (λ o. refl) refl refl refl refl refl
+
+  pub revokes_accessor : WrittenMeans (codes "auth/token/revoke-accessor") (on_found reader.accessor token.RevokeAccessor)
+  unfolding same
+  revokes_accessor =
+      means mount.Token (codes "auth") (codes "token/revoke-accessor") (codes "auth/token/revoke-accessor") (Tokens of_tokens.RevokeAccessor)
+      (λ o. refl) refl refl refl refl refl
+
+  -- ---- all of them
+
+  pub paths_mean_commands : PathsMeanCommands
+  paths_mean_commands = record {
+    wrap = wraps;
+    look_up = looks_up;
+    rewrap = rewraps;
+    unwrap = unwraps;
+    create = creates;
+    create_orphan = creates_orphan;
+    revoke = revokes;
+    revoke_self = revokes_self;
+    revoke_orphan = revokes_orphan;
+    revoke_accessor = revokes_accessor;
+  }

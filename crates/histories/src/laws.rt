@@ -3,6 +3,7 @@
 ghost use Rattle.histories.specs.Laws.{AllGiveOutNew, NoneIsGivenTwice, AllAreHandedOutOnce, RevocationLasts};
 ghost use Rattle.histories.specs.Laws.{AllHandOutKept, AllAreTheReplies, EachEvolves, LaterOnesEvolved};
 ghost use Rattle.histories.specs.Open.{OpenMeansItsOwn, OpenChangesNoToken};
+ghost use Rattle.histories.specs.Paths.{PathsMeanCommands};
 
 use broker_model::{operations_are_proper, wrapping_commands_are_proper};
 use mounts::{patterns_are_found_by_form, tables_are_in_order};
@@ -62,6 +63,16 @@ pub fn open_requests_mean_their_own()
     ensures leaves { OpenChangesNoToken }
 {
     wrapping_commands_are_proper();
+    patterns_are_found_by_form();
+    tables_are_in_order();
+}
+
+/// A law: POST and PUT of the four paths of `sys/wrapping`, of `auth/token/create`, and of those that revoke, mean their
+/// commands, whatever mounts there are. So what a law says of an unwrap or a revocation, it says of these requests
+/// (Vault's documentation, "/sys/wrapping", "Token auth method (API)").
+pub fn paths_mean_their_commands()
+    ensures { PathsMeanCommands }
+{
     patterns_are_found_by_form();
     tables_are_in_order();
 }
