@@ -57,6 +57,7 @@ use Rattle.histories.proofs.OrderKeeps.{end_spent_waiting, first_new, own_new, s
 use Rattle.histories.proofs.Requests.{acts_same, answers_plainly, asked_at, history_keeps, means_at_clock}
 use Rattle.histories.proofs.RevocationLasts.{orphaning_left, revocation_left}
 use Rattle.histories.proofs.Served.{Served, refused_or_served, served}
+use Rattle.histories.proofs.Wraps.{keeps_reply}
 
 -- ---- a 200
 
@@ -416,7 +417,13 @@ module _ (proper : OperationsAreProper) (b : Broker) (history : History) (h : Ar
 
   -- what is handed out is what was kept
   pub hands_out_kept : HandsOutKept b history
-  hands_out_kept = record { one_birth = one_birth unwrapped_body b history keep_all; same = kept_or_first }
+  hands_out_kept = record {
+    one_birth = one_birth unwrapped_body b history keep_all;
+    same = kept_or_first;
+    wraps = λ i a command at ttl means is_wrapped success.
+        let is = asked_at b history i a h at in
+        keeps_reply proper a is.sound is.outcome ttl command means is_wrapped success;
+  }
 
 -- from a start on, where nothing waits, it is the reply to a request
 pub same_reply : OperationsAreProper → (s : Beginning) (history : History) → AreAsked (begun s) history → SameReply history
@@ -426,4 +433,5 @@ same_reply proper s history h = record {
     | inl kept ↦ kept
     | inr first ↦ absurd (no_entry first.token first.entry first.waited)
   ];
+  wraps = (hands_out_kept proper (begun s) history h).wraps;
 }

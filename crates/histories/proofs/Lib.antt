@@ -3,6 +3,7 @@ pub mod Ending
 pub mod GivenOut
 pub mod Keeping
 pub mod KeptReplies
+pub mod KeptTexts
 pub mod Lasting
 pub mod OpenRequests
 pub mod OperationsPlace
@@ -17,3 +18,4 @@ pub mod Revoking
 pub mod Routes
 pub mod Served
 pub mod Used
+pub mod Wraps

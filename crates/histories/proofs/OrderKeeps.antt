@@ -394,7 +394,7 @@ module _ {Command : Type 0} (permits : Broker → Option Text → Verb → Text 
           reply = text i;
         }
 
-    was_kept : (w : Waiting) (x : IsWrapped permits traits act start q names s.command s.done v)
+    pub was_kept : (w : Waiting) (x : IsWrapped permits traits act start q names s.command s.done v)
         → w ≡ kept_entry start q.path q.wrap_ttl names x.0 → KeepsReply a (body a) w.origin
     was_kept w (r, made, wraps_, answered, is) here =
         let token = token_text names.wrapping_token in

@@ -38,7 +38,7 @@ pub record DiffersInWaiting (b c : Broker) : Type 0 where
   pub policies : c.policies ≡ b.policies
 
 -- An open ask spends no use, and changes no token, beside what comes to its end at that moment. Nor does it change
--- anything else but which responses wait.
+-- anything else but which responses wait, and which identifiers were given out.
 abbrev pub OpenChangesNoToken : Type 0
 OpenChangesNoToken =
     (b : Broker) (moment : ℕ) (words : Words) (a : Ask) → is_open a ≡ true

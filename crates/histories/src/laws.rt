@@ -27,17 +27,19 @@ pub fn identifiers_are_given_out_once()
 }
 
 /// A law: each 200 to an unwrap hands out a response that waited. That of an origin is handed out by at most one
-/// request, before the end of its wrapping token, and through no wrapping token that an earlier request took out. What
-/// a look-up or a rewrap answers doesn't depend on its text (Vault's documentation, "Response wrapping").
+/// request, before the end of its wrapping token, and through no wrapping token that an earlier request took out. No
+/// wrapping token that ended is in a later state. What a look-up or a rewrap answers doesn't depend on the text that
+/// waits (Vault's documentation, "Response wrapping").
 pub fn responses_are_handed_out_once()
     ensures { AllAreHandedOutOnce }
 {
     operations_are_proper();
 }
 
-/// A law: a command that revokes is answered with 204, or refused, and each 204 to one is a revocation. A token that it
-/// ended, with all under it, or that ended in another way, is in no later state, nor are its cubbyhole and its leases;
-/// the others are as they were. Later requests of it are denied (Vault's documentation, "Tokens", token hierarchies and
+/// A law: a command that revokes is answered with 204, or refused, and each 204 to one is a revocation. A token whose
+/// end has come, or that of one above it, ends at that event, which is denied to it. A token that ended, by a
+/// revocation with all under it or in another way, is in no later state, nor are its cubbyhole and its leases; the
+/// others are as they were. Later requests of it are denied (Vault's documentation, "Tokens", token hierarchies and
 /// orphan tokens).
 pub fn revocation_lasts()
     ensures { RevocationLasts }
@@ -46,8 +48,9 @@ pub fn revocation_lasts()
 }
 
 /// A law: what is handed out is what was kept. From a start on it is, byte for byte, what the request that made its
-/// origin, and told its wrapping token, would have been answered without a wrap TTL, then and there, as a 200 (Vault's
-/// documentation, "Response wrapping").
+/// origin, and told its wrapping token, would have been answered without a wrap TTL, then and there, as a 200. And each
+/// 200 to an ask with a wrap TTL is kept so, but that to a look-up, a rewrap or an unwrap (Vault's documentation,
+/// "Response wrapping").
 pub fn kept_replies_are_the_replies()
     ensures since { AllHandOutKept }
     ensures since_start { AllAreTheReplies }
@@ -57,7 +60,7 @@ pub fn kept_replies_are_the_replies()
 
 /// A law: an open request, which needs no caller, means a look-up, or a rewrap or an unwrap of its own client token, and
 /// nothing else. It spends no use and changes no token, beside what comes to its end at that moment; nothing changes but
-/// which responses wait (Vault's documentation, "/sys/wrapping").
+/// which responses wait, and which identifiers were given out (Vault's documentation, "/sys/wrapping").
 pub fn open_requests_mean_their_own()
     ensures means { OpenMeansItsOwn }
     ensures leaves { OpenChangesNoToken }
