@@ -18,21 +18,20 @@ use Rattle.broker_types.specs.Used.{are_new, use_up}
 use Rattle.histories.specs.History.{Asking, AskedAt, History, clocked, given_out}
 use Rattle.histories.specs.Kept.{KeepsReply}
 use Rattle.histories.proofs.Ending.{origin_lasts}
-use Rattle.histories.proofs.Keeping.{EachKeeps, Keeps, WasBorn}
+use Rattle.histories.proofs.Keeping.{EachKeeps, EachMarks, Keeps, WasBorn}
 use Rattle.histories.proofs.Used.{new_append}
 
 -- ---- no identifier twice
 
 -- what a history gives out was not given out before it, and all of it differs
-pub given_out_new : (body : Asking → Text) (b : Broker) (history : History) → EachKeeps body b history
-    → are_new b.used (given_out history) ≡ true
-given_out_new body b [] h = refl
-given_out_new body b (None ∷ later) h = given_out_new body b later h
-given_out_new body b (Some a ∷ later) (is, keeps, h) =
+pub given_out_new : (b : Broker) (history : History) → EachMarks b history → are_new b.used (given_out history) ≡ true
+given_out_new b [] h = refl
+given_out_new b (None ∷ later) h = given_out_new b later h
+given_out_new b (Some a ∷ later) (is, marks, h) =
     let rest : are_new (use_up a.broker.used a.outcome.taken) (given_out later) ≡ true =
-    ap (λ m. are_new m (given_out later)) (sym keeps.taken_are_used) ∙ given_out_new body a.outcome.next later h in
+    ap (λ m. are_new m (given_out later)) (sym marks.marked) ∙ given_out_new a.outcome.next later h in
     ap (λ (c : Broker). are_new c.used (given_out (Some a ∷ later))) (sym is)
-    ∙ new_append a.broker.used a.outcome.taken (given_out later) keeps.taken_are_new rest
+    ∙ new_append a.broker.used a.outcome.taken (given_out later) marks.new rest
 
 -- ---- states one after another
 

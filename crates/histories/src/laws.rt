@@ -1,6 +1,7 @@
 //! Laws over histories, each the contract of a function that does nothing.
 
 ghost use Rattle.histories.specs.Laws.{AllGiveOutNew, NoneIsGivenTwice, AllAreHandedOutOnce, RevocationLasts};
+ghost use Rattle.histories.specs.Laws.{AnyGiveOutNew, NoneIsGivenTwiceByAny, AllStayUsed};
 ghost use Rattle.histories.specs.Laws.{AllHandOutKept, AllAreTheReplies, EachEvolves, LaterOnesEvolved};
 ghost use Rattle.histories.specs.Open.{OpenMeansItsOwn, OpenChangesNoToken};
 ghost use Rattle.histories.specs.Paths.{PathsMeanCommands};
@@ -18,10 +19,14 @@ pub fn requests_evolve()
 
 /// A law: the identifiers that requests give out are new, and no two of them are equal. Nothing else is given out: what
 /// is in a place of identifiers after a request was there before, or the request gave it out. So from a start on, no
-/// identifier is given out twice.
+/// identifier is given out twice. For this no broker needs to be sound: what is given out is marked, so all that is in a
+/// place later was given out.
 pub fn identifiers_are_given_out_once()
     ensures since { AllGiveOutNew }
     ensures since_start { NoneIsGivenTwice }
+    ensures of_any { AnyGiveOutNew }
+    ensures of_any_start { NoneIsGivenTwiceByAny }
+    ensures stay_used { AllStayUsed }
 {
     operations_are_proper();
 }
