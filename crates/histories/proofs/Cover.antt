@@ -9,21 +9,21 @@ use Rattle.broker_types.specs.Map.{get}
 use Rattle.broker_types.specs.Broker.{Broker}
 use Rattle.broker_types.specs.Places.{IsUsed}
 use Rattle.histories.specs.History.{Asking, AskedAt, History, given_out}
-use Rattle.histories.proofs.Keeping.{EachKeeps}
+use Rattle.histories.proofs.Keeping.{EachKeeps, EachMarks}
 use Rattle.histories.proofs.Lasting.{asked_keeps, evolved_since}
 use Rattle.histories.proofs.Used.{any_left, any_right, member_new, member_used, used_or}
 
 -- what is used where a request is asked was used at first, or an earlier event gave it out
-pub used_is_given : (body : Asking → Text) (b : Broker) (history : History) (j : ℕ) (x : Asking) (i : Text) → EachKeeps body b history
+pub used_is_given : (b : Broker) (history : History) (j : ℕ) (x : Asking) (i : Text) → EachMarks b history
     → AskedAt history j x → IsUsed x.broker i → IsUsed b i ⊎ (list_any (same i) (given_out (take j history)) ≡ true)
-used_is_given body b [] j x i h at used = absurd (none-some _ at)
-used_is_given body b (None ∷ later) zero x i h at used = absurd (none-some _ at)
-used_is_given body b (None ∷ later) (suc j) x i h at used = used_is_given body b later j x i h at used
-used_is_given body b (Some a ∷ later) zero x i (is, keeps, h) at used =
+used_is_given b [] j x i h at used = absurd (none-some _ at)
+used_is_given b (None ∷ later) zero x i h at used = absurd (none-some _ at)
+used_is_given b (None ∷ later) (suc j) x i h at used = used_is_given b later j x i h at used
+used_is_given b (Some a ∷ later) zero x i (is, marks, h) at used =
     inl (subst (λ c. IsUsed c i) is (subst (λ (z : Asking). IsUsed z.broker i) (sym (same_Some _ _ at)) used))
-used_is_given body b (Some a ∷ later) (suc j) x i (is, keeps, h) at used =
-    elim (used_is_given body a.outcome.next later j x i h at used) [
-      | inl before ↦ elim (used_or a.broker.used a.outcome.taken i (λ none. before (ap (λ m. get m i) keeps.taken_are_used ∙ none))) [
+used_is_given b (Some a ∷ later) (suc j) x i (is, marks, h) at used =
+    elim (used_is_given a.outcome.next later j x i h at used) [
+      | inl before ↦ elim (used_or a.broker.used a.outcome.taken i (λ none. before (ap (λ m. get m i) marks.marked ∙ none))) [
         | inl here ↦ inr (any_left i a.outcome.taken (given_out (take j later)) here)
         | inr old ↦ inl (subst (λ c. IsUsed c i) is old)
       ]

@@ -6,6 +6,7 @@ use Rattle.broker_types.specs.Map.{get}
 use Rattle.broker_types.specs.Broker.{Broker, Waiting}
 use Rattle.broker_types.specs.Evolves.{Evolves, OriginIsGone, IsTakenOut, WaitedBefore}
 use Rattle.broker_types.specs.Used.{are_new, use_up}
+use Rattle.broker_model.specs.Order.{Outcome}
 use Rattle.broker_model.specs.Responses.{ok}
 use Rattle.histories.specs.History.{Asking, AskedAt, History, clocked}
 use Rattle.histories.specs.Kept.{KeepsReply}
@@ -42,6 +43,21 @@ abbrev pub EachKeeps : (Asking → Text) → Broker → History → Type 0
 EachKeeps body b [] = ⊤
 EachKeeps body b (None ∷ later) = EachKeeps body b later
 EachKeeps body b (Some a ∷ later) = (a.broker ≡ b) × Keeps body a × EachKeeps body a.outcome.next later
+
+-- What is given out is new and is marked then, and each origin of a response that waits is that of one that did, or is
+-- given out.
+pub record Marks (now : Broker) (o : Outcome) : Type 0 where
+  pub new : are_new now.used o.taken ≡ true
+  pub marked : o.next.used ≡ use_up now.used o.taken
+  pub origins : (t : Text) (w : Waiting) → get o.next.waiting t ≡ Some w
+      → ((u : Text) × (v : Waiting) × (get now.waiting u ≡ Some v) × (w.origin ≡ v.origin))
+      ⊎ (list_any (same w.origin) o.taken ≡ true)
+
+-- from the broker b on, each request was asked of the broker that the one before it left, and marks so
+abbrev pub EachMarks : Broker → History → Type 0
+EachMarks b [] = ⊤
+EachMarks b (None ∷ later) = EachMarks b later
+EachMarks b (Some a ∷ later) = (a.broker ≡ b) × Marks (clocked a) a.outcome × EachMarks a.outcome.next later
 
 -- an earlier request than that at the place made the origin of the response w, whose text is its body
 pub record WasBorn (body : Asking → Text) (history : History) (place_of_it : ℕ) (w : Waiting) : Type 0 where

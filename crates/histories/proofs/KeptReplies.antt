@@ -1,6 +1,6 @@
 -- Responses that were kept are handed out once, as they were.
 use Rattle.std.specs.Prelude.{◌≡◌, ◌≢◌, ◌⊎◌, ◌&&◌, nat_lt, ℕ, [], ◌∷◌, Bool, true, false, cond, is_some, if◌then◌else◌}
-use Rattle.std.specs.Prelude.{Option, Some, None, Result, Ok, option_map}
+use Rattle.std.specs.Prelude.{Option, Some, None, Ok, option_map}
 use Rattle.std.specs.Option.{option_map_or}
 use Rattle.std.proofs.Common.{refl, sym, ◌∙◌, ap, subst, inl, inr, arith}
 use Rattle.std.proofs.lemmas.Bool.{false≢true, false_from_ne_true}
@@ -12,8 +12,8 @@ use Rattle.broker_types.specs.Map.{Map, get, without}
 use Rattle.broker_types.specs.MapLaws.{get-put, get-without_self, no_entry}
 use Rattle.broker_types.specs.Broker as broker
 use Rattle.broker_types.specs.Broker.{Broker, Waiting}
-use Rattle.broker_types.specs.Evolves.{IsTakenOut}
-use Rattle.broker_types.specs.Names.{Names, names_of}
+use Rattle.broker_types.specs.Evolves.{Evolves, IsTakenOut}
+use Rattle.broker_types.specs.Names.{names_of}
 use Rattle.broker_types.specs.Operation.{reply, plainly, Done}
 use Rattle.broker_types.specs.OptionLaws.{found_or_not, mapped}
 use Rattle.broker_types.specs.Places.{token_identifier, wrapping_token}
@@ -45,18 +45,19 @@ use Rattle.broker_model.specs.parts.WrappingCommands.{wrapping_names, wrapping_t
 use Rattle.broker_model.specs.parts.Wrappings.{FoundResponse, found, found_at, found_under, handed_out, rewrapped, shown}
 use Rattle.broker_model.specs.parts.Wrappings.{act_on_wrappings}
 use Rattle.histories.specs.History.{AreAsked, Asking, AskedAt, Beginning, History, begun, clocked, spent_by}
-use Rattle.histories.specs.Kept.{HandedOutOnce, HandsOutKept, HasAsClient, IsKeptReply, KeepsReply, Rewraps, SameReply}
+use Rattle.histories.specs.Kept.{EndsWrappingToken, HandedOutOnce, HandsOutKept, HasAsClient, IsKeptReply, KeepsReply, Rewraps, SameReply}
 use Rattle.histories.specs.Kept.{looked_up_text, rewrapped_text, TakesTokenOut, Tells, Unwraps, WaitedFirst, unwrapped_answer, unwrapped_body}
 use Rattle.histories.specs.Revocation.{Revokes, RevokesAlone}
 use Rattle.histories.proofs.Cover.{one_birth}
 use Rattle.histories.proofs.Ending.{out_lasts}
 use Rattle.histories.proofs.Keeping.{EachKeeps, Keeps}
-use Rattle.histories.proofs.Lasting.{asked_keeps, evolved_since, handed_once, kept_evolves, waited_before, waits_since}
+use Rattle.histories.proofs.Lasting.{asked_keeps, evolved_since, handed_once, kept_evolves, left_since, waited_before, waits_since}
 use Rattle.histories.proofs.OrderCases.{some_ok, spent}
 use Rattle.histories.proofs.OrderKeeps.{end_spent_waiting, first_new, own_new, spent_used, spent_waiting, wrapped_cases}
 use Rattle.histories.proofs.Requests.{acts_same, answers_plainly, asked_at, history_keeps, means_at_clock}
 use Rattle.histories.proofs.RevocationLasts.{orphaning_left, revocation_left}
 use Rattle.histories.proofs.Served.{Served, refused_or_served, served}
+use Rattle.histories.proofs.Wraps.{keeps_reply}
 
 -- ---- a 200
 
@@ -267,6 +268,14 @@ module _ (a : Asking) (sound : Sound forms None a.broker) (keeps : Keeps unwrapp
         ∙ get-without_self start.waiting t
   ]
 
+  by_unwrap : (o : Text) → Unwraps a t o → get a.outcome.next.waiting t ≡ None
+  by_unwrap o u =
+      let h = keeps.hands_out o (unwrap_hands_out a t o is u) in
+      let one : t ≡ h.token =
+      sound.waiting.one_origin t h.token u.entry h.entry (waited_before a t u.entry u.waited).0
+      (waited_before a h.token h.entry h.waited).0 (u.origin ∙ sym h.origin) in
+      ap (get a.outcome.next.waiting) one ∙ h.out.gone
+
   -- a request that took it out left it out
   pub taken_out : TakesTokenOut a t → IsTakenOut a.outcome.next t
   taken_out k = out (elim k.how [
@@ -276,6 +285,53 @@ module _ (a : Asking) (sound : Sound forms None a.broker) (keeps : Keeps unwrapp
       | inr y ↦ elim y [ inl r ↦ by_orphaning r.0 r.1 | inr r ↦ by_rewrap r ]
     ]
   ])
+
+-- ---- wrapping tokens that ended
+
+-- what waits at a clock waited before it
+waited_then : (a : Asking) (t : Text) → get (clocked a).waiting t ≢ None → get a.broker.waiting t ≢ None
+waited_then a t there none = elim (found_or_not (get (clocked a).waiting t)) [
+  | inl gone ↦ there gone
+  | inr w ↦ none-some _ (sym none ∙ (waited_before a t w.0 w.1).0)
+]
+
+-- a request that took a wrapping token out, or unwrapped it, ended it
+ended_by : (a : Asking) → Sound forms None a.broker → Keeps unwrapped_body a → a.outcome ≡ step a.broker a.moment a.words a.ask
+    → (t : Text) → TakesTokenOut a t ⊎ ((o : Text) × Unwraps a t o) → EndsWrappingToken a t
+ended_by a sound keeps is t (inl k) = record {
+  was = waited_then a t k.waited;
+  gone = inr (taken_out a sound keeps is t k.waited k).gone;
+}
+ended_by a sound keeps is t (inr (o, u)) =
+    let waited : get (clocked a).waiting t ≢ None = λ none. none-some _ (sym none ∙ u.waited) in
+    record { was = waited_then a t waited; gone = inr (by_unwrap a sound keeps is t waited o u) }
+
+module _ (a : Asking) (sound : Sound forms None a.broker) (keeps : Keeps unwrapped_body a) (t : Text) (ends : EndsWrappingToken a t) where
+  token_used : get a.broker.used (token_identifier t) ≢ None
+  token_used = elim (found_or_not (get a.broker.waiting t)) [
+    | inl none ↦ absurd (ends.was none)
+    | inr w ↦ sound.identifiers.all_used (wrapping_token t) (token_identifier t) (ap (option_map (λ (z : Waiting). token_identifier t)) w.1)
+  ]
+
+  none_after : get a.outcome.next.waiting t ≡ None
+  none_after = elim ends.gone [
+    | inr e ↦ e
+    | inl e ↦ elim (found_or_not (get a.outcome.next.waiting t)) [
+      | inl none ↦ none
+      | inr w ↦ elim (keeps.evolves.wrapping_tokens t w.0 w.1) [
+        | inl waited ↦ absurd (waited e)
+        | inr new ↦ absurd (token_used new)
+      ]
+    ]
+  ]
+
+  out_after : IsTakenOut a.outcome.next t
+  out_after = record { used = (kept_evolves unwrapped_body a keeps).used (token_identifier t) token_used; gone = none_after }
+
+  -- it is in nothing that the request left, or that evolved from it
+  stays_out : (b : Broker) → (a.outcome.next ≡ b) ⊎ Evolves a.outcome.next b → get b.waiting t ≡ None
+  stays_out b (inl e) = ap (λ (z : Broker). get z.waiting t) (sym e) ∙ none_after
+  stays_out b (inr e) = (out_lasts a.outcome.next b t e out_after).gone
 
 -- ---- the plain answer
 
@@ -314,6 +370,12 @@ module _ (proper : OperationsAreProper) (b : Broker) (history : History) (h : Ar
         (taken_out a (asked_at b history i a h one).sound (asked_keeps unwrapped_body b history i a keep_all one)
         (asked_at b history i a h one).outcome t takes.waited takes) in
         none-some _ (sym gone.gone ∙ (waited_before x t p.entry p.waited).0);
+    ended = λ i a t at how.
+        let is = asked_at b history i a h at in
+        ended_by a is.sound (asked_keeps unwrapped_body b history i a keep_all at) is.outcome t how;
+    out = λ i j a x t one ends other le.
+        stays_out a (asked_at b history i a h one).sound (asked_keeps unwrapped_body b history i a keep_all one) t ends x.outcome.next
+        (left_since unwrapped_body b history i j a x keep_all one other le);
     unwraps = λ i a meant at means.
         tells_or_refuses a (asked_at b history i a h at).outcome (response.Unwrap meant) means refl meant handed_out
         (λ w. w.reply) (λ start. refl) (λ caller t w. refl);
@@ -355,7 +417,13 @@ module _ (proper : OperationsAreProper) (b : Broker) (history : History) (h : Ar
 
   -- what is handed out is what was kept
   pub hands_out_kept : HandsOutKept b history
-  hands_out_kept = record { one_birth = one_birth unwrapped_body b history keep_all; same = kept_or_first }
+  hands_out_kept = record {
+    one_birth = one_birth unwrapped_body b history keep_all;
+    same = kept_or_first;
+    wraps = λ i a command at ttl means is_wrapped success.
+        let is = asked_at b history i a h at in
+        keeps_reply proper a is.sound is.outcome ttl command means is_wrapped success;
+  }
 
 -- from a start on, where nothing waits, it is the reply to a request
 pub same_reply : OperationsAreProper → (s : Beginning) (history : History) → AreAsked (begun s) history → SameReply history
@@ -365,4 +433,5 @@ same_reply proper s history h = record {
     | inl kept ↦ kept
     | inr first ↦ absurd (no_entry first.token first.entry first.waited)
   ];
+  wraps = (hands_out_kept proper (begun s) history h).wraps;
 }

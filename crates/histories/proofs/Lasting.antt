@@ -1,9 +1,11 @@
 -- Laws of histories.
-use Rattle.std.specs.Prelude.{◌≡◌, ◌<◌, ◌⊎◌, ℕ, zero, suc, max, [], ◌∷◌, Bool, true, false, nat_lt, Option, Some, None}
+use Rattle.std.specs.Prelude.{◌≡◌, ◌<◌, ◌≤◌, ◌⊎◌, ℕ, zero, suc, max, [], ◌∷◌, Bool, true, false, nat_lt, Option, Some, None}
+use Rattle.std.specs.Prelude.{slice_index_or}
 use Rattle.std.specs.Option.{option_map_or}
 use Rattle.std.proofs.Common.{refl, sym, ◌∙◌, ap, subst, inl, inr, arith}
 use Rattle.std.proofs.lemmas.Bool.{ltb-true, cases_order}
 use Rattle.std.proofs.lemmas.Option.{none-some, same_Some}
+use Rattle.std.proofs.Math.Nat.{eq-or-lt_of_le}
 use Rattle.broker_types.specs.Text.{Text}
 use Rattle.broker_types.specs.Map.{get}
 use Rattle.broker_types.specs.Broker.{Broker, Waiting, waiting_ends}
@@ -16,21 +18,20 @@ use Rattle.broker_types.specs.Used.{are_new, use_up}
 use Rattle.histories.specs.History.{Asking, AskedAt, History, clocked, given_out}
 use Rattle.histories.specs.Kept.{KeepsReply}
 use Rattle.histories.proofs.Ending.{origin_lasts}
-use Rattle.histories.proofs.Keeping.{EachKeeps, Keeps, WasBorn}
+use Rattle.histories.proofs.Keeping.{EachKeeps, EachMarks, Keeps, WasBorn}
 use Rattle.histories.proofs.Used.{new_append}
 
 -- ---- no identifier twice
 
 -- what a history gives out was not given out before it, and all of it differs
-pub given_out_new : (body : Asking → Text) (b : Broker) (history : History) → EachKeeps body b history
-    → are_new b.used (given_out history) ≡ true
-given_out_new body b [] h = refl
-given_out_new body b (None ∷ later) h = given_out_new body b later h
-given_out_new body b (Some a ∷ later) (is, keeps, h) =
+pub given_out_new : (b : Broker) (history : History) → EachMarks b history → are_new b.used (given_out history) ≡ true
+given_out_new b [] h = refl
+given_out_new b (None ∷ later) h = given_out_new b later h
+given_out_new b (Some a ∷ later) (is, marks, h) =
     let rest : are_new (use_up a.broker.used a.outcome.taken) (given_out later) ≡ true =
-    ap (λ m. are_new m (given_out later)) (sym keeps.taken_are_used) ∙ given_out_new body a.outcome.next later h in
+    ap (λ m. are_new m (given_out later)) (sym marks.marked) ∙ given_out_new a.outcome.next later h in
     ap (λ (c : Broker). are_new c.used (given_out (Some a ∷ later))) (sym is)
-    ∙ new_append a.broker.used a.outcome.taken (given_out later) keeps.taken_are_new rest
+    ∙ new_append a.broker.used a.outcome.taken (given_out later) marks.new rest
 
 -- ---- states one after another
 
@@ -75,6 +76,17 @@ evolved_since body b (Some y ∷ later) zero (suc j) a x (is, keeps, h) one othe
 evolved_since body b (Some y ∷ later) (suc i) zero a x h one other lt = absurd (omega (arith, lt))
 evolved_since body b (Some y ∷ later) (suc i) (suc j) a x (is, keeps, h) one other lt =
     evolved_since body y.outcome.next later i j a x h one other (omega (arith, lt))
+
+-- what an event at the place or later leaves is what the earlier one left, or evolved from it
+pub left_since : (body : Asking → Text) (b : Broker) (history : History) (i j : ℕ) (a x : Asking) → EachKeeps body b history
+    → AskedAt history i a → AskedAt history j x → i ≤ j
+    → (a.outcome.next ≡ x.outcome.next) ⊎ Evolves a.outcome.next x.outcome.next
+left_since body b history i j a x h one other le = elim (eq-or-lt_of_le le) [
+  | inl e ↦ inl (ap (λ (z : Asking). z.outcome.next)
+      (same_Some _ _ (sym one ∙ ap (λ n. slice_index_or history n None) e ∙ other)))
+  | inr lt ↦ inr (evolves_trans a.outcome.next x.broker x.outcome.next
+      (evolved_since body b history i j a x h one other lt) (kept_evolves body x (asked_keeps body b history j x h other)))
+]
 
 -- ---- handed out once
 

@@ -3,7 +3,10 @@ pub mod Ending
 pub mod GivenOut
 pub mod Keeping
 pub mod KeptReplies
+pub mod KeptTexts
 pub mod Lasting
+pub mod Marked
+pub mod OpenRequests
 pub mod OperationsPlace
 pub mod OrderCases
 pub mod OrderKeeps
@@ -13,5 +16,7 @@ pub mod Requests
 pub mod RequestsPlace
 pub mod RevocationLasts
 pub mod Revoking
+pub mod Routes
 pub mod Served
 pub mod Used
+pub mod Wraps

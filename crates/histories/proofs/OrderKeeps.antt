@@ -66,7 +66,7 @@ fewer_new used i j own h =
     join _ _ p.0 (join _ _ apart (join _ _ r.0 refl))
 
 -- more that is used lets a broker evolve
-used_more : (m : Map ⊤) (is : List Text) (i : Text) → get m i ≢ None → get (use_up m is) i ≢ None
+pub used_more : (m : Map ⊤) (is : List Text) (i : Text) → get m i ≢ None → get (use_up m is) i ≢ None
 used_more m [] i used = used
 used_more m (j ∷ js) i used = λ none.
     elim (same i j) as (λ v. cond v (Some (tt {0})) (get (use_up m js) i) ≡ None → ⊥) [
@@ -99,7 +99,7 @@ end_spent_same f keeps b (Some c) =
       | false ↦ refl
     ]
 
-end_spent_used : (b : Broker) (who : Option Text) → (end_spent b who).used ≡ b.used
+pub end_spent_used : (b : Broker) (who : Option Text) → (end_spent b who).used ≡ b.used
 end_spent_used b who = end_spent_same (λ (c : Broker). c.used) (λ _ _. refl) b who
 
 pub end_spent_waiting : (b : Broker) (who : Option Text) → (end_spent b who).waiting ≡ b.waiting
@@ -173,7 +173,7 @@ module _ {Command : Type 0} (permits : Broker → Option Text → Verb → Text 
   -- ---- what serving leaves
 
   -- what a wrapped or unwrapped answer keeps
-  record LeftBy (b : Broker) (q : Request Command) (names : Names) (command : Command) (d : Done) (v : Wrapped) : Type 0 where
+  pub record LeftBy (b : Broker) (q : Request Command) (names : Names) (command : Command) (d : Done) (v : Wrapped) : Type 0 where
     pub new : are_new b.used v.done.taken ≡ true
     pub used : v.done.next.used ≡ b.used
     pub evolves : Evolves b v.done.next
@@ -237,7 +237,7 @@ module _ {Command : Type 0} (permits : Broker → Option Text → Verb → Text 
         not_both : (t : Text) → reply r made ≡ kept_text t → ⊥
         not_both t e = cc
 
-    left : LeftBy b q names command d (wrapped permits traits act b q names command d)
+    pub left : LeftBy b q names command d (wrapped permits traits act b q names command d)
     left = elim (wrapped_cases b q names command d) [
       | inl plain ↦ left_unwrapped (wrapped permits traits act b q names command d) plain
       | inr wrapped_ ↦ left_wrapped (wrapped permits traits act b q names command d) wrapped_
@@ -394,7 +394,7 @@ module _ {Command : Type 0} (permits : Broker → Option Text → Verb → Text 
           reply = text i;
         }
 
-    was_kept : (w : Waiting) (x : IsWrapped permits traits act start q names s.command s.done v)
+    pub was_kept : (w : Waiting) (x : IsWrapped permits traits act start q names s.command s.done v)
         → w ≡ kept_entry start q.path q.wrap_ttl names x.0 → KeepsReply a (body a) w.origin
     was_kept w (r, made, wraps_, answered, is) here =
         let token = token_text names.wrapping_token in

@@ -204,6 +204,11 @@ answers_plainly a s r made answered =
     (λ free. ap (λ (x : Outcome). x.response) (step_plain a.broker a.moment a.words a.ask)
     ∙ plain_tells permits traits act a.broker a.moment (request_of a.ask) (names_of a.words) a.outcome s free r made answered)
 
+-- so its body is the text of what was replied
+pub tells_body : (a : Asking) (s : IsServed permits traits act (clocked a) (request_of a.ask) (names_of a.words) a.outcome)
+    (r : Reply) (made : Option Text) → s.done.answered ≡ reply r made → reply_text r ≡ unwrapped_body a
+tells_body a s r made answered = sym (ap (λ (x : Response). x.text) (answers_plainly a s r made answered))
+
 module _ (proper : OperationsAreProper) where
   asked_keep : (b : Broker) (a : Asking) → IsAsked b a → Keeps unwrapped_body a
   unfolding step
@@ -214,7 +219,7 @@ module _ (proper : OperationsAreProper) where
       request_keeps permits traits act unwrapped_body a (request_of a.ask) refl refl
       (λ c caller command d new done. proper c caller a.words command d new done)
       sound.identifiers sound.waiting
-      (λ s r made answered. sym (ap (λ (x : Response). x.text) (answers_plainly a s r made answered)))
+      (tells_body a)
       outcome
 
   pub history_keeps : (b : Broker) (history : History) → AreAsked b history → EachKeeps unwrapped_body b history

@@ -1,11 +1,9 @@
 -- What is revoked, and whatever else ended, does not come back.
 use Rattle.std.specs.Prelude.{◌≡◌, ◌≢◌, ◌<◌, ◌≤◌, ◌⊎◌, ◌||◌, ◌&&◌, not, nat_lt, ℕ, max, List, [], ◌∷◌, Bool, true, false}
 use Rattle.std.specs.Prelude.{is_some, if◌then◌else◌, Option, Some, None, Result, Ok, Err, option_map, option_and_then}
-use Rattle.std.specs.Prelude.{slice_index_or}
 use Rattle.std.proofs.Common.{refl, sym, ◌∙◌, ap, subst, inl, inr, arith}
 use Rattle.std.proofs.lemmas.Bool.{false≢true}
 use Rattle.std.proofs.lemmas.Option.{none-some, same_Some}
-use Rattle.std.proofs.Math.Nat.{eq-or-lt_of_le}
 use Rattle.broker_types.specs.Text.{Text, same}
 use Rattle.broker_types.specs.Map.{get}
 use Rattle.broker_types.specs.MapLaws.{valued_is}
@@ -13,7 +11,6 @@ use Rattle.broker_types.specs.Answer.{IsRefused, Response, refused}
 use Rattle.broker_types.specs.Broker as broker
 use Rattle.broker_types.specs.Broker.{Broker, Waiting}
 use Rattle.broker_types.specs.Evolves.{Evolves, HasEnded}
-use Rattle.broker_types.specs.EvolvesLaws.{evolves_trans}
 use Rattle.broker_types.specs.FewerLaws.{tree_of}
 use Rattle.broker_types.specs.Laws.{IsTree}
 use Rattle.broker_types.specs.Names.{Names, names_of}
@@ -22,12 +19,12 @@ use Rattle.broker_types.specs.OptionLaws.{found_or_not}
 use Rattle.broker_types.specs.Places.{lease_of, token_identifier}
 use Rattle.broker_types.specs.Places as place
 use Rattle.broker_types.specs.Refuse.{◌>>=◌, some_or, unless}
-use Rattle.broker_types.specs.RemovalLaws.{at_moment_evolves}
+use Rattle.broker_types.specs.RemovalLaws.{at_moment_ends, at_moment_evolves}
 use Rattle.broker_types.specs.Sound.{Sound}
 use Rattle.broker_types.specs.Spending.{spend, drop_waiting, end_spent, one_less}
 use Rattle.broker_types.specs.Status.{status_code}
 use Rattle.broker_types.specs.Token.{Token, Lease}
-use Rattle.broker_types.specs.TreeLaws.{alive_is, alive_tree, under_tokens, values_tree}
+use Rattle.broker_types.specs.TreeLaws.{alive_is, alive_tree, left_outlasts, under_tokens, values_tree}
 use Rattle.broker_types.specs.Used.{are_new, use_up}
 use Rattle.broker_types.specs.declared.refusal.Refusal.{Refusal}
 use Rattle.broker_types.specs.declared.refusal.Refusal.TheVariants as refusal
@@ -57,11 +54,11 @@ use Rattle.broker_model.specs.parts.WrappingCommands.{wrapping_names}
 use Rattle.broker_model.specs.parts.Wrappings.{FoundResponse, found, found_under, rewrapped, act_on_wrappings}
 use Rattle.histories.specs.History.{AreAsked, Asking, AskedAt, History, clocked, spent_by}
 use Rattle.histories.specs.Kept.{unwrapped_body}
-use Rattle.histories.specs.Revocation.{EndsToken, FindsNone, IsGone, IsGranted, Revocation, Revokes, RevokesAlone}
+use Rattle.histories.specs.Revocation.{EndsToken, FindsNone, IsDue, IsGone, IsGranted, Revocation, Revokes, RevokesAlone}
 use Rattle.histories.specs.Revocation.{is_orphaning, is_revocation, named_by, orphaning_by, orphaning_of, revoked_by, revoked_of, taken_as}
 use Rattle.histories.proofs.Ending.{IsLeaseGone, ended_lasts, gone_has_ended, lease_lasts, leases_are_gone}
 use Rattle.histories.proofs.Keeping.{EachKeeps, Keeps}
-use Rattle.histories.proofs.Lasting.{asked_keeps, evolved_since, kept_evolves}
+use Rattle.histories.proofs.Lasting.{asked_keeps, evolved_since, kept_evolves, left_since}
 use Rattle.histories.proofs.OrderCases.{IsCaller, some_ok, spent, with_caller}
 use Rattle.histories.proofs.OrderKeeps.{wrapped_cases}
 use Rattle.histories.proofs.Requests.{asked_at, history_keeps, means_at_clock}
@@ -345,6 +342,21 @@ called_tree a c sound =
     (λ u z. elim (same u c) as (λ v. (if v then one_less z else z).parent ≡ z.parent) [ true ↦ refl | false ↦ refl ])
     (alive_tree (max a.broker.clock a.moment) a.broker.tokens (tree_of forms None None a.broker sound))
 
+-- a token that comes to its end is none at the clock
+due_is_gone : (a : Asking) (q : Text) → IsDue a q → get (clocked a).tokens q ≡ None
+due_is_gone a q d = elim (found_or_not (get (clocked a).tokens q)) [
+  | inl none ↦ none
+  | inr y ↦
+      let now = max a.broker.clock a.moment in
+      let later : now < d.end =
+      left_outlasts now a.broker.tokens q (λ none. none-some _ (sym none ∙ y.1)) d.above d.above_token d.end d.under d.there d.has_end in
+      absurd (omega (arith, later, d.reached))
+]
+
+-- and was one before
+due_was : (a : Asking) (q : Text) → IsDue a q → get a.broker.tokens q ≢ None
+due_was a q d = (under_tokens a.broker.tokens q d.above d.under).0
+
 -- a request by a client token that has ended is denied
 denied_if_gone : (a : Asking) (q : Text) → a.outcome ≡ step a.broker a.moment a.words a.ask → a.ask.token ≡ Some q
     → is_open a.ask ≡ false → HasEnded (clocked a) q → a.outcome.response ≡ refused permission_denied
@@ -484,13 +496,7 @@ module _ (proper : OperationsAreProper) (b : Broker) (history : History) (h : Ar
       → IsGone a q x.outcome.next
   lasts i j a x q one ends other le =
       nothing_left a (asked_at b history i a h one).sound (asked_keeps unwrapped_body b history i a keep_all one) q ends x.outcome.next
-      (elim (eq-or-lt_of_le le) [
-        | inl e ↦ inl (ap (λ (z : Asking). z.outcome.next)
-            (same_Some _ _ (sym one ∙ ap (λ n. slice_index_or history n None) e ∙ other)))
-        | inr lt ↦ inr (evolves_trans a.outcome.next x.broker x.outcome.next
-            (evolved_since unwrapped_body b history i j a x keep_all one other lt)
-            (kept_evolves unwrapped_body x (asked_keeps unwrapped_body b history j x keep_all other)))
-      ])
+      (left_since unwrapped_body b history i j a x keep_all one other le)
 
   ended_then : (i j : ℕ) (a x : Asking) (q : Text) → AskedAt history i a → EndsToken a q → AskedAt history j x → i < j
       → HasEnded (clocked x) q
@@ -538,6 +544,11 @@ module _ (proper : OperationsAreProper) (b : Broker) (history : History) (h : Ar
         let is = asked_at b history i a h at in
         ap (λ (z : Broker). get z.tokens q) (orphaning_left a is.outcome c t r)
         ∙ others_stay (spent_by a c) (drop_waiting (broker.revoke_orphan (spent_by a c) t) t) t c refl (called_tree a c is.sound) q apart;
+    due = λ i a q at d. record { was = due_was a q d; gone = inl (due_is_gone a q d) };
+    due_denied = λ i a q at d is_token closed.
+        let is = asked_at b history i a h at in
+        denied_if_gone a q is.outcome is_token closed
+        (at_moment_ends a.broker is.sound.identifiers a.moment q (due_was a q d) (due_is_gone a q d));
     lasts = lasts;
     denied = λ i j a x q one ends other lt is_token closed.
         denied_if_gone x q (asked_at b history j x h other).outcome is_token closed (ended_then i j a x q one ends other lt);

@@ -54,6 +54,19 @@ AreAsked b [] = ⊤
 AreAsked b (None ∷ later) = AreAsked b later
 AreAsked b (Some a ∷ later) = IsAsked b a × AreAsked a.outcome.next later
 
+-- ---- of any brokers
+
+-- it was asked of the broker b, sound or not, and the outcome is that of its step
+pub record IsStep (b : Broker) (a : Asking) : Type 0 where
+  pub broker : a.broker ≡ b
+  pub outcome : a.outcome ≡ step b a.moment a.words a.ask
+
+-- the first request was asked of b, and each other of the broker that the one before it left
+abbrev pub AreSteps : Broker → History → Type 0
+AreSteps b [] = ⊤
+AreSteps b (None ∷ later) = AreSteps b later
+AreSteps b (Some a ∷ later) = IsStep b a × AreSteps a.outcome.next later
+
 -- ---- what is given out
 
 -- the identifiers that an event gave out

@@ -2,15 +2,21 @@
 use Rattle.std.specs.Prelude.{◌≡◌, ◌⊎◌, ℕ, take, ◌∷◌, true, Some}
 use Rattle.std.specs.List.{IsDistinct, list_any}
 use Rattle.broker_types.specs.Text.{Text, same}
-use Rattle.broker_types.specs.Broker.{Broker}
+use Rattle.broker_types.specs.Map.{get}
+use Rattle.broker_types.specs.Broker.{Broker, Waiting}
 use Rattle.broker_types.specs.Evolves.{IsNew}
 use Rattle.broker_types.specs.Identifier.{id}
-use Rattle.broker_types.specs.Places.{IsUsed, Place, identifier_at}
+use Rattle.broker_types.specs.Places.{AllUsed, IsUsed, Place, identifier_at}
 use Rattle.histories.specs.History.{Asking, AskedAt, Beginning, History, clocked, given_out}
 
 -- the identifier was in the place before the event, and at its clock still
 abbrev pub WasThere : Asking → Place → Text → Type 0
 WasThere x p i = (identifier_at x.broker p ≡ Some i) × (identifier_at (clocked x) p ≡ Some i)
+
+-- Each identifier in a place of the broker was given out, and so was each origin of a response that waits.
+pub record AreUsed (b : Broker) : Type 0 where
+  pub places : AllUsed b
+  pub origins : (t : Text) (w : Waiting) → get b.waiting t ≡ Some w → IsUsed b w.origin
 
 -- Each identifier in a place of the broker that an event left (of a token, an accessor, a lease, a credential, a
 -- wrapping token or its accessor) was in that place before it and at its clock, or is one that the event gave out.

@@ -1,6 +1,6 @@
 -- The laws of responses that were kept, as statements: each is handed out once, by an unwrap, and is the reply that was
 -- kept (Vault's documentation, "Response wrapping").
-use Rattle.std.specs.Prelude.{◌≡◌, ◌≢◌, ◌<◌, ◌⊎◌, ℕ, List, false, Option, Some, None, Result, Ok, Err, []}
+use Rattle.std.specs.Prelude.{◌≡◌, ◌≢◌, ◌<◌, ◌≤◌, ◌⊎◌, ℕ, List, Bool, true, false, Option, Some, None, Result, Ok, Err, []}
 use Rattle.serde_json.specs.Data.{Members, object}
 use Rattle.serde_json.specs.Written.{compact_text}
 use Rattle.broker_types.specs.Text.{Text}
@@ -50,6 +50,12 @@ pub record TakesTokenOut (a : Asking) (t : Text) : Type 0 where
   pub how : HasAsClient a t
       ⊎ (((c : Text) × Revokes a c t) ⊎ (((c : Text) × RevokesAlone a c t) ⊎ Rewraps a t))
 
+-- The wrapping token t ended with the request, in whichever way: a response waited under it before, and none does at the
+-- clock or after it.
+pub record EndsWrappingToken (a : Asking) (t : Text) : Type 0 where
+  pub was : get a.broker.waiting t ≢ None
+  pub gone : (get (clocked a).waiting t ≡ None) ⊎ (get a.outcome.next.waiting t ≡ None)
+
 -- ---- what is told of a response that waits
 
 -- a look-up: the path of its request, when its wrapping token was made, and for how long it waits
@@ -97,6 +103,12 @@ pub record HandedOutOnce (history : History) : Type 0 where
   -- client token, no rewrap of it.
   pub still_in : (i j : ℕ) (a x : Asking) (t o : Text) → AskedAt history i a → TakesTokenOut a t
       → AskedAt history j x → i < j → Unwraps x t o → ⊥
+  -- Each such event, and each 200 to an unwrap, ended the token.
+  pub ended : (i : ℕ) (a : Asking) (t : Text) → AskedAt history i a
+      → TakesTokenOut a t ⊎ ((o : Text) × Unwraps a t o) → EndsWrappingToken a t
+  -- No wrapping token that ended, in these ways or by its end, is in any later state. So it is not looked up either.
+  pub out : (i j : ℕ) (a x : Asking) (t : Text) → AskedAt history i a → EndsWrappingToken a t → AskedAt history j x
+      → i ≤ j → get x.outcome.next.waiting t ≡ None
   -- An unwrap, a look-up and a rewrap are refused, or answered with a 200. That to an unwrap has the text that waited,
   -- byte for byte. Those to the two others have of what waited no more than its path, its TTL and, for a look-up, when
   -- its wrapping token was made. So they don't depend on the text.
@@ -163,6 +175,13 @@ pub record KeepsReply (a : Asking) (text o : Text) : Type 0 where
   pub told : a.outcome.response ≡ ok (telling_body a text made)
   pub waits : get a.outcome.next.waiting (token_text o) ≡ Some (first_entry a text)
 
+-- whether the reply to the command is never wrapped: that to a look-up, a rewrap or an unwrap
+abbrev pub stays_plain : Command → Bool
+stays_plain (on_wrapping (response.LookUp meant)) = true
+stays_plain (on_wrapping (response.Rewrap meant)) = true
+stays_plain (on_wrapping (response.Unwrap meant)) = true
+stays_plain _ = false
+
 -- The answer of event j is 200 with the body that an earlier event would have been answered, as a 200 too; that event
 -- made the origin o, told its wrapping token, and kept that body under it.
 pub record IsKeptReply (history : History) (j : ℕ) (x : Asking) (o : Text) : Type 0 where
@@ -191,6 +210,12 @@ pub record HandsOutKept (b : Broker) (history : History) : Type 0 where
   -- what is handed out is the reply that the event which made its origin would have answered, or waited in b
   pub same : (j : ℕ) (x : Asking) (t o : Text) → AskedAt history j x → Unwraps x t o
       → IsKeptReply history j x o ⊎ WaitedFirst b x o
+  -- each 200 to an ask with a wrap TTL, but to a look-up, a rewrap or an unwrap, is wrapped: what it would have been
+  -- without the wrap TTL is kept as the reply, and the answer tells the wrapping token in its place.
+  pub wraps : (i : ℕ) (a : Asking) (command : Command) → AskedAt history i a → 0 < a.ask.wrap_ttl
+      → command_of (clocked a).mounts a.ask ≡ Ok command → stays_plain command ≡ false
+      → a.outcome.response.status ≡ status.Success
+      → KeepsReply a (unwrapped_body a) (names_of a.words).wrapping_token
 
 -- From a start on, where nothing waits yet:
 pub record SameReply (history : History) : Type 0 where
@@ -201,3 +226,9 @@ pub record SameReply (history : History) : Type 0 where
   -- answered without a wrap TTL, in the state, with the moment and the words of that event. The two bodies are the
   -- same, byte for byte.
   pub same : (j : ℕ) (x : Asking) (t o : Text) → AskedAt history j x → Unwraps x t o → IsKeptReply history j x o
+  -- Each 200 to an ask with a wrap TTL, but to a look-up, a rewrap or an unwrap, is wrapped: what it would have been
+  -- without the wrap TTL is kept as the reply, and the answer tells the wrapping token in its place.
+  pub wraps : (i : ℕ) (a : Asking) (command : Command) → AskedAt history i a → 0 < a.ask.wrap_ttl
+      → command_of (clocked a).mounts a.ask ≡ Ok command → stays_plain command ≡ false
+      → a.outcome.response.status ≡ status.Success
+      → KeepsReply a (unwrapped_body a) (names_of a.words).wrapping_token

@@ -2,8 +2,8 @@
 use Rattle.std.specs.Prelude.{◌<◌, ℕ}
 use Rattle.broker_types.specs.Broker.{Broker}
 use Rattle.broker_types.specs.Evolves.{Evolves}
-use Rattle.histories.specs.History.{AreAsked, Asking, AskedAt, Beginning, History, begun}
-use Rattle.histories.specs.Identifiers.{GivesOutNew, NoIdentifierTwice}
+use Rattle.histories.specs.History.{AreAsked, AreSteps, Asking, AskedAt, Beginning, History, begun}
+use Rattle.histories.specs.Identifiers.{AreUsed, GivesOutNew, NoIdentifierTwice}
 use Rattle.histories.specs.Kept.{HandedOutOnce, HandsOutKept, SameReply}
 use Rattle.histories.specs.Revocation.{Revocation}
 
@@ -26,6 +26,21 @@ AllGiveOutNew = (b : Broker) (history : History) → AreAsked b history → Give
 -- from a start on, no identifier is given out twice
 abbrev pub NoneIsGivenTwice : Type 0
 NoneIsGivenTwice = (s : Beginning) (history : History) → AreAsked (begun s) history → NoIdentifierTwice s history
+
+-- The same of brokers that need not be sound, as long as each identifier in a place of the first was given out before
+-- it: so what a definition gives out and does not mark is refused here.
+abbrev pub AnyGiveOutNew : Type 0
+AnyGiveOutNew = (b : Broker) (history : History) → AreSteps b history → AreUsed b → GivesOutNew b history
+
+-- and from a start on, without any premise on the brokers
+abbrev pub NoneIsGivenTwiceByAny : Type 0
+NoneIsGivenTwiceByAny = (s : Beginning) (history : History) → AreSteps (begun s) history → NoIdentifierTwice s history
+
+-- each identifier in a place of a later broker, and each origin of a response that waits there, was given out
+abbrev pub AllStayUsed : Type 0
+AllStayUsed =
+    (b : Broker) (history : History) (j : ℕ) (x : Asking) → AreSteps b history → AreUsed b → AskedAt history j x
+    → AreUsed x.broker × AreUsed x.outcome.next
 
 -- a response is handed out once, whatever the first broker is
 abbrev pub AllAreHandedOutOnce : Type 0

@@ -2,4 +2,6 @@ pub mod History
 pub mod Identifiers
 pub mod Kept
 pub mod Laws
+pub mod Open
+pub mod Paths
 pub mod Revocation

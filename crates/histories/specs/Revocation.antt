@@ -1,6 +1,6 @@
 -- The law of revocation, as a statement (Vault's documentation, "Tokens", token hierarchies and orphan tokens, use
 -- limits; "Lease, renew, and revoke").
-use Rattle.std.specs.Prelude.{◌≡◌, ◌≢◌, ◌<◌, ◌≤◌, ◌⊎◌, ◌&&◌, ◌||◌, ℕ, Bool, true, false, if◌then◌else◌}
+use Rattle.std.specs.Prelude.{◌≡◌, ◌≢◌, ◌<◌, ◌≤◌, ◌⊎◌, ◌&&◌, ◌||◌, ℕ, max, Bool, true, false, if◌then◌else◌}
 use Rattle.std.specs.Prelude.{Option, Some, None, Ok}
 use Rattle.std.specs.Option.{option_map_or}
 use Rattle.broker_types.specs.Text.{Text}
@@ -98,6 +98,17 @@ pub record EndsToken (a : Asking) (q : Text) : Type 0 where
   pub was : get a.broker.tokens q ≢ None
   pub gone : (get (clocked a).tokens q ≡ None) ⊎ (get a.outcome.next.tokens q ≡ None)
 
+-- The token q comes to its end with the request: its end, or that of a token that it is under, is at or before the later
+-- of the request's moment and the clock before it (Vault's documentation, "Lease, renew, and revoke").
+pub record IsDue (a : Asking) (q : Text) : Type 0 where
+  pub above : Text
+  pub under : is_under a.broker.tokens q above ≡ true
+  pub above_token : Token
+  pub there : get a.broker.tokens above ≡ Some above_token
+  pub end : ℕ
+  pub has_end : above_token.ends ≡ Some end
+  pub reached : end ≤ max a.broker.clock a.moment
+
 -- What is left in the broker b of the token q that ended with the request: no token, no cubbyhole, and no lease with
 -- the identifier or the credential of one of its leases.
 pub record IsGone (a : Asking) (q : Text) (b : Broker) : Type 0 where
@@ -187,6 +198,11 @@ pub record Revocation (history : History) : Type 0 where
   pub others_alone : (i : ℕ) (a : Asking) (c t q : Text) → AskedAt history i a → RevokesAlone a c t
       → is_under (spent_by a c).tokens q t ≡ false
       → get a.outcome.next.tokens q ≡ left_by_caller (spent_by a c).tokens c q
+  -- A token that comes to its end, or that is under one that does, ended with that event.
+  pub due : (i : ℕ) (a : Asking) (q : Text) → AskedAt history i a → IsDue a q → EndsToken a q
+  -- And that event does nothing for it: if the token is the client token, the answer is 403, unless the ask is open.
+  pub due_denied : (i : ℕ) (a : Asking) (q : Text) → AskedAt history i a → IsDue a q → a.ask.token ≡ Some q
+      → is_open a.ask ≡ false → a.outcome.response ≡ refused permission_denied
   -- No token that ended, by revocation, by its end or by its last use, stands in any later state, nor does its
   -- cubbyhole, nor a lease with an id or a credential of its leases.
   pub lasts : (i j : ℕ) (a x : Asking) (q : Text) → AskedAt history i a → EndsToken a q → AskedAt history j x → i ≤ j

@@ -1,0 +1,14 @@
+use Rattle.histories.proofs.OpenRequests.{changes_no_token, means_its_own}
+use Rattle.histories.proofs.Routes.{looks_up, rewraps, unwraps}
+use Rattle.histories.proofs.laws.open_requests_mean_their_own.Goals as goal
+
+pub returns-clause-means : goal.returns-clause-means
+returns-clause-means c mounts a command open_ means =
+    let found = c.patterns_are_found_by_form.ensures.found in
+    let none = c.patterns_are_found_by_form.ensures.none in
+    let ordered = c.tables_are_in_order.ensures in
+    means_its_own c.wrapping_commands_are_proper.ensures.own mounts a command means
+    (looks_up found none ordered) (rewraps found none ordered) (unwraps found none ordered) open_
+
+pub returns-clause-leaves : goal.returns-clause-leaves
+returns-clause-leaves c = changes_no_token

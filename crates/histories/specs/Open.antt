@@ -1,0 +1,45 @@
+-- The law of open requests, which need no caller, as statements (Vault's documentation, "/sys/wrapping/lookup" and
+-- "/sys/wrapping/unwrap"; that a rewrap may be open is this project's).
+use Rattle.std.specs.Prelude.{◌≡◌, ℕ, true, Ok, ⊤}
+use Rattle.broker_types.specs.Map.{Map}
+use Rattle.broker_types.specs.Broker.{Broker, Mount, at_moment}
+use Rattle.broker_types.specs.declared.ask.Ask.{Ask}
+use Rattle.broker_types.specs.declared.words.Words.{Words}
+use Rattle.broker_model.specs.Command.{Command, on_wrapping, command_of}
+use Rattle.broker_model.specs.Serving.{is_open}
+use Rattle.broker_model.specs.Step.{step}
+use Rattle.broker_model.specs.declared.commands.WrappingCommand.{WrappingCommand}
+use Rattle.broker_model.specs.declared.commands.WrappingCommand.TheVariants as response
+
+-- ---- what an open ask means
+
+-- a look-up of any wrapping token, or a rewrap or an unwrap of the client token
+abbrev pub MeansItsOwn : Ask → WrappingCommand → Type 0
+MeansItsOwn a (response.Wrap text) = ⊥
+MeansItsOwn a (response.LookUp meant) = ⊤
+MeansItsOwn a (response.Rewrap meant) = meant ≡ a.token
+MeansItsOwn a (response.Unwrap meant) = meant ≡ a.token
+
+-- An open ask means that and nothing else, whatever mounts there are.
+abbrev pub OpenMeansItsOwn : Type 0
+OpenMeansItsOwn =
+    (mounts : Map Mount) (a : Ask) (command : Command) → is_open a ≡ true → command_of mounts a ≡ Ok command
+    → (k : WrappingCommand) × (command ≡ on_wrapping k) × MeansItsOwn a k
+
+-- ---- what it leaves
+
+-- c is b, but for the responses that wait and the identifiers that were given out
+pub record DiffersInWaiting (b c : Broker) : Type 0 where
+  pub clock : c.clock ≡ b.clock
+  pub tokens : c.tokens ≡ b.tokens
+  pub secrets : c.secrets ≡ b.secrets
+  pub mounts : c.mounts ≡ b.mounts
+  pub roles : c.roles ≡ b.roles
+  pub policies : c.policies ≡ b.policies
+
+-- An open ask spends no use, and changes no token, beside what comes to its end at that moment. Nor does it change
+-- anything else but which responses wait, and which identifiers were given out.
+abbrev pub OpenChangesNoToken : Type 0
+OpenChangesNoToken =
+    (b : Broker) (moment : ℕ) (words : Words) (a : Ask) → is_open a ≡ true
+    → DiffersInWaiting (at_moment b moment) (step b moment words a).next

@@ -1,0 +1,60 @@
+-- What the paths mean of which the laws over histories speak by their commands (Vault's documentation, "Token auth
+-- method (API)", "/sys/wrapping").
+use Rattle.std.specs.Prelude.{◌≡◌, Option, Result, Ok, codes}
+use Rattle.serde_json.specs.Data.{Members, object}
+use Rattle.serde_json.specs.Written.{compact_text}
+use Rattle.broker_types.specs.Text.{Text}
+use Rattle.broker_types.specs.Map.{Map}
+use Rattle.broker_types.specs.Broker.{Mount}
+use Rattle.broker_types.specs.Refuse.{◌>>=◌}
+use Rattle.broker_types.specs.declared.ask.Ask.{Ask}
+use Rattle.broker_types.specs.declared.ask.Verb.TheVariants as verb
+use Rattle.broker_types.specs.declared.refusal.Refusal.{Refusal}
+use Rattle.api_json.specs.Json.{body_members}
+use Rattle.api_json.specs.Readers as reader
+use Rattle.broker_model.specs.Command.{Command, on_token, on_wrapping, command_of, meant_by}
+use Rattle.broker_model.specs.declared.commands.TokenCommand.{TokenCommand}
+use Rattle.broker_model.specs.declared.commands.TokenCommand.TheVariants as token
+use Rattle.broker_model.specs.declared.commands.WrappingCommand.{WrappingCommand}
+use Rattle.broker_model.specs.declared.commands.WrappingCommand.TheVariants as response
+use Rattle.broker_model.specs.declared.making.Making.TheVariants.{OfCaller, WithoutParent}
+use Rattle.broker_model.specs.parts.Bodies.{read_as, read_none}
+use Rattle.broker_model.specs.parts.WrappingCommands.{token_meant}
+
+-- POST and PUT of the path mean this, or are refused by it, whatever mounts there are
+abbrev pub WrittenMeans : Text → (Ask → Result Command Refusal) → Type 0
+WrittenMeans path meaning =
+    (mounts : Map Mount) (a : Ask) → a.verb ≡ verb.Write → a.path ≡ path → command_of mounts a ≡ meaning a
+
+-- a command on the wrapping token that the body names, else on the client token
+abbrev pub on_named : (Option Text → WrappingCommand) → Ask → Result Command Refusal
+on_named command a =
+    meant_by on_wrapping (read_as reader.wrapping_token (λ named. command (token_meant a.token named)) a.body)
+
+-- a wrap of the object that the body is
+abbrev pub on_object : Ask → Result Command Refusal
+on_object a =
+    meant_by on_wrapping (body_members a.body >>= (λ members. Ok (response.Wrap (compact_text (object members)))))
+
+-- a command on tokens, by what the reader finds in the body
+abbrev pub on_found : {X : Type 0} → (Members → Result X Refusal) → (X → TokenCommand) → Ask → Result Command Refusal
+on_found read command a = meant_by on_token (read_as read command a.body)
+
+-- one that takes nothing from the body, which is an object all the same
+abbrev pub on_none : TokenCommand → Ask → Result Command Refusal
+on_none command a = meant_by on_token (read_none command a.body)
+
+-- Each of these paths means its command. So what a law says of a command, it says of POST and PUT of the path.
+pub record PathsMeanCommands : Type 0 where
+  pub wrap : WrittenMeans (codes "sys/wrapping/wrap") on_object
+  pub look_up : WrittenMeans (codes "sys/wrapping/lookup") (on_named response.LookUp)
+  pub rewrap : WrittenMeans (codes "sys/wrapping/rewrap") (on_named response.Rewrap)
+  pub unwrap : WrittenMeans (codes "sys/wrapping/unwrap") (on_named response.Unwrap)
+  pub create : WrittenMeans (codes "auth/token/create") (on_found reader.token_creation (token.Create OfCaller))
+  pub create_orphan : WrittenMeans (codes "auth/token/create-orphan")
+      (on_found reader.token_creation (token.Create WithoutParent))
+  pub revoke : WrittenMeans (codes "auth/token/revoke") (on_found reader.token token.Revoke)
+  pub revoke_self : WrittenMeans (codes "auth/token/revoke-self") (on_none token.RevokeSelf)
+  pub revoke_orphan : WrittenMeans (codes "auth/token/revoke-orphan") (on_found reader.token token.RevokeOrphan)
+  pub revoke_accessor : WrittenMeans (codes "auth/token/revoke-accessor")
+      (on_found reader.accessor token.RevokeAccessor)
