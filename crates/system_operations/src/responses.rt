@@ -8,7 +8,7 @@ ghost use Rattle.broker_types.specs.Names.{names_of};
 ghost use Rattle.broker_types.specs.Text.{Text};
 ghost use Rattle.broker_types.specs.TokenText.{token_text};
 ghost use Rattle.records.specs.Transaction.{IsHonest};
-ghost use Rattle.records.specs.Calls.{OnAnswer, OnRefused, IsCall, IsRequestCall};
+ghost use Rattle.records.specs.Calls.{OnAnswer, OnRefused, IsCall, IsRequestCall, IsRequestReading};
 ghost use Rattle.records.specs.Table.{table};
 ghost use Rattle.wrapping.specs.WaitingRows.{IsReadableWaiting};
 ghost use Rattle.api_json.specs.Reads.{IsRead};
@@ -169,7 +169,7 @@ fn look_up<T: RecordsTx>(
         → OnAnswer result (IsReadableWaiting (table (T.seen tx.old)) token.now) }
     ensures rows { IsHonest (T.seen tx.new) → OnOk result ((T.seen tx.new).rows ≡ (T.seen tx.old).rows) }
     ensures refused { IsHonest (T.seen tx.new) → OnRefused result ((T.seen tx.new).rows ≡ (T.seen tx.old).rows) }
-    ensures call { IsRequestCall (T.seen tx.old) (T.seen tx.new) result IsNotBadStart }
+    ensures call { IsRequestReading (T.seen tx.old) (T.seen tx.new) result IsNotBadStart }
 {
     let Some(response) = look(alloc, tx, token)? else {
         return Err(NOT_WAITING);
