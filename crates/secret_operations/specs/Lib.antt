@@ -1,4 +1,5 @@
 pub mod Bodies
+pub mod ChangedRows
 pub mod InRange
 pub mod Issuing
 pub mod Paths

@@ -7,7 +7,7 @@ ghost use Rattle.broker_types.specs.Names.{names_of};
 ghost use Rattle.broker_types.specs.Operation.{nothing, plainly};
 ghost use Rattle.broker_types.specs.Path.{is_path};
 ghost use Rattle.records.specs.Transaction.{IsHonest};
-ghost use Rattle.records.specs.Calls.{OnAnswer, IsRequestCall};
+ghost use Rattle.records.specs.Calls.{OnAnswer, IsRequestCall, IsRequestReading};
 ghost use Rattle.api_json.specs.Kept.{IsKept};
 ghost use Rattle.api_json.specs.Reads.{IsRead};
 ghost use Rattle.cubbyhole.specs.Cubbyhole as cubbyhole;
@@ -18,6 +18,7 @@ ghost use Rattle.broker_rows.specs.Context as known;
 ghost use Rattle.broker_rows.specs.Operating.{Performs};
 ghost use Rattle.broker_rows.specs.ReadableRow.{IsReadableObject};
 ghost use Rattle.broker_rows.specs.Reads.{AreReadableObjects};
+ghost use Rattle.secret_operations.specs.ChangedRows.{ChangesObjects};
 ghost use Rattle.secret_operations.specs.InRange.{IsCubbyholeCommandInRange};
 ghost use Rattle.secret_operations.specs.Paths.{needs_object_path};
 
@@ -81,6 +82,10 @@ pub fn act_on_cubbyholes<T: RecordsTx>(
     // Whatever the rows are: it is neither answered nor refused if a row that the command reads is damaged.
     ensures readable { IsHonest (T.seen tx.new)
         → OnAnswer result (AreReadableObjects (T.seen tx.old).rows caller.now path.now command) }
+
+    // And what only reads changes no row.
+    ensures rows { IsHonest (T.seen tx.new)
+        → OnAnswer result (ChangesObjects command (T.seen tx.old).rows (T.seen tx.new).rows) }
     ensures call { IsRequestCall (T.seen tx.old) (T.seen tx.new) result IsNotBadStart }
 {
     match command {
@@ -108,7 +113,7 @@ fn read<T: RecordsTx>(
     // Whatever the rows are: a damaged row is answered neither as an object nor as an absent one.
     ensures readable { IsHonest (T.seen tx.new)
         → OnAnswer result (IsReadableObject (T.seen tx.old).rows caller.now path.now) }
-    ensures call { IsRequestCall (T.seen tx.old) (T.seen tx.new) result IsNotBadStart }
+    ensures call { IsRequestReading (T.seen tx.old) (T.seen tx.new) result IsNotBadStart }
 {
     let Some(object) = cubbyhole::read(alloc, tx, caller, path)? else {
         return Err(RequestError::Refused(Refusal::NotFound));
@@ -126,7 +131,7 @@ fn list<T: RecordsTx>(
 ) -> Result<Answered, RequestError>
     ensures told { Performs (Some caller.now) context.now [] (T.seen tx.old) (T.seen tx.new)
         (λ b. part.act_on_cubbyhole b caller.now (names_of context.now.words) path.now commands.List) result }
-    ensures call { IsRequestCall (T.seen tx.old) (T.seen tx.new) result IsNotBadStart }
+    ensures call { IsRequestReading (T.seen tx.old) (T.seen tx.new) result IsNotBadStart }
 {
     let names = cubbyhole::list(alloc, tx, caller, path)?;
     if names.is_empty() {

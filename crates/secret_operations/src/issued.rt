@@ -15,6 +15,7 @@ ghost use Rattle.broker_model.specs.parts.Issued as part;
 ghost use Rattle.broker_model.specs.parts.Issued.{issued_command, own_names};
 ghost use Rattle.broker_rows.specs.Operating.{ArePrinted, PerformsBy};
 ghost use Rattle.broker_rows.specs.Reads.{AreReadableIssued};
+ghost use Rattle.secret_operations.specs.ChangedRows.{ChangesIssued};
 ghost use Rattle.secret_operations.specs.InRange.{IsIssuedCommandInRange};
 
 mod credentials;
@@ -92,6 +93,10 @@ pub fn act_on_issued<T: RecordsTx>(
     // Whatever the rows are: it is neither answered nor refused if a row that the command reads is damaged.
     ensures readable { IsHonest (T.seen tx.new)
         → OnAnswer result (AreReadableIssued (T.seen tx.old).rows place.now command) }
+
+    // And what only reads changes no row.
+    ensures rows { IsHonest (T.seen tx.new)
+        → OnAnswer result (ChangesIssued command (T.seen tx.old).rows (T.seen tx.new).rows) }
     ensures call { IsRequestCall (T.seen tx.old) (T.seen tx.new) result IsNotBadStart }
 {
     let mount = place.mount;

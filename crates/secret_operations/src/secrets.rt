@@ -11,6 +11,7 @@ ghost use Rattle.records.specs.Calls.{OnAnswer, IsRequestCall};
 ghost use Rattle.broker_model.specs.parts.Secrets as part;
 ghost use Rattle.broker_rows.specs.Operating.{Performs};
 ghost use Rattle.broker_rows.specs.Reads.{AreReadableSecrets};
+ghost use Rattle.secret_operations.specs.ChangedRows.{ChangesSecrets};
 ghost use Rattle.secret_operations.specs.InRange.{IsSecretCommandInRange};
 ghost use Rattle.secret_operations.specs.Paths.{needs_path};
 
@@ -45,6 +46,10 @@ pub fn act_on_secrets<T: RecordsTx>(
     // Whatever the rows are: it is neither answered nor refused if a row that the command reads is damaged.
     ensures readable { IsHonest (T.seen tx.new)
         → OnAnswer result (AreReadableSecrets (T.seen tx.old).rows place.now command) }
+
+    // And what only reads changes no row.
+    ensures rows { IsHonest (T.seen tx.new)
+        → OnAnswer result (ChangesSecrets command (T.seen tx.old).rows (T.seen tx.new).rows) }
     ensures call { IsRequestCall (T.seen tx.old) (T.seen tx.new) result IsNotBadStart }
 {
     let mount = place.mount;

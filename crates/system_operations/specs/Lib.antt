@@ -1,3 +1,4 @@
+pub mod ChangedRows
 pub mod InRange
 pub mod ResponseChanges
 pub mod Rewrapping

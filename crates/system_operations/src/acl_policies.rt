@@ -6,7 +6,7 @@ ghost use Rattle.broker_types.specs.Limits.{longest_body};
 ghost use Rattle.broker_types.specs.Names.{names_of};
 ghost use Rattle.broker_types.specs.Text.{Text};
 ghost use Rattle.records.specs.Transaction.{IsHonest};
-ghost use Rattle.records.specs.Calls.{OnAnswer, IsRequestCall};
+ghost use Rattle.records.specs.Calls.{OnAnswer, IsRequestCall, IsRequestReading};
 ghost use Rattle.api_json.specs.Readers as reader;
 ghost use Rattle.api_json.specs.Reads.{IsRead};
 ghost use Rattle.broker_model.specs.declared.commands.PolicyCommand.TheVariants as commands;
@@ -17,6 +17,7 @@ ghost use Rattle.broker_rows.specs.Context as known;
 ghost use Rattle.broker_rows.specs.Operating.{Performs};
 ghost use Rattle.broker_rows.specs.ReadableRow.{IsReadablePolicy};
 ghost use Rattle.broker_rows.specs.Reads.{AreReadablePolicies};
+ghost use Rattle.system_operations.specs.ChangedRows.{ChangesPolicies};
 ghost use Rattle.system_operations.specs.InRange.{IsPolicyCommandInRange};
 
 use api_json::{keys_object, policy_object, policy_text, read_body};
@@ -73,6 +74,10 @@ pub fn act_on_policies<T: RecordsTx>(
     // Whatever the rows are: it is neither answered nor refused if a row that the command reads is damaged.
     ensures readable { IsHonest (T.seen tx.new)
         → OnAnswer result (AreReadablePolicies (T.seen tx.old).rows name.now command) }
+
+    // And what only reads changes no row.
+    ensures rows { IsHonest (T.seen tx.new)
+        → OnAnswer result (ChangesPolicies command (T.seen tx.old).rows (T.seen tx.new).rows) }
     ensures call { IsRequestCall (T.seen tx.old) (T.seen tx.new) result IsNotBadStart }
 {
     match command {
@@ -91,7 +96,7 @@ fn list<T: RecordsTx>(
 ) -> Result<Answered, RequestError>
     ensures told { (who : Option Text) → Performs who context.now [] (T.seen tx.old) (T.seen tx.new)
         (λ b. part.list b (names_of context.now.words)) result }
-    ensures call { IsRequestCall (T.seen tx.old) (T.seen tx.new) result IsNotBadStart }
+    ensures call { IsRequestReading (T.seen tx.old) (T.seen tx.new) result IsNotBadStart }
 {
     let names = policies::list(alloc, tx)?;
     let object = keys_object(alloc, &names)?;
@@ -111,7 +116,7 @@ fn show<T: RecordsTx>(
     // Whatever the rows are: a damaged row is answered neither as a policy nor as an absent one.
     ensures readable { IsHonest (T.seen tx.new)
         → OnAnswer result (IsReadablePolicy (T.seen tx.old).rows name.now) }
-    ensures call { IsRequestCall (T.seen tx.old) (T.seen tx.new) result IsNotBadStart }
+    ensures call { IsRequestReading (T.seen tx.old) (T.seen tx.new) result IsNotBadStart }
 {
     let Some(text) = policies::get(alloc, tx, name)? else {
         return Err(RequestError::Refused(Refusal::NotFound));

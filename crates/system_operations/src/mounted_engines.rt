@@ -6,7 +6,7 @@ ghost use Rattle.broker_types.specs.Fault.{IsMemoryOrStorage, IsNotBadStart};
 ghost use Rattle.broker_types.specs.Name.{is_mount_name};
 ghost use Rattle.broker_types.specs.Names.{names_of};
 ghost use Rattle.broker_types.specs.Text.{Text};
-ghost use Rattle.records.specs.Calls.{OnAnswer, IsCall, IsRequestCall};
+ghost use Rattle.records.specs.Calls.{OnAnswer, IsCall, IsRequestCall, IsRequestReading};
 ghost use Rattle.records.specs.Table.{table};
 ghost use Rattle.records.specs.Transaction.{IsHonest, rows_under};
 ghost use Rattle.records.specs.declared.kind.Kind.TheVariants as kind;
@@ -22,6 +22,7 @@ ghost use Rattle.broker_rows.specs.Context as known;
 ghost use Rattle.broker_rows.specs.Operating.{Performs};
 ghost use Rattle.broker_rows.specs.Reads.{AreReadableMounts};
 ghost use Rattle.broker_rows.specs.Representing.{Represents};
+ghost use Rattle.system_operations.specs.ChangedRows.{ChangesMounts};
 
 use api_json::{MountCreation, MountObject, mount_creation, mounts_object, read_body};
 use broker_model::MountCommand;
@@ -71,6 +72,10 @@ pub fn act_on_mounts<T: RecordsTx>(
     // Whatever the rows are: it is neither answered nor refused if a row that the command reads is damaged.
     ensures readable { IsHonest (T.seen tx.new)
         → OnAnswer result (AreReadableMounts (T.seen tx.old).rows name.now command) }
+
+    // And what only reads changes no row.
+    ensures rows { IsHonest (T.seen tx.new)
+        → OnAnswer result (ChangesMounts command (T.seen tx.old).rows (T.seen tx.new).rows) }
     ensures call { IsRequestCall (T.seen tx.old) (T.seen tx.new) result IsNotBadStart }
 {
     match command {
@@ -92,7 +97,7 @@ fn list<T: RecordsTx>(
     // Whatever the rows are: no list leaves a damaged row out.
     ensures readable { IsHonest (T.seen tx.new)
         → OnAnswer result (All (λ e. IsMountRow e.1) (rows_under (T.seen tx.old).rows kind.Mount [])) }
-    ensures call { IsRequestCall (T.seen tx.old) (T.seen tx.new) result IsNotBadStart }
+    ensures call { IsRequestReading (T.seen tx.old) (T.seen tx.new) result IsNotBadStart }
 {
     let mounts = mounts::list(alloc, tx)?;
     let objects = all_shown(alloc, &mounts)?;

@@ -8,7 +8,7 @@ ghost use Rattle.broker_types.specs.Names.{names_of};
 ghost use Rattle.broker_types.specs.Text.{Text};
 ghost use Rattle.broker_types.specs.TokenText.{token_text};
 ghost use Rattle.records.specs.Transaction.{IsHonest};
-ghost use Rattle.records.specs.Calls.{OnAnswer, IsCall, IsRequestCall};
+ghost use Rattle.records.specs.Calls.{OnAnswer, OnRefused, IsCall, IsRequestCall, IsRequestReading};
 ghost use Rattle.records.specs.Table.{table};
 ghost use Rattle.wrapping.specs.WaitingRows.{IsReadableWaiting};
 ghost use Rattle.api_json.specs.Reads.{IsRead};
@@ -138,6 +138,9 @@ pub fn act_on_wrappings<T: RecordsTx>(
     // And what is unwrapped is gone then, and what is rewrapped waits under its new wrapping token alone.
     ensures rows { IsHonest (T.seen tx.new)
         → IfOk result (ChangesResponses context.now command (T.seen tx.old).rows (T.seen tx.new).rows) }
+
+    // What is refused changes no row.
+    ensures refused { IsHonest (T.seen tx.new) → OnRefused result ((T.seen tx.new).rows ≡ (T.seen tx.old).rows) }
     ensures call { IsRequestCall (T.seen tx.old) (T.seen tx.new) result IsNotBadStart }
 {
     match command {
@@ -165,7 +168,8 @@ fn look_up<T: RecordsTx>(
     ensures readable { IsHonest (T.seen tx.new)
         → OnAnswer result (IsReadableWaiting (table (T.seen tx.old)) token.now) }
     ensures rows { IsHonest (T.seen tx.new) → OnOk result ((T.seen tx.new).rows ≡ (T.seen tx.old).rows) }
-    ensures call { IsRequestCall (T.seen tx.old) (T.seen tx.new) result IsNotBadStart }
+    ensures refused { IsHonest (T.seen tx.new) → OnRefused result ((T.seen tx.new).rows ≡ (T.seen tx.old).rows) }
+    ensures call { IsRequestReading (T.seen tx.old) (T.seen tx.new) result IsNotBadStart }
 {
     let Some(response) = look(alloc, tx, token)? else {
         return Err(NOT_WAITING);
@@ -194,6 +198,7 @@ fn rewrap<T: RecordsTx>(
         → OnAnswer result (IsReadableWaiting (table (T.seen tx.old)) token.now) }
     ensures rows { IsHonest (T.seen tx.new) → OnOk result (MovesAt (names_of context.now.words) context.now.clock
         token.now (T.seen tx.old).rows (T.seen tx.new).rows) }
+    ensures refused { IsHonest (T.seen tx.new) → OnRefused result ((T.seen tx.new).rows ≡ (T.seen tx.old).rows) }
     ensures call { IsRequestCall (T.seen tx.old) (T.seen tx.new) result IsNotBadStart }
 {
     let new_token = TokenText::of_word(alloc, context.words.0[5])?;
@@ -224,6 +229,8 @@ fn move_response<T: RecordsTx>(
         → OnOk result (IsReadableWaiting (table (T.seen tx.old)) token.now) }
     ensures rows { IsHonest (T.seen tx.new) → IfOk result (λ found. found ≢ None
         → MovesAt (names_of context.now.words) context.now.clock token.now (T.seen tx.old).rows (T.seen tx.new).rows) }
+    ensures unknown { IsHonest (T.seen tx.new) → IfOk result (λ found.
+        found ≡ None → (T.seen tx.new).rows ≡ (T.seen tx.old).rows) }
     ensures wants { IsHonest (T.seen tx.new) → (who : Option Text) (b : Broker)
         → Begins who context.now (T.seen tx.old).rows b → IfErr result IsMemoryOrStorage }
     ensures call { IsCall (T.seen tx.old) (T.seen tx.new) result IsNotBadStart }
@@ -276,6 +283,7 @@ fn unwrap<T: RecordsTx>(alloc: Global, tx: &mut T, token: &str) -> Result<Answer
         → OnAnswer result (IsReadableWaiting (table (T.seen tx.old)) token.now) }
     ensures rows { IsHonest (T.seen tx.new)
         → IfOk result (HandsOutAt token.now (T.seen tx.old).rows (T.seen tx.new).rows) }
+    ensures refused { IsHonest (T.seen tx.new) → OnRefused result ((T.seen tx.new).rows ≡ (T.seen tx.old).rows) }
     ensures call { IsRequestCall (T.seen tx.old) (T.seen tx.new) result IsNotBadStart }
 {
     let Some(text) = take(alloc, tx, token)? else {

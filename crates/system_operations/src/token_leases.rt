@@ -7,7 +7,7 @@ ghost use Rattle.broker_types.specs.Names.{names_of};
 ghost use Rattle.broker_types.specs.Operation.{nothing, plainly};
 ghost use Rattle.broker_types.specs.Text.{Text};
 ghost use Rattle.records.specs.Transaction.{IsHonest};
-ghost use Rattle.records.specs.Calls.{OnAnswer, IsRequestCall};
+ghost use Rattle.records.specs.Calls.{OnAnswer, IsRequestCall, IsRequestReading};
 ghost use Rattle.records.specs.Table.{table};
 ghost use Rattle.leases.specs.Endings.{AreReadable, is_named, is_under};
 ghost use Rattle.leases.specs.LeaseRows.{AreTimesInRange, IsReadableLease};
@@ -18,6 +18,7 @@ ghost use Rattle.broker_model.specs.parts.Leases.{lease_command};
 ghost use Rattle.broker_rows.specs.Context as known;
 ghost use Rattle.broker_rows.specs.Operating.{Performs};
 ghost use Rattle.broker_rows.specs.Reads.{AreReadableLeases};
+ghost use Rattle.system_operations.specs.ChangedRows.{ChangesLeases};
 
 use api_json::{
     EndTime, LeaseObject, LeaseRenewal, lease_id, lease_object, lease_renewal, lease_reply,
@@ -65,6 +66,10 @@ pub fn act_on_leases<T: RecordsTx>(
     // Whatever the rows are: it is neither answered nor refused if a row that the command reads is damaged.
     ensures readable { IsHonest (T.seen tx.new)
         → OnAnswer result (AreReadableLeases (T.seen tx.old).rows prefix.now command) }
+
+    // And what only reads changes no row.
+    ensures rows { IsHonest (T.seen tx.new)
+        → OnAnswer result (ChangesLeases command (T.seen tx.old).rows (T.seen tx.new).rows) }
     ensures call { IsRequestCall (T.seen tx.old) (T.seen tx.new) result IsNotBadStart }
 {
     match command {
@@ -87,7 +92,7 @@ fn look_up<T: RecordsTx>(
 
     // Whatever the rows are: a damaged row is answered neither as a lease nor as an unknown id.
     ensures readable { IsHonest (T.seen tx.new) → OnAnswer result (IsReadableLease (table (T.seen tx.old)) lease_id) }
-    ensures call { IsRequestCall (T.seen tx.old) (T.seen tx.new) result IsNotBadStart }
+    ensures call { IsRequestReading (T.seen tx.old) (T.seen tx.new) result IsNotBadStart }
 {
     let times = leases::lookup(tx, lease_id.as_str())?;
     let lease = shown(context.clock, lease_id, &times);

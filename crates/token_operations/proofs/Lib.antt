@@ -1,5 +1,6 @@
 pub mod Holders
 pub mod Named
+pub mod Refused
 pub mod TokenChecks
 pub mod TokenCreations
 pub mod TokenLists

@@ -1,3 +1,4 @@
+pub mod ChangedTokens
 pub mod Sudo
 pub mod TokenEntries
 pub mod TokenMaking

@@ -1,8 +1,9 @@
 //! What is done with tokens (Vault's documentation, "Token auth method (API)").
 
+ghost use Rattle.std.specs.Prelude.{◌≡◌, OnOk};
 ghost use Rattle.broker_types.specs.Fault.{IsNotBadStart};
 ghost use Rattle.broker_types.specs.Names.{names_of};
-ghost use Rattle.records.specs.Calls.{OnAnswer, IsRequestCall};
+ghost use Rattle.records.specs.Calls.{OnAnswer, OnRefused, IsRequestCall};
 ghost use Rattle.records.specs.Ranges.{IsTokenInRange};
 ghost use Rattle.records.specs.Transaction.{IsHonest};
 ghost use Rattle.broker_model.specs.parts.TokenCommands.{own_names};
@@ -10,6 +11,7 @@ ghost use Rattle.broker_model.specs.parts.Tokens as part;
 ghost use Rattle.broker_rows.specs.Caller.{AreItsRules, IsCallerAt};
 ghost use Rattle.broker_rows.specs.Operating.{ArePrinted, PerformsBy};
 ghost use Rattle.broker_rows.specs.Reads.{AreReadableTokens};
+ghost use Rattle.token_operations.specs.ChangedTokens.{ChangesTokens};
 ghost use Rattle.token_operations.specs.TokenRanges.{IsTokenCommandInRange};
 
 use crate::creation::create;
@@ -45,6 +47,11 @@ pub fn act_on_tokens<T: RecordsTx>(
     // caller was read before.
     ensures readable { IsHonest (T.seen tx.new) → IsCallerAt (T.seen tx.old).rows asker.now.caller
         → OnAnswer result (AreReadableTokens (T.seen tx.old).rows asker.now.caller.token command) }
+
+    // And a look-up changes no row, what is revoked is gone, and no other row; and what is refused changes no row.
+    ensures rows { IsHonest (T.seen tx.new) → OnOk result
+        (ChangesTokens asker.now.caller.token command (T.seen tx.old).rows (T.seen tx.new).rows) }
+    ensures refused { IsHonest (T.seen tx.new) → OnRefused result ((T.seen tx.new).rows ≡ (T.seen tx.old).rows) }
     ensures call { IsRequestCall (T.seen tx.old) (T.seen tx.new) result IsNotBadStart }
 {
     match command {

@@ -6,7 +6,7 @@ ghost use Rattle.broker_types.specs.Names.{names_of};
 ghost use Rattle.broker_types.specs.Text.{Text};
 ghost use Rattle.broker_types.specs.TokenText.{token_text};
 ghost use Rattle.broker_types.specs.declared.ask.Verb.TheVariants as verb;
-ghost use Rattle.records.specs.Calls.{IsRequestCall};
+ghost use Rattle.records.specs.Calls.{OnRefused, IsRequestCall};
 ghost use Rattle.records.specs.Ranges.{IsTokenInRange};
 ghost use Rattle.records.specs.Transaction.{IsHonest};
 ghost use Rattle.api_json.specs.Kept.{IsKeptCreation};
@@ -53,6 +53,7 @@ pub(crate) fn create<T: RecordsTx>(
     ensures may { IsHonest (T.seen tx.new) → IsCallerAt (T.seen tx.old).rows asker.now.caller
         → AreItsRules (T.seen tx.old).rows asker.now
         → OnOk result (MayMakeAt (T.seen tx.old).rows asker.now.caller.token making asked) }
+    ensures refused { IsHonest (T.seen tx.new) → OnRefused result ((T.seen tx.new).rows ≡ (T.seen tx.old).rows) }
     ensures call { IsRequestCall (T.seen tx.old) (T.seen tx.new) result IsNotBadStart }
 {
     let caller = &asker.caller;
@@ -87,6 +88,7 @@ fn put<T: RecordsTx>(
     requires { IsTokenInRange token }
     ensures told { (who : Option Text) → identifier.now ≡ (names_of context.now.words).token
         → PutsToken who context.now (T.seen tx.old) (T.seen tx.new) token result }
+    ensures refused { IsHonest (T.seen tx.new) → OnRefused result ((T.seen tx.new).rows ≡ (T.seen tx.old).rows) }
     ensures call { IsRequestCall (T.seen tx.old) (T.seen tx.new) result IsNotBadStart }
 {
     let text = token_text(alloc, identifier)?;

@@ -5,7 +5,7 @@ ghost use Rattle.broker_types.specs.Fault.{IsNotBadStart};
 ghost use Rattle.broker_types.specs.Names.{names_of};
 ghost use Rattle.broker_types.specs.Operation as operation;
 ghost use Rattle.broker_types.specs.Text.{Text};
-ghost use Rattle.records.specs.Calls.{OnAnswer, IsRequestCall};
+ghost use Rattle.records.specs.Calls.{OnAnswer, IsRequestReading};
 ghost use Rattle.records.specs.Ranges.{IsTokenInRange};
 ghost use Rattle.records.specs.Transaction.{IsHonest};
 ghost use Rattle.token_tree.specs.Accessors.{AreAccessorRows};
@@ -39,7 +39,7 @@ pub(crate) fn look_up<T: RecordsTx>(
     // Whatever the rows are: a damaged row is answered neither as a token nor as an unknown text.
     ensures readable { IsHonest (T.seen tx.new)
         → OnAnswer result (IsReadableToken (T.seen tx.old).rows token.now) }
-    ensures call { IsRequestCall (T.seen tx.old) (T.seen tx.new) result IsNotBadStart }
+    ensures call { IsRequestReading (T.seen tx.old) (T.seen tx.new) result IsNotBadStart }
 {
     let Some(found) = find(alloc, tx, token)? else {
         return Err(RequestError::Refused(Refusal::Forbidden(Denial::BadToken)));
@@ -91,7 +91,7 @@ pub(crate) fn look_up_accessor<T: RecordsTx>(
     // token that it names.
     ensures readable { IsHonest (T.seen tx.new)
         → OnAnswer result (IsReadableName (T.seen tx.old).rows (IsReadableToken (T.seen tx.old).rows) accessor.now) }
-    ensures call { IsRequestCall (T.seen tx.old) (T.seen tx.new) result IsNotBadStart }
+    ensures call { IsRequestReading (T.seen tx.old) (T.seen tx.new) result IsNotBadStart }
 {
     let Some(token) = find_accessor(tx, accessor)? else {
         return Err(RequestError::Refused(Refusal::BadRequest(Reason::InvalidAccessor)));
@@ -110,7 +110,7 @@ pub(crate) fn list_accessors<T: RecordsTx>(
 
     // Whatever the rows are: no list passes over a damaged row.
     ensures readable { IsHonest (T.seen tx.new) → OnAnswer result (AreAccessorRows (T.seen tx.old).rows) }
-    ensures call { IsRequestCall (T.seen tx.old) (T.seen tx.new) result IsNotBadStart }
+    ensures call { IsRequestReading (T.seen tx.old) (T.seen tx.new) result IsNotBadStart }
 {
     let names = accessors(alloc, tx)?;
     let object = keys_object(alloc, &names)?;

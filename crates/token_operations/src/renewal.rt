@@ -9,7 +9,7 @@ ghost use Rattle.broker_types.specs.Text.{Text};
 ghost use Rattle.records.specs.Ranges.{IsTokenInRange};
 ghost use Rattle.records.specs.TokenEntry.{token_entry};
 ghost use Rattle.records.specs.Transaction.{IsHonest};
-ghost use Rattle.records.specs.Calls.{OnAnswer, IsRequestCall};
+ghost use Rattle.records.specs.Calls.{OnAnswer, OnRefused, IsRequestCall};
 ghost use Rattle.broker_model.specs.parts.Tokens as part;
 ghost use Rattle.broker_rows.specs.Operating.{ActsAs, Begins, Performs, PerformsBy};
 ghost use Rattle.broker_rows.specs.ReadableRow.{IsReadableToken};
@@ -38,6 +38,7 @@ pub(crate) fn renew<T: RecordsTx>(
     // Whatever the rows are: a damaged row is answered neither as a token nor as an unknown text.
     ensures readable { IsHonest (T.seen tx.new)
         → OnAnswer result (IsReadableToken (T.seen tx.old).rows token.now) }
+    ensures refused { IsHonest (T.seen tx.new) → OnRefused result ((T.seen tx.new).rows ≡ (T.seen tx.old).rows) }
     ensures call { IsRequestCall (T.seen tx.old) (T.seen tx.new) result IsNotBadStart }
 {
     let Some(found) = find(alloc, tx, token)? else {
@@ -57,6 +58,7 @@ pub(crate) fn renew_self<T: RecordsTx>(
     requires { IsTokenInRange caller.now.known }
     ensures told { PerformsBy caller.now context.now [] (T.seen tx.old) (T.seen tx.new)
         (λ b. part.renew b (names_of context.now.words) caller.now.token increment) result }
+    ensures refused { IsHonest (T.seen tx.new) → OnRefused result ((T.seen tx.new).rows ≡ (T.seen tx.old).rows) }
     ensures call { IsRequestCall (T.seen tx.old) (T.seen tx.new) result IsNotBadStart }
 {
     let known = copied_token(alloc, &caller.known)?;
@@ -76,6 +78,7 @@ fn renew_found<T: RecordsTx>(
     ensures told { IsHonest (T.seen tx.new) → (who : Option Text) (b : Broker)
         → Begins who context.now (T.seen tx.old).rows b → Some found ≡ option_map token_entry (get b.tokens token.now)
         → ActsAs who b (T.seen tx.new).rows result (part.renew b (names_of context.now.words) token.now increment) }
+    ensures refused { IsHonest (T.seen tx.new) → OnRefused result ((T.seen tx.new).rows ≡ (T.seen tx.old).rows) }
     ensures call { IsRequestCall (T.seen tx.old) (T.seen tx.new) result IsNotBadStart }
 {
     if found.ends.is_none() {

@@ -1,19 +1,21 @@
 //! Revocation of tokens and of wrapping tokens.
 
-ghost use Rattle.std.specs.Prelude.{◌≡◌, Ok, Option, None};
+ghost use Rattle.std.specs.Prelude.{◌≡◌, true, Ok, Option, None, OnOk};
 ghost use Rattle.broker_types.specs.Broker.{Broker};
 ghost use Rattle.broker_types.specs.Fault.{IsNotBadStart};
 ghost use Rattle.broker_types.specs.Text.{Text};
 ghost use Rattle.records.specs.Table.{table_of};
 ghost use Rattle.records.specs.Transaction.{IsHonest};
-ghost use Rattle.records.specs.Calls.{OnAnswer, IsRequestCall};
+ghost use Rattle.records.specs.Calls.{OnAnswer, OnRefused, IsRequestCall};
 ghost use Rattle.token_tree.specs.Tokens as tree;
 ghost use Rattle.wrapping.specs.AccessorRows as wrapping;
+ghost use Rattle.wrapping.specs.AccessorRows.{DropsAccessor};
 ghost use Rattle.broker_model.specs.parts.Tokens as part;
 ghost use Rattle.broker_rows.specs.Ending.{Revokes, RevokesOne};
 ghost use Rattle.broker_rows.specs.Operating.{ActsAs};
 ghost use Rattle.broker_rows.specs.Reads.{IsReadableRevoked, IsReadableRevokedAlone, IsReadableByAccessor};
 ghost use Rattle.broker_rows.specs.Representing.{Represents};
+ghost use Rattle.token_operations.specs.ChangedTokens.{RevokesNamed};
 
 use broker_rows::{Answered, leave_nothing};
 use broker_types::{Reason, Refusal, RequestError};
@@ -40,6 +42,7 @@ pub(crate) fn revoke<T: RecordsTx>(
     // And these rows go, with those of their accessors and what belonged to them, and no other changes.
     ensures rows { IsHonest (T.seen tx.new)
         → OnAnswer result (Revokes token.now (T.seen tx.old).rows (T.seen tx.new).rows) }
+    ensures refused { IsHonest (T.seen tx.new) → OnRefused result ((T.seen tx.new).rows ≡ (T.seen tx.old).rows) }
     ensures call { IsRequestCall (T.seen tx.old) (T.seen tx.new) result IsNotBadStart }
 {
     let ended = end_descent(alloc, tx, token)?;
@@ -67,6 +70,7 @@ pub(crate) fn revoke_orphan<T: RecordsTx>(
     // other row changes.
     ensures rows { IsHonest (T.seen tx.new)
         → OnAnswer result (RevokesOne token.now (T.seen tx.old).rows (T.seen tx.new).rows) }
+    ensures refused { IsHonest (T.seen tx.new) → OnRefused result ((T.seen tx.new).rows ≡ (T.seen tx.old).rows) }
     ensures call { IsRequestCall (T.seen tx.old) (T.seen tx.new) result IsNotBadStart }
 {
     let ended = revoke_one(alloc, tx, token)?;
@@ -89,6 +93,11 @@ pub(crate) fn revoke_accessor<T: RecordsTx>(
     // token that it names, or of one below it, or of a lease of these, or that of the wrapping token that it names.
     ensures readable { IsHonest (T.seen tx.new)
         → OnAnswer result (IsReadableByAccessor (T.seen tx.old).rows accessor.now) }
+
+    // And what has the accessor goes, and no other row changes.
+    ensures rows { IsHonest (T.seen tx.new)
+        → OnOk result (RevokesNamed accessor.now (T.seen tx.old).rows (T.seen tx.new).rows) }
+    ensures refused { IsHonest (T.seen tx.new) → OnRefused result ((T.seen tx.new).rows ≡ (T.seen tx.old).rows) }
     ensures call { IsRequestCall (T.seen tx.old) (T.seen tx.new) result IsNotBadStart }
 {
     let Some(token) = find_accessor(tx, accessor)? else {
@@ -112,6 +121,9 @@ fn revoke_wrapping<T: RecordsTx>(
     // wrapping token that it names.
     ensures readable { IsHonest (T.seen tx.new)
         → OnAnswer result (wrapping.IsReadableName (table_of (T.seen tx.old).rows) accessor.now) }
+    ensures rows { IsHonest (T.seen tx.new) → OnOk result
+        (DropsAccessor accessor.now (table_of (T.seen tx.old).rows) true (table_of (T.seen tx.new).rows)) }
+    ensures refused { IsHonest (T.seen tx.new) → OnRefused result ((T.seen tx.new).rows ≡ (T.seen tx.old).rows) }
     ensures call { IsRequestCall (T.seen tx.old) (T.seen tx.new) result IsNotBadStart }
 {
     accessors_name_their_wrapping_tokens();

@@ -11,7 +11,7 @@ ghost use Rattle.broker_types.specs.Operation as operation;
 ghost use Rattle.broker_types.specs.Sound.{IsIdentifier};
 ghost use Rattle.broker_types.specs.Text.{Text};
 ghost use Rattle.records.specs.Transaction.{IsHonest};
-ghost use Rattle.records.specs.Calls.{OnAnswer, IsRequestCall};
+ghost use Rattle.records.specs.Calls.{OnAnswer, IsRequestCall, IsRequestReading};
 ghost use Rattle.records.specs.Table.{table};
 ghost use Rattle.leases.specs.LeaseRows.{IsReadableCredential};
 ghost use Rattle.leases.specs.RoleRows.{IsReadableRole};
@@ -134,7 +134,7 @@ pub(super) fn verify<T: RecordsTx>(
     // Whatever the rows are: a damaged row is answered neither as a lease nor as none.
     ensures readable { IsHonest (T.seen tx.new)
         → OnAnswer result (IsReadableCredential (table (T.seen tx.old)) credential.now) }
-    ensures call { IsRequestCall (T.seen tx.old) (T.seen tx.new) result IsNotBadStart }
+    ensures call { IsRequestReading (T.seen tx.old) (T.seen tx.new) result IsNotBadStart }
 {
     let valid = leases::verify(tx, credential)?;
     let object = valid_object(alloc, valid)?;

@@ -8,7 +8,7 @@ ghost use Rattle.broker_types.specs.Names.{names_of};
 ghost use Rattle.broker_types.specs.Operation.{nothing, plainly};
 ghost use Rattle.broker_types.specs.Text.{Text};
 ghost use Rattle.records.specs.Transaction.{IsHonest};
-ghost use Rattle.records.specs.Calls.{OnAnswer, IsRequestCall};
+ghost use Rattle.records.specs.Calls.{OnAnswer, IsRequestCall, IsRequestReading};
 ghost use Rattle.records.specs.Table.{table};
 ghost use Rattle.leases.specs.RoleRows.{IsReadableRole};
 ghost use Rattle.leases.specs.Roles as roles;
@@ -38,7 +38,7 @@ pub(super) fn show<T: RecordsTx>(
     // Whatever the rows are: a damaged row is answered neither as a role nor as an absent one.
     ensures readable { IsHonest (T.seen tx.new)
         → OnAnswer result (IsReadableRole (table (T.seen tx.old)) mount.now name.now) }
-    ensures call { IsRequestCall (T.seen tx.old) (T.seen tx.new) result IsNotBadStart }
+    ensures call { IsRequestReading (T.seen tx.old) (T.seen tx.new) result IsNotBadStart }
 {
     let Some(found) = role(alloc, tx, mount, name)? else {
         return Err(RequestError::Refused(Refusal::NotFound));

@@ -6,7 +6,7 @@ ghost use Rattle.broker_types.specs.Names.{names_of};
 ghost use Rattle.broker_types.specs.Text.{Text};
 ghost use Rattle.records.specs.Transaction.{IsHonest};
 ghost use Rattle.kv2.specs.Secrets.{secret_name};
-ghost use Rattle.records.specs.Calls.{OnAnswer, IsRequestCall};
+ghost use Rattle.records.specs.Calls.{OnAnswer, IsRequestReading};
 ghost use Rattle.broker_model.specs.parts.Place.{at};
 ghost use Rattle.broker_model.specs.parts.Secrets as part;
 ghost use Rattle.broker_rows.specs.Operating.{Performs};
@@ -33,7 +33,7 @@ pub(super) fn show<T: RecordsTx>(
     // Whatever the rows are: a damaged row is answered neither as metadata nor as an absent secret.
     ensures readable { IsHonest (T.seen tx.new)
         → OnAnswer result (IsReadableWhole (T.seen tx.old).rows (secret_name mount.now path.now)) }
-    ensures call { IsRequestCall (T.seen tx.old) (T.seen tx.new) result IsNotBadStart }
+    ensures call { IsRequestReading (T.seen tx.old) (T.seen tx.new) result IsNotBadStart }
 {
     let Some(found) = kv2::metadata(alloc, tx, mount, path)? else {
         return Err(RequestError::Refused(Refusal::NotFound));
@@ -53,7 +53,7 @@ pub(super) fn list<T: RecordsTx>(
 ) -> Result<Answered, RequestError>
     ensures told { (who : Option Text) → Performs who context.now [] (T.seen tx.old) (T.seen tx.new)
         (λ b. part.list b (names_of context.now.words) (at mount.now path.now)) result }
-    ensures call { IsRequestCall (T.seen tx.old) (T.seen tx.new) result IsNotBadStart }
+    ensures call { IsRequestReading (T.seen tx.old) (T.seen tx.new) result IsNotBadStart }
 {
     let names = kv2::list(alloc, tx, mount, path)?;
     if names.is_empty() {

@@ -5,7 +5,7 @@ ghost use Rattle.broker_types.specs.Fault.{IsNotBadStart};
 ghost use Rattle.broker_types.specs.Names.{names_of};
 ghost use Rattle.broker_types.specs.Text.{Text};
 ghost use Rattle.records.specs.Transaction.{IsHonest};
-ghost use Rattle.records.specs.Calls.{OnAnswer, IsRequestCall};
+ghost use Rattle.records.specs.Calls.{OnAnswer, IsRequestCall, IsRequestReading};
 ghost use Rattle.records.specs.Table.{table};
 ghost use Rattle.kv2.specs.SecretRows.{IsReadableMount};
 ghost use Rattle.broker_model.specs.parts.Place.{at};
@@ -33,7 +33,7 @@ pub(super) fn show<T: RecordsTx>(
     // Whatever the rows are: a damaged row is answered neither as settings nor as an absent mount.
     ensures readable { IsHonest (T.seen tx.new)
         → OnAnswer result (IsReadableMount (table (T.seen tx.old)) mount.now) }
-    ensures call { IsRequestCall (T.seen tx.old) (T.seen tx.new) result IsNotBadStart }
+    ensures call { IsRequestReading (T.seen tx.old) (T.seen tx.new) result IsNotBadStart }
 {
     let Some(found) = config(tx, mount)? else {
         return Err(RequestError::Refused(Refusal::NotFound));

@@ -6,7 +6,7 @@ ghost use Rattle.broker_types.specs.Names.{names_of};
 ghost use Rattle.broker_types.specs.Path.{is_path};
 ghost use Rattle.broker_types.specs.Text.{Text};
 ghost use Rattle.records.specs.Transaction.{IsHonest};
-ghost use Rattle.records.specs.Calls.{OnAnswer, IsRequestCall};
+ghost use Rattle.records.specs.Calls.{OnAnswer, IsRequestCall, IsRequestReading};
 ghost use Rattle.records.specs.Table.{table};
 ghost use Rattle.api_json.specs.Kept.{IsKept};
 ghost use Rattle.kv2.specs.SecretRows.{AreReadableToWrite};
@@ -38,7 +38,7 @@ pub(super) fn read<T: RecordsTx>(
     // Whatever the rows are: a damaged row is answered neither as a version nor as an absent one.
     ensures readable { IsHonest (T.seen tx.new)
         → OnAnswer result (IsReadableSecret (T.seen tx.old).rows (at mount.now path.now) number) }
-    ensures call { IsRequestCall (T.seen tx.old) (T.seen tx.new) result IsNotBadStart }
+    ensures call { IsRequestReading (T.seen tx.old) (T.seen tx.new) result IsNotBadStart }
 {
     let Some(found) = kv2::read(alloc, tx, mount, path, number)? else {
         return Err(RequestError::Refused(Refusal::NotFound));

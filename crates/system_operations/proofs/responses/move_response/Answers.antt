@@ -12,6 +12,7 @@ use Rattle.records.specs.CallLaws.{honest_before}
 use Rattle.records.specs.Parts.{Tells, of_waiting}
 use Rattle.records.specs.RowForms.{used_row}
 use Rattle.records.specs.Table.{table_of, with_row}
+use Rattle.records.specs.TableLaws.{table_of-injective}
 use Rattle.records.specs.ValueLaws.{none_of}
 use Rattle.records.specs.declared.kind.Kind.TheVariants as kind
 use Rattle.wrapping.specs.WaitingRows.{IsWaitingAt, with_moved}
@@ -118,3 +119,15 @@ returns-clause-rows g c honest some =
     ∙ (λ i. with_row (c.in_ok-use_up.ensures.rows once i) kind.Used (identifier i) used_row)
     ∙ (λ i. with_row (with_row (is i) kind.Used (accessor i) used_row) kind.Used names.wrapping_token used_row) in
     (w.0, subst (IsWaitingAt (table_of old) t) w.1 moves.was, marks)
+
+pub returns-in_default-clause-unknown : goal.returns-in_default-clause-unknown
+returns-in_default-clause-unknown g c honest none =
+    let seen = g.T.RecordsTx.seen in
+    let old = (seen c.args.tx.now).rows in
+    let new = (seen c.rewrap.new.tx).rows in
+    let t = c.args.token.now in
+    let a = c.as_str-accessor.result.now in
+    let moves = c.in_ok-response.ensures.rows honest in
+    let absent = mapped_none (moved a c.context.inside.clock) moves.response (sym moves.is_moved ∙ none_of _ c.in_default.not-Some) in
+    table_of-injective new old
+    (moves.is ∙ ap (with_moved (table_of old) t c.args.new_token.now a c.context.inside.clock) absent)

@@ -60,3 +60,7 @@ returns-clause-told g c who honest b starts fresh =
 pub returns-clause-rows : goal.returns-clause-rows
 returns-clause-rows g c honest =
     c.in_ok-response.ensures.rows honest (λ none. none-some _ (sym none ∙ c.in-Some.is))
+
+pub returns-in_default-clause-refused : goal.returns-in_default-clause-refused
+returns-in_default-clause-refused g c honest =
+    c.in_ok-response.ensures.unknown honest (none_of _ c.in_default.not-Some)

@@ -6,8 +6,9 @@ use Rattle.broker_types.specs.Map.{get}
 use Rattle.broker_types.specs.Operation.{kept_text}
 use Rattle.broker_types.specs.OptionLaws.{mapped, mapped_none}
 use Rattle.records.specs.Table.{table_of}
+use Rattle.records.specs.TableLaws.{table_of-injective}
 use Rattle.records.specs.ValueLaws.{none_of}
-use Rattle.wrapping.specs.WaitingRows.{TakesOut}
+use Rattle.wrapping.specs.WaitingRows.{TakesOut, without_entry}
 use Rattle.broker_model.specs.parts.Wrappings.{handed_out}
 use Rattle.broker_rows.specs.RepresentingLaws.{represents_dropped, represents_waiting, still_represented}
 use Rattle.broker_rows.specs.declared.answered.Answered.TheVariants.{Kept}
@@ -62,3 +63,12 @@ returns-clause-rows g c honest =
       subst (λ o. TakesOut c.args.token.now (table_of old) o (table_of new)) w.1 out.1,
       ap kept_text w.2,
     )
+
+pub returns-in_default-clause-refused : goal.returns-in_default-clause-refused
+returns-in_default-clause-refused g c honest =
+    let seen = g.T.RecordsTx.seen in
+    let old = (seen c.args.tx.now).rows in
+    let new = (seen c.take.new.tx).rows in
+    let out = c.in_ok-text.ensures.rows honest in
+    let none = mapped_none (λ (w : Waiting). w.reply) out.0 (sym out.2 ∙ none_of _ c.in_default.not-Some) in
+    table_of-injective new old (out.1.is ∙ ap (without_entry (table_of old) c.args.token.now) none)

@@ -1,4 +1,5 @@
 use Rattle.std.proofs.Common.{sym}
+use Rattle.records.specs.CallLaws.{on_answer}
 use Rattle.system_operations.proofs.token_leases.act_on_leases.Goals as goal
 
 pub returns-in-Revoke-clause-told : goal.returns-in-Revoke-clause-told
@@ -10,3 +11,15 @@ pub returns-in-RevokeUnder-clause-told : goal.returns-in-RevokeUnder-clause-told
 returns-in-RevokeUnder-clause-told g c who =
     let told = c.revoke_under.ensures.told who c.args.context.now in
     rw c.in-RevokeUnder.is told
+
+pub returns-in-LookUp-clause-rows : goal.returns-in-LookUp-clause-rows
+returns-in-LookUp-clause-rows g c honest = rw c.in-LookUp.is (c.look_up.ensures.call.same honest)
+
+pub returns-in-Renew-clause-rows : goal.returns-in-Renew-clause-rows
+returns-in-Renew-clause-rows g c honest = rw c.in-Renew.is (on_answer c.renew.result tt)
+
+pub returns-in-Revoke-clause-rows : goal.returns-in-Revoke-clause-rows
+returns-in-Revoke-clause-rows g c honest = rw c.in-Revoke.is (on_answer c.revoke.result tt)
+
+pub returns-in-RevokeUnder-clause-rows : goal.returns-in-RevokeUnder-clause-rows
+returns-in-RevokeUnder-clause-rows g c honest = rw c.in-RevokeUnder.is (on_answer c.revoke_under.result tt)

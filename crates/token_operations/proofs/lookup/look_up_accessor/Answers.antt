@@ -1,5 +1,5 @@
 use Rattle.std.specs.Prelude.{[], Err, Some}
-use Rattle.std.proofs.Common.{sym, ap, ◌∙◌, subst}
+use Rattle.std.proofs.Common.{sym, ap, ◌∙◌, subst, rules}
 use Rattle.std.proofs.lemmas.Result.{err_from_is_err_and}
 use Rattle.broker_types.specs.Names.{names_of}
 use Rattle.records.specs.CallLaws.{honest_before, on_answer_weaker}
@@ -60,3 +60,14 @@ returns-clause-readable g c honest =
           (subst (λ (z : Rows). IsReadableToken z c.as_str.result.now) (c.in_ok-token.ensures.call.same mid) readable),
     ))
     (c.look_up.ensures.readable honest)
+
+pub returns-clause-call : goal.returns-clause-call
+returns-clause-call g c =
+    let seen = g.T.RecordsTx.seen in
+    record {
+      same = λ honest.
+          let mid = honest_before (seen c.find_accessor.new.tx) (seen c.look_up.new.tx) _ c.look_up.ensures.call.goes_on honest in
+          on_answer_weaker c.look_up.result (λ same. same ∙ c.in_ok-token.ensures.call.same mid) (c.look_up.ensures.call.same honest);
+      faults = search rules;
+      goes_on = search rules;
+    }

@@ -6,6 +6,7 @@ use Rattle.records.specs.CallLaws.{honest_before, on_answer}
 use Rattle.records.specs.ValueLaws.{none_of}
 use Rattle.broker_model.specs.Forms.{forms}
 use Rattle.broker_rows.specs.RepresentingLaws.{represents_tokens, still_represented}
+use Rattle.token_operations.proofs.Refused.{refused_weaker}
 use Rattle.token_operations.proofs.TokenRenewals.{acts_unknown}
 use Rattle.token_operations.proofs.renewal.renew.Goals as goal
 
@@ -47,3 +48,9 @@ returns-clause-readable g c honest =
     let seen = g.T.RecordsTx.seen in
     let before = honest_before (seen c.find.new.tx) (seen c.renew_found.new.tx) _ c.renew_found.ensures.call.goes_on honest in
     on_answer c.renew_found.result (c.in_ok-found.field-0, c.in_ok-found.ensures.in_range, c.in_ok-found.ensures.found before)
+
+pub returns-clause-refused : goal.returns-clause-refused
+returns-clause-refused g c honest =
+    let seen = g.T.RecordsTx.seen in
+    let before = honest_before (seen c.find.new.tx) (seen c.renew_found.new.tx) _ c.renew_found.ensures.call.goes_on honest in
+    refused_weaker c.renew_found.result (λ same. same ∙ c.in_ok-found.ensures.call.same before) (c.renew_found.ensures.refused honest)
