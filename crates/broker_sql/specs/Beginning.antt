@@ -1,10 +1,15 @@
 -- Whether a store was started, by its rows (this project's definition).
 use Rattle.std.specs.Prelude.{◌≡◌, ◌≢◌, ◌≤◌, Bool, false, Result, Err, IsTrue, IfOk}
 use Rattle.std.specs.FinMap as map
+use Rattle.sqlite_disk.specs.declared.Disk.{Ghosts}
+use Rattle.sqlite_store.specs.declared.store.FileStore.{FileStore}
 use Rattle.sqlite_trees.specs.declared.store.Store as store
+use Rattle.sqlite.specs.Files.{over_files}
+use Rattle.sqlite.specs.Recovery.{Image}
 use Rattle.broker_types.specs.declared.fault.Fault.{Fault}
 use Rattle.broker_types.specs.declared.fault.Fault.TheVariants.{BadStart}
 use Rattle.records.specs.Transaction.{Rows}
+use Rattle.records_sql.specs.Adopted.{IsKeptIn}
 use Rattle.records_sql.specs.declared.sql_records.SqlRecords.{SqlRecords}
 use Rattle.broker_rows.specs.ClockRow.{HasNoClock}
 use Rattle.broker.specs.Kept.{IsHonestStore}
@@ -24,3 +29,10 @@ pub record LacksClock {S : Type 0} (g : store.Ghosts S) (records : SqlRecords S 
   pub mismatches : (kept_records g records).mismatches ≤ (kept_records g last).mismatches
   pub told : IsHonestStore (kept_records g last)
       → HasNoClock (kept_records g records).rows × ((kept_records g records).rows ≢ map.empty)
+
+-- The same of two files: records were opened from them, with the rows that they kept, and these lack it.
+pub record LacksClockIn {D : Type 0} (g : Ghosts D) (image : Image) : Type 0 where
+  pub records : SqlRecords (FileStore D g) over_files
+  pub found : IsHonestStore (kept_records over_files records)
+      → IsKeptIn image (kept_records over_files records).rows
+  pub lacks : LacksClock over_files records

@@ -10,7 +10,7 @@ ghost use Rattle.records_sql.specs.Adopted.{IsKeptIn};
 ghost use Rattle.broker_rows.specs.ClockRow.{HasNoClock};
 ghost use Rattle.broker.specs.Kept.{IsHonestStore};
 ghost use Rattle.broker_sql.specs.Atomic.{IsAtomic};
-ghost use Rattle.broker_sql.specs.Beginning.{LacksClock, TellsStart};
+ghost use Rattle.broker_sql.specs.Beginning.{LacksClock, LacksClockIn, TellsStart};
 ghost use Rattle.broker_sql.specs.SqlKept.{kept_records, sql_kept};
 
 use crate::emptiness::is_empty;
@@ -19,6 +19,7 @@ use broker_types::Fault;
 use records::{Kind, RecordsTx};
 use records_sql::SqlRecords;
 use sqlite::{Alter, FileFrom, FileStore, Start};
+use sqlite_disk::Disk;
 use std::alloc::Global;
 use std::rt::HostRuntime;
 
@@ -105,6 +106,8 @@ impl<S: Start> SqlStore<FileStore<FileFrom<S>>> {
         ensures started { IfOk result (λ store. IsHonestStore (sql_kept over_files store)
             → HasNoClock (sql_kept over_files store).rows → (sql_kept over_files store).rows ≡ map.empty) }
         ensures memory { path.now ≡ codes ":memory:" → result ≡ Err Fault.Storage }
+        ensures bad_start { result ≡ Err Fault.BadStart
+            → LacksClockIn ⟦<FileFrom<S> as Disk>⟧ (image_at S.Start) }
         ensures faults { IfErr result (λ fault. IsMemoryOrStorage fault ⊎ (fault ≡ Fault.BadStart)) }
     {
         let records = SqlRecords::open_from(rt, path, start)?;

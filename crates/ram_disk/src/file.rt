@@ -1,6 +1,6 @@
 //! A file in the memory of the program.
 
-ghost use Rattle.std.specs.Prelude.{◌≡◌, [], length, true, false, refl, is_ok, OnOk};
+ghost use Rattle.std.specs.Prelude.{◌≡◌, [], length, true, false, refl, is_ok, OnOk, OnErr};
 ghost use Rattle.sqlite_disk.specs.Disk.{Holds, Torn, Cut, CountsFault, Mixed};
 ghost use Rattle.sqlite_disk.specs.Refusal.{finds_no_room};
 ghost use Rattle.ram_disk.specs.RamFile.{bytes_of};
@@ -118,6 +118,7 @@ fn count(outcome: Result<(), AllocError>, faults: &mut u64) -> io::Result<()>
 fn resize(bytes: &mut Vec<u8>, len: usize) -> Result<(), AllocError>
     ensures len { OnOk result (length bytes.new.items ≡ len) }
     ensures others { Cut len bytes.old.items bytes.new.items }
+    ensures kept { OnErr result (bytes.new.items ≡ bytes.old.items) }
 {
     bytes.resize(len, 0)
 }
@@ -128,6 +129,7 @@ fn overwrite(bytes: &mut Vec<u8>, at: usize, part: &[u8]) -> Result<(), AllocErr
     ensures written { OnOk result (Holds bytes.new.items at part.now) }
     ensures others { Torn at (length part.now) bytes.old.items bytes.new.items }
     ensures mixed { Mixed at part.now bytes.old.items bytes.new.items }
+    ensures kept { OnErr result (bytes.new.items ≡ bytes.old.items) }
 {
     let end = at.checked_add(part.len()).ok_or(AllocError)?;
     if end > bytes.len() {

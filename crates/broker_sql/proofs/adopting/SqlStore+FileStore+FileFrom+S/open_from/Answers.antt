@@ -13,3 +13,11 @@ pub returns-clause-started : goal.returns-clause-started
 returns-clause-started g c =
     let records = kept_records over_files c.in_ok-records.records in
     if_two c.adopt.result (λ store same started. still_empty records (sql_kept over_files store) same started) c.adopt.ensures.rows c.adopt.ensures.started
+
+pub returns-clause-bad_start : goal.returns-clause-bad_start
+returns-clause-bad_start g c is =
+    record {
+      records = c.in_ok-records.records;
+      found = c.in_ok-records.ensures.found;
+      lacks = c.adopt.ensures.bad_start is;
+    }
