@@ -14,6 +14,7 @@ use Rattle.broker_rows.specs.Representing.{Represents}
 use Rattle.broker.specs.Kept.{Kept, IsHonestStore}
 use Rattle.records.specs.Transaction.{Rows}
 use Rattle.hub.specs.AnyRows.{FaultsAt, NextConnections, RunConnections, TurnsOpen, close_history}
+use Rattle.hub.specs.HistoriesLaws.{asked_on, run_left}
 use Rattle.hub.specs.Listed.{IsListedReply}
 use Rattle.hub.specs.Representing.{ConnectionsRepresent, HubRepresents, hub_store}
 use Rattle.hub.specs.Runs.{AnswersOne}
@@ -26,6 +27,7 @@ use Rattle.hub.specs.declared.serve.ConnectionFault.{ConnectionFault}
 use Rattle.hub.specs.declared.serve.ConnectionFault.TheVariants.{Broker as OfBroker, Read, Write}
 use Rattle.hub.proofs.AnswersLemmas.{answers_none, answers_on, answers_one}
 use Rattle.hub.proofs.KnownLemmas.{Appends-nil}
+use Rattle.hub.proofs.RunHistories.{EventsAsked-append}
 use Rattle.hub.proofs.RunLemmas.{Run-append}
 
 -- ---- runs
@@ -120,6 +122,11 @@ stops_on seen conn P Q R T U V fault old mid new reads writes before p s =
           record {
             before = b.before;
             run = Run-append w p.exchange.events s.exchange.events p.exchange.replies s.exchange.replies a.after b.before a.run b.run;
+            history = a.history ++ b.history;
+            asks = EventsAsked-append w p.exchange.events s.exchange.events p.exchange.replies s.exchange.replies a.history b.history
+                a.after b.before a.asks b.asks;
+            asked = asked_on w.broker a.after.broker a.history b.history
+                (run_left w p.exchange.events p.exchange.replies a.history a.after a.asks) a.asked b.asked;
             after = b.after;
             left = b.left;
             represents = b.represents;
@@ -227,6 +234,7 @@ pub stops_writing : {S : Type 0} (seen : S → Kept) (conn : ℕ) (piece : List 
     (old mid new : Hub S) → Fed seen conn piece m ws bytes old mid → Closes seen conn mid new
     → Stops seen conn (λ read. read ≡ piece) (Appends before after) Write old new
 stops_writing seen conn piece m ws bytes before after old mid new f c =
+    let e : Event = record { conn = conn; piece = piece; moment = m; words = ws } in
     record {
       exchange = exchange_fed seen conn piece m ws bytes old mid f;
       last = [];
@@ -234,9 +242,18 @@ stops_writing seen conn piece m ws bytes before after old mid new f c =
       reads = append-nil (piece ++ []) ∙ append-nil piece;
       writes = λ other. absurd (other refl);
       answers = λ honest known w represents.
-          let a = f.answers (subst IsHonestStore c.store honest) w represents in
+          let a = answers_one seen w e bytes mid represents.broker.sound (f.answers (subst IsHonestStore c.store honest) w represents) in
           let left = closed_world seen conn mid new a.after c a.represents in
-          record { before = a.after; run = (a.after, a.next, refl); after = left.0; left = left.1; represents = left.2 };
+          record {
+            before = a.after;
+            run = a.run;
+            history = a.history;
+            asks = a.asks;
+            asked = a.asked;
+            after = left.0;
+            left = left.1;
+            represents = left.2;
+          };
       turns = λ all represents.
           let a = f.gives all represents in
           let left = c.connections a.0 a.1 in
@@ -255,7 +272,16 @@ stops_reading seen conn P T mid new p t c =
       writes = λ other. t;
       answers = λ honest known w represents.
           let left = closed_world seen conn mid new w c represents in
-          record { before = w; run = refl; after = left.0; left = left.1; represents = left.2 };
+          record {
+            before = w;
+            run = refl;
+            history = [];
+            asks = refl;
+            asked = tt;
+            after = left.0;
+            left = left.1;
+            represents = left.2;
+          };
       turns = λ all represents.
           let left = c.connections all represents in
           record { before = all; run = refl; after = left.0; left = left.2; represents = left.1 };
@@ -287,6 +313,9 @@ stops_feeding seen conn piece known fault old new short kept faults =
           record {
             before = w;
             run = refl;
+            history = [];
+            asks = refl;
+            asked = tt;
             after = f.0;
             left = leaves_closed fault w.connections conn piece f.0 f.2;
             represents = record {

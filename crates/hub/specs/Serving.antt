@@ -4,8 +4,10 @@ use Rattle.std.specs.Io.KnownBytes.{IsAtEnd}
 use Rattle.std.specs.List.{All, concat}
 use Rattle.broker_types.specs.Fault.{IsMemoryOrStorage, fault_number}
 use Rattle.broker.specs.Kept.{Kept, IsHonestStore}
+use Rattle.histories.specs.History.{AreAsked, History}
 use Rattle.http_layer.specs.Front.{IsFront, need}
 use Rattle.hub.specs.AnyRows.{RunConnections, close_history}
+use Rattle.hub.specs.Histories.{EventsAsked}
 use Rattle.hub.specs.Listed.{IsListedReply}
 use Rattle.hub.specs.Representing.{ConnectionsRepresent, HubRepresents, hub_store}
 use Rattle.hub.specs.Runs.{Answers, TookTurns}
@@ -77,11 +79,15 @@ pub record Proceeds {S : Type 0} (seen : S → Kept) (conn : ℕ) (Reads Writes 
 abbrev pub LeavesClosed : Connections → ℕ → Connections → Type 0
 LeavesClosed all conn after = (after ≡ close_history all conn) ⊎ ((all conn ≡ None) × (after ≡ all))
 
--- the events were answered so, and then the connection was closed, or is still not seen
+-- The events were answered so, the history is what they asked, one after another, of sound brokers, and then the
+-- connection was closed, or is still not seen.
 pub record RunsUntil {S : Type 0} (seen : S → Kept) (w : World) (conn : ℕ) (events : List Event)
     (replies : List (List ℕ)) (hub : Hub S) : Type 0 where
   pub before : World
   pub run : Run w events replies before
+  pub history : History
+  pub asks : EventsAsked w events replies history before
+  pub asked : AreAsked w.broker history
   pub after : Connections
   pub left : LeavesClosed before.connections conn after
   pub represents : HubRepresents seen hub (record before { connections = after })
