@@ -1,5 +1,5 @@
 -- What one connection leaves, and then another.
-use Rattle.std.proofs.Common.{◌≡◌, ◌≢◌, ◌∙◌, ◌⊎◌, inl, inr, ⊎_elim, unwrap_or, ℕ, List, Option, Some, None, Result, Ok, Err, IsTrue, IfErr, MatchResult, Bool, true, false, ap, sym, subst, refl, arith}
+use Rattle.std.proofs.Common.{◌≡◌, ◌≢◌, ◌∙◌, ◌⊎◌, inl, inr, ⊎_elim, unwrap_or, ℕ, List, [], ◌++◌, Option, Some, None, Result, Ok, Err, IsTrue, IfErr, MatchResult, Bool, true, false, ap, sym, subst, refl, arith}
 use Rattle.std.proofs.lemmas.Bool.{cases_eq}
 use Rattle.std.proofs.lemmas.Map.{update_apart, update_here}
 use Rattle.broker_types.specs.declared.fault.Fault.{Fault}
@@ -7,22 +7,27 @@ use Rattle.broker_types.specs.declared.fault.Fault.TheVariants.{Memory, Storage,
 use Rattle.broker_rows.specs.Representing.{Represents}
 use Rattle.broker.specs.Kept.{Kept, IsHonestStore}
 use Rattle.hub.specs.Feeding.{IsLater}
+use Rattle.hub.specs.HistoriesLaws.{asked_on, left_on, run_left}
 use Rattle.hub.specs.Representing.{ConnectionsRepresent, HubRepresents, hub_store}
 use Rattle.hub.specs.Serving.{IsAllowed, IsKnown, LeavesClosed, LeavesOthers, Proceeds, Stops}
 use Rattle.hub.specs.World.{Connections, History, World, history_at, new_history}
 use Rattle.hub.specs.declared.hub.Hub.{Hub}
 use Rattle.hub.specs.declared.serve.ConnectionFault.{ConnectionFault}
 use Rattle.hub.specs.declared.serve.ConnectionFault.TheVariants.{Broker, Read, Write}
-use Rattle.server.specs.Serving.{LeavesOrCloses, LeavesServed, RepresentsSome, is_skipped}
+use Rattle.server.specs.Serving.{LeavesOrCloses, LeavesServed, ServesOn, is_skipped}
 
 -- ---- nothing is served
+
+serves_none : {S : Type 0} (seen : S → Kept) (w : World) (hub : Hub S) → HubRepresents seen hub w → ServesOn seen w hub
+serves_none seen w hub represents = record { history = []; asked = tt; after = w; left = refl; represents = represents }
 
 pub leaves_none : {A S : Type 0} (seen : S → Kept) (a : A) (hub : Hub S) → LeavesServed seen (Ok a) hub hub
 leaves_none seen a hub = record {
   skipped = tt;
   storage = λ is. cc is;
   stays_open = λ honest. refl;
-  represents = λ honest open_ some. some;
+  wants = λ honest open_ w represents. tt;
+  represents = λ honest open_ w represents. serves_none seen w hub represents;
   later = record { mismatches = omega arith; closes = λ open_. open_ };
 }
 
@@ -37,6 +42,17 @@ open_on : {B : Type 0} (r : Result B Fault) (x m o : Bool) → MatchResult r (λ
 open_on (Ok b) x m o same first = same ∙ first
 open_on (Err fault) x m o same first = λ other. same other ∙ first
 
+-- what was asked first, and what was asked then
+serves_on : {S : Type 0} (seen : S → Kept) (w : World) (mid new : Hub S) (first : ServesOn seen w mid)
+    → ServesOn seen first.after new → ServesOn seen w new
+serves_on seen w mid new first second = record {
+  history = first.history ++ second.history;
+  asked = asked_on w.broker first.after.broker first.history second.history first.left first.asked second.asked;
+  after = second.after;
+  left = left_on w.broker first.after.broker second.after.broker first.history second.history first.left second.left;
+  represents = second.represents;
+}
+
 pub leaves_on : {A B S : Type 0} (seen : S → Kept) (a : A) (r : Result B Fault) (old mid new : Hub S)
     → LeavesServed seen (Ok a) old mid → LeavesServed seen r mid new → LeavesServed seen r old new
 leaves_on seen a r old mid new first second =
@@ -46,9 +62,13 @@ leaves_on seen a r old mid new first second =
       storage = second.storage;
       stays_open = λ honest. open_on r (hub_store seen new).is_open (hub_store seen mid).is_open (hub_store seen old).is_open
           (second.stays_open honest) (first.stays_open (before honest));
-      represents = λ honest open_ some. second.represents honest
-          (subst IsTrue (sym (first.stays_open (before honest))) open_)
-          (first.represents (before honest) open_ some);
+      wants = λ honest open_ w represents.
+          let still = subst IsTrue (sym (first.stays_open (before honest))) open_ in
+          let one = first.represents (before honest) still w represents in
+          second.wants honest still one.after one.represents;
+      represents = λ honest open_ w represents.
+          let one = first.represents (before honest) (second.later.closes open_) w represents in
+          serves_on seen w mid new one (second.represents honest open_ one.after one.represents);
       later = record {
         mismatches = omega (arith, first.later.mismatches, second.later.mismatches);
         closes = λ open_. first.later.closes (second.later.closes open_);
@@ -62,19 +82,23 @@ abbrev IsUnskipped : {A B : Type 0} → Result A ConnectionFault → Result B Fa
 IsUnskipped end r = MatchResult r (λ _. IfErr end (λ fault. is_skipped fault ≡ true))
     (λ fault. (end ≡ Err (Broker fault)) × (fault ≢ Memory))
 
--- closing a connection leaves a hub that represents a world
+-- closing a connection leaves the broker
 closing : {S : Type 0} (seen : S → Kept) (conn : ℕ) (mid new : Hub S) (w : World)
     → ((all : Connections) → ConnectionsRepresent mid all
     → (after : Connections) × ConnectionsRepresent new after × LeavesClosed all conn after)
-    → hub_store seen new ≡ hub_store seen mid → HubRepresents seen mid w → RepresentsSome seen new
-closing seen conn mid new w closed same represents =
-    let c = closed w.connections represents.connections in (
-      record w { connections = c.0 },
-      record {
-        broker = subst (λ (k : Kept). Represents None k.rows w.broker) (sym same) represents.broker;
+    → hub_store seen new ≡ hub_store seen mid → ServesOn seen w mid → ServesOn seen w new
+closing seen conn mid new w closed same on =
+    let c = closed on.after.connections on.represents.connections in
+    record {
+      history = on.history;
+      asked = on.asked;
+      after = record on.after { connections = c.0 };
+      left = on.left;
+      represents = record {
+        broker = subst (λ (k : Kept). Represents None k.rows on.after.broker) (sym same) on.represents.broker;
         connections = c.1;
-      },
-    )
+      };
+    }
 
 skipped_by : {A B : Type 0} (end : Result A ConnectionFault) (r : Result B Fault) → IsUnskipped end r
     → IfErr r (λ fault. fault ≢ Memory)
@@ -100,7 +124,7 @@ open_by (Err end) (Err fault) x o is same = λ other.
     let e : end ≡ Broker fault = cc is.0 in
     same (λ bad. let f : Broker fault ≡ Broker Storage = sym e ∙ bad in other (cc f))
 
--- what is known after a skipped fault, if the storage can be asked
+-- what is known after a fault, if the storage can be asked
 known : (fault : ConnectionFault) (store : Kept) → IsTrue store.is_open → IsKnown fault store
 known (Broker fault) store open_ = open_
 known Read store open_ = tt
@@ -112,6 +136,39 @@ allowed Memory is other = absurd (other refl)
 allowed Storage is other = refl
 allowed Damaged is other = absurd is
 allowed BadStart is other = absurd is
+
+unwanted : {A B : Type 0} (end : Result A ConnectionFault) (r : Result B Fault) → IsUnskipped end r → IfErr end IsAllowed
+    → IfErr r (λ fault. fault ≡ Storage)
+unwanted (Ok a) (Ok b) is want = tt
+unwanted (Err end) (Ok b) is want = tt
+unwanted (Ok a) (Err fault) is want = cc is.0
+unwanted (Err end) (Err fault) is want =
+    let e : end ≡ Broker fault = cc is.0 in
+    allowed fault (subst IsAllowed e want) is.1
+
+-- what the events of the connection asked, up to a fault
+serves_connection : {A S : Type 0} (seen : S → Kept) (conn : ℕ) (Reads Writes : List ℕ → Type 0) (end : Result A ConnectionFault) (old mid : Hub S)
+    → MatchResult end (λ _. Proceeds seen conn Reads Writes old mid) (λ fault. Stops seen conn Reads Writes fault old mid)
+    → IsHonestStore (hub_store seen mid) → IsTrue (hub_store seen mid).is_open → (w : World) → HubRepresents seen old w
+    → ServesOn seen w mid
+serves_connection seen conn Reads Writes (Ok a) old mid proceeds honest open_ w represents =
+    let ran = proceeds.answers honest w represents in
+    record {
+      history = ran.history;
+      asked = ran.asked;
+      after = ran.after;
+      left = run_left w proceeds.exchange.events proceeds.exchange.replies ran.history ran.after ran.asks;
+      represents = ran.represents;
+    }
+serves_connection seen conn Reads Writes (Err fault) old mid stops honest open_ w represents =
+    let until = stops.answers honest (known fault (hub_store seen mid) open_) w represents in
+    record {
+      history = until.history;
+      asked = until.asked;
+      after = record until.before { connections = until.after };
+      left = run_left w stops.exchange.events stops.exchange.replies until.history until.before until.asks;
+      represents = until.represents;
+    }
 
 pub leaves_connection : {A B S : Type 0} (seen : S → Kept) (conn gone : ℕ) (Reads Writes : List ℕ → Type 0)
     (end : Result A ConnectionFault) (r : Result B Fault) (old mid new : Hub S)
@@ -125,7 +182,7 @@ pub leaves_connection : {A B S : Type 0} (seen : S → Kept) (conn gone : ℕ) (
     → ((all : Connections) → ConnectionsRepresent mid all
     → (after : Connections) × ConnectionsRepresent new after × LeavesClosed all gone after)
     → hub_store seen new ≡ hub_store seen mid → IsUnskipped end r → LeavesServed seen r old new
-leaves_connection {A = A} {B = B} seen conn gone Reads Writes end r old mid new served wants storage stays later closed same is =
+leaves_connection seen conn gone Reads Writes end r old mid new served wants storage stays later closed same is =
     let honest_mid : IsHonestStore (hub_store seen new) → IsHonestStore (hub_store seen mid) = subst IsHonestStore same in
     record {
       skipped = skipped_by end r is;
@@ -134,30 +191,13 @@ leaves_connection {A = A} {B = B} seen conn gone Reads Writes end r old mid new 
           (λ (k : Kept). MatchResult r (λ _. k.is_open ≡ (hub_store seen old).is_open)
           (λ fault. fault ≢ Storage → k.is_open ≡ (hub_store seen old).is_open)) (sym same)
           (open_by end r (hub_store seen mid).is_open (hub_store seen old).is_open is (stays (honest_mid honest)));
-      represents = λ honest open_ some. world end r (honest_mid honest) open_ some.0 some.1 served
-          (wants (honest_mid honest) some.0 some.1) (stays (honest_mid honest)) is;
+      wants = λ honest open_ w represents. unwanted end r is (wants (honest_mid honest) w represents);
+      represents = λ honest open_ w represents.
+          closing seen gone mid new w closed same
+          (serves_connection seen conn Reads Writes end old mid served (honest_mid honest)
+          (subst (λ (k : Kept). IsTrue k.is_open) same open_) w represents);
       later = subst (λ (k : Kept). IsLater (hub_store seen old) k) (sym same) later;
     }
-  where
-    world : (end : Result A ConnectionFault) (r : Result B Fault) → IsHonestStore (hub_store seen mid)
-        → IsTrue (hub_store seen old).is_open → (w : World) → HubRepresents seen old w
-        → MatchResult end (λ _. Proceeds seen conn Reads Writes old mid) (λ fault. Stops seen conn Reads Writes fault old mid)
-        → IfErr end IsAllowed
-        → MatchResult end
-        (λ _. (hub_store seen mid).is_open ≡ (hub_store seen old).is_open)
-        (λ fault. fault ≢ Broker Storage → (hub_store seen mid).is_open ≡ (hub_store seen old).is_open)
-        → IsUnskipped end r → MatchResult r (λ _. RepresentsSome seen new) (λ fault. fault ≡ Storage)
-    world (Ok a) (Ok b) honest open_ w represents proceeds want stays is =
-        let answer = proceeds.answers honest w represents in
-        closing seen gone mid new answer.after closed same answer.represents
-    world (Err fault) (Ok b) honest open_ w represents stops want stays is =
-        let still = subst IsTrue (sym (stays (skipped_other fault is))) open_ in
-        let until = stops.answers honest (known fault (hub_store seen mid) still) w represents in
-        closing seen gone mid new (record until.before { connections = until.after }) closed same until.represents
-    world (Ok a) (Err fault) honest open_ w represents proceeds want stays is = cc is.0
-    world (Err end) (Err fault) honest open_ w represents stops want stays is =
-        let e : end ≡ Broker fault = cc is.0 in
-        allowed fault (subst IsAllowed e want) is.1
 
 -- ---- which connections are left
 

@@ -3,6 +3,7 @@ use Rattle.std.specs.Prelude.{◌≡◌, ◌≢◌, ◌⊎◌, ℕ, Bool, true, 
 use Rattle.broker_types.specs.declared.fault.Fault.{Fault}
 use Rattle.broker_types.specs.declared.fault.Fault.TheVariants.{Memory, Storage, Damaged, BadStart}
 use Rattle.broker.specs.Kept.{Kept, IsHonestStore}
+use Rattle.histories.specs.History.{AreAsked, History, left_by}
 use Rattle.hub.specs.Feeding.{IsLater}
 use Rattle.hub.specs.Representing.{ConnectionsRepresent, HubRepresents, hub_store}
 use Rattle.hub.specs.World.{Connections, World, history_at}
@@ -25,19 +26,27 @@ pub record LeavesOrCloses {S : Type 0} (all : Connections) (new : Hub S) : Type 
   pub represents : ConnectionsRepresent new after
   pub each : (conn : ℕ) → (after conn ≡ all conn) ⊎ ((history_at after conn).closed ≡ true)
 
--- the hub represents a world
-abbrev pub RepresentsSome : {S : Type 0} → (S → Kept) → Hub S → Type 0
-RepresentsSome seen hub = (w : World) × HubRepresents seen hub w
+-- The history is what was asked of the world's broker, one request after another, over all connections that were
+-- served; the hub represents a world with the broker that they left.
+pub record ServesOn {S : Type 0} (seen : S → Kept) (w : World) (hub : Hub S) : Type 0 where
+  pub history : History
+  pub asked : AreAsked w.broker history
+  pub after : World
+  pub left : after.broker ≡ left_by w.broker history
+  pub represents : HubRepresents seen hub after
 
 -- What serving leaves, whatever comes on the connections. Running out of memory never ends it, and a failure of the
 -- storage only if the store failed. From a hub that represents a world, whose storage has returned what was written
--- and could be asked, it leaves a hub that represents one, and no other fault ends it than a failure of the storage.
+-- and could be asked, no other fault ends it than a failure of the storage. As long as the storage can still be asked,
+-- as it can unless that failed, the hub then represents a world after requests that were asked of the first.
 pub record LeavesServed {A S : Type 0} (seen : S → Kept) (r : Result A Fault) (old new : Hub S) : Type 0 where
   pub skipped : IfErr r (λ fault. fault ≢ Memory)
   pub storage : r ≡ Err Storage → IsTrue (hub_store seen new).has_failed
   pub stays_open : IsHonestStore (hub_store seen new) → MatchResult r
       (λ _. (hub_store seen new).is_open ≡ (hub_store seen old).is_open)
       (λ fault. fault ≢ Storage → (hub_store seen new).is_open ≡ (hub_store seen old).is_open)
-  pub represents : IsHonestStore (hub_store seen new) → IsTrue (hub_store seen old).is_open
-      → RepresentsSome seen old → MatchResult r (λ _. RepresentsSome seen new) (λ fault. fault ≡ Storage)
+  pub wants : IsHonestStore (hub_store seen new) → IsTrue (hub_store seen old).is_open
+      → (w : World) → HubRepresents seen old w → IfErr r (λ fault. fault ≡ Storage)
+  pub represents : IsHonestStore (hub_store seen new) → IsTrue (hub_store seen new).is_open
+      → (w : World) → HubRepresents seen old w → ServesOn seen w new
   pub later : IsLater (hub_store seen old) (hub_store seen new)
