@@ -14,7 +14,8 @@ use Rattle.hub.specs.World.{Connections, History, World, history_at, new_history
 use Rattle.hub.specs.declared.hub.Hub.{Hub}
 use Rattle.hub.specs.declared.serve.ConnectionFault.{ConnectionFault}
 use Rattle.hub.specs.declared.serve.ConnectionFault.TheVariants.{Broker, Read, Write}
-use Rattle.server.specs.Serving.{LeavesOrCloses, LeavesServed, ServesOn, is_skipped}
+use Rattle.server.specs.Laws.{AllKeepLaws}
+use Rattle.server.specs.Serving.{LeavesOrCloses, LeavesServed, ServesLawfully, ServesOn, is_skipped}
 
 -- ---- nothing is served
 
@@ -74,6 +75,12 @@ leaves_on seen a r old mid new first second =
         closes = λ open_. first.later.closes (second.later.closes open_);
       };
     }
+
+-- all that was asked keeps the laws
+pub lawful : {A S : Type 0} (seen : S → Kept) (r : Result A Fault) (old new : Hub S) → LeavesServed seen r old new → AllKeepLaws
+    → ServesLawfully seen old new
+lawful seen r old new served laws = λ honest open_ w represents.
+    let on = served.represents honest open_ w represents in (on, laws w.broker on.history on.asked)
 
 -- ---- one connection
 

@@ -10,6 +10,7 @@ use Rattle.hub.specs.World.{Connections, World, history_at}
 use Rattle.hub.specs.declared.hub.Hub.{Hub}
 use Rattle.hub.specs.declared.serve.ConnectionFault.{ConnectionFault}
 use Rattle.hub.specs.declared.serve.ConnectionFault.TheVariants.{Broker, Read, Write}
+use Rattle.server.specs.Laws.{KeepsLaws}
 
 -- whether the next connection is served after this fault of one: running out of memory, reading and writing (1, 5, 6)
 abbrev pub is_skipped : ConnectionFault → Bool
@@ -50,3 +51,10 @@ pub record LeavesServed {A S : Type 0} (seen : S → Kept) (r : Result A Fault) 
   pub represents : IsHonestStore (hub_store seen new) → IsTrue (hub_store seen new).is_open
       → (w : World) → HubRepresents seen old w → ServesOn seen w new
   pub later : IsLater (hub_store seen old) (hub_store seen new)
+
+-- From each world that the hub represented, all that was asked over all connections keeps the laws over every run, as
+-- long as the storage has returned what was written and can still be asked.
+abbrev pub ServesLawfully : {S : Type 0} → (S → Kept) → Hub S → Hub S → Type 0
+ServesLawfully seen old new =
+    IsHonestStore (hub_store seen new) → IsTrue (hub_store seen new).is_open → (w : World) → HubRepresents seen old w
+    → (on : ServesOn seen w new) × KeepsLaws w.broker on.history
