@@ -4,7 +4,7 @@ use Rattle.std.specs.Option.{option_map_or}
 use Rattle.std.proofs.Common.{refl, sym, ◌∙◌, ap, subst}
 use Rattle.broker_types.specs.Broker.{Broker}
 use Rattle.histories.specs.History.{AreAsked, Asking, History, left_by}
-use Rattle.hub.specs.Histories.{EventAsked, EventsAsked}
+use Rattle.hub.specs.Histories.{EventsAsked}
 use Rattle.hub.specs.World.{World}
 use Rattle.hub.specs.declared.event.Event.{Event}
 

@@ -8,10 +8,10 @@ returns c = λ b history asked.
     let identifiers = c.identifiers_are_given_out_once.ensures in
     let replies = c.kept_replies_are_the_replies.ensures in
     record {
-      no_identifier_twice = λ s is. identifiers.since_start s history (subst (λ (from : Broker). AreAsked from history) is asked);
+      no_identifier_twice = λ s is. identifiers.since_start s history (subst (λ (x : Broker). AreAsked x history) is asked);
       handed_out_once = c.responses_are_handed_out_once.ensures b history asked;
       revocation = c.revocation_lasts.ensures b history asked;
-      same_reply = λ s is. replies.since_start s history (subst (λ (from : Broker). AreAsked from history) is asked);
+      same_reply = λ s is. replies.since_start s history (subst (λ (x : Broker). AreAsked x history) is asked);
       gives_out_new = identifiers.since b history asked;
       hands_out_kept = replies.since b history asked;
     }
