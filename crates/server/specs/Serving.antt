@@ -1,11 +1,14 @@
 -- What serving connections leaves of the hub, and which faults end it (this project's definition).
-use Rattle.std.specs.Prelude.{◌≡◌, ◌≢◌, ◌⊎◌, ℕ, Bool, true, false, Result, Err, IsTrue, IfErr, MatchResult}
+use Rattle.std.specs.Prelude.{◌≡◌, ◌≢◌, ◌⊎◌, ℕ, Bool, true, false, List, [], ◌∷◌, ◌++◌, Result, Err, IsTrue, IfErr}
+use Rattle.std.specs.Prelude.{MatchResult}
 use Rattle.broker_types.specs.declared.fault.Fault.{Fault}
 use Rattle.broker_types.specs.declared.fault.Fault.TheVariants.{Memory, Storage, Damaged, BadStart}
 use Rattle.broker.specs.Kept.{Kept, IsHonestStore}
 use Rattle.histories.specs.History.{AreAsked, History, left_by}
 use Rattle.hub.specs.Feeding.{IsLater}
+use Rattle.hub.specs.Histories.{EventsAsked}
 use Rattle.hub.specs.Representing.{ConnectionsRepresent, HubRepresents, hub_store}
+use Rattle.hub.specs.Serving.{Exchange, IsGone}
 use Rattle.hub.specs.World.{Connections, World, history_at}
 use Rattle.hub.specs.declared.hub.Hub.{Hub}
 use Rattle.hub.specs.declared.serve.ConnectionFault.{ConnectionFault}
@@ -27,13 +30,38 @@ pub record LeavesOrCloses {S : Type 0} (all : Connections) (new : Hub S) : Type 
   pub represents : ConnectionsRepresent new after
   pub each : (conn : ℕ) → (after conn ≡ all conn) ⊎ ((history_at after conn).closed ≡ true)
 
--- The history is what was asked of the world's broker, one request after another, over all connections that were
--- served; the hub represents a world with the broker that they left.
-pub record ServesOn {S : Type 0} (seen : S → Kept) (w : World) (hub : Hub S) : Type 0 where
+-- a connection that was served: events of it with listed replies, and what they asked
+pub record Served : Type 0 where
+  pub conn : ℕ
+  pub exchange : Exchange conn
   pub history : History
-  pub asked : AreAsked w.broker history
+
+-- all that connections asked, one after another
+abbrev pub asked_by : List Served → History
+asked_by [] = []
+asked_by (s ∷ later) = s.history ++ asked_by later
+
+-- the connection is closed, or not seen, and no other changes
+pub record LeavesGone (all : Connections) (conn : ℕ) (after : Connections) : Type 0 where
+  pub gone : IsGone after conn
+  pub others : (k : ℕ) → k ≢ conn → after k ≡ all k
+
+-- One connection after another was served: its events were answered so, and asked this, from the world that the one
+-- before it left; then it was closed, or is still not seen.
+abbrev pub ServedInTurn : World → List Served → World → Type 0
+ServedInTurn w [] after = after ≡ w
+ServedInTurn w (s ∷ later) after =
+    (mid : World) × (left : Connections) × EventsAsked w s.exchange.events s.exchange.replies s.history mid
+    × LeavesGone mid.connections s.conn left × ServedInTurn (record mid { connections = left }) later after
+
+-- There are connections that were served so from the world on, all that they asked was asked of the world's broker, one
+-- request after another, and the hub represents the world after them, with the broker that they left.
+pub record ServesOn {S : Type 0} (seen : S → Kept) (w : World) (hub : Hub S) : Type 0 where
+  pub connections : List Served
   pub after : World
-  pub left : after.broker ≡ left_by w.broker history
+  pub in_turn : ServedInTurn w connections after
+  pub asked : AreAsked w.broker (asked_by connections)
+  pub left : after.broker ≡ left_by w.broker (asked_by connections)
   pub represents : HubRepresents seen hub after
 
 -- What serving leaves, whatever comes on the connections. Running out of memory never ends it, and a failure of the
@@ -57,4 +85,4 @@ pub record LeavesServed {A S : Type 0} (seen : S → Kept) (r : Result A Fault) 
 abbrev pub ServesLawfully : {S : Type 0} → (S → Kept) → Hub S → Hub S → Type 0
 ServesLawfully seen old new =
     IsHonestStore (hub_store seen new) → IsTrue (hub_store seen new).is_open → (w : World) → HubRepresents seen old w
-    → (on : ServesOn seen w new) × KeepsLaws w.broker on.history
+    → (on : ServesOn seen w new) × KeepsLaws w.broker (asked_by on.connections)
