@@ -3,8 +3,8 @@
 
     python3 tests/clients/ansible_calls.py PORT ROOT_TOKEN
 
-They are the tasks of one playbook, which `ansible-playbook` runs on this machine, as a user would: the broker is named
-by VAULT_ADDR and VAULT_TOKEN. It takes some 30 seconds. If Ansible, the collection or hvac is not installed, it says so,
+They are the tasks of one playbook, which `ansible-playbook` runs on this machine, as a user would: VAULT_ADDR and
+VAULT_TOKEN name the broker. It takes some 40 seconds. If Ansible, the collection or hvac is not installed, it says so,
 and nothing is tried. The last line is 'N passed, M failed'.
 """
 
@@ -17,6 +17,8 @@ import tempfile
 from pathlib import Path
 
 COLLECTION = "community.hashi_vault"
+FOLDER = f"ansible/{os.getpid()}"
+SECRET = f"{FOLDER}/app"
 POLICY = '{"path":{"secret/data/ansible/*":{"capabilities":["read"]}}}'
 TASKS = []
 
@@ -40,64 +42,69 @@ def lookup(name, words):
     return {"ansible.builtin.debug": {"msg": f"{{{{ lookup('{COLLECTION}.{name}', {words}) }}}}"}}
 
 
+def said(result):
+    """All that the result says of a failure."""
+    return " ".join(str(result[name]) for name in ("msg", "exception", "module_stderr") if name in result)
+
+
 # Versioned secrets.
 
-@task(module("vault_kv2_write", path="ansible/app", data={"user": "app"}))
+@task(module("vault_kv2_write", path=SECRET, data={"user": "app"}))
 def a_secret_is_written(result):
     return result["changed"] and result["raw"]["data"]["version"] == 1
 
 
-@task(module("vault_kv2_write", path="ansible/app", data={"user": "app"}, read_before_write=True))
+@task(module("vault_kv2_write", path=SECRET, data={"user": "app"}, read_before_write=True))
 def the_same_secret_is_not_written_again(result):
     return not result["changed"]
 
 
-@task(module("vault_kv2_write", path="ansible/app", data={"user": "new"}, cas=1))
+@task(module("vault_kv2_write", path=SECRET, data={"user": "new"}, cas=1))
 def a_secret_is_written_with_check_and_set(result):
     return result["changed"] and result["raw"]["data"]["version"] == 2
 
 
-@task(module("vault_kv2_write", path="ansible/app", data={"user": "late"}, cas=1))
+@task(module("vault_kv2_write", path=SECRET, data={"user": "late"}, cas=1))
 def a_write_that_comes_late_is_refused(result):
-    return result["failed"] and "check-and-set parameter did not match" in result["msg"]
+    return result["failed"] and "check-and-set parameter did not match" in said(result)
 
 
-@task(module("vault_kv2_get", path="ansible/app"))
+@task(module("vault_kv2_get", path=SECRET))
 def a_secret_is_read(result):
     return result["secret"] == {"user": "new"} and result["metadata"]["version"] == 2
 
 
-@task(module("vault_kv2_get", path="ansible/app", version=1))
+@task(module("vault_kv2_get", path=SECRET, version=1))
 def a_version_is_read(result):
     return result["secret"] == {"user": "app"} and result["metadata"]["version"] == 1
 
 
-@task(lookup("vault_kv2_get", "'ansible/app', version=1"))
+@task(lookup("vault_kv2_get", f"'{SECRET}', version=1"))
 def a_version_is_looked_up(result):
     return result["msg"]["secret"] == {"user": "app"}
 
 
-@task(lookup("hashi_vault", "'secret=secret/data/ansible/app:user'"))
+@task(lookup("hashi_vault", f"'secret=secret/data/{SECRET}:user'"))
 def a_member_of_a_secret_is_looked_up(result):
     return result["msg"] == "new"
 
 
-@task(module("vault_kv2_delete", path="ansible/app", versions=[1]))
+@task(module("vault_kv2_delete", path=SECRET, versions=[1]))
 def a_version_is_deleted(result):
     return result["changed"]
 
 
-@task(module("vault_kv2_get", path="ansible/app", version=1))
+@task(module("vault_kv2_get", path=SECRET, version=1))
 def a_deleted_version_is_not_read(result):
     return result["failed"] and "missing path" in result["msg"]
 
 
-@task(module("vault_kv2_delete", path="ansible/app"))
+@task(module("vault_kv2_delete", path=SECRET))
 def the_last_version_is_deleted(result):
     return result["changed"]
 
 
-@task(module("vault_kv2_get", path="ansible/app"))
+@task(module("vault_kv2_get", path=SECRET))
 def a_deleted_secret_is_not_read(result):
     return result["failed"] and "missing path" in result["msg"]
 
@@ -134,12 +141,12 @@ def a_cubbyhole_is_looked_up_as_a_secret_of_version_1(result):
     return result["msg"]["secret"] == {"user": "app"}
 
 
-@task(module("vault_list", path="secret/metadata/ansible"))
-def a_folder_is_listed(result):
+@task(module("vault_read", path=f"secret/metadata/{FOLDER}?list=true"))
+def a_folder_is_listed_by_a_read(result):
     return result["data"]["data"]["keys"] == ["app"]
 
 
-@task(lookup("vault_list", "'cubbyhole'"))
+@task(lookup("vault_read", "'cubbyhole?list=true'"))
 def a_folder_is_listed_by_a_lookup(result):
     return {"ansible", "ansible/"} <= set(result["msg"]["data"]["keys"])
 
@@ -182,9 +189,9 @@ def a_token_logs_in(result):
     return result["login"]["auth"]["policies"] == ["ansible", "default"]
 
 
-@task(lookup("vault_login", "auth_method='token', token=made.login.auth.client_token"))
+@task(lookup("vault_login", "auth_method='token'"))
 def a_token_logs_in_by_a_lookup(result):
-    return result["msg"]["auth"]["policies"] == ["ansible", "default"]
+    return result["msg"]["auth"]["policies"] == ["root"]
 
 
 @task({"ansible.builtin.debug": {"msg": f"{{{{ made | {COLLECTION}.vault_login_token }}}}"}})
@@ -209,7 +216,7 @@ def a_token_is_unwrapped(result):
 
 @task(module("vault_write", path="sys/wrapping/unwrap", data={"token": "{{ wrapped.login.wrap_info.token }}"}))
 def a_token_is_unwrapped_once(result):
-    return result["failed"] and "wrapping token is not valid" in result["msg"]
+    return result["failed"] and "wrapping token is not valid" in said(result)
 
 
 @task(module("vault_write", path="sys/wrapping/wrap", data={"user": "app"}, wrap_ttl="5m"))
@@ -224,19 +231,45 @@ def a_token_is_revoked(result):
 
 @task(module("vault_login", auth_method="token", token="{{ made.login.auth.client_token }}"))
 def a_revoked_token_does_not_log_in(result):
-    return result["failed"]
+    return result["failed"] and "Invalid Vault Token" in said(result)
 
 
 # What a broker does not serve.
 
+@task(module("vault_list", path=f"secret/metadata/{FOLDER}"))
+def a_list_with_a_capital_letter_is_a_read(result):
+    """hvac sends `list=True`."""
+    return result["failed"] and "doesn't seem to exist" in said(result)
+
+
+@task(lookup("vault_list", "'cubbyhole'"))
+def a_list_by_a_lookup_is_a_read_too(result):
+    return result["failed"] and "unsupported operation" in said(result)
+
+
+@task(module("vault_token_create", policies=["default"], period="1h"))
+def no_periodic_token_is_created(result):
+    return result["failed"] and "invalid field: period" in said(result)
+
+
+@task(module("vault_token_create", policies=["default"], type="batch"))
+def no_batch_token_is_created(result):
+    return result["failed"] and "invalid field: type" in said(result)
+
+
+@task(module("vault_token_create", role_name="app"))
+def no_token_of_a_role_is_created(result):
+    return result["failed"] and "InvalidPath" in said(result)
+
+
 @task(module("vault_pki_generate_certificate", role_name="app", common_name="app.example"))
 def no_certificate_is_issued(result):
-    return result["failed"]
+    return result["failed"] and "InvalidPath" in said(result)
 
 
 @task(module("vault_login", auth_method="userpass", username="app", password="app"))
 def no_password_logs_in(result):
-    return result["failed"]
+    return result["failed"] and "Forbidden: permission denied" in said(result)
 
 
 def is_installed():
