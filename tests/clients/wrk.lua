@@ -49,5 +49,5 @@ end
 function done(summary)
    local errors, thread = summary.errors, threads[1]
    print(string.format("%d reads, %d writes, %d wrong, %d broken", thread:get("reads"), thread:get("writes"),
-      thread:get("wrong") + errors.status, errors.connect + errors.read + errors.write + errors.timeout))
+      thread:get("wrong"), errors.connect + errors.read + errors.write + errors.timeout))
 end
