@@ -3,7 +3,7 @@
 
     python3 instructions_serve.py PROGRAM MANY REQUESTS [--db [FOLDER]] [--kinds KIND..] [--caller policies]
 
-The kinds are those of instructions.py, and `look_up` and `list` of load_serve.py. The rows and --db are as there, and
+The kinds are those of instructions.py, and `look_up`, `wrap`, `unwrap` and `list` of load_serve.py. The rows and --db are as there, and
 the caller is root, or else that of instructions.py with its policies. No instructions are counted until the rows are
 there; then those of REQUESTS requests of each kind, one kind after the other. It prints what one of them costs.
 """
@@ -21,7 +21,7 @@ from clients.broker import Broker, connect, reply, request
 from instructions import KINDS, POLICIES, by, policy
 from load_serve import Asked, filled, token_in
 
-ALL_KINDS = ["read", "look_up_self", "look_up", "write", "create", "list"]
+ALL_KINDS = ["read", "look_up_self", "look_up", "write", "create", "wrap", "unwrap", "list"]
 
 
 class Counted(Asked):
@@ -73,12 +73,12 @@ def tell_kinds(folder, broker, tokens, arguments):
     asking, process, many = Counted(broker, tokens, caller), broker.process.pid, arguments.many
     control(process, "-i", "on")
     for place, kind in enumerate(arguments.kinds, start=1):
-        count = min(arguments.requests, many) if kind == "write" else arguments.requests
+        count = min(arguments.requests, many) if kind in ("write", "unwrap") else arguments.requests
         numbers = [number * 7919 % many for number in range(count)]
+        asking.prepare(kind, numbers)
+        # What callgrind is told interrupts a connection, and each kind has its own.
         control(process, "-z")
-        # What callgrind is told interrupts a connection, so each kind has its own.
-        with connect(broker.port) as connection:
-            asking.send(connection, kind, numbers)
+        asking.send(kind, numbers)
         control(process, "-d")
         cost = dumped(folder, place) / len(numbers) / 1e6
         print(f"{many} secrets and tokens, {arguments.caller}, {kind}: {cost:.3f} million instructions each, "
@@ -104,9 +104,8 @@ def main():
                 tell_kinds(folder, broker, tokens, arguments)
         else:
             with Broker(program) as broker:
-                with connect(broker.port) as connection:
-                    made, _, _ = Asked(broker, []).send(connection, "create", range(many))
-                    Asked(broker, []).send(connection, "write", range(many))
+                made, _, _ = Asked(broker, []).send("create", range(many))
+                Asked(broker, []).send("write", range(many))
                 tokens = [token_in(body) for body in made]
                 tell_kinds(folder, broker, tokens, arguments)
 

@@ -1,7 +1,8 @@
 #!/bin/bash
-# Starts `brokerd serve` and asks it as its users do: by curl, by `client` if it is there, by Python's hvac if that is
-# installed, and on one connection 10,000 times; then by peers that are idle or slow, by wrong command lines, and over a
-# file that is opened again. It takes some 30 seconds. The last line is 'N passed, M failed'; the status is 0 if nothing failed.
+# Starts `brokerd serve` and asks it as its users do: by curl, by `client` if it is there, by Python's hvac and by Ansible
+# if they are installed, and on one connection 10,000 times; then by peers that are idle or slow, by wrong command lines,
+# and over a file that is opened again. It takes some 30 seconds, and as long again for Ansible. BROKERD and CLIENT name
+# other programs. The last line is 'N passed, M failed'; the status is 0 if nothing failed.
 set -u
 cd "$(dirname "$0")/.."
 
@@ -79,10 +80,11 @@ run() {
     fi
 }
 
-# Runs a command whose last line is 'N passed, M failed', and adds its counts.
+# Runs a command whose last line is 'N passed, M failed', and adds its counts. It has so many seconds as `limit` says, or
+# 120.
 count() {
     local line
-    timeout 120 "$@" > "$found/log" 2>&1
+    timeout "${limit:-120}" "$@" > "$found/log" 2>&1
     line=$(tail -n 1 "$found/log")
     head -n -1 "$found/log"
     if [[ $line =~ ^([0-9]+)\ passed,\ ([0-9]+)\ failed$ ]]; then
@@ -136,22 +138,22 @@ python_with_hvac() {
 }
 
 ask_by_client() {
-    local address=127.0.0.1:$port text wrapping
-    if [ ! -x bin/client ]; then
-        echo "serve: there is no bin/client: it is skipped"
+    local address=127.0.0.1:$port client=${CLIENT:-bin/client} text wrapping
+    if [ ! -x "$client" ]; then
+        echo "serve: there is no $client: it is skipped"
         return
     fi
-    if bin/client --addr "$address" --token "$token" write secret/data/client '{"data":{"user":"app"}}' \
+    if "$client" --addr "$address" --token "$token" write secret/data/client '{"data":{"user":"app"}}' \
         > "$found/body" && grep -qF '"version":1' "$found/body"; then pass; else fail "client" "write"; fi
-    text=$(bin/client --addr "$address" --token "$token" read secret/data/client)
+    text=$("$client" --addr "$address" --token "$token" read secret/data/client)
     if [ $? -eq 0 ] && [[ $text == *'"data":{"user":"app"}'* ]]; then pass; else fail "client" "read"; fi
-    bin/client --addr "$address" --token "$token" read secret/data/absent > "$found/body"
+    "$client" --addr "$address" --token "$token" read secret/data/absent > "$found/body"
     if [ $? -eq 1 ] && grep -qF '"errors"' "$found/body"; then pass; else fail "client" "read of an absent secret"; fi
-    bin/client --addr "$address" --token "$token" --wrap-ttl 60 read secret/data/client > "$found/body"
+    "$client" --addr "$address" --token "$token" --wrap-ttl 60 read secret/data/client > "$found/body"
     wrapping=$(wrapping_token)
-    text=$(bin/client --addr "$address" --token "$wrapping" unwrap)
+    text=$("$client" --addr "$address" --token "$wrapping" unwrap)
     if [ $? -eq 0 ] && [[ $text == *'"data":{"user":"app"}'* ]]; then pass; else fail "client" "unwrap"; fi
-    bin/client --addr "$address" --token "$token" unwrap "$wrapping" > "$found/body"
+    "$client" --addr "$address" --token "$token" unwrap "$wrapping" > "$found/body"
     if [ $? -eq 1 ] && grep -qF 'wrapping token is' "$found/body"; then pass; else fail "client" "another unwrap"; fi
 }
 
@@ -194,7 +196,7 @@ with sqlite3.connect('$file') as database:
 }
 
 # The first use builds the program.
-if ! bin/brokerd --help > /dev/null; then
+if [ -z "${BROKERD:-}" ] && ! bin/brokerd --help > /dev/null; then
     fail "brokerd" "it cannot be built"
     finish
 fi
@@ -208,6 +210,8 @@ ask_by_curl
 ask_by_client
 count python3 tests/clients/keep_alive.py "$port" "$token" 10000
 count "$(python_with_hvac)" tests/clients/hvac_calls.py "$port" "$token"
+count "$(python_with_hvac)" tests/clients/hvac_methods.py "$port" "$token"
+limit=600 count python3 tests/clients/ansible_calls.py "$port" "$token"
 run "an address that is taken" 1 'fault 5' serve --listen "127.0.0.1:$port"
 if kill -0 "$pid" 2> /dev/null && [ ! -s "$found/served.err" ]; then pass; else fail "the program" "it has ended"; fi
 stop

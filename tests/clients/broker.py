@@ -26,10 +26,12 @@ def connect(port, patience=5.0):
             time.sleep(0.02)
 
 
-def request(method, path, token, body=""):
-    """The bytes of a request of a client token."""
+def request(method, path, token, body="", wrap_ttl=""):
+    """The bytes of a request of a client token, whose reply is to be wrapped if a wrap TTL is given."""
+    wrap = f"X-Vault-Wrap-TTL: {wrap_ttl}\r\n" if wrap_ttl else ""
     length = f"Content-Length: {len(body)}\r\n" if body else ""
-    return (f"{method} /v1/{path} HTTP/1.1\r\nHost: b\r\nX-Vault-Token: {token}\r\n{length}\r\n{body}").encode()
+    return (f"{method} /v1/{path} HTTP/1.1\r\nHost: b\r\nX-Vault-Token: {token}\r\n{wrap}{length}\r\n"
+            f"{body}").encode()
 
 
 def reply(connection, rest=b""):
@@ -71,8 +73,8 @@ class Broker:
             self.token = self.known or self.told_token()
             if self.listens():
                 return self
-            self.close()
-        raise SystemExit("no port can be listened on")
+            said = self.close()
+        raise SystemExit(f"no port can be listened on: {said}")
 
     def told_token(self):
         """The root token, which the program prints when it starts a broker."""
@@ -93,10 +95,12 @@ class Broker:
         return False
 
     def close(self):
+        """Ends the program, and answers what it has said on its standard error."""
         self.process.kill()
-        self.process.wait()
+        said = self.process.communicate()[1].decode().strip()
         self.process.stdout.close()
         self.process.stderr.close()
+        return said
 
     def __exit__(self, *_):
         self.close()

@@ -1,9 +1,11 @@
 #!/usr/bin/env python3
 """killed.py PROGRAM TIMES: stops a broker over a file by SIGKILL while it is written to, and asks it again after a start.
 
-Each time it writes versions of secrets, makes tokens and revokes some of them, until a random moment. After the next
-start each write that was answered is there, each token that was answered works, and each that was revoked does not. The
-request in progress may have been done or not. The last line is 'N passed, M failed'.
+Each time it writes versions of secrets, makes tokens and children of them, revokes some, wraps secrets and unwraps some,
+until a random moment. Every fourth start is stopped too, before it is asked anything, and made again. Then each write
+that was answered is there, with its version; each token that was answered works, and no token that was revoked does, nor
+a child of it; each response that waits is looked up, and is handed out once. The request in progress was done wholly or
+not at all. The last line is 'N passed, M failed'.
 """
 
 import json
@@ -12,11 +14,20 @@ import subprocess
 import sys
 import tempfile
 import threading
+import time
+from collections import Counter
 from pathlib import Path
 
-import broker
+from broker import Broker, connect, reply, request
 
-KEYS = 10
+SECRETS = 10
+KEPT = 10  # versions of a secret
+MOST = 5  # tokens, and responses, that are left before some are ended
+REMEMBERED = 50  # tokens that were ended, and are asked with once more
+
+
+class Stopped(Exception):
+    """The program does not answer any more."""
 
 
 class Known:
@@ -24,130 +35,236 @@ class Known:
 
     def __init__(self):
         self.root = None
-        self.versions = {}
-        self.alive = []
+        self.numbers = {}  # those in the versions of each secret, in their order
+        self.families = []  # tokens that work, each with its children behind it
+        self.waiting = {}  # wrapping tokens, and what their responses have
         self.revoked = []
+        self.unwrapped = []
+        self.lost = 0  # requests that may have made a token, which nobody was told
+        self.number = 0  # of the last request
         self.asked = None
-
-
-def start(program, file, port, known):
-    """The program over the file; it tells the root token at the first start, and none later."""
-    served = subprocess.Popen(
-        [program, "serve", "--listen", f"127.0.0.1:{port}", "--db", str(file), "--connections", "4294967295"],
-        stdout=subprocess.PIPE,
-        stderr=subprocess.PIPE,
-        text=True,
-    )
-    if known.root is None:
-        known.root = served.stdout.readline().removeprefix("root token: ").strip()
-    return served
+        self.answered = Counter()
 
 
 class Asking:
-    """A connection that asks with a token, and connects again where the broker has closed it."""
+    """A connection that asks, and connects again where the broker has closed it."""
 
     def __init__(self, port):
         self.port = port
-        self.connection = broker.connect(port)
+        self.connection = connect(port)
 
-    def ask(self, method, path, token, body=""):
-        """The status and the object of a reply; status 0 if the program has stopped."""
+    def ask(self, method, path, token, body=None, wrap_ttl=""):
+        """The status and the object of a reply."""
+        text = request(method, path, token, "" if body is None else json.dumps(body), wrap_ttl)
         for _ in range(2):
             try:
-                self.connection.sendall(broker.request(method, path, token, body))
-                status, text, _ = broker.reply(self.connection)
+                self.connection.sendall(text)
+                status, body, _ = reply(self.connection)
+                if status:
+                    return status, json.loads(body) if body else None
+                self.connection = connect(self.port, 0.0)
             except OSError:
-                status, text = 0, b""
-            if status:
-                return status, json.loads(text) if text else None
-            try:
-                self.connection = broker.connect(self.port, 0.0)
-            except OSError:
-                return 0, None
-        return 0, None
+                raise Stopped from None
+        raise Stopped
+
+    def get(self, status, *words, **named):
+        """The object of a reply that has to have the status."""
+        found, value = self.ask(*words, **named)
+        expect(found == status, f"{words[0]} {words[1]}: status {found} in place of {status}")
+        return value
+
+
+def expect(condition, what):
+    if not condition:
+        raise AssertionError(what)
+
+
+def secret_path(number):
+    return f"secret/data/k{number % SECRETS}"
 
 
 def write(asking, known, number):
-    """One write, a new token or a revocation; whether it was answered."""
-    key = f"secret/data/k{number % KEYS}"
-    if number % 5 == 3:
-        known.asked = ("create", None)
-        status, reply = asking.ask("POST", "auth/token/create", known.root, "{}")
-        if status == 200:
-            known.alive.append(reply["auth"]["client_token"])
-    elif number % 5 == 4 and len(known.alive) > 3:
-        token = known.alive.pop(0)
-        known.asked = ("revoke", token)
-        status, _ = asking.ask("POST", "auth/token/revoke", known.root, json.dumps({"token": token}))
-        if status == 204:
-            known.revoked.append(token)
+    """A version of a secret."""
+    path = secret_path(number)
+    known.asked = ("write", path, number)
+    made = asking.get(200, "POST", path, known.root, {"data": {"number": number}})
+    known.numbers.setdefault(path, []).append(number)
+    expect(made["data"]["version"] == len(known.numbers[path]), f"{path}: version {made['data']['version']} is made")
+
+
+def create(asking, known, _):
+    """A token, which is a child of the last one by turns."""
+    family = known.families[-1] if known.families and len(known.families[-1]) < 3 else None
+    known.asked = ("create",)
+    made = asking.get(200, "POST", "auth/token/create", family[-1] if family else known.root, {})
+    if family is None:
+        family = []
+        known.families.append(family)
+    family.append(made["auth"]["client_token"])
+
+
+def revoke(asking, known, number):
+    """The first token ends with its descendants. There is a version in place of this if there are few."""
+    if len(known.families) <= MOST:
+        return write(asking, known, number)
+    family = known.families.pop(0)
+    known.asked = ("revoke", family)
+    asking.get(204, "POST", "auth/token/revoke", known.root, {"token": family[0]})
+    known.revoked.extend(family)
+
+
+def wrap(asking, known, number):
+    """A secret is read, and the reply waits to be unwrapped."""
+    path = secret_path(number)
+    if path not in known.numbers:
+        return write(asking, known, number)
+    known.asked = ("wrap",)
+    made = asking.get(200, "GET", path, known.root, wrap_ttl="24h")
+    known.waiting[made["wrap_info"]["token"]] = (len(known.numbers[path]), known.numbers[path][-1])
+
+
+def unwrap(asking, known, number):
+    """A response that waits is handed out. There is a version in place of this if few wait."""
+    if len(known.waiting) <= MOST:
+        return write(asking, known, number)
+    token = next(iter(known.waiting))
+    known.asked = ("unwrap", token, known.waiting.pop(token))
+    check_response(asking.get(200, "POST", "sys/wrapping/unwrap", token), known.asked[2])
+    known.unwrapped.append(token)
+
+
+def check_response(response, wrapped):
+    """Compares a response with what was wrapped."""
+    found = (response["data"]["metadata"]["version"], response["data"]["data"]["number"])
+    expect(found == wrapped, f"another response is handed out: {found} in place of {wrapped}")
+
+
+REQUESTS = [write, write, create, revoke, wrap, unwrap]
+
+
+def settle_write(asking, known, path, number):
+    """The version is there, or it is not."""
+    before = len(known.numbers.get(path, []))
+    status, found = asking.ask("GET", path, known.root)
+    if status == 200 and found["data"]["metadata"]["version"] == before + 1:
+        expect(found["data"]["data"] == {"number": number}, f"{path}: the last version is {found['data']['data']}")
+        known.numbers.setdefault(path, []).append(number)
+
+
+def settle_revocation(asking, known, family):
+    """All tokens of the family work, or none does."""
+    statuses = {asking.ask("GET", "auth/token/lookup-self", token)[0] for token in family}
+    expect(statuses in ({200}, {403}), f"a revocation was done in part: {statuses}")
+    if statuses == {200}:
+        known.families.insert(0, family)
     else:
-        known.asked = ("write", (key, number))
-        status, reply = asking.ask("POST", key, known.root, json.dumps({"data": {"number": number}}))
-        if status == 200:
-            known.versions[key] = (reply["data"]["version"], number)
-    if status:
-        known.asked = None
-    return status != 0
+        known.revoked.extend(family)
 
 
-def check_secrets(asking, known, wrong):
-    """Compares each secret with the last write that was answered, or with the one that was not."""
-    for key, (version, number) in list(known.versions.items()):
-        status, reply = asking.ask("GET", key, known.root)
-        found = (reply["data"]["metadata"]["version"], reply["data"]["data"]["number"]) if status == 200 else None
-        may_be = [(version, number)]
-        if known.asked and known.asked[0] == "write" and known.asked[1][0] == key:
-            may_be.append((version + 1, known.asked[1][1]))
-        if found not in may_be:
-            wrong.append(f"{key}: {found} in place of {may_be}")
-        else:
-            known.versions[key] = found
+def settle_unwrap(asking, known, token, wrapped):
+    """The response waits, or it is gone."""
+    status, _ = asking.ask("POST", "sys/wrapping/lookup", token)
+    expect(status in (200, 400), f"a look-up of the response in progress: status {status}")
+    if status == 200:
+        known.waiting[token] = wrapped
+    else:
+        known.unwrapped.append(token)
 
 
-def check_tokens(asking, known, wrong):
-    """Asks with each token that was answered, and with those that were revoked last."""
-    for token in known.alive:
-        status, _ = asking.ask("GET", "auth/token/lookup-self", token)
-        if status != 200:
-            wrong.append(f"a token that was answered: status {status}")
-    for token in known.revoked[-10:]:
-        status, _ = asking.ask("GET", "auth/token/lookup-self", token)
-        if status != 403:
-            wrong.append(f"a token that was revoked: status {status}")
-
-
-def run(program, file, known, first):
-    """One start: what is wrong with what is found, and how many writes were answered before the kill."""
-    port = broker.free_port()
-    served = start(program, file, port, known)
-    wrong = []
-    asking = Asking(port)
-    check_secrets(asking, known, wrong)
-    check_tokens(asking, known, wrong)
+def settle(asking, known):
+    """Finds out whether the request in progress was done."""
+    kind, *what = known.asked or (None,)
+    if kind == "write":
+        settle_write(asking, known, *what)
+    elif kind == "revoke":
+        settle_revocation(asking, known, *what)
+    elif kind == "unwrap":
+        settle_unwrap(asking, known, *what)
+    elif kind == "create":
+        known.lost += 1
     known.asked = None
-    threading.Timer(random.uniform(0.05, 1.5), served.kill).start()
-    number = first
-    while write(asking, known, number):
-        number += 1
-    served.wait()
-    said = served.stderr.read()
-    if said:
-        wrong.append(said.strip())
-    return wrong, number - first
+
+
+def check_secrets(asking, known):
+    """Compares all versions that are kept with those that were answered."""
+    for path, numbers in known.numbers.items():
+        told = asking.get(200, "GET", path.replace("/data/", "/metadata/"), known.root)["data"]
+        expect(told["current_version"] == len(numbers), f"{path}: {told['current_version']} versions")
+        kept = range(max(0, len(numbers) - KEPT), len(numbers))
+        expect(len(told["versions"]) == len(kept), f"{path}: {len(told['versions'])} versions are kept")
+        for place in kept:
+            found = asking.get(200, "GET", f"{path}?version={place + 1}", known.root)["data"]["data"]
+            expect(found == {"number": numbers[place]}, f"{path}: version {place + 1} has {found}")
+
+
+def check_tokens(asking, known):
+    """Asks with each token that was answered, with those that were revoked last, and for all accessors."""
+    for token in (token for family in known.families for token in family):
+        asking.get(200, "GET", "auth/token/lookup-self", token)
+    for token in known.revoked[-REMEMBERED:]:
+        asking.get(403, "GET", "auth/token/lookup-self", token)
+    accessors = asking.get(200, "LIST", "auth/token/accessors", known.root)["data"]["keys"]
+    known_ones = 1 + sum(len(family) for family in known.families)
+    expect(known_ones <= len(accessors) <= known_ones + known.lost, f"{len(accessors)} tokens in place of {known_ones}")
+    for accessor in accessors:
+        asking.get(200, "POST", "auth/token/lookup-accessor", known.root, {"accessor": accessor})
+
+
+def check_responses(asking, known):
+    """Looks up each response that waits, opens one, and tries to open those that were opened last."""
+    for token in known.waiting:
+        told = asking.get(200, "POST", "sys/wrapping/lookup", token)["data"]
+        expect(told["creation_ttl"] == 86400, f"a response waits for {told['creation_ttl']} s")
+    for token in list(known.waiting)[:1]:
+        check_response(asking.get(200, "POST", "sys/wrapping/unwrap", token), known.waiting.pop(token))
+        known.unwrapped.append(token)
+    for token in known.unwrapped[-REMEMBERED:]:
+        asking.get(400, "POST", "sys/wrapping/unwrap", token)
+
+
+def stop_a_start(program, file):
+    """Stops the program while it opens the file, or soon after."""
+    started = subprocess.Popen([program, "serve", "--listen", "127.0.0.1:0", "--db", file],
+                               stdout=subprocess.DEVNULL, stderr=subprocess.DEVNULL)
+    time.sleep(random.uniform(0.0, 0.1))
+    started.kill()
+    started.wait()
+
+
+def run(program, file, known):
+    """One start, the checks of what is found, and requests until the kill."""
+    with Broker(program, "--db", file, token=known.root) as broker:
+        known.root = broker.token
+        asking = Asking(broker.port)
+        for check in (settle, check_secrets, check_tokens, check_responses):
+            check(asking, known)
+        threading.Timer(random.uniform(0.05, 1.5), broker.process.kill).start()
+        try:
+            while True:
+                known.number += 1
+                random.choice(REQUESTS)(asking, known, known.number)
+                known.answered[known.asked[0]] += 1
+                known.asked = None
+        except Stopped:
+            said = broker.close()
+            expect(not said, said)
 
 
 def main():
     program, times = sys.argv[1], int(sys.argv[2])
-    known, number, failed = Known(), 0, 0
+    known, failed = Known(), 0
     with tempfile.TemporaryDirectory() as folder:
+        file = str(Path(folder) / "broker.db")
         for turn in range(times + 1):
-            wrong, answered = run(program, Path(folder) / "broker.db", known, number)
-            number += answered + 1
-            for text in wrong:
-                print(f"start {turn}: {text}")
-            failed += bool(wrong)
-    print(f"{number} writes, {len(known.alive)} tokens, {len(known.revoked)} revoked")
+            if turn % 4 == 3:
+                stop_a_start(program, file)
+            try:
+                run(program, file, known)
+            except (AssertionError, Stopped) as error:
+                failed += 1
+                print(f"start {turn}: {error or 'it stopped while it was asked what it has'}")
+    told = ", ".join(f"{count} of {kind}" for kind, count in sorted(known.answered.items()))
+    print(f"{times} kills; requests that were answered: {told}")
     print(f"{times + 1 - failed} passed, {failed} failed")
     sys.exit(failed != 0)
 

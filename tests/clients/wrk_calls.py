@@ -1,0 +1,115 @@
+#!/usr/bin/env python3
+"""Asks a broker by wrk on one connection, and looks at the replies and at the memory of the program.
+
+    python3 tests/clients/wrk_calls.py PROGRAM SECONDS [ARGUMENT..]
+
+The further arguments are for `brokerd serve`. wrk.lua says what is asked. Each of the secrets has as many versions as
+are kept before it begins, so the rows do not grow. The memory is looked at once a second. The most in the last tenth of
+the time may not be more than the most in the second tenth, but for a hundredth. If wrk is not installed, it says so, and
+nothing is tried. The last line is 'N passed, M failed'.
+"""
+
+import re
+import resource
+import shutil
+import subprocess
+import sys
+import threading
+from pathlib import Path
+
+from broker import Broker, connect, reply, request
+
+LUA = Path(__file__).resolve().parent / "wrk.lua"
+SECRETS = 100
+KEPT = 10  # versions of a secret
+LEAST = 10  # seconds in which the memory is looked at often enough
+
+
+class Memory(threading.Thread):
+    """The bytes that a process has in memory, once a second until it is stopped."""
+
+    def __init__(self, process):
+        super().__init__()
+        self.file = Path(f"/proc/{process}/statm")
+        self.stopped = threading.Event()
+        self.found = []
+
+    def run(self):
+        while not self.stopped.wait(1):
+            self.found.append(int(self.file.read_text(encoding="ascii").split()[1]) * resource.getpagesize())
+
+    def stop(self):
+        self.stopped.set()
+        self.join()
+
+    def before_and_after(self):
+        """The most in the second tenth of the time, and the most in the last one."""
+        tenth = max(1, len(self.found) // 10)
+        return max(self.found[tenth:2 * tenth]), max(self.found[-tenth:])
+
+
+def fill(broker):
+    """Writes the secrets that wrk reads."""
+    rest = b""
+    with connect(broker.port) as connection:
+        for place in range(SECRETS * KEPT):
+            body = f'{{"data":{{"value":"{0:012}"}}}}'
+            connection.sendall(request("POST", f"secret/data/wrk{place % SECRETS}", broker.token, body))
+            status, _, rest = reply(connection, rest)
+            if status != 200:
+                raise SystemExit(f"a secret is not written: status {status}")
+
+
+def ask(broker, seconds):
+    """What wrk prints."""
+    command = ["wrk", "-t1", "-c1", f"-d{seconds}s", "--timeout", "20s", "--latency", "-s", str(LUA),
+               f"http://127.0.0.1:{broker.port}", "--", broker.token, str(SECRETS)]
+    return subprocess.run(command, stdout=subprocess.PIPE, text=True, check=True).stdout
+
+
+def mistakes_of(printed):
+    """What is wrong with the replies that wrk told of."""
+    counts = re.search(r"(\d+) reads, (\d+) writes, (\d+) wrong, (\d+) broken", printed)
+    if not counts:
+        return "wrk has told nothing"
+    reads, writes, wrong, broken = map(int, counts.groups())
+    if not reads or not writes:
+        return "nothing was read or written"
+    return f"{wrong} replies are wrong, and {broken} did not come" if wrong or broken else None
+
+
+def growth_of(memory):
+    """What is wrong with the memory of the program."""
+    if len(memory.found) < LEAST:
+        return f"the memory was looked at {len(memory.found)} times only"
+    before, after = memory.before_and_after()
+    print(f"memory: {before / 1e6:.2f} MB in the second tenth of the time, {after / 1e6:.2f} MB in the last one")
+    return "the program grows" if after > before * 1.01 else None
+
+
+def main():
+    program, seconds, *arguments = sys.argv[1:]
+    if shutil.which("wrk") is None:
+        print("wrk is not installed: its requests are skipped")
+        print("0 passed, 0 failed")
+        return 0
+    with Broker(program, *arguments) as broker:
+        fill(broker)
+        memory = Memory(broker.process.pid)
+        memory.start()
+        try:
+            printed = ask(broker, seconds)
+        finally:
+            memory.stop()
+        print(printed, end="")
+        ended = None if broker.process.poll() is None else "the program has ended"
+        found = [mistakes_of(printed), growth_of(memory), ended]
+        said = broker.close()
+    failed = [text for text in (*found, said) if text]
+    print("".join(f"wrk: {text}\n" for text in failed), end="")
+    print(f"{len(found) + 1 - len(failed)} passed, {len(failed)} failed")
+    return 1 if failed else 0
+
+
+if __name__ == "__main__":
+    sys.exit(main())
