@@ -1,17 +1,17 @@
 -- Responses that were kept are handed out once, as they were.
-use Rattle.std.specs.Prelude.{◌≡◌, ◌≢◌, ◌⊎◌, ◌&&◌, nat_lt, ℕ, [], ◌∷◌, Bool, true, false, cond, is_some, if◌then◌else◌}
+use Rattle.std.specs.Prelude.{◌≡◌, ◌≢◌, ◌<◌, ◌≤◌, ◌⊎◌, ◌&&◌, nat_lt, ℕ, max, [], ◌∷◌, Bool, true, false, cond, is_some, if◌then◌else◌}
 use Rattle.std.specs.Prelude.{Option, Some, None, Ok, option_map}
 use Rattle.std.specs.Option.{option_map_or}
 use Rattle.std.proofs.Common.{refl, sym, ◌∙◌, ap, subst, inl, inr, arith}
 use Rattle.std.proofs.lemmas.Bool.{false≢true, false_from_ne_true}
-use Rattle.std.proofs.lemmas.Option.{none-some}
+use Rattle.std.proofs.lemmas.Option.{none-some, same_Some}
 use Rattle.broker_types.specs.Text.{Text, same}
 use Rattle.broker_types.specs.Answer.{IsRefused, Response}
 use Rattle.broker_types.specs.TextLaws.{same_true}
 use Rattle.broker_types.specs.Map.{Map, get, without}
 use Rattle.broker_types.specs.MapLaws.{get-put, get-without_self, no_entry}
 use Rattle.broker_types.specs.Broker as broker
-use Rattle.broker_types.specs.Broker.{Broker, Waiting}
+use Rattle.broker_types.specs.Broker.{Broker, Waiting, waiting_ends}
 use Rattle.broker_types.specs.Evolves.{Evolves, IsTakenOut}
 use Rattle.broker_types.specs.Names.{names_of}
 use Rattle.broker_types.specs.Operation.{reply, plainly, Done}
@@ -306,6 +306,21 @@ ended_by a sound keeps is t (inr (o, u)) =
     let waited : get (clocked a).waiting t ≢ None = λ none. none-some _ (sym none ∙ u.waited) in
     record { was = waited_then a t waited; gone = inr (by_unwrap a sound keeps is t waited o u) }
 
+-- so did a request by whose clock its time was over
+ended_in_time : (a : Asking) (t : Text) (w : Waiting) → get a.broker.waiting t ≡ Some w → waiting_ends w ≤ max a.broker.clock a.moment
+    → EndsWrappingToken a t
+ended_in_time a t w waits over = record {
+  was = λ none. none-some _ (sym none ∙ waits);
+  gone = inl (elim (found_or_not (get (clocked a).waiting t)) [
+    | inl none ↦ none
+    | inr v ↦
+        let before = waited_before a t v.0 v.1 in
+        let one : waiting_ends w ≡ waiting_ends v.0 = ap waiting_ends (same_Some _ _ (sym waits ∙ before.0)) in
+        let later : max a.broker.clock a.moment < waiting_ends v.0 = before.1 in
+        absurd (omega (arith, over, one, later))
+  ]);
+}
+
 module _ (a : Asking) (sound : Sound forms None a.broker) (keeps : Keeps unwrapped_body a) (t : Text) (ends : EndsWrappingToken a t) where
   token_used : get a.broker.used (token_identifier t) ≢ None
   token_used = elim (found_or_not (get a.broker.waiting t)) [
@@ -373,6 +388,7 @@ module _ (proper : OperationsAreProper) (b : Broker) (history : History) (h : Ar
     ended = λ i a t at how.
         let is = asked_at b history i a h at in
         ended_by a is.sound (asked_keeps unwrapped_body b history i a keep_all at) is.outcome t how;
+    due = λ i a t w at waits over. ended_in_time a t w waits over;
     out = λ i j a x t one ends other le.
         stays_out a (asked_at b history i a h one).sound (asked_keeps unwrapped_body b history i a keep_all one) t ends x.outcome.next
         (left_since unwrapped_body b history i j a x keep_all one other le);

@@ -1,6 +1,6 @@
 -- The laws of responses that were kept, as statements: each is handed out once, by an unwrap, and is the reply that was
 -- kept (Vault's documentation, "Response wrapping").
-use Rattle.std.specs.Prelude.{◌≡◌, ◌≢◌, ◌<◌, ◌≤◌, ◌⊎◌, ℕ, List, Bool, true, false, Option, Some, None, Result, Ok, Err, []}
+use Rattle.std.specs.Prelude.{◌≡◌, ◌≢◌, ◌<◌, ◌≤◌, ◌⊎◌, ℕ, max, List, Bool, true, false, Option, Some, None, Result, Ok, Err, []}
 use Rattle.serde_json.specs.Data.{Members, object}
 use Rattle.serde_json.specs.Written.{compact_text}
 use Rattle.broker_types.specs.Text.{Text}
@@ -106,6 +106,10 @@ pub record HandedOutOnce (history : History) : Type 0 where
   -- Each such event, and each 200 to an unwrap, ended the token.
   pub ended : (i : ℕ) (a : Asking) (t : Text) → AskedAt history i a
       → TakesTokenOut a t ⊎ ((o : Text) × Unwraps a t o) → EndsWrappingToken a t
+  -- A wrapping token whose end is at or before the later of an event's moment and the clock before it ended with that
+  -- event.
+  pub due : (i : ℕ) (a : Asking) (t : Text) (w : Waiting) → AskedAt history i a → get a.broker.waiting t ≡ Some w
+      → waiting_ends w ≤ max a.broker.clock a.moment → EndsWrappingToken a t
   -- No wrapping token that ended, in these ways or by its end, is in any later state. So it is not looked up either.
   pub out : (i j : ℕ) (a x : Asking) (t : Text) → AskedAt history i a → EndsWrappingToken a t → AskedAt history j x
       → i ≤ j → get x.outcome.next.waiting t ≡ None
