@@ -1,21 +1,22 @@
--- The chosen prefix is the longest.
-use Rattle.std.specs.Prelude.{nat_eq}
+-- Which pattern is chosen: that of a rule, an exact one or the longest prefix.
+use Rattle.std.specs.Prelude.{nat_eq, is_some}
 use Rattle.std.specs.List.{find, starts_with}
-use Rattle.std.proofs.Common.{◌≡◌, ◌≢◌, ℕ, ◌+◌, ◌≤◌, ◌<◌, refl, sym, ◌∙◌, ap, arith, List, [], ◌∷◌, length, Bool, true, false, cond, if◌then◌else◌, Some}
+use Rattle.std.proofs.Common.{◌≡◌, ◌≢◌, ℕ, ◌+◌, ◌≤◌, ◌<◌, ◌⊎◌, inl, inr, refl, sym, ◌∙◌, ap, subst, arith, List, [], ◌∷◌, length, Bool, true, false, cond, if◌then◌else◌, Some}
 use Rattle.std.proofs.lemmas.Bool.{false≢true}
 use Rattle.std.proofs.lemmas.Option.{none-some, same_Some}
-use Rattle.broker_types.specs.Text.{Text}
+use Rattle.broker_types.specs.Text.{Text, same}
 use Rattle.broker_types.specs.TextLaws.{same_self, same_true}
+use Rattle.broker_types.specs.declared.ask.Verb.{Verb}
 use Rattle.broker_types.specs.declared.ask.Verb.TheVariants as verb
 use Rattle.policies.specs.declared.pattern.Pattern.{Pattern}
 use Rattle.policies.specs.declared.pattern.Pattern.TheVariants.{Exact, Prefix}
 use Rattle.policies.specs.Allows.{is_named, chosen}
 use Rattle.policies.specs.Laws.{IsLongest}
 use Rattle.policies.specs.Patterns.{same_pattern, with_slash, tried}
-use Rattle.policies.specs.Places.{place, tried_text}
+use Rattle.policies.specs.Places.{place, exact_place, tried_text}
 use Rattle.policies.specs.Rules.{Rules}
 use Rattle.policies.proofs.Choices.{most_places}
-use Rattle.policies.proofs.Places.{prefix_placed}
+use Rattle.policies.proofs.Places.{exact_placed, prefix_placed}
 
 itself : (p : Pattern) → same_pattern p p ≡ true
 itself (Exact s) = same_self s
@@ -72,6 +73,38 @@ has_place test (x ∷ xs) t found =
           omega (arith, first, step)
     ] found
 
+-- what is found passes
+found_passes : (test : Pattern → Bool) (ts : List Pattern) (t : Pattern) → find test ts ≡ Some t → test t ≡ true
+found_passes test [] t found = absurd (none-some _ found)
+found_passes test (x ∷ xs) t found =
+    elim (test x) as (λ b. test x ≡ b → cond b (Some x) (find test xs) ≡ Some t → test t ≡ true) [
+      | true ↦ λ passes here. ap test (sym (same_Some _ _ here)) ∙ passes
+      | false ↦ λ _ there. found_passes test xs t there
+    ] refl found
+
+-- and where what has a place passes, something is found
+finds : (test : Pattern → Bool) (ts : List Pattern) (u : Pattern) → test u ≡ true → 0 < place ts u → is_some (find test ts) ≡ true
+finds test [] u passes placed = absurd (omega (arith, placed))
+finds test (x ∷ xs) u passes placed =
+    elim (test x) as (λ b. test x ≡ b → is_some (cond b (Some x) (find test xs)) ≡ true) [
+      | true ↦ λ _. refl
+      | false ↦ λ fails.
+          let same : place (x ∷ xs) u ≡ place xs u = later x xs u test passes fails in
+          let left : 0 < place xs u = omega (arith, placed, same) in
+          finds test xs u passes left
+    ] refl
+
+pub chosen_named : (rs : Rules) (path : Text) (p : Pattern) → chosen rs path ≡ Some p → is_named rs.rules p ≡ true
+chosen_named rs path p is = found_passes (is_named rs.rules) (tried rs.verb path) p is
+
+pub prefix_found : (rs : Rules) (path prefix : Text) → is_named rs.rules (Prefix prefix) ≡ true
+    → starts_with nat_eq (tried_text rs.verb path) prefix ≡ true → is_some (chosen rs path) ≡ true
+prefix_found rs path prefix named begins =
+    let is : place (tried rs.verb path) (Prefix prefix) ≡ length prefix + 1 =
+    prefix_placed rs.verb path prefix ∙ ap (λ b. if b then length prefix + 1 else 0) begins in
+    let placed : 0 < place (tried rs.verb path) (Prefix prefix) = omega (arith, is) in
+    finds (is_named rs.rules) (tried rs.verb path) (Prefix prefix) named placed
+
 module _ (rs : Rules) (path prefix : Text) (is : chosen rs path ≡ Some (Prefix prefix)) where
   begins_with : starts_with nat_eq (tried_text rs.verb path) prefix ≡ true
   begins_with =
@@ -115,3 +148,42 @@ folder_first rs path is named = ap (λ v. find (is_named rs.rules) (tried v path
 pub then_path : (rs : Rules) (path : Text) → rs.verb ≡ verb.List → is_named rs.rules (Exact (with_slash path)) ≡ false
     → is_named rs.rules (Exact path) ≡ true → chosen rs path ≡ Some (Exact path)
 then_path rs path is none named = ap (λ v. find (is_named rs.rules) (tried v path)) is ∙ rw none (rw named refl)
+
+-- what one text is, if it is the path
+same_path : (path text : Text) → 0 < (if same text path then length path + 2 else 0) → text ≡ path
+same_path path text placed =
+    elim (same text path) as (λ b. same text path ≡ b → (0 < (if b then length path + 2 else 0)) → text ≡ path) [
+      | true ↦ λ is _. same_true text path is
+      | false ↦ λ _ none. absurd (omega (arith, none))
+    ] refl placed
+
+-- and what it is if it is the path or its folder
+same_either : (path text : Text)
+    → 0 < (if same text (with_slash path) then length path + 4 else (if same text path then length path + 3 else 0))
+    → (text ≡ path) ⊎ (text ≡ with_slash path)
+same_either path text placed =
+    elim (same text (with_slash path)) as (λ b. same text (with_slash path) ≡ b
+    → (0 < (if b then length path + 4 else (if same text path then length path + 3 else 0)))
+    → (text ≡ path) ⊎ (text ≡ with_slash path)) [
+      | true ↦ λ is _. inr (same_true text (with_slash path) is)
+      | false ↦ λ _.
+          elim (same text path) as (λ b. same text path ≡ b → (0 < (if b then length path + 3 else 0))
+          → (text ≡ path) ⊎ (text ≡ with_slash path)) [
+            | true ↦ λ is _. inl (same_true text path is)
+            | false ↦ λ _ none. absurd (omega (arith, none))
+          ] refl
+    ] refl placed
+
+exact_text : (v : Verb) (path text : Text) → 0 < exact_place v path text
+    → (text ≡ path) ⊎ ((v ≡ verb.List) × (text ≡ with_slash path))
+exact_text verb.Get path text placed = inl (same_path path text placed)
+exact_text verb.Write path text placed = inl (same_path path text placed)
+exact_text verb.Delete path text placed = inl (same_path path text placed)
+exact_text verb.List path text placed =
+    elim (same_either path text placed) [ inl is ↦ inl is | inr is ↦ inr (refl, is) ]
+
+pub own_path : (rs : Rules) (path text : Text) → chosen rs path ≡ Some (Exact text)
+    → (text ≡ path) ⊎ ((rs.verb ≡ verb.List) × (text ≡ with_slash path))
+own_path rs path text is =
+    exact_text rs.verb path text
+    (subst (λ n. 0 < n) (exact_placed rs.verb path text) (has_place (is_named rs.rules) (tried rs.verb path) (Exact text) is))

@@ -1,7 +1,7 @@
 -- Laws of what policies grant, and of policies that are set and deleted, as statements (this project's; Vault's
 -- documentation, "Policies").
-use Rattle.std.specs.Prelude.{◌≡◌, ◌≢◌, ◌≤◌, ◌<◌, ◌^◌, nat_eq, List, [], ◌∷◌, length, Bool, true, false, Option, Some}
-use Rattle.std.specs.Prelude.{None, Ok, IsPermutation}
+use Rattle.std.specs.Prelude.{◌≡◌, ◌≢◌, ◌≤◌, ◌<◌, ◌^◌, ◌⊎◌, nat_eq, List, [], ◌∷◌, length, Bool, true, false, Option}
+use Rattle.std.specs.Prelude.{Some, None, Ok, is_some, IsPermutation}
 use Rattle.std.specs.List.{list_any, starts_with}
 use Rattle.broker_types.specs.Broker.{Broker}
 use Rattle.broker_types.specs.Evolves.{Evolves}
@@ -118,6 +118,23 @@ pub record IsLongest (rs : Rules) (path prefix : Text) : Type 0 where
 -- a chosen prefix is the longest
 abbrev pub PrefixIsLongest : Type 0
 PrefixIsLongest = (rs : Rules) (path prefix : Text) → chosen rs path ≡ Some (Prefix prefix) → IsLongest rs path prefix
+
+-- a rule is about what is chosen
+abbrev pub ChosenIsNamed : Type 0
+ChosenIsNamed =
+    (rs : Rules) (path : Text) (p : Pattern) → chosen rs path ≡ Some p → is_named rs.rules p ≡ true
+
+-- where a rule is about a prefix of the tested text, something is chosen
+abbrev pub PrefixIsFound : Type 0
+PrefixIsFound =
+    (rs : Rules) (path prefix : Text) → is_named rs.rules (Prefix prefix) ≡ true
+    → starts_with nat_eq (tried_text rs.verb path) prefix ≡ true → is_some (chosen rs path) ≡ true
+
+-- an exact pattern is chosen only if it is the path, or for LIST the path and a slash
+abbrev pub ExactIsThePath : Type 0
+ExactIsThePath =
+    (rs : Rules) (path text : Text) → chosen rs path ≡ Some (Exact text)
+    → (text ≡ path) ⊎ ((rs.verb ≡ verb.List) × (text ≡ with_slash path))
 
 -- ---- policies that are set and deleted
 

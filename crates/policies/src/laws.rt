@@ -4,6 +4,7 @@ ghost use Rattle.policies.specs.Examples.{DeniesOne, ListsFolders, ListsInOrder,
 ghost use Rattle.policies.specs.Laws.{OnlyWhatIsGranted, AllThatIsGranted, RootMayDoAll};
 ghost use Rattle.policies.specs.Laws.{NothingWithoutPolicies, OrderDoesNotMatter, OthersDoNotMatter};
 ghost use Rattle.policies.specs.Laws.{ExactComesFirst, FolderComesFirst, ThenThePath, PrefixIsLongest};
+ghost use Rattle.policies.specs.Laws.{ChosenIsNamed, PrefixIsFound, ExactIsThePath};
 ghost use Rattle.policies.specs.Laws.{AbsentGrantNothing, SetKeepsSoundness, DeleteKeepsSoundness, PoliciesEvolve};
 ghost use Rattle.policies.specs.Laws.{FirstPolicyIsRead, PoliciesAreTold};
 
@@ -25,12 +26,16 @@ pub fn only_the_callers_policies()
 {}
 
 /// A law: the exact pattern comes first, and else the longest prefix. For LIST the exact pattern of the path and a
-/// slash comes before that of the path.
+/// slash comes before that of the path. A rule is about what is chosen, and something is chosen if a rule is about a
+/// pattern that matches.
 pub fn patterns_are_chosen_in_order()
     ensures exact { ExactComesFirst }
     ensures folder { FolderComesFirst }
     ensures path { ThenThePath }
     ensures prefix { PrefixIsLongest }
+    ensures named { ChosenIsNamed }
+    ensures found { PrefixIsFound }
+    ensures own_path { ExactIsThePath }
 {}
 
 /// A law: setting and deleting a policy leaves a sound broker sound, whoever may have spent its last use.

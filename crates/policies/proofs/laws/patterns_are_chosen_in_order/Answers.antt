@@ -1,4 +1,5 @@
 use Rattle.policies.proofs.PatternsChosen.{is_longest, exact_first, folder_first, then_path}
+use Rattle.policies.proofs.PatternsChosen.{chosen_named, prefix_found, own_path}
 use Rattle.policies.proofs.laws.patterns_are_chosen_in_order.Goals as goal
 
 pub returns-clause-exact : goal.returns-clause-exact
@@ -12,3 +13,12 @@ returns-clause-path c = then_path
 
 pub returns-clause-prefix : goal.returns-clause-prefix
 returns-clause-prefix c = is_longest
+
+pub returns-clause-named : goal.returns-clause-named
+returns-clause-named c = chosen_named
+
+pub returns-clause-found : goal.returns-clause-found
+returns-clause-found c = prefix_found
+
+pub returns-clause-own_path : goal.returns-clause-own_path
+returns-clause-own_path c = own_path
