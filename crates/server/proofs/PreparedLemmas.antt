@@ -1,15 +1,18 @@
 -- What follows from how a store was made ready.
-use Rattle.std.proofs.Common.{◌≡◌, ◌≢◌, ◌⊎◌, inl, inr, ℕ, ◌≤◌, false, IsTrue, Option, Some, None, sym, subst, ◌∙◌, arith}
+use Rattle.std.proofs.Common.{◌≡◌, ◌≢◌, ◌⊎◌, inl, inr, ℕ, ◌≤◌, Option, Some, None, slice_index, sym, subst, ◌∙◌, arith}
 use Rattle.std.specs.FinMap.{empty, get-empty}
 use Rattle.broker_types.specs.Broker.{Broker}
+use Rattle.broker_types.specs.First.{first_broker}
+use Rattle.broker_types.specs.Identifier.{id}
 use Rattle.broker_types.specs.Text.{Text}
+use Rattle.broker_types.specs.TokenText.{token_text}
 use Rattle.broker_types.specs.declared.words.Words.{Words}
 use Rattle.records.specs.Kind.{key_cmp}
 use Rattle.records.specs.Transaction.{Rows}
 use Rattle.broker_rows.specs.Representing.{Represents}
 use Rattle.broker_rows.specs.ClockRow.{HasNoClock}
 use Rattle.broker.specs.Kept.{Kept, IsHonestStore}
-use Rattle.server.specs.Prepared.{IsPrepared}
+use Rattle.server.specs.Prepared.{IsOpened, IsPrepared, IsStarted}
 
 no_clock : HasNoClock empty
 no_clock = get-empty key_cmp _
@@ -25,3 +28,26 @@ pub refused : (found mid last : Kept) (a b : ℕ) → found.mismatches ≤ mid.m
 refused found mid last a b first second none same told differ honest =
     let before : IsHonestStore mid = omega (arith, second, honest) in
     elim (told honest) [ inl some ↦ some (same before ∙ none before) | inr equal ↦ differ equal ]
+
+-- ---- a store that was adopted has the rows of the records
+
+pub opened : (records store last : Kept) → (IsHonestStore store → store.rows ≡ records.rows) → store.mismatches ≤ last.mismatches
+    → (IsHonestStore last → ¬ HasNoClock store.rows) → (IsHonestStore last → last.rows ≡ store.rows) → IsHonestStore last → IsOpened records.rows last.rows
+opened records store last adopted less started same honest =
+    let before : IsHonestStore store = omega (arith, less, honest) in
+    record { started = λ none. started honest (subst HasNoClock (sym (adopted before)) none); same = same honest ∙ adopted before }
+
+pub begun : (moment : ℕ) (words : Words) (token : Text) (records store mid last : Kept) → (IsHonestStore store → store.rows ≡ records.rows)
+    → store.mismatches ≤ mid.mismatches → mid.mismatches ≤ last.mismatches → (IsHonestStore mid → store.rows ≡ empty) → slice_index words.0 1 ≢ slice_index words.0 2
+    → (IsHonestStore last → Represents None last.rows (first_broker moment (slice_index words.0 1) (slice_index words.0 2)))
+    → token ≡ token_text (id (slice_index words.0 1)) → IsHonestStore last → IsStarted moment words records.rows last.rows token
+begun moment words token records store mid last adopted first second none differ broker root honest =
+    let between : IsHonestStore mid = omega (arith, second, honest) in
+    let before : IsHonestStore store = omega (arith, first, between) in
+    record { empty = sym (adopted before) ∙ none between; differ = differ; broker = broker honest; root = root }
+
+pub lacking : (records store last : Kept) → (IsHonestStore store → store.rows ≡ records.rows) → store.mismatches ≤ last.mismatches
+    → (IsHonestStore last → HasNoClock store.rows × (store.rows ≢ empty)) → IsHonestStore last → HasNoClock records.rows × (records.rows ≢ empty)
+lacking records store last adopted less told honest =
+    let before : IsHonestStore store = omega (arith, less, honest) in
+    subst (λ (rows : Rows). HasNoClock rows × (rows ≢ empty)) (adopted before) (told honest)

@@ -33,7 +33,7 @@ pub fn prepare<S: Alter + Drop>(
         → LacksClock S.Store records ⊎ (slice_index words.now.0 1 ≡ slice_index words.now.0 2) }
     ensures faults { IfErr result (λ fault. IsMemoryOrStorage fault ⊎ (fault ≡ Fault.BadStart)) }
 {
-    let mut store = SqlStore::new(alloc, records);
+    let mut store = SqlStore::adopt(alloc, records)?;
     if store.is_started()? {
         return Ok((store, None));
     }

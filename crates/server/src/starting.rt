@@ -9,6 +9,7 @@ use crate::drawn::seeded;
 use crate::preparing::prepare;
 use crate::serving::serve;
 use crate::system_clock::SystemClock;
+use broker_sql::SqlStore;
 use broker_types::TokenText;
 use hub::{Clock, ConnectionFault, Hub, WordSource};
 use records_sql::SqlRecords;
@@ -53,8 +54,8 @@ pub fn serve_file(
 ) -> Result<(), ConnectionFault> {
     // If it is there, or cannot be made, opening it tells.
     let _ = make_private(rt, path);
-    let records = SqlRecords::open_from(rt, path, Unknown)?;
-    serve_records(rt, records, address, connections)
+    let store = SqlStore::open_from(rt, path, Unknown)?;
+    serve_records(rt, store.into_records(), address, connections)
 }
 
 /// Makes an empty file that its owner alone may read and write, if there is none.

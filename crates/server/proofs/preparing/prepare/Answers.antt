@@ -1,48 +1,72 @@
-use Rattle.std.proofs.Common.{◌≡◌, ◌≢◌, ◌≤◌, inl, inr, Ok, Err, Result, refl, slice_index, sym, ap, subst, ◌∙◌, arith}
-use Rattle.std.specs.FinMap.{empty}
+use Rattle.std.proofs.Common.{◌≡◌, ◌≤◌, inl, inr, Ok, Err, Result, slice_index, sym, ap, ◌∙◌, arith}
 use Rattle.std.proofs.lemmas.Result.{err_from_is_err_and}
 use Rattle.std.proofs.lemmas.Bool.Decides.{eqb_tells}
 use Rattle.broker_types.specs.declared.fault.Fault.{Fault}
 use Rattle.broker_types.specs.declared.fault.Fault.TheVariants.{BadStart}
-use Rattle.broker_rows.specs.ClockRow.{HasNoClock}
-use Rattle.broker.specs.Kept.{Kept}
-use Rattle.broker_sql.specs.SqlKept.{kept_records}
-use Rattle.server.proofs.PreparedLemmas.{refused}
+use Rattle.broker_sql.specs.SqlKept.{kept_records, sql_kept}
+use Rattle.server.proofs.PreparedLemmas.{begun, lacking, opened, refused}
 use Rattle.server.proofs.preparing.prepare.Goals as goal
 
 abbrev fault_of : {A : Type 0} → Fault → Result A Fault → Fault
 fault_of fault (Ok x) = fault
 fault_of fault (Err e) = e
 
+pub returns-in_err-store-clause-bad_start : goal.returns-in_err-store-clause-bad_start
+returns-in_err-store-clause-bad_start g c is =
+    let left = err_from_is_err_and c.from_residual.result c.from_residual.ensures.1 in
+    let same : c.in_err-store.field-0.0 ≡ BadStart = sym left.2 ∙ ap (fault_of BadStart) (sym left.1 ∙ is) in
+    inl (c.in_err-store.ensures.bad_start (ap Err same))
+
 pub returns-in_err-is_started-clause-bad_start : goal.returns-in_err-is_started-clause-bad_start
 returns-in_err-is_started-clause-bad_start g c is =
-    let left = err_from_is_err_and c.from_residual.result c.from_residual.ensures.1 in
+    let left = err_from_is_err_and c.from_residual-in_err-is_started.result c.from_residual-in_err-is_started.ensures.1 in
     let same : c.in_err-is_started.field-0.0 ≡ BadStart = sym left.2 ∙ ap (fault_of BadStart) (sym left.1 ∙ is) in
-    let last = c.is_started.new.self.records in
+    let records = kept_records g.S.Store c.args.records in
+    let store = sql_kept g.S.Store c.in_ok-store.store in
+    let last = sql_kept g.S.Store c.is_started.new.self in
+    let first : records.mismatches ≤ store.mismatches = c.in_ok-store.ensures.mismatches in
+    let second : store.mismatches ≤ last.mismatches = c.in_err-is_started.ensures.mismatches in
     inl (record {
-      last = last;
-      mismatches = subst (λ (k : Kept). k.mismatches ≤ (kept_records g.S.Store last).mismatches) c.new-store.ensures c.in_err-is_started.ensures.mismatches;
-      told = λ honest. subst (λ (k : Kept). HasNoClock k.rows × (k.rows ≢ empty)) c.new-store.ensures ((c.in_err-is_started.ensures.told honest).bad_start (ap Err same));
+      last = c.is_started.new.self.records;
+      mismatches = omega (arith, first, second);
+      told = lacking records store last c.in_ok-store.ensures.rows second (λ honest. (c.in_err-is_started.ensures.told honest).bad_start (ap Err same));
     })
+
+pub returns-then-branch-clause-prepared : goal.returns-then-branch-clause-prepared
+returns-then-branch-clause-prepared g c =
+    let store = sql_kept g.S.Store c.in_ok-store.store in
+    let last = sql_kept g.S.Store c.is_started.new.self in
+    opened (kept_records g.S.Store c.args.records) store last c.in_ok-store.ensures.rows c.in_ok-is_started.ensures.mismatches
+    (λ honest. (c.in_ok-is_started.ensures.told honest).started c.if-branch.true)
+    (λ honest. c.in_ok-is_started.ensures.same honest (c.in_ok-is_started.ensures.stands honest))
 
 pub returns-in_err-root-clause-bad_start : goal.returns-in_err-root-clause-bad_start
 returns-in_err-root-clause-bad_start g c is =
     let left = err_from_is_err_and c.from_residual-in_err-root.result c.from_residual-in_err-root.ensures.1 in
     let same : c.in_err-root.field-0.0 ≡ BadStart = sym left.2 ∙ ap (fault_of BadStart) (sym left.1 ∙ is) in
     let words = c.args.words.now.0 in
-    let mid = kept_records g.S.Store c.is_started.new.self.records in
-    let last = kept_records g.S.Store c.start.new.self.records in
-    let first : (kept_records g.S.Store c.args.records).mismatches ≤ mid.mismatches = subst (λ (k : Kept). k.mismatches ≤ mid.mismatches) c.new-store.ensures c.in_ok-is_started.ensures.mismatches in
+    let store = sql_kept g.S.Store c.in_ok-store.store in
+    let mid = sql_kept g.S.Store c.is_started.new.self in
+    let last = sql_kept g.S.Store c.start.new.self in
+    let adopted : (kept_records g.S.Store c.args.records).mismatches ≤ store.mismatches = c.in_ok-store.ensures.mismatches in
+    let first : store.mismatches ≤ mid.mismatches = c.in_ok-is_started.ensures.mismatches in
     let second : mid.mismatches ≤ last.mismatches = c.in_err-root.ensures.mismatches in
-    let rows = ap (λ (k : Kept). k.rows) c.new-store.ensures in
     elim (eqb_tells (slice_index words 1) (slice_index words 2)) [
       | inl equal ↦ inr equal.1
       | inr differ ↦ inl (record {
         last = c.start.new.self.records;
-        mismatches = omega (arith, first, second);
-        told = λ honest. absurd (refused (kept_records g.S.Store c.args.records) mid last _ _ first second
-            (λ h. sym rows ∙ (c.in_ok-is_started.ensures.told h).empty c.if-branch.false)
-            (λ h. c.in_ok-is_started.ensures.same h (c.in_ok-is_started.ensures.stands h) ∙ rows)
+        mismatches = omega (arith, adopted, first, second);
+        told = λ honest. absurd (refused store mid last _ _ first second
+            (λ h. (c.in_ok-is_started.ensures.told h).empty c.if-branch.false)
+            (λ h. c.in_ok-is_started.ensures.same h (c.in_ok-is_started.ensures.stands h))
             (λ h. c.in_err-root.ensures.bad_start h (ap Err same)) differ.1 honest);
       })
     ]
+
+pub returns-clause-prepared : goal.returns-clause-prepared
+returns-clause-prepared g c =
+    begun c.args.moment c.args.words.now c.in_ok-root.root (kept_records g.S.Store c.args.records) (sql_kept g.S.Store c.in_ok-store.store)
+    (sql_kept g.S.Store c.is_started.new.self) (sql_kept g.S.Store c.start.new.self) c.in_ok-store.ensures.rows
+    c.in_ok-is_started.ensures.mismatches c.in_ok-root.ensures.mismatches
+    (λ honest. (c.in_ok-is_started.ensures.told honest).empty c.if-branch.false)
+    c.in_ok-root.ensures.differ c.in_ok-root.ensures.told c.in_ok-root.ensures.token
