@@ -1,4 +1,5 @@
-ghost use Rattle.std.specs.Prelude.{◌≡◌, ◌≤◌, ◌++◌, length, take, IfOk};
+ghost use Rattle.std.specs.Prelude.{◌≡◌, ◌≤◌, ◌++◌, [], length, take};
+ghost use Rattle.std.specs.Io.{ReadsAtMost};
 ghost use Rattle.server.specs.Pieces.{at_most_one};
 
 use crate::waiting::{Wait, patience};
@@ -31,10 +32,11 @@ impl<'s, R: Clock> Peer<'s, R> {
     }
 
     /// Where its requests come from.
-    pub(crate) fn requests(&'s self) -> Reading<Requests<'s, R>> {
-        Reading::new(Requests {
-            peer: self,
+    pub(crate) fn requests(&'s self) -> Reading<LastAlone<'s, &'s Peer<'s, R>>> {
+        Reading::new(LastAlone {
+            reader: self,
             held: None,
+            wait: &self.wait,
         })
     }
 
@@ -61,7 +63,7 @@ impl<'s, R: Clock> Peer<'s, R> {
 
     /// The next bytes that the peer sends. It fails if none come in time.
     fn receive(&self, buffer: &mut [u8]) -> io::Result<usize>
-        ensures { IfOk result (λ count. count ≤ length buffer.new) }
+        ensures { ReadsAtMost result buffer.new }
     {
         self.stream.set_read_timeout(Some(self.patience()?))?;
         let mut stream = self.stream;
@@ -106,35 +108,48 @@ impl<'s, R: Clock> Write for &Peer<'s, R> {
     }
 }
 
-/// What a peer sends, as a reader. The last byte of each read is handed on alone, when it is the only one
-/// left. So a reply that follows it answers all that came: no byte waits for more of its request.
-#[derive(Drop)]
-pub(crate) struct Requests<'s, R: Clock> {
-    peer: &'s Peer<'s, R>,
-    held: Option<u8>,
+impl<'s, R: Clock> Read for &Peer<'s, R> {
+    /// It fails if the peer sends no byte in time.
+    fn read(&mut self, buffer: &mut [u8]) -> io::Result<usize> {
+        self.receive(buffer)
+    }
 }
 
-impl<'s, R: Clock> Read for Requests<'s, R> {
+/// A reader that hands on the last byte of each read alone, when it is the only one left. So a reply that follows it
+/// answers all that came: no byte waits for more of its request. Once it has read, the rest of a request is waited for.
+#[derive(Drop)]
+pub(crate) struct LastAlone<'s, R: Read> {
+    reader: R,
+    held: Option<u8>,
+    wait: &'s Cell<Wait>,
+}
+
+impl<'s, R: Read> Read for LastAlone<'s, R> {
+    ghost use Rattle.server.specs.Pieces.{remaining_of};
+
+    ghost remaining = { remaining_of R.remaining };
+
     fn read(&mut self, buffer: &mut [u8]) -> io::Result<usize> {
-        let Some(first) = buffer.first_mut() else {
+        if buffer.is_empty() {
             return Ok(0);
-        };
+        }
         if let Some(byte) = self.held.take() {
-            *first = byte;
-            self.peer.wait.set(Wait::Progress);
+            buffer[0] = byte;
+            self.wait.set(Wait::Progress);
             return Ok(1);
         }
-        let count = self.peer.receive(buffer)?;
+        let count = self.reader.read(buffer)?;
         let (handed_on, held) = without_last(&buffer[..count]);
         self.held = held;
-        self.peer.wait.set(Wait::Progress);
+        self.wait.set(Wait::Progress);
         Ok(handed_on)
     }
 }
 
-/// How many of the bytes are handed on, and the last one if it is not among them.
+/// How many of the bytes are handed on, and the last one if it is not among them. If there are any, some are.
 fn without_last(bytes: &[u8]) -> (usize, Option<u8>)
     ensures whole { take result.0 bytes.now ++ at_most_one result.1 ≡ bytes.now }
+    ensures some { result.0 ≡ 0 → bytes.now ≡ [] }
     ensures bound { result.0 ≤ length bytes.now }
 {
     match bytes {
