@@ -78,6 +78,10 @@ impl<S: Store> Hub<S> {
             × HubRepresents S.seen self.new (record w { connections = after }) }
         ensures connections { (all : Connections) → ConnectionsRepresent self.old all
             → (after : Connections) × ConnectionsRepresent self.new after × LeavesClosed all conn after }
+
+        // One that was not seen is still not seen.
+        ensures unseen { (all : Connections) → ConnectionsRepresent self.old all → all conn ≡ None
+            → ConnectionsRepresent self.new all }
         ensures store { hub_store S.seen self.new ≡ hub_store S.seen self.old }
     {
         close(&mut self.connections, conn);

@@ -1,7 +1,7 @@
 use Rattle.std.proofs.Common.{ℕ, nat_cmp, refl}
 use Rattle.std.specs.BTreeMap.{get}
 use Rattle.hub.specs.Representing.{hub_connections}
-use Rattle.hub.proofs.HubLemmas.{closed_represents}
+use Rattle.hub.proofs.HubLemmas.{closed_represents, unseen_represents}
 use Rattle.hub.proofs.ServingLemmas.{closed_world}
 use Rattle.hub.proofs.hub.Hub.close.Goals as goal
 
@@ -9,6 +9,11 @@ pub returns-clause-connections : goal.returns-clause-connections
 returns-clause-connections g c = λ all each.
     closed_represents (hub_connections c.args.self.now) (λ (k : ℕ). get nat_cmp c.close.new.connections k) c.args.conn all each
     c.close.ensures.closed c.close.ensures.unseen c.close.ensures.others
+
+pub returns-clause-unseen : goal.returns-clause-unseen
+returns-clause-unseen g c = λ all each none.
+    unseen_represents (hub_connections c.args.self.now) (λ (k : ℕ). get nat_cmp c.close.new.connections k) c.args.conn all each
+    c.close.ensures.unseen c.close.ensures.others none
 
 pub returns-clause-worlds : goal.returns-clause-worlds
 returns-clause-worlds g c = λ w represents.
