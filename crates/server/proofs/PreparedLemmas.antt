@@ -1,5 +1,5 @@
 -- What follows from how a store was made ready.
-use Rattle.std.proofs.Common.{◌≡◌, ◌≢◌, ◌⊎◌, inl, inr, ℕ, ◌≤◌, false, IsTrue, Option, Some, None, slice_index, sym, subst, ◌∙◌, arith}
+use Rattle.std.proofs.Common.{◌≡◌, ◌≢◌, ◌⊎◌, inl, inr, ℕ, ◌≤◌, Option, Some, None, slice_index, sym, subst, ◌∙◌, arith}
 use Rattle.std.specs.FinMap.{empty, get-empty}
 use Rattle.broker_types.specs.Broker.{Broker}
 use Rattle.broker_types.specs.First.{first_broker}

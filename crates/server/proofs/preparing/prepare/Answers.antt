@@ -1,9 +1,8 @@
-use Rattle.std.proofs.Common.{◌≡◌, ◌≢◌, ◌≤◌, inl, inr, Ok, Err, Result, refl, slice_index, sym, ap, ◌∙◌, arith}
+use Rattle.std.proofs.Common.{◌≡◌, ◌≤◌, inl, inr, Ok, Err, Result, slice_index, sym, ap, ◌∙◌, arith}
 use Rattle.std.proofs.lemmas.Result.{err_from_is_err_and}
 use Rattle.std.proofs.lemmas.Bool.Decides.{eqb_tells}
 use Rattle.broker_types.specs.declared.fault.Fault.{Fault}
 use Rattle.broker_types.specs.declared.fault.Fault.TheVariants.{BadStart}
-use Rattle.broker.specs.Kept.{Kept}
 use Rattle.broker_sql.specs.SqlKept.{kept_records, sql_kept}
 use Rattle.server.proofs.PreparedLemmas.{begun, lacking, opened, refused}
 use Rattle.server.proofs.preparing.prepare.Goals as goal
