@@ -54,6 +54,12 @@ AreAsked b [] = ⊤
 AreAsked b (None ∷ later) = AreAsked b later
 AreAsked b (Some a ∷ later) = IsAsked b a × AreAsked a.outcome.next later
 
+-- the broker that the requests left, from b on
+abbrev pub left_by : Broker → History → Broker
+left_by b [] = b
+left_by b (None ∷ later) = left_by b later
+left_by b (Some a ∷ later) = left_by a.outcome.next later
+
 -- ---- what is given out
 
 -- the identifiers that an event gave out

@@ -12,12 +12,12 @@ use Rattle.hub.specs.Representing.{HubRepresents, ConnectionsRepresent, hub_stor
 use Rattle.hub.specs.Runs.{Answers, AnswersOne, StopsAt, StopsTurns, TookTurns}
 use Rattle.hub.specs.declared.hub.Hub.{Hub}
 use Rattle.hub.specs.declared.event.Event.{Event}
-use Rattle.broker_types.specs.Broker.{Broker}
 use Rattle.broker_types.specs.Sound.{Sound}
 use Rattle.broker_model.specs.Forms.{forms}
 use Rattle.histories.specs.History.{AreAsked, History}
 use Rattle.hub.specs.Histories.{EventsAsked}
-use Rattle.hub.proofs.RunHistories.{AreAsked-append, AreAsked-one, EventsAsked-append, goes, run_left}
+use Rattle.hub.specs.HistoriesLaws.{asked_on, run_left}
+use Rattle.hub.proofs.RunHistories.{AreAsked-one, EventsAsked-append, goes}
 use Rattle.hub.proofs.RunLemmas.{Run-append, Run-unique, RunConnections-push}
 
 -- the first events, and one more
@@ -63,8 +63,7 @@ pub answers_on : {S : Type 0} (seen : S → Kept) (w : World) (es fs : List Even
 answers_on seen w es fs rs ss old new a b =
     answers_of seen w (es ++ fs) (rs ++ ss) new b.after (Run-append w es fs rs ss a.after b.after a.run b.run) (a.history ++ b.history)
     (EventsAsked-append w es fs rs ss a.history b.history a.after b.after a.asks b.asks)
-    (AreAsked-append w.broker a.history b.history a.asked
-    (subst (λ (c : Broker). AreAsked c b.history) (run_left w es rs a.history a.after a.asks) b.asked))
+    (asked_on w.broker a.after.broker a.history b.history (run_left w es rs a.history a.after a.asks) a.asked b.asked)
     b.represents
 
 pub answers_more : {S : Type 0} (seen : S → Kept) (w : World) (events : List Event) (i : ℕ) (e : Event) (piece bytes : List ℕ)

@@ -1,6 +1,5 @@
 -- The history of a run, one event after another.
 use Rattle.std.proofs.Common.{◌≡◌, ◌∙◌, ℕ, List, [], ◌∷◌, ◌++◌, Option, Some, None, refl, sym, ap, subst}
-use Rattle.std.specs.Option.{option_map_or}
 use Rattle.broker_types.specs.Broker.{Broker}
 use Rattle.broker_types.specs.Sound.{Sound}
 use Rattle.broker_types.specs.declared.words.Words.{Words}
@@ -13,12 +12,6 @@ use Rattle.hub.specs.World.{Next, World}
 use Rattle.hub.specs.declared.event.Event.{Event}
 use Rattle.hub.proofs.AskingLemmas.{asking_is_a_step, each_event_asks, one_asking}
 use Rattle.hub.proofs.RunLemmas.{Next-unique}
-
--- the broker that a history left
-abbrev pub left_by : Broker → History → Broker
-left_by b [] = b
-left_by b (None ∷ later) = left_by b later
-left_by b (Some a ∷ later) = left_by a.outcome.next later
 
 -- ---- one event
 
@@ -57,27 +50,6 @@ EventsAsked-append w (e ∷ es) fs [] ss hs ks mid after run next = absurd run
 EventsAsked-append w (e ∷ es) fs (r ∷ rs) ss [] ks mid after run next = absurd run
 EventsAsked-append w (e ∷ es) fs (r ∷ rs) ss (h ∷ hs) ks mid after (v, first, run) next =
     (v, first, EventsAsked-append v es fs rs ss hs ks mid after run next)
-
-left_after : (b : Broker) (asking : Option Asking) (hs : History)
-    → left_by (option_map_or (λ (a : Asking). a.outcome.next) asking b) hs ≡ left_by b (asking ∷ hs)
-left_after b None hs = refl
-left_after b (Some a) hs = refl
-
--- the world's broker is what the history left
-pub run_left : (w : World) (es : List Event) (rs : List (List ℕ)) (hs : History) (after : World)
-    → EventsAsked w es rs hs after → after.broker ≡ left_by w.broker hs
-run_left w [] [] [] after run = ap (λ (v : World). v.broker) run
-run_left w [] [] (h ∷ hs) after run = absurd run
-run_left w [] (r ∷ rs) hs after run = absurd run
-run_left w (e ∷ es) [] hs after run = absurd run
-run_left w (e ∷ es) (r ∷ rs) [] after run = absurd run
-run_left w (e ∷ es) (r ∷ rs) (h ∷ hs) after (mid, one, run) =
-    run_left mid es rs hs after run ∙ ap (λ b. left_by b hs) one.broker ∙ left_after w.broker h hs
-
-pub AreAsked-append : (b : Broker) (hs ks : History) → AreAsked b hs → AreAsked (left_by b hs) ks → AreAsked b (hs ++ ks)
-AreAsked-append b [] ks h k = k
-AreAsked-append b (None ∷ hs) ks h k = AreAsked-append b hs ks h k
-AreAsked-append b (Some x ∷ hs) ks (first, h) k = (first, AreAsked-append x.outcome.next hs ks h k)
 
 pub AreAsked-one : (b : Broker) (asking : Option Asking) → ((a : Asking) → asking ≡ Some a → IsAsked b a) → AreAsked b (asking ∷ [])
 AreAsked-one b None is = tt

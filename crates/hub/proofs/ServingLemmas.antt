@@ -14,11 +14,12 @@ use Rattle.broker_rows.specs.Representing.{Represents}
 use Rattle.broker.specs.Kept.{Kept, IsHonestStore}
 use Rattle.records.specs.Transaction.{Rows}
 use Rattle.hub.specs.AnyRows.{FaultsAt, NextConnections, RunConnections, TurnsOpen, close_history}
+use Rattle.hub.specs.HistoriesLaws.{asked_on, run_left}
 use Rattle.hub.specs.Listed.{IsListedReply}
 use Rattle.hub.specs.Representing.{ConnectionsRepresent, HubRepresents, hub_store}
-use Rattle.hub.specs.Runs.{AnswersOne}
+use Rattle.hub.specs.Runs.{Answers, AnswersOne}
 use Rattle.hub.specs.Serving.{Exchange, read_in, sent_in, Proceeds, Stops, LeavesClosed, LeavesOthers, IsEventOf, longest_piece}
-use Rattle.hub.specs.Serving.{HasEnded, IsAnswered}
+use Rattle.hub.specs.Serving.{HasEnded, IsAnswered, RunsBefore}
 use Rattle.hub.specs.World.{Connections, History, World, history_at, put_history}
 use Rattle.hub.specs.declared.event.Event.{Event}
 use Rattle.hub.specs.declared.hub.Hub.{Hub}
@@ -26,6 +27,7 @@ use Rattle.hub.specs.declared.serve.ConnectionFault.{ConnectionFault}
 use Rattle.hub.specs.declared.serve.ConnectionFault.TheVariants.{Broker as OfBroker, Read, Write}
 use Rattle.hub.proofs.AnswersLemmas.{answers_none, answers_on, answers_one}
 use Rattle.hub.proofs.KnownLemmas.{Appends-nil}
+use Rattle.hub.proofs.RunHistories.{EventsAsked-append}
 use Rattle.hub.proofs.RunLemmas.{Run-append}
 
 -- ---- runs
@@ -100,6 +102,22 @@ proceeds_on seen conn P Q R T U V old mid new reads writes before p q =
           };
     }
 
+-- events that were answered, and others after them
+abbrev before_on : {S : Type 0} (seen : S → Kept) (w : World) (es fs : List Event) (rs ss : List (List ℕ)) (hub : Hub S)
+    (a : Answers seen w es rs hub) → RunsBefore a.after fs ss → RunsBefore w (es ++ fs) (rs ++ ss)
+before_on seen w es fs rs ss hub a b =
+    record {
+      after = b.after;
+      run = Run-append w es fs rs ss a.after b.after a.run b.run;
+      history = a.history ++ b.history;
+      asks = EventsAsked-append w es fs rs ss a.history b.history a.after b.after a.asks b.asks;
+      asked = asked_on w.broker a.after.broker a.history b.history (run_left w es rs a.history a.after a.asks) a.asked b.asked;
+    }
+
+-- no event
+before_none : (w : World) → RunsBefore w [] []
+before_none w = record { after = w; run = refl; history = []; asks = refl; asked = tt }
+
 pub stops_on : {S : Type 0} (seen : S → Kept) (conn : ℕ) (P Q R T U V : List ℕ → Type 0) (fault : ConnectionFault) (old mid new : Hub S)
     → Joins P Q R → Joins T U V → HonestBefore seen mid new → Proceeds seen conn P T old mid → Stops seen conn Q U fault mid new
     → Stops seen conn R V fault old new
@@ -114,12 +132,21 @@ stops_on seen conn P Q R T U V fault old mid new reads writes before p s =
       writes = λ other.
           subst V (sym (sent_on conn p.exchange s.exchange))
           (writes (sent_in p.exchange) (sent_in s.exchange) p.writes (s.writes other));
+      before = λ honest w represents.
+          let a = p.answers (before honest) w represents in
+          before_on seen w p.exchange.events s.exchange.events p.exchange.replies s.exchange.replies mid a
+          (s.before honest a.after a.represents);
       answers = λ honest known w represents.
           let a = p.answers (before honest) w represents in
           let b = s.answers honest known a.after a.represents in
+          let all = before_on seen w p.exchange.events s.exchange.events p.exchange.replies s.exchange.replies mid a
+          (record { after = b.before; run = b.run; history = b.history; asks = b.asks; asked = b.asked }) in
           record {
             before = b.before;
-            run = Run-append w p.exchange.events s.exchange.events p.exchange.replies s.exchange.replies a.after b.before a.run b.run;
+            run = all.run;
+            history = all.history;
+            asks = all.asks;
+            asked = all.asked;
             after = b.after;
             left = b.left;
             represents = b.represents;
@@ -168,6 +195,7 @@ stops_so seen conn P Q T fault old new reads s =
       unanswered = s.unanswered;
       reads = reads (read_in s.exchange ++ s.last) s.reads;
       writes = s.writes;
+      before = s.before;
       answers = s.answers;
       turns = s.turns;
     }
@@ -227,16 +255,29 @@ pub stops_writing : {S : Type 0} (seen : S → Kept) (conn : ℕ) (piece : List 
     (old mid new : Hub S) → Fed seen conn piece m ws bytes old mid → Closes seen conn mid new
     → Stops seen conn (λ read. read ≡ piece) (Appends before after) Write old new
 stops_writing seen conn piece m ws bytes before after old mid new f c =
+    let e : Event = record { conn = conn; piece = piece; moment = m; words = ws } in
     record {
       exchange = exchange_fed seen conn piece m ws bytes old mid f;
       last = [];
       unanswered = refl;
       reads = append-nil (piece ++ []) ∙ append-nil piece;
       writes = λ other. absurd (other refl);
+      before = λ honest w represents.
+          let a = answers_one seen w e bytes mid represents.broker.sound (f.answers (subst IsHonestStore c.store honest) w represents) in
+          record { after = a.after; run = a.run; history = a.history; asks = a.asks; asked = a.asked };
       answers = λ honest known w represents.
-          let a = f.answers (subst IsHonestStore c.store honest) w represents in
+          let a = answers_one seen w e bytes mid represents.broker.sound (f.answers (subst IsHonestStore c.store honest) w represents) in
           let left = closed_world seen conn mid new a.after c a.represents in
-          record { before = a.after; run = (a.after, a.next, refl); after = left.0; left = left.1; represents = left.2 };
+          record {
+            before = a.after;
+            run = a.run;
+            history = a.history;
+            asks = a.asks;
+            asked = a.asked;
+            after = left.0;
+            left = left.1;
+            represents = left.2;
+          };
       turns = λ all represents.
           let a = f.gives all represents in
           let left = c.connections a.0 a.1 in
@@ -253,9 +294,19 @@ stops_reading seen conn P T mid new p t c =
       unanswered = refl;
       reads = p;
       writes = λ other. t;
+      before = λ honest w represents. before_none w;
       answers = λ honest known w represents.
           let left = closed_world seen conn mid new w c represents in
-          record { before = w; run = refl; after = left.0; left = left.1; represents = left.2 };
+          record {
+            before = w;
+            run = refl;
+            history = [];
+            asks = refl;
+            asked = tt;
+            after = left.0;
+            left = left.1;
+            represents = left.2;
+          };
       turns = λ all represents.
           let left = c.connections all represents in
           record { before = all; run = refl; after = left.0; left = left.2; represents = left.1 };
@@ -282,11 +333,15 @@ stops_feeding seen conn piece known fault old new short kept faults =
       unanswered = short;
       reads = refl;
       writes = λ other. Appends-nil known;
+      before = λ honest w represents. before_none w;
       answers = λ honest is_open w represents.
           let f = faults w.connections represents.connections in
           record {
             before = w;
             run = refl;
+            history = [];
+            asks = refl;
+            asked = tt;
             after = f.0;
             left = leaves_closed fault w.connections conn piece f.0 f.2;
             represents = record {

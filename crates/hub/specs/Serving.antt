@@ -4,8 +4,10 @@ use Rattle.std.specs.Io.KnownBytes.{IsAtEnd}
 use Rattle.std.specs.List.{All, concat}
 use Rattle.broker_types.specs.Fault.{IsMemoryOrStorage, fault_number}
 use Rattle.broker.specs.Kept.{Kept, IsHonestStore}
+use Rattle.histories.specs.History.{AreAsked, History}
 use Rattle.http_layer.specs.Front.{IsFront, need}
 use Rattle.hub.specs.AnyRows.{RunConnections, close_history}
+use Rattle.hub.specs.Histories.{EventsAsked}
 use Rattle.hub.specs.Listed.{IsListedReply}
 use Rattle.hub.specs.Representing.{ConnectionsRepresent, HubRepresents, hub_store}
 use Rattle.hub.specs.Runs.{Answers, TookTurns}
@@ -77,11 +79,22 @@ pub record Proceeds {S : Type 0} (seen : S → Kept) (conn : ℕ) (Reads Writes 
 abbrev pub LeavesClosed : Connections → ℕ → Connections → Type 0
 LeavesClosed all conn after = (after ≡ close_history all conn) ⊎ ((all conn ≡ None) × (after ≡ all))
 
--- the events were answered so, and then the connection was closed, or is still not seen
+-- The events were answered so, and the history is what they asked, one after another, of sound brokers.
+pub record RunsBefore (w : World) (events : List Event) (replies : List (List ℕ)) : Type 0 where
+  pub after : World
+  pub run : Run w events replies after
+  pub history : History
+  pub asks : EventsAsked w events replies history after
+  pub asked : AreAsked w.broker history
+
+-- The same, and then the connection was closed, or is still not seen.
 pub record RunsUntil {S : Type 0} (seen : S → Kept) (w : World) (conn : ℕ) (events : List Event)
     (replies : List (List ℕ)) (hub : Hub S) : Type 0 where
   pub before : World
   pub run : Run w events replies before
+  pub history : History
+  pub asks : EventsAsked w events replies history before
+  pub asked : AreAsked w.broker history
   pub after : Connections
   pub left : LeavesClosed before.connections conn after
   pub represents : HubRepresents seen hub (record before { connections = after })
@@ -109,7 +122,7 @@ IsUnanswered Read last = last ≡ []
 IsUnanswered Write last = last ≡ []
 
 -- The same of events before the fault. What was read is their pieces joined, and what no event has that was answered.
--- Unless a write failed, what was written is their replies joined.
+-- Unless a write failed, what was written is their replies joined. What the fault left is said where it is known.
 pub record Stops {S : Type 0} (seen : S → Kept) (conn : ℕ) (Reads Writes : List ℕ → Type 0)
     (fault : ConnectionFault) (old new : Hub S) : Type 0 where
   pub exchange : Exchange conn
@@ -117,6 +130,8 @@ pub record Stops {S : Type 0} (seen : S → Kept) (conn : ℕ) (Reads Writes : L
   pub unanswered : IsUnanswered fault last
   pub reads : Reads (read_in exchange ++ last)
   pub writes : fault ≢ Write → Writes (sent_in exchange)
+  pub before : IsHonestStore (hub_store seen new) → (w : World) → HubRepresents seen old w
+      → RunsBefore w exchange.events exchange.replies
   pub answers : IsHonestStore (hub_store seen new) → IsKnown fault (hub_store seen new)
       → (w : World) → HubRepresents seen old w → RunsUntil seen w conn exchange.events exchange.replies new
   pub turns : (all : Connections) → ConnectionsRepresent old all
