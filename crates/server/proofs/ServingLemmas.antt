@@ -1,28 +1,37 @@
 -- What one connection leaves, and then another.
-use Rattle.std.proofs.Common.{◌≡◌, ◌≢◌, ◌∙◌, ◌⊎◌, inl, inr, ⊎_elim, unwrap_or, ℕ, List, Option, Some, None, Result, Ok, Err, IsTrue, IfErr, MatchResult, Bool, true, false, ap, sym, subst, refl, arith}
+use Rattle.std.proofs.Common.{◌≡◌, ◌≢◌, ◌∙◌, ◌⊎◌, inl, inr, ⊎_elim, unwrap_or, ℕ, List, [], ◌∷◌, ◌++◌, Option, Some, None, Result, Ok, Err, IsTrue, IfErr, MatchResult, Bool, true, false, ap, sym, subst, refl, append_assoc, append-nil, arith}
 use Rattle.std.proofs.lemmas.Bool.{cases_eq}
 use Rattle.std.proofs.lemmas.Map.{update_apart, update_here}
 use Rattle.broker_types.specs.declared.fault.Fault.{Fault}
 use Rattle.broker_types.specs.declared.fault.Fault.TheVariants.{Memory, Storage, Damaged, BadStart}
 use Rattle.broker_rows.specs.Representing.{Represents}
 use Rattle.broker.specs.Kept.{Kept, IsHonestStore}
+use Rattle.histories.specs.History.{AreAsked, left_by, History as Requests}
 use Rattle.hub.specs.Feeding.{IsLater}
+use Rattle.hub.specs.Histories.{EventsAsked}
+use Rattle.hub.specs.HistoriesLaws.{asked_on, left_on, run_left}
 use Rattle.hub.specs.Representing.{ConnectionsRepresent, HubRepresents, hub_store}
-use Rattle.hub.specs.Serving.{IsAllowed, IsKnown, LeavesClosed, LeavesOthers, Proceeds, Stops}
+use Rattle.hub.specs.Serving.{Exchange, IsAllowed, IsGone, IsKnown, LeavesClosed, LeavesOthers, Proceeds, Stops}
 use Rattle.hub.specs.World.{Connections, History, World, history_at, new_history}
 use Rattle.hub.specs.declared.hub.Hub.{Hub}
 use Rattle.hub.specs.declared.serve.ConnectionFault.{ConnectionFault}
 use Rattle.hub.specs.declared.serve.ConnectionFault.TheVariants.{Broker, Read, Write}
-use Rattle.server.specs.Serving.{LeavesOrCloses, LeavesServed, RepresentsSome, is_skipped}
+use Rattle.server.specs.Laws.{AllKeepLaws}
+use Rattle.server.specs.Serving.{LeavesGone, LeavesOrCloses, LeavesServed, Served, ServedInTurn, ServesLawfully, ServesOn, asked_by, is_skipped}
 
 -- ---- nothing is served
+
+serves_none : {S : Type 0} (seen : S → Kept) (w : World) (hub : Hub S) → HubRepresents seen hub w → ServesOn seen w hub
+serves_none seen w hub represents =
+    record { connections = []; after = w; in_turn = refl; asked = tt; left = refl; represents = represents }
 
 pub leaves_none : {A S : Type 0} (seen : S → Kept) (a : A) (hub : Hub S) → LeavesServed seen (Ok a) hub hub
 leaves_none seen a hub = record {
   skipped = tt;
   storage = λ is. cc is;
   stays_open = λ honest. refl;
-  represents = λ honest open_ some. some;
+  wants = λ honest open_ w represents. tt;
+  represents = λ honest open_ w represents. serves_none seen w hub represents;
   later = record { mismatches = omega arith; closes = λ open_. open_ };
 }
 
@@ -37,6 +46,32 @@ open_on : {B : Type 0} (r : Result B Fault) (x m o : Bool) → MatchResult r (λ
 open_on (Ok b) x m o same first = same ∙ first
 open_on (Err fault) x m o same first = λ other. same other ∙ first
 
+in_turn_on : (w mid after : World) (ss ts : List Served) → ServedInTurn w ss mid → ServedInTurn mid ts after → ServedInTurn w (ss ++ ts) after
+in_turn_on w mid after [] ts first second = subst (λ (v : World). ServedInTurn v ts after) first second
+in_turn_on w mid after (s ∷ ss) ts (v, left, asks, gone, first) second =
+    (v, left, asks, gone, in_turn_on (record v { connections = left }) mid after ss ts first second)
+
+asked_by-append : (ss ts : List Served) → asked_by (ss ++ ts) ≡ asked_by ss ++ asked_by ts
+asked_by-append [] ts = refl
+asked_by-append (s ∷ ss) ts =
+    ap (λ (l : Requests). s.history ++ l) (asked_by-append ss ts) ∙ sym (append_assoc s.history (asked_by ss) (asked_by ts))
+
+-- what was served first, and what was served then
+serves_on : {S : Type 0} (seen : S → Kept) (w : World) (mid new : Hub S) (first : ServesOn seen w mid)
+    → ServesOn seen first.after new → ServesOn seen w new
+serves_on seen w mid new first second =
+    let one = asked_by first.connections in
+    let other = asked_by second.connections in
+    let joined = sym (asked_by-append first.connections second.connections) in
+    record {
+      connections = first.connections ++ second.connections;
+      after = second.after;
+      in_turn = in_turn_on w first.after second.after first.connections second.connections first.in_turn second.in_turn;
+      asked = subst (AreAsked w.broker) joined (asked_on w.broker first.after.broker one other first.left first.asked second.asked);
+      left = left_on w.broker first.after.broker second.after.broker one other first.left second.left ∙ ap (left_by w.broker) joined;
+      represents = second.represents;
+    }
+
 pub leaves_on : {A B S : Type 0} (seen : S → Kept) (a : A) (r : Result B Fault) (old mid new : Hub S)
     → LeavesServed seen (Ok a) old mid → LeavesServed seen r mid new → LeavesServed seen r old new
 leaves_on seen a r old mid new first second =
@@ -46,14 +81,24 @@ leaves_on seen a r old mid new first second =
       storage = second.storage;
       stays_open = λ honest. open_on r (hub_store seen new).is_open (hub_store seen mid).is_open (hub_store seen old).is_open
           (second.stays_open honest) (first.stays_open (before honest));
-      represents = λ honest open_ some. second.represents honest
-          (subst IsTrue (sym (first.stays_open (before honest))) open_)
-          (first.represents (before honest) open_ some);
+      wants = λ honest open_ w represents.
+          let still = subst IsTrue (sym (first.stays_open (before honest))) open_ in
+          let one = first.represents (before honest) still w represents in
+          second.wants honest still one.after one.represents;
+      represents = λ honest open_ w represents.
+          let one = first.represents (before honest) (second.later.closes open_) w represents in
+          serves_on seen w mid new one (second.represents honest open_ one.after one.represents);
       later = record {
         mismatches = omega (arith, first.later.mismatches, second.later.mismatches);
         closes = λ open_. first.later.closes (second.later.closes open_);
       };
     }
+
+-- all that was asked keeps the laws
+pub lawful : {A S : Type 0} (seen : S → Kept) (r : Result A Fault) (old new : Hub S) → LeavesServed seen r old new → AllKeepLaws
+    → ServesLawfully seen old new
+lawful seen r old new served laws = λ honest open_ w represents.
+    let on = served.represents honest open_ w represents in (on, laws w.broker (asked_by on.connections) on.asked)
 
 -- ---- one connection
 
@@ -62,19 +107,41 @@ abbrev IsUnskipped : {A B : Type 0} → Result A ConnectionFault → Result B Fa
 IsUnskipped end r = MatchResult r (λ _. IfErr end (λ fault. is_skipped fault ≡ true))
     (λ fault. (end ≡ Err (Broker fault)) × (fault ≢ Memory))
 
--- closing a connection leaves a hub that represents a world
-closing : {S : Type 0} (seen : S → Kept) (conn : ℕ) (mid new : Hub S) (w : World)
-    → ((all : Connections) → ConnectionsRepresent mid all
-    → (after : Connections) × ConnectionsRepresent new after × LeavesClosed all conn after)
-    → hub_store seen new ≡ hub_store seen mid → HubRepresents seen mid w → RepresentsSome seen new
-closing seen conn mid new w closed same represents =
-    let c = closed w.connections represents.connections in (
-      record w { connections = c.0 },
-      record {
-        broker = subst (λ (k : Kept). Represents None k.rows w.broker) (sym same) represents.broker;
-        connections = c.1;
-      },
-    )
+-- a connection that was closed, or is still not seen
+gone_by : (all : Connections) (conn : ℕ) (after : Connections) → LeavesClosed all conn after → LeavesGone all conn after
+gone_by all conn after (inl is) =
+    let put : Option History = Some (record (history_at all conn) { closed = true }) in
+    record {
+      gone = inl (ap (λ (x : Connections). (history_at x conn).closed) is
+          ∙ ap (λ (x : Option History). (unwrap_or x new_history).closed) (update_here all conn put));
+      others = λ k ne. ap (λ (x : Connections). x k) is ∙ update_apart all conn put k ne;
+    }
+gone_by all conn after (inr left) =
+    record {
+      gone = inr (ap (λ (x : Connections). x conn) left.1 ∙ left.0);
+      others = λ k ne. ap (λ (x : Connections). x k) left.1;
+    }
+
+-- the same after another was left before
+gone_on : (all mid : Connections) (conn : ℕ) (after : Connections) → LeavesGone all conn mid → LeavesGone mid conn after
+    → LeavesGone all conn after
+gone_on all mid conn after first second =
+    record { gone = second.gone; others = λ k ne. second.others k ne ∙ first.others k ne }
+
+-- one connection was served
+serves_one : {S : Type 0} (seen : S → Kept) (w : World) (conn : ℕ) (exchange : Exchange conn) (history : Requests) (mid : World)
+    (left : Connections) (hub : Hub S) → EventsAsked w exchange.events exchange.replies history mid → AreAsked w.broker history
+    → LeavesGone mid.connections conn left → HubRepresents seen hub (record mid { connections = left }) → ServesOn seen w hub
+serves_one seen w conn exchange history mid left hub asks asked gone represents =
+    let alone = sym (append-nil history) in
+    record {
+      connections = record { conn = conn; exchange = exchange; history = history } ∷ [];
+      after = record mid { connections = left };
+      in_turn = (mid, left, asks, gone, refl);
+      asked = subst (AreAsked w.broker) alone asked;
+      left = run_left w exchange.events exchange.replies history mid asks ∙ ap (left_by w.broker) alone;
+      represents = represents;
+    }
 
 skipped_by : {A B : Type 0} (end : Result A ConnectionFault) (r : Result B Fault) → IsUnskipped end r
     → IfErr r (λ fault. fault ≢ Memory)
@@ -100,7 +167,7 @@ open_by (Err end) (Err fault) x o is same = λ other.
     let e : end ≡ Broker fault = cc is.0 in
     same (λ bad. let f : Broker fault ≡ Broker Storage = sym e ∙ bad in other (cc f))
 
--- what is known after a skipped fault, if the storage can be asked
+-- what is known after a fault, if the storage can be asked
 known : (fault : ConnectionFault) (store : Kept) → IsTrue store.is_open → IsKnown fault store
 known (Broker fault) store open_ = open_
 known Read store open_ = tt
@@ -113,7 +180,46 @@ allowed Storage is other = refl
 allowed Damaged is other = absurd is
 allowed BadStart is other = absurd is
 
-pub leaves_connection : {A B S : Type 0} (seen : S → Kept) (conn gone : ℕ) (Reads Writes : List ℕ → Type 0)
+unwanted : {A B : Type 0} (end : Result A ConnectionFault) (r : Result B Fault) → IsUnskipped end r → IfErr end IsAllowed
+    → IfErr r (λ fault. fault ≡ Storage)
+unwanted (Ok a) (Ok b) is want = tt
+unwanted (Err end) (Ok b) is want = tt
+unwanted (Ok a) (Err fault) is want = cc is.0
+unwanted (Err end) (Err fault) is want =
+    let e : end ≡ Broker fault = cc is.0 in
+    allowed fault (subst IsAllowed e want) is.1
+
+-- closing a connection leaves the broker
+closed_world : {S : Type 0} (seen : S → Kept) (mid new : Hub S) (w : World) (left : Connections) → hub_store seen new ≡ hub_store seen mid
+    → Represents None (hub_store seen mid).rows w.broker → ConnectionsRepresent new left
+    → HubRepresents seen new (record w { connections = left })
+closed_world seen mid new w left same broker connections =
+    record { broker = subst (λ (k : Kept). Represents None k.rows w.broker) (sym same) broker; connections = connections }
+
+-- what the events of the connection asked, up to a fault, before it was closed
+serves_connection : {A S : Type 0} (seen : S → Kept) (conn : ℕ) (Reads Writes : List ℕ → Type 0) (end : Result A ConnectionFault)
+    (old mid new : Hub S)
+    → MatchResult end (λ _. Proceeds seen conn Reads Writes old mid) (λ fault. Stops seen conn Reads Writes fault old mid)
+    → ((all : Connections) → ConnectionsRepresent mid all
+    → (after : Connections) × ConnectionsRepresent new after × LeavesClosed all conn after)
+    → hub_store seen new ≡ hub_store seen mid
+    → IsHonestStore (hub_store seen mid) → IsTrue (hub_store seen mid).is_open → (w : World) → HubRepresents seen old w
+    → ServesOn seen w new
+serves_connection seen conn Reads Writes (Ok a) old mid new proceeds closed same honest open_ w represents =
+    let ran = proceeds.answers honest w represents in
+    let c = closed ran.after.connections ran.represents.connections in
+    serves_one seen w conn proceeds.exchange ran.history ran.after c.0 new ran.asks ran.asked
+    (gone_by ran.after.connections conn c.0 c.2)
+    (closed_world seen mid new ran.after c.0 same ran.represents.broker c.1)
+serves_connection seen conn Reads Writes (Err fault) old mid new stops closed same honest open_ w represents =
+    let until = stops.answers honest (known fault (hub_store seen mid) open_) w represents in
+    let c = closed until.after until.represents.connections in
+    serves_one seen w conn stops.exchange until.history until.before c.0 new until.asks until.asked
+    (gone_on until.before.connections until.after conn c.0 (gone_by until.before.connections conn until.after until.left)
+    (gone_by until.after conn c.0 c.2))
+    (closed_world seen mid new until.before c.0 same until.represents.broker c.1)
+
+pub leaves_connection : {A B S : Type 0} (seen : S → Kept) (conn : ℕ) (Reads Writes : List ℕ → Type 0)
     (end : Result A ConnectionFault) (r : Result B Fault) (old mid new : Hub S)
     → MatchResult end (λ _. Proceeds seen conn Reads Writes old mid) (λ fault. Stops seen conn Reads Writes fault old mid)
     → (IsHonestStore (hub_store seen mid) → (w : World) → HubRepresents seen old w → IfErr end IsAllowed)
@@ -123,9 +229,9 @@ pub leaves_connection : {A B S : Type 0} (seen : S → Kept) (conn gone : ℕ) (
     (λ fault. fault ≢ Broker Storage → (hub_store seen mid).is_open ≡ (hub_store seen old).is_open))
     → IsLater (hub_store seen old) (hub_store seen mid)
     → ((all : Connections) → ConnectionsRepresent mid all
-    → (after : Connections) × ConnectionsRepresent new after × LeavesClosed all gone after)
+    → (after : Connections) × ConnectionsRepresent new after × LeavesClosed all conn after)
     → hub_store seen new ≡ hub_store seen mid → IsUnskipped end r → LeavesServed seen r old new
-leaves_connection {A = A} {B = B} seen conn gone Reads Writes end r old mid new served wants storage stays later closed same is =
+leaves_connection seen conn Reads Writes end r old mid new served wants storage stays later closed same is =
     let honest_mid : IsHonestStore (hub_store seen new) → IsHonestStore (hub_store seen mid) = subst IsHonestStore same in
     record {
       skipped = skipped_by end r is;
@@ -134,30 +240,12 @@ leaves_connection {A = A} {B = B} seen conn gone Reads Writes end r old mid new 
           (λ (k : Kept). MatchResult r (λ _. k.is_open ≡ (hub_store seen old).is_open)
           (λ fault. fault ≢ Storage → k.is_open ≡ (hub_store seen old).is_open)) (sym same)
           (open_by end r (hub_store seen mid).is_open (hub_store seen old).is_open is (stays (honest_mid honest)));
-      represents = λ honest open_ some. world end r (honest_mid honest) open_ some.0 some.1 served
-          (wants (honest_mid honest) some.0 some.1) (stays (honest_mid honest)) is;
+      wants = λ honest open_ w represents. unwanted end r is (wants (honest_mid honest) w represents);
+      represents = λ honest open_ w represents.
+          serves_connection seen conn Reads Writes end old mid new served closed same (honest_mid honest)
+          (subst (λ (k : Kept). IsTrue k.is_open) same open_) w represents;
       later = subst (λ (k : Kept). IsLater (hub_store seen old) k) (sym same) later;
     }
-  where
-    world : (end : Result A ConnectionFault) (r : Result B Fault) → IsHonestStore (hub_store seen mid)
-        → IsTrue (hub_store seen old).is_open → (w : World) → HubRepresents seen old w
-        → MatchResult end (λ _. Proceeds seen conn Reads Writes old mid) (λ fault. Stops seen conn Reads Writes fault old mid)
-        → IfErr end IsAllowed
-        → MatchResult end
-        (λ _. (hub_store seen mid).is_open ≡ (hub_store seen old).is_open)
-        (λ fault. fault ≢ Broker Storage → (hub_store seen mid).is_open ≡ (hub_store seen old).is_open)
-        → IsUnskipped end r → MatchResult r (λ _. RepresentsSome seen new) (λ fault. fault ≡ Storage)
-    world (Ok a) (Ok b) honest open_ w represents proceeds want stays is =
-        let answer = proceeds.answers honest w represents in
-        closing seen gone mid new answer.after closed same answer.represents
-    world (Err fault) (Ok b) honest open_ w represents stops want stays is =
-        let still = subst IsTrue (sym (stays (skipped_other fault is))) open_ in
-        let until = stops.answers honest (known fault (hub_store seen mid) still) w represents in
-        closing seen gone mid new (record until.before { connections = until.after }) closed same until.represents
-    world (Ok a) (Err fault) honest open_ w represents proceeds want stays is = cc is.0
-    world (Err end) (Err fault) honest open_ w represents stops want stays is =
-        let e : end ≡ Broker fault = cc is.0 in
-        allowed fault (subst IsAllowed e want) is.1
 
 -- ---- which connections are left
 
@@ -187,20 +275,14 @@ pub closes_one : {S : Type 0} (all : Connections) (conn : ℕ) (mid new : Hub S)
     → (after : Connections) × ConnectionsRepresent new after × LeavesClosed each conn after) → LeavesOrCloses all new
 closes_one all conn mid new unseen others closed =
     let c = closed others.after others.represents in
-    record { after = c.0; represents = c.1; each = λ k. ⊎_elim (here c.0 c.2 k) (there c.0 c.2 k) (cases_eq k conn) }
+    let left = gone_by others.after conn c.0 c.2 in
+    record {
+      after = c.0;
+      represents = c.1;
+      each = λ k. ⊎_elim (here c.0 left.gone k) (λ ne. inl (left.others k ne ∙ others.others k ne)) (cases_eq k conn);
+    }
   where
-    here : (after : Connections) → LeavesClosed others.after conn after → (k : ℕ) → k ≡ conn
+    here : (after : Connections) → IsGone after conn → (k : ℕ) → k ≡ conn
         → (after k ≡ all k) ⊎ ((history_at after k).closed ≡ true)
-    here after (inl is) k e =
-        inr (ap (λ (q : ℕ). (history_at after q).closed) e ∙ ap (λ (x : Connections). (history_at x conn).closed) is
-        ∙ ap (λ (x : Option History). (unwrap_or x new_history).closed)
-        (update_here others.after conn (Some (record (history_at others.after conn) { closed = true }))))
-    here after (inr left) k e =
-        inl (ap after e ∙ ap (λ (x : Connections). x conn) left.1 ∙ left.0 ∙ sym (ap all e ∙ unseen))
-
-    there : (after : Connections) → LeavesClosed others.after conn after → (k : ℕ) → k ≢ conn
-        → (after k ≡ all k) ⊎ ((history_at after k).closed ≡ true)
-    there after (inl is) k ne =
-        inl (ap (λ (x : Connections). x k) is
-        ∙ update_apart others.after conn (Some (record (history_at others.after conn) { closed = true })) k ne ∙ others.others k ne)
-    there after (inr left) k ne = inl (ap (λ (x : Connections). x k) left.1 ∙ others.others k ne)
+    here after (inl closed) k e = inr (ap (λ (q : ℕ). (history_at after q).closed) e ∙ closed)
+    here after (inr none) k e = inl (ap after e ∙ none ∙ sym (ap all e ∙ unseen))

@@ -1,4 +1,5 @@
 pub mod Drawn
+pub mod Laws
 pub mod Moments
 pub mod Patience
 pub mod Pieces

@@ -1,14 +1,19 @@
 -- What serving connections leaves of the hub, and which faults end it (this project's definition).
-use Rattle.std.specs.Prelude.{◌≡◌, ◌≢◌, ◌⊎◌, ℕ, Bool, true, false, Result, Err, IsTrue, IfErr, MatchResult}
+use Rattle.std.specs.Prelude.{◌≡◌, ◌≢◌, ◌⊎◌, ℕ, Bool, true, false, List, [], ◌∷◌, ◌++◌, Result, Err, IsTrue, IfErr}
+use Rattle.std.specs.Prelude.{MatchResult}
 use Rattle.broker_types.specs.declared.fault.Fault.{Fault}
 use Rattle.broker_types.specs.declared.fault.Fault.TheVariants.{Memory, Storage, Damaged, BadStart}
 use Rattle.broker.specs.Kept.{Kept, IsHonestStore}
+use Rattle.histories.specs.History.{AreAsked, History, left_by}
 use Rattle.hub.specs.Feeding.{IsLater}
+use Rattle.hub.specs.Histories.{EventsAsked}
 use Rattle.hub.specs.Representing.{ConnectionsRepresent, HubRepresents, hub_store}
+use Rattle.hub.specs.Serving.{Exchange, IsGone}
 use Rattle.hub.specs.World.{Connections, World, history_at}
 use Rattle.hub.specs.declared.hub.Hub.{Hub}
 use Rattle.hub.specs.declared.serve.ConnectionFault.{ConnectionFault}
 use Rattle.hub.specs.declared.serve.ConnectionFault.TheVariants.{Broker, Read, Write}
+use Rattle.server.specs.Laws.{KeepsLaws}
 
 -- whether the next connection is served after this fault of one: running out of memory, reading and writing (1, 5, 6)
 abbrev pub is_skipped : ConnectionFault → Bool
@@ -25,19 +30,59 @@ pub record LeavesOrCloses {S : Type 0} (all : Connections) (new : Hub S) : Type 
   pub represents : ConnectionsRepresent new after
   pub each : (conn : ℕ) → (after conn ≡ all conn) ⊎ ((history_at after conn).closed ≡ true)
 
--- the hub represents a world
-abbrev pub RepresentsSome : {S : Type 0} → (S → Kept) → Hub S → Type 0
-RepresentsSome seen hub = (w : World) × HubRepresents seen hub w
+-- a connection that was served: events of it with listed replies, and what they asked
+pub record Served : Type 0 where
+  pub conn : ℕ
+  pub exchange : Exchange conn
+  pub history : History
+
+-- all that connections asked, one after another
+abbrev pub asked_by : List Served → History
+asked_by [] = []
+asked_by (s ∷ later) = s.history ++ asked_by later
+
+-- the connection is closed, or not seen, and no other changes
+pub record LeavesGone (all : Connections) (conn : ℕ) (after : Connections) : Type 0 where
+  pub gone : IsGone after conn
+  pub others : (k : ℕ) → k ≢ conn → after k ≡ all k
+
+-- One connection after another was served: its events were answered so, and asked this, from the world that the one
+-- before it left; then it was closed, or is still not seen.
+abbrev pub ServedInTurn : World → List Served → World → Type 0
+ServedInTurn w [] after = after ≡ w
+ServedInTurn w (s ∷ later) after =
+    (mid : World) × (left : Connections) × EventsAsked w s.exchange.events s.exchange.replies s.history mid
+    × LeavesGone mid.connections s.conn left × ServedInTurn (record mid { connections = left }) later after
+
+-- There are connections that were served so from the world on, all that they asked was asked of the world's broker, one
+-- request after another, and the hub represents the world after them, with the broker that they left.
+pub record ServesOn {S : Type 0} (seen : S → Kept) (w : World) (hub : Hub S) : Type 0 where
+  pub connections : List Served
+  pub after : World
+  pub in_turn : ServedInTurn w connections after
+  pub asked : AreAsked w.broker (asked_by connections)
+  pub left : after.broker ≡ left_by w.broker (asked_by connections)
+  pub represents : HubRepresents seen hub after
 
 -- What serving leaves, whatever comes on the connections. Running out of memory never ends it, and a failure of the
 -- storage only if the store failed. From a hub that represents a world, whose storage has returned what was written
--- and could be asked, it leaves a hub that represents one, and no other fault ends it than a failure of the storage.
+-- and could be asked, no other fault ends it than a failure of the storage. As long as the storage can still be asked,
+-- as it can unless that failed, the hub then represents a world after requests that were asked of the first.
 pub record LeavesServed {A S : Type 0} (seen : S → Kept) (r : Result A Fault) (old new : Hub S) : Type 0 where
   pub skipped : IfErr r (λ fault. fault ≢ Memory)
   pub storage : r ≡ Err Storage → IsTrue (hub_store seen new).has_failed
   pub stays_open : IsHonestStore (hub_store seen new) → MatchResult r
       (λ _. (hub_store seen new).is_open ≡ (hub_store seen old).is_open)
       (λ fault. fault ≢ Storage → (hub_store seen new).is_open ≡ (hub_store seen old).is_open)
-  pub represents : IsHonestStore (hub_store seen new) → IsTrue (hub_store seen old).is_open
-      → RepresentsSome seen old → MatchResult r (λ _. RepresentsSome seen new) (λ fault. fault ≡ Storage)
+  pub wants : IsHonestStore (hub_store seen new) → IsTrue (hub_store seen old).is_open
+      → (w : World) → HubRepresents seen old w → IfErr r (λ fault. fault ≡ Storage)
+  pub represents : IsHonestStore (hub_store seen new) → IsTrue (hub_store seen new).is_open
+      → (w : World) → HubRepresents seen old w → ServesOn seen w new
   pub later : IsLater (hub_store seen old) (hub_store seen new)
+
+-- From each world that the hub represented, all that was asked over all connections keeps the laws over every run, as
+-- long as the storage has returned what was written and can still be asked.
+abbrev pub ServesLawfully : {S : Type 0} → (S → Kept) → Hub S → Hub S → Type 0
+ServesLawfully seen old new =
+    IsHonestStore (hub_store seen new) → IsTrue (hub_store seen new).is_open → (w : World) → HubRepresents seen old w
+    → (on : ServesOn seen w new) × KeepsLaws w.broker (asked_by on.connections)

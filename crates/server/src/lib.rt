@@ -3,6 +3,7 @@
 #![tactic(auto)]
 
 mod drawn;
+mod laws;
 mod peer;
 mod preparing;
 mod serving;
@@ -11,6 +12,7 @@ mod system_clock;
 mod waiting;
 
 pub use drawn::{DrawnWords, seeded};
+pub use laws::all_that_is_asked_keeps_the_laws;
 pub use preparing::prepare;
 pub use serving::serve;
 pub use starting::{serve_file, serve_in_memory};

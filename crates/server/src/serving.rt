@@ -3,8 +3,9 @@ ghost use Rattle.broker_types.specs.declared.fault.Fault.TheVariants.{Memory};
 ghost use Rattle.hub.specs.declared.serve.ConnectionFault.TheVariants.{Broker};
 ghost use Rattle.hub.specs.Representing.{ConnectionsRepresent};
 ghost use Rattle.hub.specs.World.{Connections};
-ghost use Rattle.server.specs.Serving.{LeavesOrCloses, LeavesServed, is_skipped};
+ghost use Rattle.server.specs.Serving.{LeavesOrCloses, LeavesServed, ServesLawfully, is_skipped};
 
+use crate::laws::all_that_is_asked_keeps_the_laws;
 use crate::peer::Peer;
 use broker::Store;
 use broker_types::Fault;
@@ -20,6 +21,9 @@ const PAUSE: u64 = 100;
 /// by a fault of memory, of reading or of writing, is skipped; another fault ends the whole. After one that
 /// cannot be accepted a tenth of a second passes. A peer that is idle or slow for too long is one whose read
 /// or write failed. After a connection what waits on it is dropped.
+///
+/// Whatever comes on the connections, the broker afterwards is the one before after some requests, one after another
+/// over all of them, each answered as the model does. No contract says that they are those which the peers sent.
 pub fn serve<S: Store, C: hub::Clock, D: WordSource, R: Clock>(
     rt: &R,
     hub: &mut Hub<S>,
@@ -30,7 +34,13 @@ pub fn serve<S: Store, C: hub::Clock, D: WordSource, R: Clock>(
 ) -> Result<(), Fault>
     ensures served { LeavesServed S.seen result hub.old hub.new }
     ensures closed { (all : Connections) → ConnectionsRepresent hub.old all → LeavesOrCloses all hub.new }
+
+    // All that was asked, over all the connections, keeps the laws over every run: no identifier is given out twice; a
+    // response is handed out once, and is the reply that was kept; what was revoked, or ended in another way, does not
+    // come back.
+    ensures lawful { ServesLawfully S.seen hub.old hub.new }
 {
+    all_that_is_asked_keeps_the_laws();
     for _ in 0..connections {
         let Ok((stream, _)) = listener.accept() else {
             // Most likely the system has too many open files. Peers wait meanwhile.

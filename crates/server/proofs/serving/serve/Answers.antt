@@ -1,6 +1,7 @@
-use Rattle.std.proofs.Common.{◌∙◌, Ok, Err, ap}
+use Rattle.std.proofs.Common.{◌∙◌, Result, Ok, Err, ap}
 use Rattle.std.proofs.lemmas.Result.{err_from_is_err_and}
-use Rattle.server.proofs.ServingLemmas.{closes_on, leaves_all, leaves_none, leaves_on}
+use Rattle.broker_types.specs.declared.fault.Fault.{Fault}
+use Rattle.server.proofs.ServingLemmas.{closes_on, lawful, leaves_all, leaves_none, leaves_on}
 use Rattle.server.proofs.serving.serve.Goals as goal
 
 pub loop-init : goal.loop-init
@@ -26,3 +27,15 @@ returns-in_err-serve_stream-clause-served g c =
 pub returns-in_err-serve_stream-clause-closed : goal.returns-in_err-serve_stream-clause-closed
 returns-in_err-serve_stream-clause-closed g c = λ all each.
     closes_on all c.loop.hub c.serve_stream.new.hub (c.loop.invariant.closed all each) c.serve_stream.ensures.closed
+
+pub returns-in_err-serve_stream-clause-lawful : goal.returns-in_err-serve_stream-clause-lawful
+returns-in_err-serve_stream-clause-lawful g c =
+    let end : Result (Unit {0}) Fault = Err c.in_err-serve_stream.field-0.0 in
+    lawful g.S.Store.seen end c.args.hub.now c.serve_stream.new.hub
+    (leaves_on g.S.Store.seen tt end c.args.hub.now c.loop.hub c.serve_stream.new.hub c.loop.invariant.served
+    c.in_err-serve_stream.ensures.served)
+    c.all_that_is_asked_keeps_the_laws.ensures
+
+pub returns-clause-lawful : goal.returns-clause-lawful
+returns-clause-lawful g c =
+    lawful g.S.Store.seen (Ok tt) c.args.hub.now c.loop.hub c.loop.invariant.served c.all_that_is_asked_keeps_the_laws.ensures

@@ -12,5 +12,5 @@ returns-in_err-serve g c always none =
     let store = c.in_ok-store.store in
     let b = new_broker _ _ _ _ c.in_ok-store.root (c.in_ok-store.ensures.prepared (always store)) none in
     let storage : c.in_err-serve.field-0.0 ≡ Storage =
-    c.in_err-serve.ensures.served.represents (always c.serve.new.hub.store) (subst (λ (k : Kept). IsTrue k.is_open) (sym c.new-hub.ensures.store) (c.in_ok-store.ensures.stands (always store))) (new_world b.0, c.new-hub.ensures.represents b.0 b.1) in
+    c.in_err-serve.ensures.served.wants (always c.serve.new.hub.store) (subst (λ (k : Kept). IsTrue k.is_open) (sym c.new-hub.ensures.store) (c.in_ok-store.ensures.stands (always store))) (new_world b.0) (c.new-hub.ensures.represents b.0 b.1) in
     rw (p.1 ∙ ap Err p.2) (rw storage tt)
