@@ -5,6 +5,7 @@ pub mod Keeping
 pub mod KeptReplies
 pub mod KeptTexts
 pub mod Lasting
+pub mod LeasesDue
 pub mod Marked
 pub mod OpenRequests
 pub mod OperationsPlace

@@ -55,7 +55,7 @@ placed_more b c given more all h p i e = elim (h p i e) [ inl was ↦ inl was | 
 -- ---- tokens, leases and responses
 
 -- the value that an option leads to
-chained : {X Y : Type 0} (f : X → Option Y) (o : Option X) (y : Y) → option_and_then f o ≡ Some y
+pub chained : {X Y : Type 0} (f : X → Option Y) (o : Option X) (y : Y) → option_and_then f o ≡ Some y
     → (x : X) × (o ≡ Some x) × (f x ≡ Some y)
 chained f None y e = absurd (none-some y e)
 chained f (Some x) y e = (x, refl, e)

@@ -59,6 +59,7 @@ use Rattle.histories.specs.Revocation.{is_orphaning, is_revocation, named_by, or
 use Rattle.histories.proofs.Ending.{IsLeaseGone, ended_lasts, gone_has_ended, lease_lasts, leases_are_gone}
 use Rattle.histories.proofs.Keeping.{EachKeeps, Keeps}
 use Rattle.histories.proofs.Lasting.{asked_keeps, evolved_since, kept_evolves, left_since}
+use Rattle.histories.proofs.LeasesDue.{lease_stays_out}
 use Rattle.histories.proofs.OrderCases.{IsCaller, some_ok, spent, with_caller}
 use Rattle.histories.proofs.OrderKeeps.{wrapped_cases}
 use Rattle.histories.proofs.Requests.{asked_at, history_keeps, means_at_clock}
@@ -550,6 +551,9 @@ module _ (proper : OperationsAreProper) (b : Broker) (history : History) (h : Ar
         denied_if_gone a q is.outcome is_token closed
         (at_moment_ends a.broker is.sound.identifiers a.moment q (due_was a q d) (due_is_gone a q d));
     lasts = lasts;
+    leases_due = λ i j a x q lease_id l one d other le.
+        lease_stays_out a (asked_at b history i a h one).sound (asked_keeps unwrapped_body b history i a keep_all one) q lease_id l d
+        x.outcome.next (left_since unwrapped_body b history i j a x keep_all one other le);
     denied = λ i j a x q one ends other lt is_token closed.
         denied_if_gone x q (asked_at b history j x h other).outcome is_token closed (ended_then i j a x q one ends other lt);
     not_waiting = λ i j a x q command one ends other lt open_ means as_q.

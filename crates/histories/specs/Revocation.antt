@@ -109,14 +109,23 @@ pub record IsDue (a : Asking) (q : Text) : Type 0 where
   pub has_end : above_token.ends ≡ Some end
   pub reached : end ≤ max a.broker.clock a.moment
 
+-- No lease of the broker b has the identifier or the credential of the lease l.
+abbrev pub LacksLease : Broker → Text → Lease → Type 0
+LacksLease b lease_id l =
+    (t other_id : Text) (k : Lease) → lease_of b t other_id ≡ Some k
+    → (lease_identifier other_id ≢ lease_identifier lease_id) × (k.credential ≢ l.credential)
+
+-- The lease l of the token q comes to its end with the request, in the same way.
+pub record IsLeaseDue (a : Asking) (q lease_id : Text) (l : Lease) : Type 0 where
+  pub was : lease_of a.broker q lease_id ≡ Some l
+  pub reached : l.ends ≤ max a.broker.clock a.moment
+
 -- What is left in the broker b of the token q that ended with the request: no token, no cubbyhole, and no lease with
 -- the identifier or the credential of one of its leases.
 pub record IsGone (a : Asking) (q : Text) (b : Broker) : Type 0 where
   pub no_token : get b.tokens q ≡ None
   pub no_cubbyhole : (path : Text) → object_at b q path ≡ None
-  pub no_lease : (lease_id : Text) (l : Lease) → lease_of a.broker q lease_id ≡ Some l
-      → (t other_id : Text) (k : Lease) → lease_of b t other_id ≡ Some k
-      → (lease_identifier other_id ≢ lease_identifier lease_id) × (k.credential ≢ l.credential)
+  pub no_lease : (lease_id : Text) (l : Lease) → lease_of a.broker q lease_id ≡ Some l → LacksLease b lease_id l
 
 -- whether the token c has spent its last use
 abbrev pub has_no_use : Tokens → Text → Bool
@@ -207,6 +216,9 @@ pub record Revocation (history : History) : Type 0 where
   -- cubbyhole, nor a lease with an id or a credential of its leases.
   pub lasts : (i j : ℕ) (a x : Asking) (q : Text) → AskedAt history i a → EndsToken a q → AskedAt history j x → i ≤ j
       → IsGone a q x.outcome.next
+  -- Nor does a lease that comes to its end, whatever becomes of its token: no lease has its id or its credential.
+  pub leases_due : (i j : ℕ) (a x : Asking) (q lease_id : Text) (l : Lease) → AskedAt history i a
+      → IsLeaseDue a q lease_id l → AskedAt history j x → i ≤ j → LacksLease x.outcome.next lease_id l
   -- A later request whose client token is such a token is answered 403 `permission denied`, unless it is open.
   pub denied : (i j : ℕ) (a x : Asking) (q : Text) → AskedAt history i a → EndsToken a q → AskedAt history j x → i < j
       → x.ask.token ≡ Some q → is_open x.ask ≡ false → x.outcome.response ≡ refused permission_denied

@@ -43,9 +43,9 @@ pub fn responses_are_handed_out_once()
 
 /// A law: a command that revokes is answered with 204, or refused, and each 204 to one is a revocation. A token whose
 /// end has come, or that of one above it, ends at that event, which is denied to it. A token that ended, by a
-/// revocation with all under it or in another way, is in no later state, nor are its cubbyhole and its leases; the
-/// others are as they were. Later requests of it are denied (Vault's documentation, "Tokens", token hierarchies and
-/// orphan tokens).
+/// revocation with all under it or in another way, is in no later state, nor are its cubbyhole and its leases, nor is a
+/// lease whose own end has come; the others are as they were. Later requests of such a token are denied (Vault's
+/// documentation, "Tokens", token hierarchies and orphan tokens).
 pub fn revocation_lasts()
     ensures { RevocationLasts }
 {
