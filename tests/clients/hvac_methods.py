@@ -294,7 +294,8 @@ def policies_are_set_by_requests(client):
     path = "/v1/sys/policies/acl/methods"
     expect_done(client.adapter.put(path, json={"policy": POLICY}))
     expect_same(client.adapter.get(path), answer(data={"name": "methods", "policy": POLICY}))
-    expect_same(client.adapter.list("/v1/sys/policies/acl"), answer(data={"keys": ANY}))
+    listed = client.adapter.list("/v1/sys/policies/acl")["data"]["keys"]
+    expect({"default", "methods", "root"} <= set(listed), f"the policies are {listed}")
     expect_done(client.adapter.delete(path))
 
 
@@ -316,7 +317,8 @@ def mounts_are_enabled(client):
     expect_refused("InvalidRequest", client.sys.enable_secrets_engine, backend_type="transit")
     expect_done(client.sys.disable_secrets_engine(path="hvac-kv"))
     expect_done(client.sys.disable_secrets_engine(path="hvac-issued"))
-    expect(set(client.sys.list_mounted_secrets_engines()["data"]) == {"cubbyhole/", "secret/", "sys/"}, "they are there")
+    left = set(client.sys.list_mounted_secrets_engines()["data"])
+    expect_same(left, {"cubbyhole/", "secret/", "sys/"})
 
 
 # Leases.

@@ -1,4 +1,4 @@
--- What wrk asks a broker on one connection: by turns reads of a secret and a write of it, of one secret after the other.
+-- What wrk asks a broker on one connection: reads of a secret and then a write of it, of one secret after the other.
 --
 --     wrk -t1 -c1 -d600 -s wrk.lua http://127.0.0.1:PORT -- TOKEN SECRETS
 --

@@ -5,8 +5,8 @@
 
 The further arguments are for `brokerd serve`. wrk.lua says what is asked. Each of the secrets has as many versions as
 are kept before it begins, so the rows do not grow. The memory is looked at once a second. The most in the last tenth of
-the time may not be more than the most in the second tenth, but for a hundredth. If wrk is not installed, it says so, and
-nothing is tried. The last line is 'N passed, M failed'.
+the time may not be more than the most in the second tenth, but for a hundredth. If wrk is not installed, it says so,
+and nothing is tried. The last line is 'N passed, M failed'.
 """
 
 import re
