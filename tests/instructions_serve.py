@@ -5,7 +5,8 @@
 
 The kinds are those of instructions.py, and `look_up`, `wrap`, `unwrap` and `list` of load_serve.py. The rows and --db are as there, and
 the caller is root, or else that of instructions.py with its policies. No instructions are counted until the rows are
-there; then those of REQUESTS requests of each kind, one kind after the other. It prints what one of them costs.
+there; then those of REQUESTS requests of each kind, one kind after the other, and with them those of one look-up of the
+root token by itself, which is the first request of each connection. It prints what one of them costs.
 """
 
 import argparse

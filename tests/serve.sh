@@ -1,8 +1,8 @@
 #!/bin/bash
-# Starts `brokerd serve` and asks it as its users do: by curl, by `client` if it is there, by Python's hvac and by Ansible
-# if they are installed, and on one connection 10,000 times; then by peers that are idle or slow, by wrong command lines,
-# and over a file that is opened again. It takes some 30 seconds, and as long again for Ansible. BROKERD and CLIENT name
-# other programs. The last line is 'N passed, M failed'; the status is 0 if nothing failed.
+# Starts `brokerd serve` and asks it as its users do: by curl, by `client` if it is there, by Python's hvac and by
+# Ansible if they are installed, and on one connection 10,000 times; then by peers that are idle or slow, by wrong
+# command lines, and over a file that is opened again. It takes some 30 seconds, and 40 more with Ansible. BROKERD and
+# CLIENT name other programs. The last line is 'N passed, M failed'; the status is 0 if nothing failed.
 set -u
 cd "$(dirname "$0")/.."
 
@@ -80,8 +80,7 @@ run() {
     fi
 }
 
-# Runs a command whose last line is 'N passed, M failed', and adds its counts. It has so many seconds as `limit` says, or
-# 120.
+# Runs a command whose last line is 'N passed, M failed', and adds its counts. It may take `limit` seconds, or 120.
 count() {
     local line
     timeout "${limit:-120}" "$@" > "$found/log" 2>&1

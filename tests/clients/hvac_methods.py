@@ -3,8 +3,9 @@
 
     python3 tests/clients/hvac_methods.py PORT ROOT_TOKEN
 
-Those that are not served are in docs/CLIENTS.md, and are tried by hvac_refused.py. A method that the installed hvac
-lacks is passed over. If hvac is not installed, it says so, and nothing is tried. The last line is 'N passed, M failed'.
+Those that are not served are in docs/CLIENTS.md, and are tried by hvac_refused.py. What the installed hvac lacks is
+named, and is neither passed nor failed. If hvac is not installed, it says so, and nothing is tried. The last line is
+'N passed, M failed'.
 """
 
 import inspect
@@ -12,7 +13,7 @@ import sys
 import warnings
 from unittest.mock import ANY
 
-from hvac_refused import try_refused
+from hvac_refused import method_of, try_refused
 
 try:
     import hvac
@@ -25,12 +26,20 @@ POLICY = '{"path":{"secret/data/team/*":{"capabilities":["read"]}}}'
 CALLS = []
 
 
-def calls(*methods):
-    """A function that calls these methods, and compares their answers."""
+def calls(*methods, argument=None):
+    """A function that calls these methods, and compares their answers. The first one is given the argument, if any."""
     def add(function):
-        CALLS.append((function, methods))
+        CALLS.append((function, methods, argument))
         return function
     return add
+
+
+def lacks(client, methods, argument):
+    """What the installed hvac lacks of such a function."""
+    missing = [name for name in methods if method_of(client, name) is None]
+    if argument and argument not in inspect.signature(method_of(client, methods[0])).parameters:
+        missing.append(f"{methods[0]}({argument}=..)")
+    return missing
 
 
 def expect(condition, what):
@@ -113,8 +122,6 @@ def a_token_is_created(client):
 
 @calls("auth.token.create_orphan")
 def an_orphan_is_created(client):
-    if not hasattr(client.auth.token, "create_orphan"):
-        return  # an older hvac cannot
     made = client.auth.token.create_orphan(policies=["app"], ttl="1h")
     expect_same(made, answer(auth=token_in_auth(["app", "default"], orphan=True)))
     client.auth.token.revoke(made["auth"]["client_token"])
@@ -244,12 +251,10 @@ def versions_are_deleted(client):
     expect_same(kv.read_secret_version(path=path)["data"]["data"], {"number": 3})
 
 
-@calls("secrets.kv.v2.read_secret_version")
+@calls("secrets.kv.v2.read_secret_version", argument="raise_on_deleted_version")
 def a_deleted_version_is_told_of(client):
     """A newer hvac hands on what the 404 of a deleted version has."""
     kv, path = client.secrets.kv.v2, fresh(client, "methods/e")
-    if "raise_on_deleted_version" not in inspect.signature(kv.read_secret_version).parameters:
-        return
     kv.create_or_update_secret(path=path, secret={"k": "v"})
     kv.delete_latest_version_of_secret(path=path)
     found = kv.read_secret_version(path=path, raise_on_deleted_version=False)
@@ -273,8 +278,6 @@ def secrets_are_listed(client):
 
 @calls("sys.create_or_update_acl_policy", "sys.read_acl_policy", "sys.list_acl_policies", "sys.delete_acl_policy")
 def policies_are_set(client):
-    if not hasattr(client.sys, "create_or_update_acl_policy"):
-        return  # an older hvac has `sys/policy` alone
     expect_done(client.sys.create_or_update_acl_policy(name="methods", policy=POLICY))
     expect_same(client.sys.read_acl_policy(name="methods"), answer(data={"name": "methods", "policy": POLICY}))
     listed = client.sys.list_acl_policies()["data"]["keys"]
@@ -283,6 +286,17 @@ def policies_are_set(client):
     expect_refused("InvalidRequest", client.sys.create_or_update_acl_policy, name="methods", policy='path "a" {}')
     expect_done(client.sys.delete_acl_policy(name="methods"))
     expect_refused("InvalidPath", client.sys.read_acl_policy, name="methods")
+
+
+@calls("adapter.put", "adapter.list", "adapter.get", "adapter.delete")
+def policies_are_set_by_requests(client):
+    """As with an hvac that has no methods for it."""
+    path = "/v1/sys/policies/acl/methods"
+    expect_done(client.adapter.put(path, json={"policy": POLICY}))
+    expect_same(client.adapter.get(path), answer(data={"name": "methods", "policy": POLICY}))
+    listed = client.adapter.list("/v1/sys/policies/acl")["data"]["keys"]
+    expect({"default", "methods", "root"} <= set(listed), f"the policies are {listed}")
+    expect_done(client.adapter.delete(path))
 
 
 # Mounts.
@@ -303,7 +317,8 @@ def mounts_are_enabled(client):
     expect_refused("InvalidRequest", client.sys.enable_secrets_engine, backend_type="transit")
     expect_done(client.sys.disable_secrets_engine(path="hvac-kv"))
     expect_done(client.sys.disable_secrets_engine(path="hvac-issued"))
-    expect(set(client.sys.list_mounted_secrets_engines()["data"]) == {"cubbyhole/", "secret/", "sys/"}, "they are there")
+    left = set(client.sys.list_mounted_secrets_engines()["data"])
+    expect_same(left, {"cubbyhole/", "secret/", "sys/"})
 
 
 # Leases.
@@ -342,12 +357,17 @@ def leases_are_revoked_by_prefix(client):
 
 @calls("sys.wrap", "sys.unwrap")
 def a_body_is_wrapped(client):
-    if not hasattr(client.sys, "wrap"):
-        return  # an older hvac cannot
     made = client.sys.wrap(payload={"k": "v"}, ttl=300)
     expect_same(made, answer(wrap_info=wrap_info("sys/wrapping/wrap", 300)))
     expect_same(client.sys.unwrap(token=made["wrap_info"]["token"]), answer(data={"k": "v"}))
     expect_refused("InvalidRequest", client.sys.unwrap, token=made["wrap_info"]["token"])
+
+
+@calls("write", "sys.unwrap")
+def a_body_is_wrapped_by_a_write(client):
+    made = client.write("sys/wrapping/wrap", wrap_ttl="5m", k="v")
+    expect_same(made, answer(wrap_info=wrap_info("sys/wrapping/wrap", 300)))
+    expect_same(client.sys.unwrap(token=made["wrap_info"]["token"]), answer(data={"k": "v"}))
 
 
 @calls("adapter.post")
@@ -370,8 +390,6 @@ def a_wrapped_token_is_handed_on(client):
     wrapped = client.auth.token.create(policies=["default"], ttl="1h", wrap_ttl="1m")
     expect_same(wrapped, answer(wrap_info=wrap_info("auth/token/create", 60, wrapped_accessor=ANY)))
     reader = hvac.Client(url=client.url)
-    if not hasattr(reader, "auth_cubbyhole"):
-        return
     reader.auth_cubbyhole(wrapped["wrap_info"]["token"])
     told = reader.auth.token.lookup_self()["data"]["accessor"]
     expect_same(told, wrapped["wrap_info"]["wrapped_accessor"])
@@ -379,15 +397,19 @@ def a_wrapped_token_is_handed_on(client):
 
 # Calls that name a path.
 
-@calls("read", "write", "delete", "write_data")
+@calls("read", "write", "delete")
 def cubbyholes_are_read_by_paths(client):
     client.write("cubbyhole/plain/a", k="v", number=1)
     expect_same(client.read("cubbyhole/plain/a"), answer(data={"k": "v", "number": 1}))
-    if hasattr(client, "write_data"):
-        client.write_data("cubbyhole/plain/b", data={"path": "a"})
-        expect_same(client.read("cubbyhole/plain/b")["data"], {"path": "a"})
+    expect_same(client.read("cubbyhole/plain?list=true"), answer(data={"keys": ["a"]}))
     client.delete("cubbyhole/plain/a")
     expect_same(client.read("cubbyhole/plain/a"), None)
+
+
+@calls("write_data")
+def any_member_is_written(client):
+    expect_done(client.write_data("cubbyhole/any", data={"path": "a", "wrap_ttl": "b"}))
+    expect_same(client.read("cubbyhole/any"), answer(data={"path": "a", "wrap_ttl": "b"}))
 
 
 @calls("secrets.kv.v1")
@@ -427,7 +449,9 @@ def a_client_knows_its_token(client):
 
 def try_served(client):
     """What is wrong with each function of methods that are served, or None."""
-    for function, methods in CALLS:
+    for function, methods, argument in CALLS:
+        if lacks(client, methods, argument):
+            continue
         try:
             function(client)
             yield None
@@ -442,8 +466,12 @@ def main():
         return 0
     warnings.simplefilter("ignore")  # of what is deprecated
     client = hvac.Client(url=f"http://127.0.0.1:{sys.argv[1]}", token=sys.argv[2], session=requests.Session())
-    served = {name for _, methods in CALLS for name in methods}
-    found = [*try_served(client), *try_refused(client, served)]
+    served = {name for _, methods, _ in CALLS for name in methods}
+    refused, missing = try_refused(client, served)
+    missing += [name for _, methods, argument in CALLS for name in lacks(client, methods, argument)]
+    if missing:
+        print(f"the installed hvac lacks {', '.join(sorted(set(missing)))}")
+    found = [*try_served(client), *refused]
     failed = [text for text in found if text]
     print("".join(f"hvac, {text}\n" for text in failed), end="")
     print(f"{len(found) - len(failed)} passed, {len(failed)} failed")

@@ -50,10 +50,8 @@ def last_reply(client, method, arguments):
 
 
 def mistake_of(client, name, words, verb, path, status):
-    """What is wrong with a row, or None. There is nothing if this hvac has no such method."""
+    """What is wrong with a row, or None."""
     method = method_of(client, name)
-    if method is None:
-        return None
     reply = last_reply(client, method, named(words) if words else needed(method))
     if reply is None:
         return f"{name}{words or ''} of {PAGE.name}: there was no reply"
@@ -72,9 +70,10 @@ def unlisted(client, listed):
 
 
 def try_refused(client, served):
-    """What is wrong with each row, or None."""
+    """What is wrong with each row, or None; and the methods in rows that the installed hvac lacks."""
     rows = [found.groups() for found in ROW.finditer(PAGE.read_text(encoding="utf-8"))]
     names = ", ".join(unlisted(client, served | {name for name, *_ in rows}))
     if names:
         print(f"{PAGE.name} says nothing of these methods of the installed hvac: {names}")
-    return [mistake_of(client, *row) for row in rows]
+    missing = [name for name, *_ in rows if method_of(client, name) is None]
+    return [mistake_of(client, *row) for row in rows if row[0] not in missing], missing

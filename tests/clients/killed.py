@@ -1,11 +1,13 @@
 #!/usr/bin/env python3
-"""killed.py PROGRAM TIMES: stops a broker over a file by SIGKILL while it is written to, and asks it again after a start.
+"""Stops a broker over a file by SIGKILL while it is written to, and asks it again after a start.
 
-Each time it writes versions of secrets, makes tokens and children of them, revokes some, wraps secrets and unwraps some,
-until a random moment. Every fourth start is stopped too, before it is asked anything, and made again. Then each write
-that was answered is there, with its version; each token that was answered works, and no token that was revoked does, nor
-a child of it; each response that waits is looked up, and is handed out once. The request in progress was done wholly or
-not at all. The last line is 'N passed, M failed'.
+    python3 tests/clients/killed.py PROGRAM TIMES
+
+Each time it writes versions of secrets, makes tokens and children of them, revokes some, wraps secrets and unwraps
+some, until a random moment. Every fourth start is stopped too, before it is asked anything, and made again. Then each
+write that was answered is there, with its version; each token that was answered works, and no token that was revoked
+does, nor a child of it; each response that waits is looked up, and is handed out once. The request in progress was done
+wholly or not at all. The last line is 'N passed, M failed'.
 """
 
 import json

@@ -5,8 +5,11 @@
 
 The further arguments are for `brokerd serve`. wrk.lua says what is asked. Each of the secrets has as many versions as
 are kept before it begins, so the rows do not grow. The memory is looked at once a second. The most in the last tenth of
-the time may not be more than the most in the second tenth, but for a hundredth. If wrk is not installed, it says so, and
-nothing is tried. The last line is 'N passed, M failed'.
+the time may not be more than the most in the second tenth, but for a hundredth.
+
+A broker closes a connection that is idle for a quarter of a second. So the connection may break once for each pause of
+wrk, which there can be where the machine has much other work. If wrk is not installed, it says so, and nothing is
+tried. The last line is 'N passed, M failed'.
 """
 
 import re
@@ -69,13 +72,15 @@ def ask(broker, seconds):
 
 def mistakes_of(printed):
     """What is wrong with the replies that wrk told of."""
-    counts = re.search(r"(\d+) reads, (\d+) writes, (\d+) wrong, (\d+) broken", printed)
+    counts = re.search(r"(\d+) reads, (\d+) writes, (\d+) wrong, (\d+) broken, (\d+) pauses", printed)
     if not counts:
         return "wrk has told nothing"
-    reads, writes, wrong, broken = map(int, counts.groups())
+    reads, writes, wrong, broken, pauses = map(int, counts.groups())
     if not reads or not writes:
         return "nothing was read or written"
-    return f"{wrong} replies are wrong, and {broken} did not come" if wrong or broken else None
+    if broken > pauses:
+        return f"the connection broke {broken} times, with {pauses} pauses"
+    return f"{wrong} replies are wrong" if wrong else None
 
 
 def growth_of(memory):
