@@ -5,7 +5,8 @@
 
 The further arguments are for `brokerd serve`. wrk.lua says what is asked. Each of the secrets has as many versions as
 are kept before it begins, so the rows do not grow. The memory is looked at once a second. The most in the last tenth of
-the time may not be more than the most in the second tenth, but for a hundredth.
+the time may not be more than the most in the fifth tenth, but for a hundredth: over a file on disk it took the program
+330,000 requests until it had all that it keeps, and it took no more in the 490,000 after them.
 
 A broker closes a connection that is idle for a quarter of a second. So the connection may break once for each pause of
 wrk, which there can be where the machine has much other work. If wrk is not installed, it says so, and nothing is
@@ -45,10 +46,10 @@ class Memory(threading.Thread):
         self.stopped.set()
         self.join()
 
-    def before_and_after(self):
-        """The most in the second tenth of the time, and the most in the last one."""
-        tenth = max(1, len(self.found) // 10)
-        return max(self.found[tenth:2 * tenth]), max(self.found[-tenth:])
+    def tenths(self):
+        """The most in each tenth of the time."""
+        count = len(self.found)
+        return [max(self.found[count * place // 10:count * (place + 1) // 10]) for place in range(10)]
 
 
 def fill(broker):
@@ -87,9 +88,9 @@ def growth_of(memory):
     """What is wrong with the memory of the program."""
     if len(memory.found) < LEAST:
         return f"the memory was looked at {len(memory.found)} times only"
-    before, after = memory.before_and_after()
-    print(f"memory: {before / 1e6:.2f} MB in the second tenth of the time, {after / 1e6:.2f} MB in the last one")
-    return "the program grows" if after > before * 1.01 else None
+    tenths = memory.tenths()
+    print("memory in each tenth of the time, in MB:", *(f"{most / 1e6:.2f}" for most in tenths))
+    return "the program grows" if tenths[9] > tenths[4] * 1.01 else None
 
 
 def main():
