@@ -1,21 +1,16 @@
 -- A reply that is kept: its identifiers, its rows, and the broker that they represent.
-use Rattle.std.specs.Prelude.{◌≡◌, ◌||◌, ℕ, List, [], ◌∷◌, Bool, true, false, not, cond, ⊤}
-use Rattle.std.specs.Prelude.{Option, Some, None, is_none}
+use Rattle.std.specs.Prelude.{◌≡◌, ℕ, List, false, Option, None}
 use Rattle.std.specs.List.{list_any}
-use Rattle.std.proofs.Common.{refl, sym, ◌∙◌, ap, subst, inl, inr}
-use Rattle.std.proofs.lemmas.Bool.{false≢true, and_parts}
+use Rattle.std.proofs.Common.{sym, ◌∙◌, subst}
 use Rattle.broker_types.specs.Broker.{Broker, Waiting}
 use Rattle.broker_types.specs.Evolves.{IsNew}
-use Rattle.broker_types.specs.Map.{Map, get}
-use Rattle.broker_types.specs.MapLaws.{get-put}
+use Rattle.broker_types.specs.Map.{get}
 use Rattle.broker_types.specs.Names.{Names, names_of}
 use Rattle.broker_types.specs.Operation as operation
 use Rattle.broker_types.specs.Operation.{Done}
-use Rattle.broker_types.specs.OptionLaws.{is_nothing}
 use Rattle.broker_types.specs.Sound.{IsSoundWaiting}
 use Rattle.broker_types.specs.Text.{Text, same}
 use Rattle.broker_types.specs.TokenText.{token_text}
-use Rattle.broker_types.specs.Used.{are_new, use_up}
 use Rattle.broker_types.specs.declared.reply.Reply.{Reply}
 use Rattle.records.specs.declared.kind.Kind.TheVariants as kind
 use Rattle.records.specs.PartLaws.{joined_rows, rows_of-other_waiting}
@@ -29,6 +24,7 @@ use Rattle.wrapping.specs.Wrapping.{with_waiting}
 use Rattle.api_json.specs.Reply.{reply_text, wrap_reply}
 use Rattle.broker_model.specs.Forms.{forms}
 use Rattle.broker_model.specs.Laws.{WrappingKeepsSoundness}
+use Rattle.broker_model.specs.NewIdentifierLaws.{AreTwo, new_after, two_of}
 use Rattle.broker_model.specs.Order.{kept_entry, wrap, wrap_info}
 use Rattle.broker_rows.specs.Context.{Context}
 use Rattle.broker_rows.specs.Done.{answered_of, counted}
@@ -40,58 +36,23 @@ use Rattle.broker.specs.Wraps.{MayWrap, kept_in, waiting_from, with_kept}
 
 -- ---- the identifiers
 
-not_so : (v : Bool) → not v ≡ true → v ≡ false
-not_so true h = absurd (false≢true h)
-not_so false h = refl
-
-neither : (v w : Bool) → (v || w) ≡ false → (v ≡ false) × (w ≡ false)
-neither true w h = absurd (false≢true (sym h))
-neither false w h = (refl, h)
-
--- what is new stays new, if others are given out
-new_still : (used : Map ⊤) (i : Text) (others : List Text) → get used i ≡ None → list_any (same i) others ≡ false
-    → get (use_up used others) i ≡ None
-new_still used i [] none apart = none
-new_still used i (k ∷ others) none apart =
-    let two = neither (same i k) (list_any (same i) others) apart in
-    get-put (use_up used others) k tt i ∙ ap (λ v. cond v (Some tt) (get (use_up used others) i)) two.0
-    ∙ new_still used i others none two.1
-
 module _ (x : Context) (token accessor : Text) (b : Broker) (own : List Text) (d : Done)
     (may : MayWrap x token accessor b own d) where
   abbrev names : Names
   names = names_of x.words
 
-  -- what is new beside those of the operation is new after it
+  two : AreTwo b.used names.wrapping_token names.wrapping_accessor own
+  two = two_of b.used names.wrapping_token names.wrapping_accessor own may.new
+
   left : (i : Text) → get b.used i ≡ None → list_any (same i) own ≡ false → IsNew (counted d) i
-  left i none apart =
-      let here : get d.next.used i ≡ None = ap (λ (m : Map ⊤). get m i) may.proper.used ∙ none in
-      elim may.proper.gives_own [
-        | inl nobody ↦ subst (λ l. get (use_up d.next.used l) i ≡ None) (sym nobody) here
-        | inr all ↦ subst (λ l. get (use_up d.next.used l) i ≡ None) (sym all) (new_still d.next.used i own here apart)
-      ]
+  left = new_after b own d may.proper.used may.proper.gives_own
 
-  of_token : (is_none (get b.used names.wrapping_token) ≡ true)
-      × (not (list_any (same names.wrapping_token) (names.wrapping_accessor ∷ own)) ≡ true)
-      × (are_new b.used (names.wrapping_accessor ∷ own) ≡ true)
-  of_token =
-      let outer = and_parts (is_none (get b.used names.wrapping_token)) _ may.new in
-      let inner = and_parts (not (list_any (same names.wrapping_token) (names.wrapping_accessor ∷ own))) _ outer.1 in
-      (outer.0, inner.0, inner.1)
-
-  -- so both are new after the operation
+  -- both are new after the operation
   pub token_new : IsNew (counted d) token
-  token_new =
-      let apart = neither (same names.wrapping_token names.wrapping_accessor) _ (not_so _ of_token.1) in
-      subst (IsNew (counted d)) (sym may.token_named)
-      (left names.wrapping_token (is_nothing (get b.used names.wrapping_token) of_token.0) apart.1)
+  token_new = subst (IsNew (counted d)) (sym may.token_named) (left names.wrapping_token two.one two.one_apart)
 
   pub accessor_new : IsNew (counted d) accessor
-  accessor_new =
-      let outer = and_parts (is_none (get b.used names.wrapping_accessor)) _ of_token.2 in
-      let apart = and_parts (not (list_any (same names.wrapping_accessor) own)) _ outer.1 in
-      subst (IsNew (counted d)) (sym may.accessor_named)
-      (left names.wrapping_accessor (is_nothing (get b.used names.wrapping_accessor) outer.0) (not_so _ apart.0))
+  accessor_new = subst (IsNew (counted d)) (sym may.accessor_named) (left names.wrapping_accessor two.two two.two_apart)
 
   -- ---- the broker
 

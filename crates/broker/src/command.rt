@@ -1,9 +1,7 @@
 //! What an ask means: a command, with where it acts.
 
 ghost use Rattle.std.specs.Prelude.{◌≡◌, ◌||◌, not, nat_lt, IfOk};
-ghost use Rattle.broker_types.specs.Identifier.{id};
 ghost use Rattle.broker_types.specs.Names.{names_of};
-ghost use Rattle.broker_types.specs.Sound.{IsIdentifier};
 ghost use Rattle.api_json.specs.Reads.{IsReadAs};
 ghost use Rattle.broker_model.specs.Command.{command_for, place_of};
 ghost use Rattle.broker_model.specs.Serving as serving;
@@ -17,7 +15,8 @@ use broker_model::{
     CubbyholeCommand, IssuedCommand, LeaseCommand, MountCommand, PolicyCommand, SecretCommand,
     TokenCommand, WrappingCommand,
 };
-use broker_types::{Ask, RequestError, TextBuf, Words, id_text};
+use broker_rows::identifier;
+use broker_types::{Ask, RequestError, TextBuf, Words};
 use mounts::{Operation, Route};
 use secret_operations::{Place, read_cubbyhole_command, read_issued_command, read_secret_command};
 use std::alloc::{AllocError, Global};
@@ -172,14 +171,6 @@ pub(crate) fn needed_identifiers(
     needed.insert(0, accessor)?;
     needed.insert(0, token)?;
     Ok(needed)
-}
-
-/// The identifier of a word.
-fn identifier(alloc: Global, word: u128) -> Result<TextBuf, AllocError>
-    ensures value { IfOk result (λ t. t ≡ id word) }
-    ensures good { IfOk result IsIdentifier }
-{
-    Ok(TextBuf::new(id_text(alloc, word)?))
 }
 
 /// The command's own identifiers.

@@ -27,9 +27,9 @@ use Rattle.leases.specs.Roles.{Issued, lease_id, new_lease, is_last_use}
 use Rattle.broker_model.specs.Order.{IsProper}
 use Rattle.broker_model.specs.declared.commands.IssuedCommand.{IssuedCommand}
 use Rattle.broker_model.specs.declared.commands.IssuedCommand.TheVariants as command
+use Rattle.broker_model.specs.NewIdentifierLaws.{two_of}
 use Rattle.broker_model.specs.parts.Issued.{act_on_issued, given, lease_names, own_names, set_role}
 use Rattle.broker_model.specs.parts.Place.{Place}
-use Rattle.broker_model.proofs.NewIdentifiers.{two_of}
 use Rattle.broker_model.proofs.Operations.{shown_proper, silent_proper, waits_still}
 
 -- ---- what is issued

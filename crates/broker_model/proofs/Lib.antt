@@ -5,7 +5,6 @@ pub mod Examples
 pub mod IssuedProper
 pub mod LeaseProper
 pub mod MountProper
-pub mod NewIdentifiers
 pub mod Operations
 pub mod SecretProper
 pub mod TokenExamples

@@ -1,6 +1,5 @@
 -- Commands on responses that wait are proper, and so is the wrapping of a reply.
 use Rattle.std.specs.Prelude.{◌≡◌, ◌≢◌, ◌⊎◌, ℕ, List, [], ◌∷◌, true, false, ⊤, Option, Some, None, Ok, option_map}
-use Rattle.std.specs.List.{list_any}
 use Rattle.std.specs.Option.{option_map_or}
 use Rattle.std.proofs.Common.{refl, sym, ◌∙◌, ap, subst, inl, inr}
 use Rattle.std.proofs.lemmas.Bool.{false≢true}
@@ -31,11 +30,11 @@ use Rattle.wrapping.specs.SoundLaws.{store_evolves, rewrap_evolves, store_sound,
 use Rattle.wrapping.specs.Wrapping.{AddsNone, with_waiting, moved}
 use Rattle.broker_model.specs.Order.{IsProper, counted, kept_entry, wrap}
 use Rattle.broker_model.specs.Laws.{AreWrappingNames}
+use Rattle.broker_model.specs.NewIdentifierLaws.{new_after, two_of}
 use Rattle.broker_model.specs.declared.commands.WrappingCommand.{WrappingCommand}
 use Rattle.broker_model.specs.declared.commands.WrappingCommand.TheVariants as command
 use Rattle.broker_model.specs.parts.WrappingCommands.{token_meant, is_own, wrapping_names, wrapping_traits}
 use Rattle.broker_model.specs.parts.Wrappings.{FoundResponse, found_under, found, rewrapped, handed_out, act_on_wrappings}
-use Rattle.broker_model.proofs.NewIdentifiers.{new_still, two_of}
 use Rattle.broker_model.proofs.Operations.{shown_proper}
 
 -- ---- the part
@@ -210,19 +209,11 @@ module _ (b : Broker) (path : Text) (ttl : ℕ) (names : Names) (d : Done) (r : 
       let two = two_of b.used names.wrapping_token names.wrapping_accessor own new in
       store_sound (counted d) (token_text names.wrapping_token) entry forms who sound (record {
         sound = good;
-        token_is_new = left names.wrapping_token two.one two.one_apart;
-        accessor_is_new = left names.wrapping_accessor two.two two.two_apart;
+        token_is_new = new_after b own d used taken names.wrapping_token two.one two.one_apart;
+        accessor_is_new = new_after b own d used taken names.wrapping_accessor two.two two.two_apart;
         differ = two.differ;
         origin = inl refl;
       })
-    where
-      left : (i : Text) → get b.used i ≡ None → list_any (same i) own ≡ false → get (use_up d.next.used d.taken) i ≡ None
-      left i none apart =
-          let here : get d.next.used i ≡ None = ap (λ (m : Map ⊤). get m i) used ∙ none in
-          elim taken [
-            | inl nobody ↦ subst (λ l. get (use_up d.next.used l) i ≡ None) (sym nobody) here
-            | inr all ↦ subst (λ l. get (use_up d.next.used l) i ≡ None) (sym all) (new_still d.next.used i own here apart)
-          ]
 
   pub wrap_evolves : IsNew b names.wrapping_token → d.next.used ≡ b.used → Evolves b d.next
       → Evolves b (wrap b path ttl names d r made).done.next

@@ -4,6 +4,7 @@ pub mod Command
 pub mod Forms
 pub mod Laws
 pub mod Listed
+pub mod NewIdentifierLaws
 pub mod Order
 pub mod Permission
 pub mod Request

@@ -7,6 +7,7 @@ ghost use Rattle.broker_types.specs.Fault.{IsMemoryOrStorage};
 ghost use Rattle.broker_types.specs.Identifier.{id};
 ghost use Rattle.broker_types.specs.Sound.{IsIdentifier};
 ghost use Rattle.broker_types.specs.Text.{Text, same};
+ghost use Rattle.broker_types.specs.TokenText.{token_text};
 ghost use Rattle.broker_types.specs.Used as model;
 ghost use Rattle.records.specs.RowForms.{used_row};
 ghost use Rattle.records.specs.Table.{with_row, table};
@@ -30,12 +31,21 @@ pub fn printed(alloc: Global, first: u128, second: u128) -> Result<Vec<TextBuf>,
     Ok(vec![in alloc; first, second]?)
 }
 
-/// The identifier of a word.
-fn identifier(alloc: Global, word: u128) -> Result<TextBuf, AllocError>
+/// The identifier of a word, printed. The only error is running out of memory.
+pub fn identifier(alloc: Global, word: u128) -> Result<TextBuf, AllocError>
     ensures value { IfOk result (λ t. t ≡ id word) }
     ensures good { IfOk result IsIdentifier }
 {
     Ok(TextBuf::new(id_text(alloc, word)?))
+}
+
+/// The token of an identifier, printed. The only error is running out of memory.
+pub fn token_text(alloc: Global, identifier: &str) -> Result<TextBuf, AllocError>
+    ensures { IfOk result (λ text. text ≡ token_text identifier.now) }
+{
+    let mut text = String::from_str(alloc, "hvs.")?;
+    text.push_str(identifier)?;
+    Ok(TextBuf::new(text))
 }
 
 /// Whether identifiers are new: no two are equal, and none was ever given out.

@@ -4,7 +4,6 @@ ghost use Rattle.std.specs.Prelude.{◌≡◌, Option, IfOk, OnOk};
 ghost use Rattle.broker_types.specs.Fault.{IsNotBadStart};
 ghost use Rattle.broker_types.specs.Names.{names_of};
 ghost use Rattle.broker_types.specs.Text.{Text};
-ghost use Rattle.broker_types.specs.TokenText.{token_text};
 ghost use Rattle.broker_types.specs.declared.ask.Verb.TheVariants as verb;
 ghost use Rattle.records.specs.Calls.{OnRefused, IsRequestCall};
 ghost use Rattle.records.specs.Ranges.{IsTokenInRange};
@@ -24,11 +23,11 @@ use crate::new_token::{check, new_parent, new_record};
 use crate::shown::auth_reply;
 use api_json::TokenCreation;
 use broker_model::Making;
-use broker_rows::{Answered, Asker, Context, use_up};
+use broker_rows::{Answered, Asker, Context, token_text, use_up};
 use broker_types::{Denial, Refusal, RequestError, TextBuf, Verb, id_text};
 use policies::{Capability, Rules, allows_with};
 use records::{RecordsTx, TokenRecord};
-use std::alloc::{AllocError, Global};
+use std::alloc::Global;
 use token_tree::create as create_token;
 
 /// Makes the token that is asked for, if the caller may. The identifiers of the request are new, and have been printed.
@@ -99,13 +98,4 @@ fn put<T: RecordsTx>(
     use_up(alloc, tx, identifier)?;
     let reply = auth_reply(alloc, request.as_str(), context.clock, text.as_str(), token)?;
     Ok(Answered::Made(reply, accessor))
-}
-
-/// The token of an identifier.
-fn token_text(alloc: Global, identifier: &str) -> Result<TextBuf, AllocError>
-    ensures { IfOk result (λ text. text ≡ token_text identifier.now) }
-{
-    let mut text = String::from_str(alloc, "hvs.")?;
-    text.push_str(identifier)?;
-    Ok(TextBuf::new(text))
 }

@@ -26,7 +26,7 @@ ghost use Rattle.broker.specs.Wraps.{MayWrap, kept_in, waiting_from, with_kept, 
 
 use api_json::{WrapObject, reply_text, wrap_object, wrap_reply};
 use broker_model::wrapping_is_proper;
-use broker_rows::{Answered, Context, use_up};
+use broker_rows::{Answered, Context, token_text, use_up};
 use broker_types::{Fault, Reply, TextBuf, WrapTtl, id_text};
 use records::{RecordsTx, WaitingRecord};
 use std::alloc::{AllocError, Global};
@@ -167,15 +167,6 @@ fn put<T: RecordsTx>(
     store(alloc, tx, token, response)?;
     use_up(alloc, tx, response.accessor)?;
     use_up(alloc, tx, response.origin)
-}
-
-/// The token of an identifier.
-fn token_text(alloc: Global, identifier: &str) -> Result<TextBuf, AllocError>
-    ensures { IfOk result (λ text. text ≡ token_text identifier.now) }
-{
-    let mut text = String::from_str(alloc, "hvs.")?;
-    text.push_str(identifier)?;
-    Ok(TextBuf::new(text))
 }
 
 /// Answers with the wrapping token of a response that was kept now.

@@ -1,31 +1,35 @@
 -- Two identifiers that are new, and others that are given out beside them.
-use Rattle.std.specs.Prelude.{◌≡◌, ◌≢◌, ◌||◌, List, [], ◌∷◌, Bool, true, false, not, cond, ⊤, Some, None, is_none}
+use Rattle.std.specs.Prelude.{◌≡◌, ◌≢◌, ◌⊎◌, ◌||◌, List, [], ◌∷◌, true, false, not, cond, ⊤, Some, None, is_none}
 use Rattle.std.specs.List.{list_any}
-use Rattle.std.proofs.Common.{refl, sym, ◌∙◌, ap}
-use Rattle.std.proofs.lemmas.Bool.{false≢true, and_parts}
+use Rattle.std.proofs.Common.{sym, ◌∙◌, ap, subst, inl, inr}
+use Rattle.std.proofs.lemmas.Bool.{false≢true, and_parts, not-true, or_parts}
 use Rattle.broker_types.specs.Text.{Text, same}
 use Rattle.broker_types.specs.TextLaws.{same_self}
+use Rattle.broker_types.specs.Broker.{Broker}
 use Rattle.broker_types.specs.Map.{Map, get}
 use Rattle.broker_types.specs.MapLaws.{get-put}
+use Rattle.broker_types.specs.Operation.{Done}
 use Rattle.broker_types.specs.OptionLaws.{is_nothing}
 use Rattle.broker_types.specs.Used.{are_new, use_up}
-
-not_so : (v : Bool) → not v ≡ true → v ≡ false
-not_so true h = absurd (false≢true h)
-not_so false h = refl
-
-neither : (v w : Bool) → (v || w) ≡ false → (v ≡ false) × (w ≡ false)
-neither true w h = absurd (false≢true (sym h))
-neither false w h = (refl, h)
 
 -- what is new stays new, if others are given out
 pub new_still : (used : Map ⊤) (i : Text) (others : List Text) → get used i ≡ None → list_any (same i) others ≡ false
     → get (use_up used others) i ≡ None
 new_still used i [] none apart = none
 new_still used i (k ∷ others) none apart =
-    let two = neither (same i k) (list_any (same i) others) apart in
+    let two = or_parts (same i k) (list_any (same i) others) apart in
     get-put (use_up used others) k tt i ∙ ap (λ v. cond v (Some tt) (get (use_up used others) i)) two.0
     ∙ new_still used i others none two.1
+
+-- what is new beside an operation's own identifiers is new after it, whether it gave them out or none
+pub new_after : (b : Broker) (own : List Text) (d : Done) → d.next.used ≡ b.used → (d.taken ≡ []) ⊎ (d.taken ≡ own)
+    → (i : Text) → get b.used i ≡ None → list_any (same i) own ≡ false → get (use_up d.next.used d.taken) i ≡ None
+new_after b own d used taken i none apart =
+    let here : get d.next.used i ≡ None = ap (λ (m : Map ⊤). get m i) used ∙ none in
+    elim taken [
+      | inl nobody ↦ subst (λ l. get (use_up d.next.used l) i ≡ None) (sym nobody) here
+      | inr all ↦ subst (λ l. get (use_up d.next.used l) i ≡ None) (sym all) (new_still d.next.used i own here apart)
+    ]
 
 -- two new identifiers, neither of which is among others
 pub record AreTwo (used : Map ⊤) (i j : Text) (others : List Text) : Type 0 where
@@ -43,11 +47,11 @@ two_of used i j others new =
     let first = and_parts (not (same i j || list_any (same i) others)) _ outer.1 in
     let inner = and_parts (is_none (get used j)) _ first.1 in
     let second = and_parts (not (list_any (same j) others)) _ inner.1 in
-    let apart = neither (same i j) (list_any (same i) others) (not_so _ first.0) in
+    let apart = or_parts (same i j) (list_any (same i) others) (not-true _ first.0) in
     record {
       one = is_nothing (get used i) outer.0;
       two = is_nothing (get used j) inner.0;
       differ = λ e. false≢true (sym apart.0 ∙ ap (same i) (sym e) ∙ same_self i);
       one_apart = apart.1;
-      two_apart = not_so _ second.0;
+      two_apart = not-true _ second.0;
     }
