@@ -48,8 +48,8 @@ open_on (Err fault) x m o same first = λ other. same other ∙ first
 
 in_turn_on : (w mid after : World) (ss ts : List Served) → ServedInTurn w ss mid → ServedInTurn mid ts after → ServedInTurn w (ss ++ ts) after
 in_turn_on w mid after [] ts first second = subst (λ (v : World). ServedInTurn v ts after) first second
-in_turn_on w mid after (s ∷ ss) ts (v, left, asks, gone, first) second =
-    (v, left, asks, gone, in_turn_on (record v { connections = left }) mid after ss ts first second)
+in_turn_on w mid after (s ∷ ss) ts (v, left, fresh, asks, gone, first) second =
+    (v, left, fresh, asks, gone, in_turn_on (record v { connections = left }) mid after ss ts first second)
 
 asked_by-append : (ss ts : List Served) → asked_by (ss ++ ts) ≡ asked_by ss ++ asked_by ts
 asked_by-append [] ts = refl
@@ -130,14 +130,15 @@ gone_on all mid conn after first second =
 
 -- one connection was served
 serves_one : {S : Type 0} (seen : S → Kept) (w : World) (conn : ℕ) (exchange : Exchange conn) (history : Requests) (mid : World)
-    (left : Connections) (hub : Hub S) → EventsAsked w exchange.events exchange.replies history mid → AreAsked w.broker history
-    → LeavesGone mid.connections conn left → HubRepresents seen hub (record mid { connections = left }) → ServesOn seen w hub
-serves_one seen w conn exchange history mid left hub asks asked gone represents =
+    (left : Connections) (hub : Hub S) → w.connections conn ≡ None → EventsAsked w exchange.events exchange.replies history mid
+    → AreAsked w.broker history → LeavesGone mid.connections conn left → HubRepresents seen hub (record mid { connections = left })
+    → ServesOn seen w hub
+serves_one seen w conn exchange history mid left hub fresh asks asked gone represents =
     let alone = sym (append-nil history) in
     record {
       connections = record { conn = conn; exchange = exchange; history = history } ∷ [];
       after = record mid { connections = left };
-      in_turn = (mid, left, asks, gone, refl);
+      in_turn = (mid, left, fresh, asks, gone, refl);
       asked = subst (AreAsked w.broker) alone asked;
       left = run_left w exchange.events exchange.replies history mid asks ∙ ap (left_by w.broker) alone;
       represents = represents;
@@ -198,29 +199,30 @@ closed_world seen mid new w left same broker connections =
 
 -- what the events of the connection asked, up to a fault, before it was closed
 serves_connection : {A S : Type 0} (seen : S → Kept) (conn : ℕ) (Reads Writes : List ℕ → Type 0) (end : Result A ConnectionFault)
-    (old mid new : Hub S)
+    (old mid new : Hub S) → ((all : Connections) → ConnectionsRepresent old all → all conn ≡ None)
     → MatchResult end (λ _. Proceeds seen conn Reads Writes old mid) (λ fault. Stops seen conn Reads Writes fault old mid)
     → ((all : Connections) → ConnectionsRepresent mid all
     → (after : Connections) × ConnectionsRepresent new after × LeavesClosed all conn after)
     → hub_store seen new ≡ hub_store seen mid
     → IsHonestStore (hub_store seen mid) → IsTrue (hub_store seen mid).is_open → (w : World) → HubRepresents seen old w
     → ServesOn seen w new
-serves_connection seen conn Reads Writes (Ok a) old mid new proceeds closed same honest open_ w represents =
+serves_connection seen conn Reads Writes (Ok a) old mid new fresh proceeds closed same honest open_ w represents =
     let ran = proceeds.answers honest w represents in
     let c = closed ran.after.connections ran.represents.connections in
-    serves_one seen w conn proceeds.exchange ran.history ran.after c.0 new ran.asks ran.asked
+    serves_one seen w conn proceeds.exchange ran.history ran.after c.0 new (fresh w.connections represents.connections) ran.asks ran.asked
     (gone_by ran.after.connections conn c.0 c.2)
     (closed_world seen mid new ran.after c.0 same ran.represents.broker c.1)
-serves_connection seen conn Reads Writes (Err fault) old mid new stops closed same honest open_ w represents =
+serves_connection seen conn Reads Writes (Err fault) old mid new fresh stops closed same honest open_ w represents =
     let until = stops.answers honest (known fault (hub_store seen mid) open_) w represents in
     let c = closed until.after until.represents.connections in
-    serves_one seen w conn stops.exchange until.history until.before c.0 new until.asks until.asked
+    serves_one seen w conn stops.exchange until.history until.before c.0 new (fresh w.connections represents.connections) until.asks until.asked
     (gone_on until.before.connections until.after conn c.0 (gone_by until.before.connections conn until.after until.left)
     (gone_by until.after conn c.0 c.2))
     (closed_world seen mid new until.before c.0 same until.represents.broker c.1)
 
 pub leaves_connection : {A B S : Type 0} (seen : S → Kept) (conn : ℕ) (Reads Writes : List ℕ → Type 0)
     (end : Result A ConnectionFault) (r : Result B Fault) (old mid new : Hub S)
+    → ((all : Connections) → ConnectionsRepresent old all → all conn ≡ None)
     → MatchResult end (λ _. Proceeds seen conn Reads Writes old mid) (λ fault. Stops seen conn Reads Writes fault old mid)
     → (IsHonestStore (hub_store seen mid) → (w : World) → HubRepresents seen old w → IfErr end IsAllowed)
     → (end ≡ Err (Broker Storage) → IsTrue (hub_store seen mid).has_failed)
@@ -231,7 +233,7 @@ pub leaves_connection : {A B S : Type 0} (seen : S → Kept) (conn : ℕ) (Reads
     → ((all : Connections) → ConnectionsRepresent mid all
     → (after : Connections) × ConnectionsRepresent new after × LeavesClosed all conn after)
     → hub_store seen new ≡ hub_store seen mid → IsUnskipped end r → LeavesServed seen r old new
-leaves_connection seen conn Reads Writes end r old mid new served wants storage stays later closed same is =
+leaves_connection seen conn Reads Writes end r old mid new fresh served wants storage stays later closed same is =
     let honest_mid : IsHonestStore (hub_store seen new) → IsHonestStore (hub_store seen mid) = subst IsHonestStore same in
     record {
       skipped = skipped_by end r is;
@@ -242,7 +244,7 @@ leaves_connection seen conn Reads Writes end r old mid new served wants storage 
           (open_by end r (hub_store seen mid).is_open (hub_store seen old).is_open is (stays (honest_mid honest)));
       wants = λ honest open_ w represents. unwanted end r is (wants (honest_mid honest) w represents);
       represents = λ honest open_ w represents.
-          serves_connection seen conn Reads Writes end old mid new served closed same (honest_mid honest)
+          serves_connection seen conn Reads Writes end old mid new fresh served closed same (honest_mid honest)
           (subst (λ (k : Kept). IsTrue k.is_open) same open_) w represents;
       later = subst (λ (k : Kept). IsLater (hub_store seen old) k) (sym same) later;
     }

@@ -13,6 +13,10 @@ at_most_one (Some byte) = byte ∷ []
 abbrev pub remaining_of : {R : Type 0} → (R → Option (List ℕ)) → LastAlone R → Option (List ℕ)
 remaining_of remaining alone = prepend_known (at_most_one alone.held) (remaining alone.reader)
 
+-- the writer that replies go through, as it is now
+abbrev pub writer_of : {W R : Type 0} → Replies W R → W
+writer_of replies = replies.writer
+
 -- whether a push failed
-abbrev pub push_failed : {R : Type 0} → Replies R → Bool
+abbrev pub push_failed : {W R : Type 0} → Replies W R → Bool
 push_failed replies = replies.failed

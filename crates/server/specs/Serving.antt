@@ -1,6 +1,6 @@
 -- What serving connections leaves of the hub, and which faults end it (this project's definition).
 use Rattle.std.specs.Prelude.{◌≡◌, ◌≢◌, ◌⊎◌, ℕ, Bool, true, false, List, [], ◌∷◌, ◌++◌, Result, Err, IsTrue, IfErr}
-use Rattle.std.specs.Prelude.{MatchResult}
+use Rattle.std.specs.Prelude.{MatchResult, None}
 use Rattle.broker_types.specs.declared.fault.Fault.{Fault}
 use Rattle.broker_types.specs.declared.fault.Fault.TheVariants.{Memory, Storage, Damaged, BadStart}
 use Rattle.broker.specs.Kept.{Kept, IsHonestStore}
@@ -46,12 +46,13 @@ pub record LeavesGone (all : Connections) (conn : ℕ) (after : Connections) : T
   pub gone : IsGone after conn
   pub others : (k : ℕ) → k ≢ conn → after k ≡ all k
 
--- One connection after another was served: its events were answered so, and asked this, from the world that the one
--- before it left; then it was closed, or is still not seen.
+-- One connection after another was served: nothing had come on it before, its events were answered so, and asked this,
+-- from the world that the one before it left; then it was closed, or is still not seen.
 abbrev pub ServedInTurn : World → List Served → World → Type 0
 ServedInTurn w [] after = after ≡ w
 ServedInTurn w (s ∷ later) after =
-    (mid : World) × (left : Connections) × EventsAsked w s.exchange.events s.exchange.replies s.history mid
+    (mid : World) × (left : Connections) × (w.connections s.conn ≡ None)
+    × EventsAsked w s.exchange.events s.exchange.replies s.history mid
     × LeavesGone mid.connections s.conn left × ServedInTurn (record mid { connections = left }) later after
 
 -- There are connections that were served so from the world on, all that they asked was asked of the world's broker, one

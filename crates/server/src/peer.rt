@@ -1,5 +1,6 @@
-ghost use Rattle.std.specs.Prelude.{◌≡◌, ◌≤◌, ◌++◌, [], length, take};
+ghost use Rattle.std.specs.Prelude.{◌≡◌, ◌≤◌, ◌++◌, [], length, take, OnOk};
 ghost use Rattle.std.specs.Io.{ReadsAtMost};
+ghost use Rattle.std.specs.Io.KnownBytes.{Appends};
 ghost use Rattle.server.specs.Pieces.{at_most_one};
 
 use crate::waiting::{Wait, patience};
@@ -41,8 +42,9 @@ impl<'s, R: Clock> Peer<'s, R> {
     }
 
     /// Where its replies go.
-    pub(crate) fn replies(&'s self) -> Replies<'s, R> {
+    pub(crate) fn replies(&'s self) -> Replies<'s, &'s Peer<'s, R>, R> {
         Replies {
+            writer: self,
             peer: self,
             failed: false,
         }
@@ -83,15 +85,6 @@ impl<'s, R: Clock> Peer<'s, R> {
             }
         }
         Ok(())
-    }
-
-    /// Sends a whole reply; then the next request is waited for. It fails if the peer does not take the
-    /// reply in time.
-    fn send(&self, reply: &[u8]) -> io::Result<()> {
-        self.await_from_now(Wait::Progress)?;
-        let mut writer = self;
-        writer.write_all(reply)?;
-        self.await_from_now(Wait::NextRequest)
     }
 }
 
@@ -158,23 +151,37 @@ fn without_last(bytes: &[u8]) -> (usize, Option<u8>)
     }
 }
 
-/// Where the replies to a peer go. A push fails if the peer does not take the reply in time.
+/// Where the replies to a peer go, each whole, through a writer. A push fails if the peer does not take the reply in
+/// time.
 #[derive(Drop)]
-pub(crate) struct Replies<'s, R: Clock> {
+pub(crate) struct Replies<'s, W: Write, R: Clock> {
+    writer: W,
     peer: &'s Peer<'s, R>,
     failed: bool,
 }
 
-impl<'s, R: Clock> Sink for Replies<'s, R> {
-    ghost use Rattle.std.specs.Prelude.{None};
-    ghost use Rattle.server.specs.Pieces.{push_failed};
+impl<'s, W: Write, R: Clock> Replies<'s, W, R> {
+    /// Sends a whole reply; then the next request is waited for. It fails if the peer does not take the
+    /// reply in time.
+    fn send(&mut self, reply: &[u8]) -> io::Result<()>
+        ensures whole { OnOk result (Appends (W.contents self.old.writer) (W.contents self.new.writer) reply.now) }
+        ensures failed { self.new.failed ≡ self.old.failed }
+    {
+        self.peer.await_from_now(Wait::Progress)?;
+        self.writer.write_all(reply)?;
+        self.peer.await_from_now(Wait::NextRequest)
+    }
+}
 
-    ghost written = { λ _. None };
+impl<'s, W: Write, R: Clock> Sink for Replies<'s, W, R> {
+    ghost use Rattle.server.specs.Pieces.{push_failed, writer_of};
+
+    ghost written = { λ replies. W.contents (writer_of replies) };
 
     ghost has_failed = { push_failed };
 
     fn push(&mut self, reply: &[u8]) -> Result<(), Failed> {
-        match self.peer.send(reply) {
+        match self.send(reply) {
             Ok(()) => Ok(()),
             Err(_) => {
                 self.failed = true;
