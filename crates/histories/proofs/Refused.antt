@@ -6,10 +6,10 @@ use Rattle.std.proofs.Common.{refl, sym, ◌∙◌, ap, subst, inl, inr, arith}
 use Rattle.std.proofs.lemmas.Bool.{false≢true}
 use Rattle.std.proofs.lemmas.Option.{none-some}
 use Rattle.broker_types.specs.Text.{Text, same}
-use Rattle.broker_types.specs.Map.{get}
+use Rattle.broker_types.specs.Map.{Map, get}
 use Rattle.broker_types.specs.MapLaws.{valued_is}
-use Rattle.broker_types.specs.Answer.{refused}
-use Rattle.broker_types.specs.Broker.{Broker, Waiting, at_moment}
+use Rattle.broker_types.specs.Answer.{IsRefused, refused}
+use Rattle.broker_types.specs.Broker.{Broker, Mount, Waiting, at_moment}
 use Rattle.broker_types.specs.Names.{Names, names_of}
 use Rattle.broker_types.specs.Operation.{Answered, nothing, reply, kept_text, missing, Done}
 use Rattle.broker_types.specs.Refuse.{◌>>=◌, unless}
@@ -25,7 +25,7 @@ use Rattle.broker_types.specs.declared.refusal.Reason.TheVariants as reason
 use Rattle.broker_types.specs.declared.words.Words.{Words}
 use Rattle.records.specs.ValueLaws.{ok_inj}
 use Rattle.broker_model.specs.Act.{act}
-use Rattle.broker_model.specs.Command.{Command, command_of}
+use Rattle.broker_model.specs.Command.{Command, on_wrapping, command_of}
 use Rattle.broker_model.specs.Laws.{OperationsAreProper}
 use Rattle.broker_model.specs.Order.{Outcome, Wrapped, counted, finish, needed, permission_denied, response_to, serve}
 use Rattle.broker_model.specs.Order.{unwrapped, wrapped}
@@ -33,7 +33,8 @@ use Rattle.broker_model.specs.Permission.{may_ask, permits}
 use Rattle.broker_model.specs.Request.{Request}
 use Rattle.broker_model.specs.Serving.{operated}
 use Rattle.broker_model.specs.Step.{request_of, step, traits}
-use Rattle.histories.specs.Refused.{Calls, ChangesNothingElse, PoliciesDecide, RefusedChangeNothing, is_granted}
+use Rattle.broker_model.specs.declared.commands.WrappingCommand.TheVariants as response
+use Rattle.histories.specs.Refused.{Calls, ChangesNothingElse, PoliciesDecide, RefusedChangeNothing, WrapNeedsTtl, is_granted}
 use Rattle.histories.proofs.InOrder.{in_order}
 use Rattle.histories.proofs.OrderCases.{IsCaller, spent, unless_ok, with_caller}
 use Rattle.histories.proofs.OrderKeeps.{own_new, wrapped_cases}
@@ -119,6 +120,45 @@ module _ (proper : OperationsAreProper) (b : Broker) (moment : ℕ) (words : Wor
 
 pub refused_change_nothing : OperationsAreProper → RefusedChangeNothing
 refused_change_nothing proper b moment words a high = leaves_all_else proper b moment words a high
+
+-- ---- without a wrap TTL
+
+spent_mounts : (c : Broker) (who : Option Text) → (spent c who).mounts ≡ c.mounts
+spent_mounts c None = refl
+spent_mounts c (Some t) = refl
+
+module _ (b : Broker) (moment : ℕ) (words : Words) (a : Ask) (text : Text)
+    (means : command_of (at_moment b moment).mounts a ≡ Ok (on_wrapping (response.Wrap text))) (none : a.wrap_ttl ≡ 0) where
+  abbrev IsNot : Outcome → Type 0
+  IsNot o = IsRefused o.response
+
+  not_served : (caller : Option Text) (r : Result Wrapped Refusal)
+      → serve permits traits act (spent (at_moment b moment) caller) caller (request_of a) (names_of words) ≡ r
+      → IsNot (finish (spent (at_moment b moment) caller) caller r)
+  not_served caller (Err why) e = (why, refl)
+  not_served caller (Ok v) e =
+      let start = spent (at_moment b moment) caller in
+      let z = request_of a in
+      let p = ok_step (unless (z.is_open || permits start caller z.verb z.path) permission_denied) _ v e in
+      let r = ok_step (z.command start) _ v p.2 in
+      let n = ok_step (unless (are_new start.used (needed permits traits act z (names_of words) r.0)) refusal.IdentifierUsed) _ v r.2 in
+      let m = ok_step (unless (not (traits r.0).must_wrap || nat_lt 0 z.wrap_ttl) (refusal.BadRequest reason.WrappingRequired)) _ v n.2 in
+      let is : r.0 ≡ on_wrapping (response.Wrap text) =
+      ok_inj (sym r.1 ∙ ap (λ (ms : Map Mount). command_of ms a) (spent_mounts (at_moment b moment) caller) ∙ means) in
+      absurd (false≢true
+      (sym (ap (λ (k : Command). not (traits k).must_wrap || nat_lt 0 a.wrap_ttl) is ∙ ap (λ t. not true || nat_lt 0 t) none)
+      ∙ unless_ok _ (refusal.BadRequest reason.WrappingRequired) m.0 m.1))
+
+  pub needs_ttl : IsRefused (step b moment words a).response
+  unfolding step
+  needs_ttl =
+      in_order permits traits act b moment (request_of a) (names_of words) IsNot
+      (λ closed no_caller. (permission_denied, refl))
+      (λ t closed is_token waits. (permission_denied, refl))
+      (λ caller is. not_served caller (serve permits traits act (spent (at_moment b moment) caller) caller (request_of a) (names_of words)) refl)
+
+pub wrap_needs_ttl : WrapNeedsTtl
+wrap_needs_ttl b moment words a text means none = needs_ttl b moment words a text means none
 
 -- ---- policies
 

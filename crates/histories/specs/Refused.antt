@@ -1,9 +1,9 @@
 -- The laws of refused requests, and of what policies decide, as statements (Vault's documentation, "Policies"; "Tokens",
 -- use limits).
-use Rattle.std.specs.Prelude.{◌≡◌, ◌≢◌, ◌≤◌, ◌⊎◌, ◌&&◌, ◌||◌, ℕ, Bool, true, false, not, Option, Some, None}
+use Rattle.std.specs.Prelude.{◌≡◌, ◌≢◌, ◌≤◌, ◌⊎◌, ◌&&◌, ◌||◌, ℕ, Bool, true, false, not, Option, Some, None, Ok}
 use Rattle.broker_types.specs.Text.{Text}
 use Rattle.broker_types.specs.Map.{get}
-use Rattle.broker_types.specs.Answer.{refused}
+use Rattle.broker_types.specs.Answer.{IsRefused, refused}
 use Rattle.broker_types.specs.Broker.{Broker, at_moment}
 use Rattle.broker_types.specs.Names.{names_of}
 use Rattle.broker_types.specs.Refuse.{◌>>=◌}
@@ -15,11 +15,12 @@ use Rattle.broker_types.specs.declared.words.Words.{Words}
 use Rattle.policies.specs.Grants.{grants}
 use Rattle.policies.specs.declared.capability.Capability.TheVariants.{Sudo}
 use Rattle.broker_model.specs.Capabilities.{asked}
-use Rattle.broker_model.specs.Command.{command_of}
+use Rattle.broker_model.specs.Command.{on_wrapping, command_of}
 use Rattle.broker_model.specs.Order.{finish, permission_denied}
 use Rattle.broker_model.specs.Permission.{needs_sudo}
 use Rattle.broker_model.specs.Serving.{is_open, operated}
 use Rattle.broker_model.specs.Step.{step}
+use Rattle.broker_model.specs.declared.commands.WrappingCommand.TheVariants as response
 
 -- ---- what a refused request leaves
 
@@ -48,6 +49,13 @@ abbrev pub RefusedChangeNothing : Type 0
 RefusedChangeNothing =
     (b : Broker) (moment : ℕ) (words : Words) (a : Ask) → 400 ≤ status_code (step b moment words a).response.status
     → ChangesNothingElse (at_moment b moment) (step b moment words a).next a
+
+-- An ask to wrap an object is refused if it has no wrap TTL.
+abbrev pub WrapNeedsTtl : Type 0
+WrapNeedsTtl =
+    (b : Broker) (moment : ℕ) (words : Words) (a : Ask) (text : Text)
+    → command_of (at_moment b moment).mounts a ≡ Ok (on_wrapping (response.Wrap text)) → a.wrap_ttl ≡ 0
+    → IsRefused (step b moment words a).response
 
 -- ---- what policies decide
 

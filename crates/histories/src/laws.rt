@@ -5,7 +5,7 @@ ghost use Rattle.histories.specs.Laws.{AnyGiveOutNew, NoneIsGivenTwiceByAny, All
 ghost use Rattle.histories.specs.Laws.{AllHandOutKept, AllAreTheReplies, EachEvolves, LaterOnesEvolved};
 ghost use Rattle.histories.specs.Open.{OpenMeansItsOwn, OpenChangesNoToken, TheseAreOpen};
 ghost use Rattle.histories.specs.Paths.{PathsMeanCommands};
-ghost use Rattle.histories.specs.Refused.{RefusedChangeNothing, PoliciesDecide};
+ghost use Rattle.histories.specs.Refused.{RefusedChangeNothing, WrapNeedsTtl, PoliciesDecide};
 ghost use Rattle.histories.specs.Secrets.{AllSecretsStay};
 
 use broker_model::{operations_are_proper, wrapping_commands_are_proper};
@@ -91,9 +91,10 @@ pub fn paths_mean_their_commands()
 
 /// A law: a request that is answered with neither 200 nor 204 changes nothing, beside what comes to its end at that
 /// moment, but the response of a wrapping token that was its client token, or a use of its client token, which ends if
-/// that was the last.
+/// that was the last. A request to wrap is refused without a wrap TTL.
 pub fn refused_requests_change_nothing()
-    ensures { RefusedChangeNothing }
+    ensures nothing { RefusedChangeNothing }
+    ensures wraps { WrapNeedsTtl }
 {
     operations_are_proper();
 }
