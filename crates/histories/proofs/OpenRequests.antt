@@ -1,11 +1,12 @@
 -- What an open request means, and what it leaves.
-use Rattle.std.specs.Prelude.{◌≡◌, ◌||◌, ◌&&◌, ℕ, List, true, not, nat_lt, Option, Some, None, Result, Ok, Err, codes, ⊤}
+use Rattle.std.specs.Prelude.{◌≡◌, ◌||◌, ◌&&◌, ℕ, List, [], ◌∷◌, Bool, true, false, not, nat_lt}
+use Rattle.std.specs.Prelude.{Option, Some, None, Result, Ok, Err, codes, ⊤}
 use Rattle.std.specs.Option.{option_map_or}
 use Rattle.std.proofs.Common.{refl, sym, ◌∙◌, ap, subst, inl, inr}
 use Rattle.std.proofs.lemmas.Bool.{and_parts, false≢true, or_cases}
 use Rattle.serde_json.specs.Data.{Members}
 use Rattle.broker_types.specs.Text.{Text, same}
-use Rattle.broker_types.specs.TextLaws.{same_true}
+use Rattle.broker_types.specs.TextLaws.{same_self, same_true}
 use Rattle.broker_types.specs.Map.{Map, get}
 use Rattle.broker_types.specs.Broker.{Broker, Mount, Waiting, at_moment}
 use Rattle.broker_types.specs.Names.{Names, names_of}
@@ -38,9 +39,9 @@ use Rattle.broker_model.specs.Step.{request_of, step, traits}
 use Rattle.broker_model.specs.declared.commands.WrappingCommand.{WrappingCommand}
 use Rattle.broker_model.specs.declared.commands.WrappingCommand.TheVariants as response
 use Rattle.broker_model.specs.parts.Bodies.{read_as}
-use Rattle.broker_model.specs.parts.WrappingCommands.{is_own_if_read, looks_up, takes_own, token_meant, token_named}
+use Rattle.broker_model.specs.parts.WrappingCommands.{is_own, is_own_if_read, looks_up, takes_own, token_meant, token_named}
 use Rattle.broker_model.specs.parts.Wrappings.{act_on_wrappings, found}
-use Rattle.histories.specs.Open.{DiffersInWaiting, MeansItsOwn, OpenChangesNoToken}
+use Rattle.histories.specs.Open.{DiffersInWaiting, MeansItsOwn, OpenChangesNoToken, TheseAreOpen}
 use Rattle.histories.specs.Paths.{WrittenMeans, on_named}
 use Rattle.histories.proofs.OrderCases.{with_caller}
 use Rattle.histories.proofs.OrderKeeps.{wrapped_cases}
@@ -107,6 +108,66 @@ module _ (own_is_meant : OwnIsMeant) (mounts : Map Mount) (a : Ask) (command : C
                   (response.Rewrap x.0, x.1, x.2)
             ]
       ]
+
+-- ---- which asks are open
+
+-- where the client token is meant, the body names no other
+own_if_meant : (client named : Option Text) → token_meant client named ≡ client → is_own client named ≡ true
+own_if_meant client None e = refl
+own_if_meant client (Some []) e = refl
+own_if_meant client (Some (c ∷ t)) e = ap (λ (o : Option Text). option_map_or (same (c ∷ t)) o false) (sym e) ∙ same_self (c ∷ t)
+
+-- a look-up is open
+look_up_is_open : (a : Ask) → a.verb ≡ verb.Write → a.path ≡ codes "sys/wrapping/lookup" → is_open a ≡ true
+unfolding looks_up
+look_up_is_open a write here =
+    let rest = takes_own a.path && is_own_if_read a.token (token_named a.body) in
+    ap (λ v. same_verb v verb.Write && (looks_up a.path || rest)) write
+    ∙ ap (λ p. same p (codes "sys/wrapping/lookup") || rest) here
+    ∙ ap (λ v. v || rest) (same_self (codes "sys/wrapping/lookup"))
+
+is_wrapping_of : {x y : WrappingCommand} → on_wrapping x ≡ on_wrapping y → x ≡ y
+is_wrapping_of e = cc
+
+-- so is a command on the client token, at a path that takes it
+own_is_open : (mounts : Map Mount) (a : Ask) (on : Option Text → WrappingCommand) → ((x y : Option Text) → on x ≡ on y → x ≡ y)
+    → takes_own a.path ≡ true → a.verb ≡ verb.Write → command_of mounts a ≡ on_named on a
+    → command_of mounts a ≡ Ok (on_wrapping (on a.token)) → is_open a ≡ true
+own_is_open mounts a on one takes write is means =
+    let k = ok_step (read_as reader.wrapping_token (λ named. on (token_meant a.token named)) a.body) (λ k. Ok (on_wrapping k))
+    (on_wrapping (on a.token)) (sym is ∙ means) in
+    let x = named (λ named. on (token_meant a.token named)) a.body k.0 k.1 in
+    let own : is_own_if_read a.token (token_named a.body) ≡ true =
+    ap (is_own_if_read a.token) x.1
+    ∙ own_if_meant a.token x.0 (one (token_meant a.token x.0) a.token (x.2 ∙ is_wrapping_of (ok_inj k.2))) in
+    ap (λ v. same_verb v verb.Write && (looks_up a.path || (takes_own a.path && is_own_if_read a.token (token_named a.body)))) write
+    ∙ ap (λ v. looks_up a.path || (v && is_own_if_read a.token (token_named a.body))) takes
+    ∙ ap (λ v. looks_up a.path || v) own
+    ∙ elim (looks_up a.path) as (λ v. (v || true) ≡ true) [ true ↦ refl | false ↦ refl ]
+
+unwrap_takes : takes_own (codes "sys/wrapping/unwrap") ≡ true
+unfolding takes_own same
+unwrap_takes = refl
+
+rewrap_takes : takes_own (codes "sys/wrapping/rewrap") ≡ true
+unfolding takes_own same
+rewrap_takes = refl
+
+pub these_are_open : WrittenMeans (codes "sys/wrapping/rewrap") (on_named response.Rewrap)
+    → WrittenMeans (codes "sys/wrapping/unwrap") (on_named response.Unwrap) → TheseAreOpen
+these_are_open rewrap unwrap = record {
+  look_up = look_up_is_open;
+  rewrap = λ mounts a write here means.
+      own_is_open mounts a response.Rewrap (λ x y e. one_rewrap e) (ap takes_own here ∙ rewrap_takes) write (rewrap mounts a write here) means;
+  unwrap = λ mounts a write here means.
+      own_is_open mounts a response.Unwrap (λ x y e. one_unwrap e) (ap takes_own here ∙ unwrap_takes) write (unwrap mounts a write here) means;
+}
+  where
+    one_rewrap : {x y : Option Text} → response.Rewrap x ≡ response.Rewrap y → x ≡ y
+    one_rewrap e = cc
+
+    one_unwrap : {x y : Option Text} → response.Unwrap x ≡ response.Unwrap y → x ≡ y
+    one_unwrap e = cc
 
 -- ---- what it leaves
 

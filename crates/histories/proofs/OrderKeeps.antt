@@ -265,11 +265,11 @@ module _ {Command : Type 0} (permits : Broker → Option Text → Verb → Text 
   abbrev names : Names
   names = names_of a.words
 
-  -- the body is the text of what the operation replied
+  -- the body is the text of what the operation replied, and of a token that it made it tells the accessor alone
   abbrev pub TellsBody : Type 0
   TellsBody =
       (s : IsServed permits traits act now q names a.outcome) (r : Reply) (made : Option Text) → s.done.answered ≡ reply r made
-      → reply_text r ≡ body a
+      → (reply_text r ≡ body a) × ((made ≡ None) ⊎ (made ≡ Some names.accessor))
 
   -- nothing was given out, and nothing waits that did not before
   quiet : (next : Broker) (o : Outcome) → a.outcome ≡ o → o.next ≡ next → o.taken ≡ [] → o.handed ≡ None → o.born ≡ None → next.used ≡ a.broker.used
@@ -384,7 +384,7 @@ module _ {Command : Type 0} (permits : Broker → Option Text → Verb → Text 
         → kept_entry start q.path q.wrap_ttl names r ≡ first_entry a (body a)
     entry_is r made answered =
         let clock = spent_clock now s.caller in
-        let text = tells s r made answered in
+        let text = (tells s r made answered).0 in
         λ i. record {
           accessor = names.wrapping_accessor;
           created = clock i;
@@ -405,6 +405,7 @@ module _ {Command : Type 0} (permits : Broker → Option Text → Verb → Text 
               (ap (nat_lt 0) (sym same_ttl) ∙ (and_parts (nat_lt 0 q.wrap_ttl) (traits s.command).may_wrap wraps_).0);
           origin = ap (λ (z : Waiting). z.origin) here;
           made = made;
+          accessor = (tells s r made answered).1;
           told = ap (λ (x : Outcome). x.response) s.outcome ∙ ap (λ (x : Wrapped). response_to x.done.answered) is
               ∙ ap (λ (z : Waiting). ok (reply_text (wrap_reply names.request (wrap_info token z made)))) is_first;
           waits = ap (λ (z : Waiting). get a.outcome.next.waiting (token_text z.origin)) here
@@ -419,7 +420,7 @@ module _ {Command : Type 0} (permits : Broker → Option Text → Verb → Text 
       | inr (x, here) ↦ inr (record {
         origin = ap (λ (z : Outcome). z.born) s.outcome ∙ ap (λ (z : Wrapped). z.born) x.4
             ∙ ap Some (sym (ap (λ (z : Waiting). z.origin) here));
-        reply = ap (λ (z : Waiting). z.reply) here ∙ tells s x.0 x.1 x.3;
+        reply = ap (λ (z : Waiting). z.reply) here ∙ (tells s x.0 x.1 x.3).0;
         kept = was_kept w x here;
       })
     ]

@@ -1,5 +1,5 @@
 -- What each request of a history keeps.
-use Rattle.std.specs.Prelude.{◌≡◌, ℕ, zero, suc, List, [], ◌∷◌, Bool, true, false, Option, Some, None, Result, Ok, Err}
+use Rattle.std.specs.Prelude.{◌≡◌, ◌⊎◌, ℕ, zero, suc, List, [], ◌∷◌, Bool, true, false, Option, Some, None, Result, Ok, Err}
 use Rattle.std.proofs.Common.{refl, sym, ◌∙◌, ap, subst}
 use Rattle.std.proofs.lemmas.Bool.{false≢true}
 use Rattle.std.proofs.lemmas.Option.{none-some, same_Some}
@@ -44,6 +44,7 @@ use Rattle.broker_model.specs.parts.Wrappings.{act_on_wrappings}
 use Rattle.histories.specs.History.{AreAsked, Asking, AskedAt, History, IsAsked, clocked}
 use Rattle.histories.specs.Kept.{answer_by, object_text, unwrapped_answer, unwrapped_body}
 use Rattle.histories.proofs.Keeping.{EachKeeps, Keeps}
+use Rattle.histories.proofs.MadeTold.{made_is}
 use Rattle.histories.proofs.OrderCases.{IsServed, spent}
 use Rattle.histories.proofs.OrderKeeps.{request_keeps}
 use Rattle.histories.proofs.Plain.{plain, plain_tells}
@@ -204,10 +205,14 @@ answers_plainly a s r made answered =
     (λ free. ap (λ (x : Outcome). x.response) (step_plain a.broker a.moment a.words a.ask)
     ∙ plain_tells permits traits act a.broker a.moment (request_of a.ask) (names_of a.words) a.outcome s free r made answered)
 
--- so its body is the text of what was replied
+-- so its body is the text of what was replied; of a token that was made it tells the accessor alone
 pub tells_body : (a : Asking) (s : IsServed permits traits act (clocked a) (request_of a.ask) (names_of a.words) a.outcome)
-    (r : Reply) (made : Option Text) → s.done.answered ≡ reply r made → reply_text r ≡ unwrapped_body a
-tells_body a s r made answered = sym (ap (λ (x : Response). x.text) (answers_plainly a s r made answered))
+    (r : Reply) (made : Option Text) → s.done.answered ≡ reply r made
+    → (reply_text r ≡ unwrapped_body a) × ((made ≡ None) ⊎ (made ≡ Some (names_of a.words).accessor))
+tells_body a s r made answered = (
+  sym (ap (λ (x : Response). x.text) (answers_plainly a s r made answered)),
+  made_is (spent (clocked a) s.caller) s.caller (names_of a.words) s.command s.done r made s.acted answered,
+)
 
 module _ (proper : OperationsAreProper) where
   asked_keep : (b : Broker) (a : Asking) → IsAsked b a → Keeps unwrapped_body a

@@ -1,12 +1,12 @@
 -- What is revoked, and whatever else ended, does not come back.
 use Rattle.std.specs.Prelude.{◌≡◌, ◌≢◌, ◌<◌, ◌≤◌, ◌⊎◌, ◌||◌, ◌&&◌, not, nat_lt, ℕ, max, List, [], ◌∷◌, Bool, true, false}
-use Rattle.std.specs.Prelude.{is_some, if◌then◌else◌, Option, Some, None, Result, Ok, Err, option_map, option_and_then}
+use Rattle.std.specs.Prelude.{is_some, if◌then◌else◌, cond, Option, Some, None, Result, Ok, Err, option_map, option_and_then}
 use Rattle.std.proofs.Common.{refl, sym, ◌∙◌, ap, subst, inl, inr, arith}
-use Rattle.std.proofs.lemmas.Bool.{false≢true}
+use Rattle.std.proofs.lemmas.Bool.{false≢true, false_from_ne_true, ltb-true, ltb-false}
 use Rattle.std.proofs.lemmas.Option.{none-some, same_Some}
 use Rattle.broker_types.specs.Text.{Text, same}
-use Rattle.broker_types.specs.Map.{get}
-use Rattle.broker_types.specs.MapLaws.{valued_is}
+use Rattle.broker_types.specs.Map.{Map, get}
+use Rattle.broker_types.specs.MapLaws.{get-change, get-without, valued_is}
 use Rattle.broker_types.specs.Answer.{IsRefused, Response, refused}
 use Rattle.broker_types.specs.Broker as broker
 use Rattle.broker_types.specs.Broker.{Broker, Waiting}
@@ -24,7 +24,8 @@ use Rattle.broker_types.specs.Sound.{Sound}
 use Rattle.broker_types.specs.Spending.{spend, drop_waiting, end_spent, one_less}
 use Rattle.broker_types.specs.Status.{status_code}
 use Rattle.broker_types.specs.Token.{Token, Lease}
-use Rattle.broker_types.specs.TreeLaws.{alive_is, alive_tree, left_outlasts, under_tokens, values_tree}
+use Rattle.broker_types.specs.TextLaws.{same_true}
+use Rattle.broker_types.specs.TreeLaws.{alive_is, alive_tree, left_outlasts, outlasting_is_left, under_tokens, values_tree}
 use Rattle.broker_types.specs.Used.{are_new, use_up}
 use Rattle.broker_types.specs.declared.refusal.Refusal.{Refusal}
 use Rattle.broker_types.specs.declared.refusal.Refusal.TheVariants as refusal
@@ -55,13 +56,15 @@ use Rattle.broker_model.specs.parts.Wrappings.{FoundResponse, found, found_under
 use Rattle.histories.specs.History.{AreAsked, Asking, AskedAt, History, clocked, spent_by}
 use Rattle.histories.specs.Kept.{unwrapped_body}
 use Rattle.histories.specs.Revocation.{EndsToken, FindsNone, IsDue, IsGone, IsGranted, Revocation, Revokes, RevokesAlone}
+use Rattle.histories.specs.Revocation.{with_later_leases}
 use Rattle.histories.specs.Revocation.{is_orphaning, is_revocation, named_by, orphaning_by, orphaning_of, revoked_by, revoked_of, taken_as}
+use Rattle.histories.proofs.Descent.{descends}
 use Rattle.histories.proofs.Ending.{IsLeaseGone, ended_lasts, gone_has_ended, lease_lasts, leases_are_gone}
 use Rattle.histories.proofs.Keeping.{EachKeeps, Keeps}
 use Rattle.histories.proofs.Lasting.{asked_keeps, evolved_since, kept_evolves, left_since}
 use Rattle.histories.proofs.LeasesDue.{lease_stays_out}
 use Rattle.histories.proofs.OrderCases.{IsCaller, some_ok, spent, with_caller}
-use Rattle.histories.proofs.OrderKeeps.{wrapped_cases}
+use Rattle.histories.proofs.OrderKeeps.{end_spent_waiting, wrapped_cases}
 use Rattle.histories.proofs.Requests.{asked_at, history_keeps, means_at_clock}
 use Rattle.histories.proofs.Revoking.{below_are_gone, below_are_left, children_are_orphans, orphaned_is_gone, others_are_left, others_stay, revoked_are_gone}
 use Rattle.histories.proofs.Served.{Served, refused_or_served, served}
@@ -354,6 +357,43 @@ due_is_gone a q d = elim (found_or_not (get (clocked a).tokens q)) [
       absurd (omega (arith, later, d.reached))
 ]
 
+-- a token that does not, and that is under none that does, stays
+not_due_stays : (a : Asking) (q : Text) (x : Token) → get a.broker.tokens q ≡ Some x → (IsDue a q → ⊥)
+    → get (clocked a).tokens q ≡ Some (with_later_leases (max a.broker.clock a.moment) x)
+not_due_stays a q x is not_due =
+    let now = max a.broker.clock a.moment in
+    outlasting_is_left now a.broker.tokens q x is (λ above y end under there ends.
+    elim (nat_lt now end) as (λ v. nat_lt now end ≡ v → now < end) [
+      | true ↦ λ later. ltb-true now end later
+      | false ↦ λ over. absurd (not_due (record {
+        above = above;
+        under = under;
+        above_token = y;
+        there = there;
+        end = end;
+        has_end = ends;
+        reached = ltb-false now end over;
+      }))
+    ] refl)
+
+-- a revocation leaves all other wrapping tokens as they were
+others_wait : (a : Asking) → a.outcome ≡ step a.broker a.moment a.words a.ask → (c t u : Text)
+    → Revokes a c t ⊎ RevokesAlone a c t → u ≢ t → get a.outcome.next.waiting u ≡ get (clocked a).waiting u
+others_wait a is c t u how other = by how
+  where
+    but_one : (d : Broker) → d.waiting ≡ (drop_waiting (clocked a) t).waiting → get d.waiting u ≡ get (clocked a).waiting u
+    but_one d same_waiting =
+        ap (λ (m : Map Waiting). get m u) same_waiting ∙ get-without (clocked a).waiting t u
+        ∙ ap (λ v. cond v None (get (clocked a).waiting u)) (false_from_ne_true (same u t) (λ e. other (same_true u t e)))
+
+    by : Revokes a c t ⊎ RevokesAlone a c t → get a.outcome.next.waiting u ≡ get (clocked a).waiting u
+    by (inl r) =
+        but_one a.outcome.next (ap (λ (z : Broker). z.waiting) (revocation_left a is c t r)
+        ∙ end_spent_waiting (drop_waiting (broker.revoke (spent_by a c) t) t) (Some c))
+    by (inr r) =
+        but_one a.outcome.next (ap (λ (z : Broker). z.waiting) (orphaning_left a is c t r)
+        ∙ end_spent_waiting (drop_waiting (broker.revoke_orphan (spent_by a c) t) t) (Some c))
+
 -- and was one before
 due_was : (a : Asking) (q : Text) → IsDue a q → get a.broker.tokens q ≢ None
 due_was a q d = (under_tokens a.broker.tokens q d.above d.under).0
@@ -508,6 +548,13 @@ module _ (proper : OperationsAreProper) (b : Broker) (history : History) (h : Ar
 
   pub revocation : Revocation history
   revocation = record {
+    descends = λ i a q y at there.
+        let is = asked_at b history i a h at in
+        descends a is.sound is.outcome q y there;
+    stays = λ i a q x at is not_due. not_due_stays a q x is not_due;
+    clock = λ i a at. refl;
+    spends = λ i a c q at. get-change (clocked a).tokens c one_less q;
+    responses = λ i a c t u at how other. others_wait a (asked_at b history i a h at).outcome c t u how other;
     answered = λ i a command at means does. revoking_answer a (asked_at b history i a h at).outcome command means does;
     each = λ i a command at means does is_204. revokes_at_204 a (asked_at b history i a h at).outcome command means is_204 does;
     each_alone = λ i a command at means does is_204. orphans_at_204 a (asked_at b history i a h at).outcome command means is_204 does;

@@ -180,4 +180,6 @@ module _ (found : FoundByForm) (none : NoneFoundByForm) (ordered : AreInOrder) w
     revoke_self = revokes_self;
     revoke_orphan = revokes_orphan;
     revoke_accessor = revokes_accessor;
+    named = λ client c t. refl;
+    not_named = λ client. (refl, refl);
   }

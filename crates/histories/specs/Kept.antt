@@ -1,12 +1,13 @@
 -- The laws of responses that were kept, as statements: each is handed out once, by an unwrap, and is the reply that was
 -- kept (Vault's documentation, "Response wrapping").
-use Rattle.std.specs.Prelude.{◌≡◌, ◌≢◌, ◌<◌, ◌≤◌, ◌⊎◌, ℕ, max, List, Bool, true, false, Option, Some, None, Result, Ok, Err, []}
+use Rattle.std.specs.Prelude.{◌≡◌, ◌≢◌, ◌<◌, ◌≤◌, ◌⊎◌, ◌+◌, ℕ, max, List, [], Bool, true, false}
+use Rattle.std.specs.Prelude.{Option, Some, None, Result, Ok, Err}
 use Rattle.serde_json.specs.Data.{Members, object}
 use Rattle.serde_json.specs.Written.{compact_text}
 use Rattle.broker_types.specs.Text.{Text}
 use Rattle.broker_types.specs.Answer.{IsRefused, Response}
 use Rattle.broker_types.specs.Map.{get}
-use Rattle.broker_types.specs.Broker.{Broker, Waiting, waiting_ends}
+use Rattle.broker_types.specs.Broker.{Broker, Waiting}
 use Rattle.broker_types.specs.Names.{Names, names_of}
 use Rattle.broker_types.specs.TokenText.{token_text}
 use Rattle.broker_types.specs.declared.refusal.Refusal.{Refusal}
@@ -96,9 +97,9 @@ pub record HandedOutOnce (history : History) : Type 0 where
   pub once : (i j : ℕ) (a x : Asking) (t u o : Text) → AskedAt history i a → Unwraps a t o → AskedAt history j x
       → Unwraps x u o → i ≡ j
   -- At that event the clock, and the moment of the event itself, are before the end of the wrapping token that is
-  -- unwrapped.
+  -- unwrapped: its TTL after it was made.
   pub in_time : (i : ℕ) (a : Asking) (t o : Text) → AskedAt history i a → (h : Unwraps a t o)
-      → ((clocked a).clock < waiting_ends h.entry) × (a.moment < waiting_ends h.entry)
+      → ((clocked a).clock < h.entry.created + h.entry.ttl) × (a.moment < h.entry.created + h.entry.ttl)
   -- No earlier event took that token out: no 204 that revoked it by its text or its accessor, no 403 that spent it as
   -- client token, no rewrap of it.
   pub still_in : (i j : ℕ) (a x : Asking) (t o : Text) → AskedAt history i a → TakesTokenOut a t
@@ -109,7 +110,7 @@ pub record HandedOutOnce (history : History) : Type 0 where
   -- A wrapping token whose end is at or before the later of an event's moment and the clock before it ended with that
   -- event.
   pub due : (i : ℕ) (a : Asking) (t : Text) (w : Waiting) → AskedAt history i a → get a.broker.waiting t ≡ Some w
-      → waiting_ends w ≤ max a.broker.clock a.moment → EndsWrappingToken a t
+      → w.created + w.ttl ≤ max a.broker.clock a.moment → EndsWrappingToken a t
   -- No wrapping token that ended, in these ways or by its end, is in any later state. So it is not looked up either.
   pub out : (i j : ℕ) (a x : Asking) (t : Text) → AskedAt history i a → EndsWrappingToken a t → AskedAt history j x
       → i ≤ j → get x.outcome.next.waiting t ≡ None
@@ -171,11 +172,12 @@ telling_body a text made =
     reply_text (wrap_reply names.request (wrap_info token (first_entry a text) made))
 
 -- The ask has a wrap TTL. Its answer is 200, and tells the wrapping token under which the text waits then, kept as its
--- reply; the origin o is the identifier of that token. Which token was made, if one was, is not said.
+-- reply; the origin o is the identifier of that token. Of a token that was made, the answer tells the accessor alone.
 pub record KeepsReply (a : Asking) (text o : Text) : Type 0 where
   pub ttl : 0 < a.ask.wrap_ttl
   pub origin : o ≡ (names_of a.words).wrapping_token
   pub made : Option Text
+  pub accessor : (made ≡ None) ⊎ (made ≡ Some (names_of a.words).accessor)
   pub told : a.outcome.response ≡ ok (telling_body a text made)
   pub waits : get a.outcome.next.waiting (token_text o) ≡ Some (first_entry a text)
 

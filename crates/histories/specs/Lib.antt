@@ -4,4 +4,6 @@ pub mod Kept
 pub mod Laws
 pub mod Open
 pub mod Paths
+pub mod Refused
 pub mod Revocation
+pub mod Secrets

@@ -1,9 +1,10 @@
 -- The law of open requests, which need no caller, as statements (Vault's documentation, "/sys/wrapping/lookup" and
 -- "/sys/wrapping/unwrap"; that a rewrap may be open is this project's).
-use Rattle.std.specs.Prelude.{◌≡◌, ℕ, true, Ok, ⊤}
+use Rattle.std.specs.Prelude.{◌≡◌, ℕ, true, Ok, ⊤, codes}
 use Rattle.broker_types.specs.Map.{Map}
 use Rattle.broker_types.specs.Broker.{Broker, Mount, at_moment}
 use Rattle.broker_types.specs.declared.ask.Ask.{Ask}
+use Rattle.broker_types.specs.declared.ask.Verb.TheVariants as verb
 use Rattle.broker_types.specs.declared.words.Words.{Words}
 use Rattle.broker_model.specs.Command.{Command, on_wrapping, command_of}
 use Rattle.broker_model.specs.Serving.{is_open}
@@ -25,6 +26,14 @@ abbrev pub OpenMeansItsOwn : Type 0
 OpenMeansItsOwn =
     (mounts : Map Mount) (a : Ask) (command : Command) → is_open a ≡ true → command_of mounts a ≡ Ok command
     → (k : WrappingCommand) × (command ≡ on_wrapping k) × MeansItsOwn a k
+
+-- These are open: a look-up, and an unwrap or a rewrap that means the client token.
+pub record TheseAreOpen : Type 0 where
+  pub look_up : (a : Ask) → a.verb ≡ verb.Write → a.path ≡ codes "sys/wrapping/lookup" → is_open a ≡ true
+  pub rewrap : (mounts : Map Mount) (a : Ask) → a.verb ≡ verb.Write → a.path ≡ codes "sys/wrapping/rewrap"
+      → command_of mounts a ≡ Ok (on_wrapping (response.Rewrap a.token)) → is_open a ≡ true
+  pub unwrap : (mounts : Map Mount) (a : Ask) → a.verb ≡ verb.Write → a.path ≡ codes "sys/wrapping/unwrap"
+      → command_of mounts a ≡ Ok (on_wrapping (response.Unwrap a.token)) → is_open a ≡ true
 
 -- ---- what it leaves
 

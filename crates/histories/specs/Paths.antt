@@ -1,6 +1,6 @@
 -- What the paths mean of which the laws over histories speak by their commands (Vault's documentation, "Token auth
 -- method (API)", "/sys/wrapping").
-use Rattle.std.specs.Prelude.{◌≡◌, Option, Result, Ok, codes}
+use Rattle.std.specs.Prelude.{◌≡◌, ℕ, [], ◌∷◌, Option, Some, None, Result, Ok, codes}
 use Rattle.serde_json.specs.Data.{Members, object}
 use Rattle.serde_json.specs.Written.{compact_text}
 use Rattle.broker_types.specs.Text.{Text}
@@ -58,3 +58,6 @@ pub record PathsMeanCommands : Type 0 where
   pub revoke_orphan : WrittenMeans (codes "auth/token/revoke-orphan") (on_found reader.token token.RevokeOrphan)
   pub revoke_accessor : WrittenMeans (codes "auth/token/revoke-accessor")
       (on_found reader.accessor token.RevokeAccessor)
+  -- And the wrapping token that is meant is the one that the body names, else the client token; an empty text names none.
+  pub named : (client : Option Text) (c : ℕ) (t : Text) → token_meant client (Some (c ∷ t)) ≡ Some (c ∷ t)
+  pub not_named : (client : Option Text) → (token_meant client None ≡ client) × (token_meant client (Some []) ≡ client)

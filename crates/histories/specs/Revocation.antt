@@ -1,16 +1,17 @@
 -- The law of revocation, as a statement (Vault's documentation, "Tokens", token hierarchies and orphan tokens, use
 -- limits; "Lease, renew, and revoke").
-use Rattle.std.specs.Prelude.{◌≡◌, ◌≢◌, ◌<◌, ◌≤◌, ◌⊎◌, ◌&&◌, ◌||◌, ℕ, max, Bool, true, false, if◌then◌else◌}
-use Rattle.std.specs.Prelude.{Option, Some, None, Ok}
+use Rattle.std.specs.Prelude.{◌≡◌, ◌≢◌, ◌<◌, ◌≤◌, ◌⊎◌, ◌&&◌, ◌||◌, ◌-◌, ℕ, max, nat_lt, Bool, true, false}
+use Rattle.std.specs.Prelude.{if◌then◌else◌, Option, Some, None, Ok, option_map}
 use Rattle.std.specs.Option.{option_map_or}
-use Rattle.broker_types.specs.Text.{Text}
-use Rattle.broker_types.specs.Map.{get}
+use Rattle.broker_types.specs.Text.{Text, same}
+use Rattle.broker_types.specs.Map.{get, keep}
 use Rattle.broker_types.specs.Token.{Token, Tokens, Lease}
 use Rattle.broker_types.specs.Lineage.{is_under}
 use Rattle.broker_types.specs.Broker.{Broker}
 use Rattle.broker_types.specs.Names.{names_of}
 use Rattle.broker_types.specs.Places.{lease_of, lease_identifier}
 use Rattle.broker_types.specs.Spending.{is_spent}
+use Rattle.broker_types.specs.TokenText.{token_text}
 use Rattle.broker_types.specs.Used.{are_new}
 use Rattle.broker_types.specs.Answer.{IsRefused, refused}
 use Rattle.broker_types.specs.declared.refusal.Refusal.TheVariants as refusal
@@ -19,6 +20,7 @@ use Rattle.broker_types.specs.declared.status.Status.TheVariants as status
 use Rattle.cubbyhole.specs.Cubbyhole.{object_at}
 use Rattle.token_tree.specs.Tokens as tree
 use Rattle.wrapping.specs.Wrapping as wrapping
+use Rattle.api_json.specs.declared.token_bodies.TokenCreation.{TokenCreation}
 use Rattle.broker_model.specs.Command.{Command, on_token, on_wrapping, command_of}
 use Rattle.broker_model.specs.Order.{permission_denied}
 use Rattle.broker_model.specs.Responses.{no_content}
@@ -27,6 +29,8 @@ use Rattle.broker_model.specs.declared.commands.TokenCommand.{TokenCommand}
 use Rattle.broker_model.specs.declared.commands.TokenCommand.TheVariants as token
 use Rattle.broker_model.specs.declared.commands.WrappingCommand.{WrappingCommand}
 use Rattle.broker_model.specs.declared.commands.WrappingCommand.TheVariants as response
+use Rattle.broker_model.specs.declared.making.Making.{Making}
+use Rattle.broker_model.specs.declared.making.Making.TheVariants.{OfCaller, WithoutParent}
 use Rattle.broker_model.specs.parts.WrappingCommands.{wrapping_names}
 use Rattle.histories.specs.History.{Asking, AskedAt, History, clocked, spent_by}
 
@@ -142,6 +146,59 @@ pub record EndsWithCaller (ts : Tokens) (c t q : Text) : Type 0 where
   pub caller_under : is_under ts c t ≡ true
   pub apart : c ≢ t
 
+-- ---- what becomes of a token
+
+-- the token, with one use less if its uses are limited
+abbrev pub with_use_spent : Token → Token
+with_use_spent x = record x { uses_left = option_map (λ n. n - 1) x.uses_left }
+
+-- the token, with its leases that end later than now
+abbrev pub with_later_leases : ℕ → Token → Token
+with_later_leases now x =
+    record x { leases = keep (λ id. option_map_or (λ (l : Lease). nat_lt now l.ends) (get x.leases id) false) x.leases }
+
+-- the request was not open, and q was its client token
+pub record IsClient (a : Asking) (q : Text) : Type 0 where
+  pub closed : is_open a.ask ≡ false
+  pub token : a.ask.token ≡ Some q
+
+-- The request, by some caller, revoked the parent of the token x alone, and y has none.
+pub record IsOrphaned (a : Asking) (x y : Token) : Type 0 where
+  pub caller : Text
+  pub above : Text
+  pub alone : RevokesAlone a caller above
+  pub parent : x.parent ≡ Some above
+  pub none : y.parent ≡ None
+
+-- The token q was there at the request's clock, and y is what it became: with the same parent, unless that was revoked
+-- alone, the same accessor and the same policies. If it was the client token of a request that is not open, it has one
+-- use less, and one left; else it has as many as before.
+pub record WasToken (a : Asking) (q : Text) (y : Token) : Type 0 where
+  pub earlier : Token
+  pub there : get (clocked a).tokens q ≡ Some earlier
+  pub parent : (y.parent ≡ earlier.parent) ⊎ IsOrphaned a earlier y
+  pub accessor : y.accessor ≡ earlier.accessor
+  pub policies : y.policies ≡ earlier.policies
+  pub issued : y.issued ≡ earlier.issued
+  pub other_uses : (IsClient a q → ⊥) → y.uses_left ≡ earlier.uses_left
+  pub uses : IsClient a q → (y.uses_left ≡ option_map (λ n. n - 1) earlier.uses_left) × (y.uses_left ≢ Some 0)
+
+-- whose child a token is that the caller c asks for
+abbrev pub parent_asked : Text → Making → TokenCreation → Option Text
+parent_asked c OfCaller asked = if asked.no_parent then None else Some c
+parent_asked c WithoutParent asked = None
+
+-- The request asked for a token, and y is it, of the request's words: the child of the caller, unless it asked for none.
+pub record IsMade (a : Asking) (q : Text) (y : Token) : Type 0 where
+  pub caller : Text
+  pub client : IsClient a caller
+  pub making : Making
+  pub asked : TokenCreation
+  pub means : command_of (clocked a).mounts a.ask ≡ Ok (on_token (token.Create making asked))
+  pub text : q ≡ token_text (names_of a.words).token
+  pub accessor : y.accessor ≡ (names_of a.words).accessor
+  pub parent : y.parent ≡ parent_asked caller making asked
+
 -- ---- what is answered later
 
 -- the wrapping token that a command takes a text as
@@ -167,6 +224,21 @@ FindsNone x command =
 -- ---- the law
 
 pub record Revocation (history : History) : Type 0 where
+  -- Each token after an event was one at its clock, or was made by it, as the child of its caller. So the descendants
+  -- of a token are those that it made, and that these made, but for tokens that were asked for without parent, and for
+  -- what was orphaned since.
+  pub descends : (i : ℕ) (a : Asking) (q : Text) (y : Token) → AskedAt history i a
+      → get a.outcome.next.tokens q ≡ Some y → WasToken a q y ⊎ IsMade a q y
+  -- A token that does not come to its end, nor is under one that does, is at the event's clock as it was before it, but
+  -- for its leases that come to theirs.
+  pub stays : (i : ℕ) (a : Asking) (q : Text) (x : Token) → AskedAt history i a → get a.broker.tokens q ≡ Some x
+      → (IsDue a q → ⊥) → get (clocked a).tokens q ≡ Some (with_later_leases (max a.broker.clock a.moment) x)
+  -- The clock is the later of that before the event and the event's moment.
+  pub clock : (i : ℕ) (a : Asking) → AskedAt history i a → (clocked a).clock ≡ max a.broker.clock a.moment
+  -- A caller that spends a use has one less, if its uses are limited; nothing else of it changes, nor any other token.
+  pub spends : (i : ℕ) (a : Asking) (c q : Text) → AskedAt history i a
+      → get (spent_by a c).tokens q
+      ≡ option_map (λ x. if same q c then with_use_spent x else x) (get (clocked a).tokens q)
   -- A command that revokes a text, with all under it or alone, is answered with 204, or refused.
   pub answered : (i : ℕ) (a : Asking) (command : TokenCommand) → AskedAt history i a
       → command_of (clocked a).mounts a.ask ≡ Ok (on_token command)
@@ -207,6 +279,9 @@ pub record Revocation (history : History) : Type 0 where
   pub others_alone : (i : ℕ) (a : Asking) (c t q : Text) → AskedAt history i a → RevokesAlone a c t
       → is_under (spent_by a c).tokens q t ≡ false
       → get a.outcome.next.tokens q ≡ left_by_caller (spent_by a c).tokens c q
+  -- After both, each wrapping token but t waits as at the clock.
+  pub responses : (i : ℕ) (a : Asking) (c t u : Text) → AskedAt history i a → Revokes a c t ⊎ RevokesAlone a c t
+      → u ≢ t → get a.outcome.next.waiting u ≡ get (clocked a).waiting u
   -- A token that comes to its end, or that is under one that does, ended with that event.
   pub due : (i : ℕ) (a : Asking) (q : Text) → AskedAt history i a → IsDue a q → EndsToken a q
   -- And that event does nothing for it: if the token is the client token, the answer is 403, unless the ask is open.

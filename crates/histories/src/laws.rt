@@ -3,8 +3,10 @@
 ghost use Rattle.histories.specs.Laws.{AllGiveOutNew, NoneIsGivenTwice, AllAreHandedOutOnce, RevocationLasts};
 ghost use Rattle.histories.specs.Laws.{AnyGiveOutNew, NoneIsGivenTwiceByAny, AllStayUsed};
 ghost use Rattle.histories.specs.Laws.{AllHandOutKept, AllAreTheReplies, EachEvolves, LaterOnesEvolved};
-ghost use Rattle.histories.specs.Open.{OpenMeansItsOwn, OpenChangesNoToken};
+ghost use Rattle.histories.specs.Open.{OpenMeansItsOwn, OpenChangesNoToken, TheseAreOpen};
 ghost use Rattle.histories.specs.Paths.{PathsMeanCommands};
+ghost use Rattle.histories.specs.Refused.{RefusedChangeNothing, WrapNeedsTtl, PoliciesDecide};
+ghost use Rattle.histories.specs.Secrets.{AllSecretsStay};
 
 use broker_model::{operations_are_proper, wrapping_commands_are_proper};
 use mounts::{patterns_are_found_by_form, tables_are_in_order};
@@ -64,10 +66,12 @@ pub fn kept_replies_are_the_replies()
 }
 
 /// A law: an open request, which needs no caller, means a look-up, or a rewrap or an unwrap of its own client token, and
-/// nothing else. It spends no use and changes no token, beside what comes to its end at that moment; nothing changes but
-/// which responses wait, and which identifiers were given out (Vault's documentation, "/sys/wrapping").
+/// nothing else; and each of these is open. It spends no use and changes no token, beside what comes to its end at that
+/// moment; nothing changes but which responses wait, and which identifiers were given out (Vault's documentation,
+/// "/sys/wrapping").
 pub fn open_requests_mean_their_own()
     ensures means { OpenMeansItsOwn }
+    ensures these { TheseAreOpen }
     ensures leaves { OpenChangesNoToken }
 {
     wrapping_commands_are_proper();
@@ -84,3 +88,25 @@ pub fn paths_mean_their_commands()
     patterns_are_found_by_form();
     tables_are_in_order();
 }
+
+/// A law: a request that is answered with neither 200 nor 204 changes nothing, beside what comes to its end at that
+/// moment, but the response of a wrapping token that was its client token, or a use of its client token, which ends if
+/// that was the last. A request to wrap is refused without a wrap TTL.
+pub fn refused_requests_change_nothing()
+    ensures nothing { RefusedChangeNothing }
+    ensures wraps { WrapNeedsTtl }
+{
+    operations_are_proper();
+}
+
+/// A law: a request that needs a caller is denied where the policies of its client token do not grant what it asks for;
+/// where they do, its command alone decides (Vault's documentation, "Policies").
+pub fn policies_decide()
+    ensures { PoliciesDecide }
+{}
+
+/// A law: as long as a secret exists, no number of a version is given again, and what a version holds does not change,
+/// but that it holds nothing once it is destroyed (Vault's documentation, "KV secrets engine - version 2").
+pub fn versions_stay()
+    ensures { AllSecretsStay }
+{}

@@ -6,5 +6,6 @@ mod laws;
 
 pub use laws::{
     identifiers_are_given_out_once, kept_replies_are_the_replies, open_requests_mean_their_own,
-    paths_mean_their_commands, requests_evolve, responses_are_handed_out_once, revocation_lasts,
+    paths_mean_their_commands, policies_decide, refused_requests_change_nothing, requests_evolve,
+    responses_are_handed_out_once, revocation_lasts, versions_stay,
 };

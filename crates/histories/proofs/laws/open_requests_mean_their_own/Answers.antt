@@ -1,4 +1,4 @@
-use Rattle.histories.proofs.OpenRequests.{changes_no_token, means_its_own}
+use Rattle.histories.proofs.OpenRequests.{changes_no_token, means_its_own, these_are_open}
 use Rattle.histories.proofs.Routes.{looks_up, rewraps, unwraps}
 use Rattle.histories.proofs.laws.open_requests_mean_their_own.Goals as goal
 
@@ -12,3 +12,10 @@ returns-clause-means c mounts a command open_ means =
 
 pub returns-clause-leaves : goal.returns-clause-leaves
 returns-clause-leaves c = changes_no_token
+
+pub returns-clause-these : goal.returns-clause-these
+returns-clause-these c =
+    let found = c.patterns_are_found_by_form.ensures.found in
+    let none = c.patterns_are_found_by_form.ensures.none in
+    let ordered = c.tables_are_in_order.ensures in
+    these_are_open (rewraps found none ordered) (unwraps found none ordered)

@@ -1,0 +1,152 @@
+-- What becomes of the versions of each secret by a request.
+use Rattle.std.specs.Prelude.{◌≡◌, ◌<◌, ◌≤◌, ◌||◌, not, nat_lt, ℕ, List, Bool, true, false, if◌then◌else◌}
+use Rattle.std.specs.Prelude.{Option, Some, None, Result, Ok, Err, option_map}
+use Rattle.std.specs.FinMap as fin
+use Rattle.std.specs.Option.{option_map_or}
+use Rattle.std.proofs.Common.{refl, sym, ◌∙◌, ap, subst, inl, inr, arith}
+use Rattle.broker_types.specs.Text.{Text, same}
+use Rattle.broker_types.specs.TextLaws.{same_self}
+use Rattle.broker_types.specs.Map.{Map, get}
+use Rattle.broker_types.specs.MapLaws.{valued_is}
+use Rattle.broker_types.specs.Broker.{Broker, revoke}
+use Rattle.broker_types.specs.Names.{Names, names_of}
+use Rattle.broker_types.specs.Operation.{Done, nothing, plainly}
+use Rattle.broker_types.specs.OptionLaws.{mapped}
+use Rattle.broker_types.specs.Refuse.{unless}
+use Rattle.broker_types.specs.RefuseLaws.{no_ok, ok_step}
+use Rattle.broker_types.specs.Secret.{Key, Version}
+use Rattle.broker_types.specs.Sound.{Sound}
+use Rattle.broker_types.specs.Spending.{end_spent, is_spent}
+use Rattle.broker_types.specs.Status.{status_code}
+use Rattle.broker_types.specs.Used.{are_new}
+use Rattle.broker_types.specs.declared.refusal.Refusal.{Refusal}
+use Rattle.broker_types.specs.declared.refusal.Refusal.TheVariants as refusal
+use Rattle.broker_types.specs.declared.refusal.Reason.TheVariants as reason
+use Rattle.broker_types.specs.declared.status.Status.TheVariants as status
+use Rattle.records.specs.ValueLaws.{ok_inj}
+use Rattle.kv2.specs.Secrets as secrets
+use Rattle.kv2.specs.Secrets.{secret_name}
+use Rattle.kv2.specs.VersionLaws.{get-change_versions}
+use Rattle.kv2.specs.Versions.{destroyed, is_among, with_changed}
+use Rattle.broker_model.specs.Act.{act}
+use Rattle.broker_model.specs.Command.{Command, on_secret, command_of}
+use Rattle.broker_model.specs.Forms.{forms}
+use Rattle.broker_model.specs.Order.{Outcome, Wrapped, counted, finish, needed, permission_denied, serve, wrapped}
+use Rattle.broker_model.specs.Permission.{permits}
+use Rattle.broker_model.specs.Request.{Request}
+use Rattle.broker_model.specs.Step.{request_of, step, traits}
+use Rattle.broker_model.specs.declared.commands.SecretCommand.TheVariants as command
+use Rattle.broker_model.specs.parts.Place.{Place}
+use Rattle.histories.specs.History.{AreAsked, Asking, AskedAt, History, clocked}
+use Rattle.histories.specs.Secrets.{AllSecretsStay, Secrets, VersionsStay}
+use Rattle.histories.proofs.InOrder.{in_order}
+use Rattle.histories.proofs.OperationsSecrets.{AllGiven, AllStay, all_same, operations_stay}
+use Rattle.histories.proofs.OrderCases.{IsCaller, spent}
+use Rattle.histories.proofs.OrderKeeps.{wrapped_cases}
+use Rattle.histories.proofs.Requests.{asked_at, means_at_clock}
+use Rattle.histories.proofs.Served.{served}
+
+-- the end of a caller leaves the secrets
+end_same : (b : Broker) (who : Option Text) → (end_spent b who).secrets ≡ b.secrets
+end_same b None = refl
+end_same b (Some c) =
+    elim (option_map_or is_spent (get b.tokens c) false) as (λ v. (if v then revoke b c else b).secrets ≡ b.secrets) [ true ↦ refl | false ↦ refl ]
+
+-- and so does a use that is spent
+spent_same : (b : Broker) (who : Option Text) → (spent b who).secrets ≡ b.secrets
+spent_same b None = refl
+spent_same b (Some c) = refl
+
+-- and so does wrapping
+module _ (q : Request Command) (names : Names) (start : Broker) (k : Command) (d : Done) where
+  wrapped_same : (wrapped permits traits act start q names k d).done.next.secrets ≡ d.next.secrets
+  wrapped_same = elim (wrapped_cases permits traits act start q names k d) [
+    | inl plain ↦ ap (λ (x : Wrapped). x.done.next.secrets) plain
+    | inr kept ↦ ap (λ (x : Wrapped). x.done.next.secrets) kept.4
+  ]
+
+module _ (a : Asking) (sound : Sound forms None a.broker) where
+  abbrev now : Broker
+  now = clocked a
+
+  abbrev q : Request Command
+  q = request_of a.ask
+
+  abbrev names : Names
+  names = names_of a.words
+
+  abbrev Left : Outcome → Type 0
+  Left o = AllStay a.broker.secrets o.next.secrets
+
+  module _ (caller : Option Text) where
+    abbrev start : Broker
+    start = spent now caller
+
+    given_ : AllGiven start
+    given_ name k is n v there =
+        ((sound.secrets name k (ap (λ (m : Map Key). get m name) (sym (spent_same now caller)) ∙ is)).versions n v there).last
+
+    by_result : (r : Result Wrapped Refusal) → serve permits traits act start caller q names ≡ r → Left (finish start caller r)
+    by_result (Err why) e = all_same a.broker.secrets (end_spent start caller).secrets (end_same start caller ∙ spent_same now caller)
+    by_result (Ok v) e =
+        let p = ok_step (unless (q.is_open || permits start caller q.verb q.path) permission_denied) _ v e in
+        let r = ok_step (q.command start) _ v p.2 in
+        let n = ok_step (unless (are_new start.used (needed permits traits act q names r.0)) refusal.IdentifierUsed) _ v r.2 in
+        let m = ok_step (unless (not (traits r.0).must_wrap || nat_lt 0 q.wrap_ttl) (refusal.BadRequest reason.WrappingRequired)) _ v n.2 in
+        let f = ok_step (act start caller names r.0) _ v m.2 in
+        let left : (end_spent (counted v.done) caller).secrets ≡ (f.0).next.secrets =
+        end_same (counted v.done) caller ∙ ap (λ (x : Wrapped). x.done.next.secrets) (sym (ok_inj f.2)) ∙ wrapped_same q names start r.0 f.0 in
+        subst (AllStay a.broker.secrets) (sym left)
+        (subst (λ (m : Map Key). AllStay m (f.0).next.secrets) (spent_same now caller)
+        (operations_stay start given_ caller names r.0 f.0 f.1))
+
+  -- as long as a secret is there, its versions stay
+  versions_stay : a.outcome ≡ step a.broker a.moment a.words a.ask → AllStay a.broker.secrets a.outcome.next.secrets
+  unfolding step
+  versions_stay is = subst Left (sym is)
+      (in_order permits traits act a.broker a.moment q names Left
+      (λ closed no_caller. all_same a.broker.secrets a.broker.secrets refl)
+      (λ t closed is_token waits. all_same a.broker.secrets a.broker.secrets refl)
+      (λ caller is_caller. by_result caller (serve permits traits act (spent now caller) caller q names) refl))
+
+-- ---- what is destroyed
+
+module _ (p : Place) (ns : List ℕ) where
+  destroys : (b : Broker) (who : Option Text) (names : Names) (d : Done)
+      → act b who names (on_secret p (command.Destroy ns)) ≡ Ok d → d ≡ plainly nothing (secrets.destroy b p.mount p.path ns)
+  destroys b None _ d e = no_ok e
+  destroys b (Some c) _ d e = sym (ok_inj e)
+
+  -- a version that a 204 destroyed holds nothing
+  holds_nothing : (a : Asking) → a.outcome ≡ step a.broker a.moment a.words a.ask
+      → command_of (clocked a).mounts a.ask ≡ Ok (on_secret p (command.Destroy ns)) → a.outcome.response.status ≡ status.NoContent
+      → (n : ℕ) (m : Key) (w : Version) → is_among ns n ≡ true
+      → get a.outcome.next.secrets (secret_name p.mount p.path) ≡ Some m → fin.get m.versions n ≡ Some w → w.secret ≡ None
+  holds_nothing a is means empty_ n m w among there held =
+      let s = served a is (omega (arith, ap status_code empty_)) in
+      let start = spent (clocked a) s.caller in
+      let names = names_of a.words in
+      let is_command : s.command ≡ on_secret p (command.Destroy ns) = ok_inj (sym (means_at_clock a s.caller s.command s.means) ∙ means) in
+      let done = destroys start s.caller names s.done
+      (subst (λ (k : Command). act start s.caller names k ≡ Ok s.done) is_command s.acted) in
+      let v = wrapped permits traits act start (request_of a.ask) names s.command s.done in
+      let left : a.outcome.next.secrets ≡ (secrets.destroy start p.mount p.path ns).secrets =
+      ap (λ (o : Outcome). o.next.secrets) s.outcome ∙ end_same (counted v.done) s.caller
+      ∙ wrapped_same (request_of a.ask) names start s.command s.done ∙ ap (λ (x : Done). x.next.secrets) done in
+      let name = secret_name p.mount p.path in
+      let f = with_changed destroyed ns in
+      let x = valued_is (λ u (z : Key). if same u name then f z else z) start.secrets name m
+      (ap (λ (z : Map Key). get z name) (sym left) ∙ there) in
+      let is_changed : m ≡ f x.0 = x.2 ∙ ap (λ b. if b then f x.0 else x.0) (same_self name) in
+      let y = mapped (λ (z : Version). if is_among ns n then destroyed z else z) (fin.get x.0.versions n) w
+      (sym (get-change_versions destroyed (is_among ns) x.0.versions n) ∙ ap (λ (z : Key). fin.get z.versions n) (sym is_changed) ∙ held) in
+      ap (λ (z : Version). z.secret) (y.2 ∙ ap (λ b. if b then destroyed y.0 else y.0) among)
+
+pub secrets_stay : AllSecretsStay
+secrets_stay b history h = record {
+  stay = λ i a q k m at one other.
+      let is = asked_at b history i a h at in
+      versions_stay a is.sound is.outcome q k m one other;
+  destroyed = λ i a p ns n m w at means empty_ among there held.
+      holds_nothing p ns a (asked_at b history i a h at).outcome means empty_ n m w among there held;
+}

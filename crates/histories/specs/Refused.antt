@@ -1,0 +1,86 @@
+-- The laws of refused requests, and of what policies decide, as statements (Vault's documentation, "Policies"; "Tokens",
+-- use limits).
+use Rattle.std.specs.Prelude.{◌≡◌, ◌≢◌, ◌≤◌, ◌⊎◌, ◌&&◌, ◌||◌, ℕ, Bool, true, false, not, Option, Some, None, Ok}
+use Rattle.broker_types.specs.Text.{Text}
+use Rattle.broker_types.specs.Map.{get}
+use Rattle.broker_types.specs.Answer.{IsRefused, refused}
+use Rattle.broker_types.specs.Broker.{Broker, at_moment}
+use Rattle.broker_types.specs.Names.{names_of}
+use Rattle.broker_types.specs.Refuse.{◌>>=◌}
+use Rattle.broker_types.specs.Spending.{spend, end_spent, drop_waiting}
+use Rattle.broker_types.specs.Status.{status_code}
+use Rattle.broker_types.specs.Token.{Token}
+use Rattle.broker_types.specs.declared.ask.Ask.{Ask}
+use Rattle.broker_types.specs.declared.words.Words.{Words}
+use Rattle.policies.specs.Grants.{grants}
+use Rattle.policies.specs.declared.capability.Capability.TheVariants.{Sudo}
+use Rattle.broker_model.specs.Capabilities.{asked}
+use Rattle.broker_model.specs.Command.{on_wrapping, command_of}
+use Rattle.broker_model.specs.Order.{finish, permission_denied}
+use Rattle.broker_model.specs.Permission.{needs_sudo}
+use Rattle.broker_model.specs.Serving.{is_open, operated}
+use Rattle.broker_model.specs.Step.{step}
+use Rattle.broker_model.specs.declared.commands.WrappingCommand.TheVariants as response
+
+-- ---- what a refused request leaves
+
+-- the client token of the ask, which is not open, was a wrapping token, and its response waits no more
+pub record SpentResponse (now next : Broker) (a : Ask) : Type 0 where
+  pub token : Text
+  pub client : a.token ≡ Some token
+  pub closed : is_open a ≡ false
+  pub waited : get now.waiting token ≢ None
+  pub left : next ≡ drop_waiting now token
+
+-- the client token of the ask, which is not open, spent a use, and ended if that was the last
+pub record SpentUse (now next : Broker) (a : Ask) : Type 0 where
+  pub token : Text
+  pub client : a.token ≡ Some token
+  pub closed : is_open a ≡ false
+  pub left : next ≡ end_spent (spend now token) (Some token)
+
+-- nothing changed, or only one of these
+abbrev pub ChangesNothingElse : Broker → Broker → Ask → Type 0
+ChangesNothingElse now next a = (next ≡ now) ⊎ (SpentResponse now next a ⊎ SpentUse now next a)
+
+-- An ask that is answered with neither 200 nor 204 changes nothing, beside what comes to its end at that moment, but
+-- that.
+abbrev pub RefusedChangeNothing : Type 0
+RefusedChangeNothing =
+    (b : Broker) (moment : ℕ) (words : Words) (a : Ask) → 400 ≤ status_code (step b moment words a).response.status
+    → ChangesNothingElse (at_moment b moment) (step b moment words a).next a
+
+-- An ask to wrap an object is refused if it has no wrap TTL.
+abbrev pub WrapNeedsTtl : Type 0
+WrapNeedsTtl =
+    (b : Broker) (moment : ℕ) (words : Words) (a : Ask) (text : Text)
+    → command_of (at_moment b moment).mounts a ≡ Ok (on_wrapping (response.Wrap text)) → a.wrap_ttl ≡ 0
+    → IsRefused (step b moment words a).response
+
+-- ---- what policies decide
+
+-- whether the policies of the token x of the caller c grant what the ask asks for, and `sudo` too if its path needs it
+abbrev pub is_granted : Broker → Text → Token → Ask → Bool
+is_granted b c x a =
+    grants b.policies x.policies a.verb a.path (asked b c a.verb a.path)
+    && (not (needs_sudo a.path) || grants b.policies x.policies a.verb a.path Sudo)
+
+-- the ask is not open, and its client token is x, once it has spent the use
+pub record Calls (now : Broker) (a : Ask) (c : Text) (x : Token) : Type 0 where
+  pub client : a.token ≡ Some c
+  pub closed : is_open a ≡ false
+  pub no_response : get now.waiting c ≡ None
+  pub there : get (spend now c).tokens c ≡ Some x
+
+-- An ask that needs a caller is denied where the policies of its client token do not grant it. Where they do, it is
+-- what its command leads to, and nothing else is asked of policies.
+pub record PoliciesDecide : Type 0 where
+  pub denied : (b : Broker) (moment : ℕ) (words : Words) (a : Ask) (c : Text) (x : Token) → Calls (at_moment b moment) a c x
+      → is_granted (spend (at_moment b moment) c) c x a ≡ false
+      → (step b moment words a).response ≡ refused permission_denied
+  pub granted : (b : Broker) (moment : ℕ) (words : Words) (a : Ask) (c : Text) (x : Token) → Calls (at_moment b moment) a c x
+      → is_granted (spend (at_moment b moment) c) c x a ≡ true
+      → step b moment words a
+      ≡ finish (spend (at_moment b moment) c) (Some c)
+      (command_of (at_moment b moment).mounts a
+      >>= operated (spend (at_moment b moment) c) (Some c) (names_of words) a)
