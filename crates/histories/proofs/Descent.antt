@@ -1,13 +1,13 @@
 -- What becomes of each token by a request, and whose child a new one is.
-use Rattle.std.specs.Prelude.{◌≡◌, ◌≢◌, ◌⊎◌, ◌||◌, ◌-◌, ◌==◌, not, nat_lt, ℕ, max, Bool, true, false, is_some, if◌then◌else◌}
+use Rattle.std.specs.Prelude.{◌≡◌, ◌≢◌, ◌⊎◌, ◌||◌, ◌-◌, ◌==◌, not, nat_lt, ℕ, max, true, false, is_some, if◌then◌else◌}
 use Rattle.std.specs.Prelude.{Option, Some, None, Result, Ok, Err, option_map}
 use Rattle.std.specs.Option.{option_map_or}
 use Rattle.std.proofs.Common.{refl, sym, ◌∙◌, ap, subst, inl, inr}
-use Rattle.std.proofs.lemmas.Bool.{false≢true, ltb-true, ltb-false}
+use Rattle.std.proofs.lemmas.Bool.{false≢true}
 use Rattle.std.proofs.lemmas.Option.{none-some, same_Some}
 use Rattle.broker_types.specs.Text.{Text, same}
 use Rattle.broker_types.specs.TextLaws.{same_self, same_true}
-use Rattle.broker_types.specs.Map.{get, keep}
+use Rattle.broker_types.specs.Map.{get}
 use Rattle.broker_types.specs.MapLaws.{valued_is}
 use Rattle.broker_types.specs.Broker.{Broker, Waiting, revoke}
 use Rattle.broker_types.specs.Lineage.{is_under}
@@ -16,11 +16,11 @@ use Rattle.broker_types.specs.Operation.{Answered, nothing, reply, Done}
 use Rattle.broker_types.specs.OptionLaws.{found_or_not}
 use Rattle.broker_types.specs.Places.{identifier_at, token_identifier}
 use Rattle.broker_types.specs.Places as place
-use Rattle.broker_types.specs.Refuse.{◌>>=◌, unless}
+use Rattle.broker_types.specs.Refuse.{unless}
 use Rattle.broker_types.specs.RefuseLaws.{ok_step}
 use Rattle.broker_types.specs.SearchLaws.{kept_get}
 use Rattle.broker_types.specs.Sound.{Sound}
-use Rattle.broker_types.specs.Spending.{spend, end_spent, is_spent, one_less}
+use Rattle.broker_types.specs.Spending.{end_spent, is_spent, one_less}
 use Rattle.broker_types.specs.Token.{Token, Tokens}
 use Rattle.broker_types.specs.TreeLaws.{alive_is, under_self}
 use Rattle.broker_types.specs.Used.{are_new}
@@ -30,19 +30,17 @@ use Rattle.broker_types.specs.declared.refusal.Reason.TheVariants as reason
 use Rattle.broker_types.specs.declared.reply.Reply.{Reply}
 use Rattle.records.specs.ValueLaws.{ok_inj}
 use Rattle.broker_model.specs.Act.{act}
-use Rattle.broker_model.specs.Command.{Command, on_token, command_of}
+use Rattle.broker_model.specs.Command.{Command, command_of}
 use Rattle.broker_model.specs.Forms.{forms}
-use Rattle.broker_model.specs.Order.{Outcome, Wrapped, counted, finish, needed, ordered, permission_denied, response_to, serve, unwrapped, wrapped}
+use Rattle.broker_model.specs.Order.{Outcome, Wrapped, counted, finish, needed, permission_denied, response_to, serve, unwrapped, wrapped}
 use Rattle.broker_model.specs.Permission.{permits}
 use Rattle.broker_model.specs.Request.{Request}
-use Rattle.broker_model.specs.Responses.{no_content}
-use Rattle.broker_model.specs.Serving.{is_open}
 use Rattle.broker_model.specs.Step.{request_of, step, traits}
 use Rattle.histories.specs.History.{Asking, clocked}
-use Rattle.histories.specs.Revocation.{IsClient, IsMade, IsOrphaned, WasToken, orphaning_by}
+use Rattle.histories.specs.Revocation.{IsClient, IsMade, IsOrphaned, WasToken}
 use Rattle.histories.proofs.InOrder.{in_order}
 use Rattle.histories.proofs.Lasting.{waited_before}
-use Rattle.histories.proofs.OperationsDescend.{Descends, Remains, WasMade, WasOrphaned, WasThere, operations_descend}
+use Rattle.histories.proofs.OperationsDescend.{WasMade, WasOrphaned, WasThere, operations_descend}
 use Rattle.histories.proofs.OrderCases.{IsCaller, spent}
 use Rattle.histories.proofs.OrderKeeps.{wrapped_cases}
 use Rattle.histories.proofs.Requests.{means_at_clock}

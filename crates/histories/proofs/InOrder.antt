@@ -8,9 +8,7 @@ use Rattle.broker_types.specs.Map.{get}
 use Rattle.broker_types.specs.Broker.{Broker, at_moment}
 use Rattle.broker_types.specs.Names.{Names}
 use Rattle.broker_types.specs.Operation.{Done}
-use Rattle.broker_types.specs.OptionLaws.{found_or_not}
 use Rattle.broker_types.specs.Spending.{spend, drop_waiting}
-use Rattle.broker_types.specs.Token.{Token}
 use Rattle.broker_types.specs.declared.ask.Verb.{Verb}
 use Rattle.broker_types.specs.declared.refusal.Refusal.{Refusal}
 use Rattle.broker_model.specs.Order.{Outcome, Traits, Wrapped, denied, finish, for_caller, ordered, serve}

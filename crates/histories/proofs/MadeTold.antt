@@ -1,7 +1,7 @@
 -- Of the identifiers of a token that it made, a reply tells the accessor alone beside its text.
-use Rattle.std.specs.Prelude.{◌≡◌, ◌⊎◌, ℕ, List, [], not, Bool, true, false, is_some, Option, Some, None, Result, Ok, ⊤}
+use Rattle.std.specs.Prelude.{◌≡◌, ◌⊎◌, ℕ, List, [], not, true, false, is_some, Option, Some, None, Result, Ok, ⊤}
 use Rattle.std.specs.Prelude.{if◌then◌else◌}
-use Rattle.std.proofs.Common.{refl, sym, ◌∙◌, ap, subst, inl, inr}
+use Rattle.std.proofs.Common.{refl, subst, inl, inr}
 use Rattle.broker_types.specs.Text.{Text}
 use Rattle.broker_types.specs.Broker.{Broker}
 use Rattle.broker_types.specs.Names.{Names}

@@ -1,5 +1,5 @@
 -- What each operation leaves of each token, and which tokens it makes.
-use Rattle.std.specs.Prelude.{◌≡◌, ◌⊎◌, ◌||◌, ℕ, List, [], Bool, true, false, not, is_some, if◌then◌else◌}
+use Rattle.std.specs.Prelude.{◌≡◌, ◌⊎◌, ℕ, List, [], Bool, true, false, not, is_some, if◌then◌else◌}
 use Rattle.std.specs.Prelude.{Option, Some, None, Ok, option_and_then}
 use Rattle.std.specs.Option.{option_map_or}
 use Rattle.std.proofs.Common.{refl, sym, ◌∙◌, ap, subst, inl, inr}
@@ -8,7 +8,6 @@ use Rattle.broker_types.specs.TextLaws.{same_true}
 use Rattle.broker_types.specs.Map.{Map, get, keep, map_values, change, put, without}
 use Rattle.broker_types.specs.MapLaws.{valued_is}
 use Rattle.broker_types.specs.PutLaws.{put_is}
-use Rattle.broker_types.specs.Broker as broker
 use Rattle.broker_types.specs.Broker.{Broker, Mount, Waiting}
 use Rattle.broker_types.specs.Lineage.{is_under}
 use Rattle.broker_types.specs.Name.{is_name}
@@ -67,7 +66,7 @@ use Rattle.broker_model.specs.parts.Mounts.{act_on_mounts, without_kept}
 use Rattle.broker_model.specs.parts.Place.{Place}
 use Rattle.broker_model.specs.parts.Secrets.{act_on_secrets}
 use Rattle.broker_model.specs.parts.TokenCreation.{is_privileged, making_path, may_make, new_parent, new_policies, new_token}
-use Rattle.broker_model.specs.parts.Tokens.{act_on_tokens, create, holder, known, look_up, made, named, new_end, renew, revoke, revoke_alone}
+use Rattle.broker_model.specs.parts.Tokens.{act_on_tokens, create, holder, known, look_up, named, new_end, renew, revoke, revoke_alone}
 use Rattle.broker_model.specs.parts.Wrappings.{act_on_wrappings, found}
 use Rattle.broker_model.specs.declared.making.Making.TheVariants.{OfCaller, WithoutParent}
 use Rattle.histories.specs.Revocation.{orphaning_by, parent_asked}

@@ -8,7 +8,7 @@ use Rattle.std.proofs.Common.{refl, sym, ◌∙◌, ap, subst, inl, inr, arith}
 use Rattle.std.proofs.lemmas.Bool.{eqb-true}
 use Rattle.std.proofs.lemmas.Option.{none-some, same_Some}
 use Rattle.broker_types.specs.Text.{Text, same}
-use Rattle.broker_types.specs.Map.{Map, get, keep, change, put, without}
+use Rattle.broker_types.specs.Map.{Map, get, keep, change, without}
 use Rattle.broker_types.specs.MapLaws.{valued_is, without_is}
 use Rattle.broker_types.specs.PutLaws.{put_is}
 use Rattle.broker_types.specs.Broker.{Broker, Mount, Waiting}
@@ -60,7 +60,7 @@ use Rattle.broker_model.specs.declared.commands.WrappingCommand.TheVariants as o
 use Rattle.broker_model.specs.declared.making.Making.{Making}
 use Rattle.broker_model.specs.parts.AclPolicies.{act_on_policies}
 use Rattle.broker_model.specs.parts.Cubbyholes.{act_on_cubbyhole}
-use Rattle.broker_model.specs.parts.Issued.{act_on_issued, given}
+use Rattle.broker_model.specs.parts.Issued.{act_on_issued}
 use Rattle.broker_model.specs.parts.Leases.{act_on_leases}
 use Rattle.broker_model.specs.parts.Lists.{are_none, listed}
 use Rattle.broker_model.specs.parts.Mounts.{act_on_mounts, without_kept}

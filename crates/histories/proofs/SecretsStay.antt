@@ -1,6 +1,6 @@
 -- What becomes of the versions of each secret by a request.
-use Rattle.std.specs.Prelude.{◌≡◌, ◌<◌, ◌≤◌, ◌||◌, not, nat_lt, ℕ, List, Bool, true, false, if◌then◌else◌}
-use Rattle.std.specs.Prelude.{Option, Some, None, Result, Ok, Err, option_map}
+use Rattle.std.specs.Prelude.{◌≡◌, ◌||◌, not, nat_lt, ℕ, List, true, false, if◌then◌else◌}
+use Rattle.std.specs.Prelude.{Option, Some, None, Result, Ok, Err}
 use Rattle.std.specs.FinMap as fin
 use Rattle.std.specs.Option.{option_map_or}
 use Rattle.std.proofs.Common.{refl, sym, ◌∙◌, ap, subst, inl, inr, arith}
@@ -37,11 +37,11 @@ use Rattle.broker_model.specs.Request.{Request}
 use Rattle.broker_model.specs.Step.{request_of, step, traits}
 use Rattle.broker_model.specs.declared.commands.SecretCommand.TheVariants as command
 use Rattle.broker_model.specs.parts.Place.{Place}
-use Rattle.histories.specs.History.{AreAsked, Asking, AskedAt, History, clocked}
-use Rattle.histories.specs.Secrets.{AllSecretsStay, Secrets, VersionsStay}
+use Rattle.histories.specs.History.{Asking, clocked}
+use Rattle.histories.specs.Secrets.{AllSecretsStay}
 use Rattle.histories.proofs.InOrder.{in_order}
 use Rattle.histories.proofs.OperationsSecrets.{AllGiven, AllStay, all_same, operations_stay}
-use Rattle.histories.proofs.OrderCases.{IsCaller, spent}
+use Rattle.histories.proofs.OrderCases.{spent}
 use Rattle.histories.proofs.OrderKeeps.{wrapped_cases}
 use Rattle.histories.proofs.Requests.{asked_at, means_at_clock}
 use Rattle.histories.proofs.Served.{served}
