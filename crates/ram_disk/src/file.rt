@@ -3,7 +3,7 @@
 ghost use Rattle.std.specs.Prelude.{◌≡◌, [], length, true, false, refl, is_ok, OnOk, OnErr};
 ghost use Rattle.sqlite_disk.specs.Disk.{Holds, Torn, Cut, CountsFault, Mixed};
 ghost use Rattle.sqlite_disk.specs.Refusal.{finds_no_room};
-ghost use Rattle.ram_disk.specs.RamFile.{bytes_of};
+ghost use Rattle.ram_disk.specs.RamFile.{bytes_of, AreZero};
 
 use sqlite_disk::{Disk, Tally};
 use std::alloc::{AllocError, Global};
@@ -118,17 +118,19 @@ fn count(outcome: Result<(), AllocError>, faults: &mut u64) -> io::Result<()>
 fn resize(bytes: &mut Vec<u8>, len: usize) -> Result<(), AllocError>
     ensures len { OnOk result (length bytes.new.items ≡ len) }
     ensures others { Cut len bytes.old.items bytes.new.items }
+    ensures filled { OnOk result (AreZero (length bytes.old.items) len bytes.new.items) }
     ensures kept { OnErr result (bytes.new.items ≡ bytes.old.items) }
 {
     bytes.resize(len, 0)
 }
 
-/// Writes a part over the bytes from a place on, which grow where need be. The bytes stay as they are if memory runs
-/// out.
+/// Writes a part over the bytes from a place on, which grow where need be; a gap before it is filled with zeros. The
+/// bytes stay as they are if memory runs out.
 fn overwrite(bytes: &mut Vec<u8>, at: usize, part: &[u8]) -> Result<(), AllocError>
     ensures written { OnOk result (Holds bytes.new.items at part.now) }
     ensures others { Torn at (length part.now) bytes.old.items bytes.new.items }
     ensures mixed { Mixed at part.now bytes.old.items bytes.new.items }
+    ensures gap { OnOk result (AreZero (length bytes.old.items) at bytes.new.items) }
     ensures kept { OnErr result (bytes.new.items ≡ bytes.old.items) }
 {
     let end = at.checked_add(part.len()).ok_or(AllocError)?;
