@@ -3,6 +3,7 @@ pub mod CommandReads
 pub mod EngineRoutes
 pub mod Finishing
 pub mod KeptReplies
+pub mod KeptUses
 pub mod NeededIdentifiers
 pub mod Permitted
 pub mod RoutedBy

@@ -134,6 +134,14 @@ IsSpentAt rows t spent =
     (entry : Option TokenEntry) × IsSomeIn IsTokenInRange entry × IsTokenAt (table_of rows) t entry
     × (spent ≡ option_map_or has_no_uses entry false)
 
+-- a token that was not there, or had uses left, is gone now, or has uses left
+abbrev pub KeepsUses : Rows → Rows → Type 0
+KeepsUses old new = (t : Text) → IsSpentAt old t false → IsSpentAt new t false
+
+-- a token that was not on its last use is gone now, or has uses left
+abbrev pub IsUnspentStill : Rows → Text → Bool → Type 0
+IsUnspentStill rows t was_last_use = was_last_use ≡ false → IsSpentAt rows t false
+
 -- if the token t has no uses left, then it has ended; else no row has changed
 pub record EndsCaller (t : Text) (old new : Rows) : Type 0 where
   pub spent : Bool

@@ -1,4 +1,5 @@
 pub mod Caller
+pub mod Changed
 pub mod ClockRow
 pub mod Context
 pub mod Done
@@ -17,4 +18,5 @@ pub mod ReadableRow
 pub mod Reads
 pub mod Representing
 pub mod RepresentingLaws
+pub mod UsesLaws
 pub use Rattle.records.specs.Transaction

@@ -1,3 +1,6 @@
+ghost use Rattle.std.specs.Prelude.{◌≡◌};
+ghost use Rattle.broker_rows.specs.Ending.{has_no_uses};
+
 use policies::Rules;
 use records::TokenRecord;
 use std::marker::Model;
@@ -17,6 +20,18 @@ impl<'r> Model for Caller<'r> {
     ghost Value = { spec.Caller };
 
     ghost view = { λ c. record { token = c.token.now; known = c.known } };
+}
+
+impl Caller<'_> {
+    /// Whether this was its last use, so that it ends after its request (Vault's documentation, "Tokens", use limits).
+    pub fn is_on_last_use(&self) -> bool
+        ensures { result ≡ has_no_uses self.now.known }
+    {
+        match self.known.uses_left {
+            None => false,
+            Some(uses) => uses == 0,
+        }
+    }
 }
 
 /// Who asks: a caller that may, and what its policies say.

@@ -3,10 +3,18 @@ use Rattle.std.specs.Prelude.{◌≡◌, Option}
 use Rattle.broker_types.specs.Text.{Text}
 use Rattle.broker_types.specs.Broker.{Broker}
 use Rattle.broker_types.specs.Sound.{Forms, Sound}
+use Rattle.records.specs.Ranges.{IsTokenInRange}
+use Rattle.records.specs.RowForms.{entry_row}
 use Rattle.records.specs.Rows.{rows_of}
+use Rattle.records.specs.TokenEntry.{TokenEntry}
 
 -- sound brokers with equal rows are equal
 abbrev pub RowsDetermineTheBroker : Type 0
 RowsDetermineTheBroker =
     (forms : Forms) (v w : Option Text) (b c : Broker) → Sound forms v b → Sound forms w c
     → rows_of b ≡ rows_of c → b ≡ c
+
+-- a row is that of one entry of a token
+abbrev pub TokenRowsTellTheirEntries : Type 0
+TokenRowsTellTheirEntries =
+    (x y : TokenEntry) → IsTokenInRange x → IsTokenInRange y → entry_row x ≡ entry_row y → x ≡ y

@@ -2,7 +2,7 @@
 
 ghost use Rattle.std.specs.Prelude.{◌≡◌};
 ghost use Rattle.records.specs.declared.list.ListTx.{ListTx};
-ghost use Rattle.records.specs.Determined.{RowsDetermineTheBroker};
+ghost use Rattle.records.specs.Determined.{RowsDetermineTheBroker, TokenRowsTellTheirEntries};
 ghost use Rattle.records.specs.DueRows.{DueRowsHaveOneOrder};
 ghost use Rattle.records.specs.ListRows.{tx_seen};
 ghost use Rattle.records.specs.VersionKeys.{DigitsTellTheVersion, OnlyDigitsTellAVersion};
@@ -20,6 +20,11 @@ pub fn memory_returns_what_was_written()
 /// A law: sound brokers with equal rows are equal.
 pub fn rows_determine_the_broker()
     ensures { RowsDetermineTheBroker }
+{}
+
+/// A law: a row is that of one entry of a token.
+pub fn token_rows_tell_their_entries()
+    ensures { TokenRowsTellTheirEntries }
 {}
 
 /// A law: of the rows that are due there is one list in the order of when they are due.

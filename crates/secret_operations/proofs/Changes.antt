@@ -11,7 +11,7 @@ use Rattle.broker_types.specs.TextLaws.{same_self}
 use Rattle.records.specs.Rows.{version_key}
 use Rattle.records.specs.Table.{Table, table}
 use Rattle.records.specs.Transaction.{Seen, IsHonest}
-use Rattle.records.specs.Parts.{of_secrets}
+use Rattle.records.specs.Parts.{of_secrets, KeepsOthers}
 use Rattle.kv2.specs.Changes.{ChangesVersions}
 use Rattle.kv2.specs.SecretRows.{AreChanged, AreReadableVersions, is_key_of}
 use Rattle.kv2.specs.Secrets.{secret_name, with_versions}
@@ -44,11 +44,14 @@ module _ (f : Version → Version) (ns : List ℕ) (mount path : Text) (old new 
   pub versions_readable : AreReadableVersions (table old) (secret_name mount path) ns
   versions_readable = changed_readable f ns (secret_name mount path) (table old) (table new) (call.rows honest)
 
+  -- only rows of secrets and of versions have changed
+  pub only_secrets : KeepsOthers of_secrets (table old) (table new)
+  only_secrets = changes_inside f ns (secret_name mount path) (table old) (table new) (call.rows honest)
+
   -- the versions are changed, and nothing is answered
   pub acts_on_versions : (b : Broker) (who : Option Text) → Represents who old.rows b → IsSecretName (secret_name mount path)
       → Sound forms who (with_versions f b mount path ns)
       → ActsAs who b new.rows (Ok Nothing) (Ok (plainly nothing (with_versions f b mount path ns)))
   acts_on_versions b who st name sound =
       acts_changed b who old.rows new.rows (with_versions f b mount path ns).secrets st sound
-      (call.told honest forms b st.sound.secrets (tells_part of_secrets b old.rows st) name)
-      (changes_inside f ns (secret_name mount path) (table old) (table new) (call.rows honest))
+      (call.told honest forms b st.sound.secrets (tells_part of_secrets b old.rows st) name) only_secrets

@@ -2,5 +2,6 @@ pub mod Changes
 pub mod CubbyholeAnswers
 pub mod IssuedAnswers
 pub mod IssuedRows
+pub mod Refusals
 pub mod SecretAnswers
 pub mod SecretTables

@@ -47,6 +47,9 @@ outside_mounts : (name : Text) (k : Kind) (q : Text) → of_mounts k ≡ false �
 outside_mounts name kind.Mount q h = absurd (true≢false h)
 outside_mounts name _ q h = refl
 
+pub only_mounts : (name : Text) (old new : Table) → KeepsOtherMounts name old new → KeepsOthers of_mounts old new
+only_mounts name old new keeps k q h = keeps k q (outside_mounts name k q h)
+
 -- ---- a broker with other secrets, or other settings
 
 module _ {who : Option Text} (b : Broker) (old new : Rows) (st : Represents who old b) where
@@ -64,6 +67,6 @@ module _ {who : Option Text} (b : Broker) (old new : Rows) (st : Represents who 
       → Represents who new (record b { mounts = mounts })
   represents-settings name mounts sound tells keeps = record {
     rows = joined_rows of_mounts (table_of old) (table_of new) b (record b { mounts = mounts }) st.rows tells
-        (λ k q h. keeps k q (outside_mounts name k q h)) (rows_of-other_mounts b mounts);
+        (only_mounts name (table_of old) (table_of new) keeps) (rows_of-other_mounts b mounts);
     sound = sound;
   }

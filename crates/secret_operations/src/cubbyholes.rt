@@ -8,12 +8,14 @@ ghost use Rattle.broker_types.specs.Operation.{nothing, plainly};
 ghost use Rattle.broker_types.specs.Path.{is_path};
 ghost use Rattle.records.specs.Transaction.{IsHonest};
 ghost use Rattle.records.specs.Calls.{OnAnswer, IsRequestCall, IsRequestReading};
+ghost use Rattle.records.specs.Parts.{of_cubbyholes};
 ghost use Rattle.api_json.specs.Kept.{IsKept};
 ghost use Rattle.api_json.specs.Reads.{IsRead};
 ghost use Rattle.cubbyhole.specs.Cubbyhole as cubbyhole;
 ghost use Rattle.mounts.specs.declared.operation.CubbyholeOperation.TheVariants as operations;
 ghost use Rattle.broker_model.specs.declared.commands.CubbyholeCommand.TheVariants as commands;
 ghost use Rattle.broker_model.specs.parts.Cubbyholes as part;
+ghost use Rattle.broker_rows.specs.Changed.{ChangesOnly};
 ghost use Rattle.broker_rows.specs.Context as known;
 ghost use Rattle.broker_rows.specs.Operating.{Performs};
 ghost use Rattle.broker_rows.specs.ReadableRow.{IsReadableObject};
@@ -83,7 +85,7 @@ pub fn act_on_cubbyholes<T: RecordsTx>(
     ensures readable { IsHonest (T.seen tx.new)
         → OnAnswer result (AreReadableObjects (T.seen tx.old).rows caller.now path.now command) }
 
-    // And what only reads changes no row.
+    // And what only reads changes no row, and what writes or deletes only rows of cubbyholes.
     ensures rows { IsHonest (T.seen tx.new)
         → OnAnswer result (ChangesObjects command (T.seen tx.old).rows (T.seen tx.new).rows) }
     ensures call { IsRequestCall (T.seen tx.old) (T.seen tx.new) result IsNotBadStart }
@@ -153,6 +155,10 @@ fn write<T: RecordsTx>(
     ensures told { is_path path.now ≡ true → (x : known.Context)
         → Performs (Some caller.now) x [] (T.seen tx.old) (T.seen tx.new)
         (λ b. Ok (plainly nothing (cubbyhole.write b caller.now path.now text.now))) result }
+
+    // Whatever the rows are: only rows of cubbyholes change.
+    ensures rows { IsHonest (T.seen tx.new)
+        → OnAnswer result (ChangesOnly of_cubbyholes (T.seen tx.old).rows (T.seen tx.new).rows) }
     ensures call { IsRequestCall (T.seen tx.old) (T.seen tx.new) result IsNotBadStart }
 {
     cubbyhole::write(alloc, tx, caller, path, text)?;
@@ -168,6 +174,10 @@ fn delete<T: RecordsTx>(
 ) -> Result<Answered, RequestError>
     ensures told { (x : known.Context) → Performs (Some caller.now) x [] (T.seen tx.old) (T.seen tx.new)
         (λ b. Ok (plainly nothing (cubbyhole.delete b caller.now path.now))) result }
+
+    // Whatever the rows are: only rows of cubbyholes change.
+    ensures rows { IsHonest (T.seen tx.new)
+        → OnAnswer result (ChangesOnly of_cubbyholes (T.seen tx.old).rows (T.seen tx.new).rows) }
     ensures call { IsRequestCall (T.seen tx.old) (T.seen tx.new) result IsNotBadStart }
 {
     cubbyhole::delete(alloc, tx, caller, path)?;

@@ -94,7 +94,8 @@ pub fn act_on_issued<T: RecordsTx>(
     ensures readable { IsHonest (T.seen tx.new)
         → OnAnswer result (AreReadableIssued (T.seen tx.old).rows place.now command) }
 
-    // And what only reads changes no row.
+    // And what only reads changes no row, what sets or removes a role only rows of roles, and what issues a credential
+    // only rows of leases, of credentials and of identifiers given out.
     ensures rows { IsHonest (T.seen tx.new)
         → OnAnswer result (ChangesIssued command (T.seen tx.old).rows (T.seen tx.new).rows) }
     ensures call { IsRequestCall (T.seen tx.old) (T.seen tx.new) result IsNotBadStart }

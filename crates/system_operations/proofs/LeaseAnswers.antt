@@ -58,7 +58,8 @@ renewed_of b names lease_id r =
     plainly (reply (lease_reply names.request lease_id (r.ends - b.clock) None) None) r.next
 
 -- a renewal keeps the rows of all other parts
-others_kept : (lease_id : Text) (old new : Table) → KeepsOtherLeases lease_id old new → KeepsOthers of_leases old new
+pub others_kept : (lease_id : Text) (old new : Table) → KeepsOtherLeases lease_id old new
+    → KeepsOthers of_leases old new
 others_kept lease_id old new keeps k q outside =
     keeps k q (λ is _. true≢false (subst (λ k. of_leases k ≡ false) is outside))
 

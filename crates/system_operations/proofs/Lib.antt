@@ -1,4 +1,5 @@
 pub mod AclPolicyAnswers
+pub mod ChangedRowsAnswers
 pub mod LeaseAnswers
 pub mod MountAnswers
 pub mod ResponseAnswers

@@ -1,4 +1,5 @@
 pub mod ChangedRows
+pub mod ChangedRowsLaws
 pub mod InRange
 pub mod ResponseChanges
 pub mod Rewrapping

@@ -7,12 +7,14 @@ ghost use Rattle.broker_types.specs.Names.{names_of};
 ghost use Rattle.broker_types.specs.Text.{Text};
 ghost use Rattle.records.specs.Transaction.{IsHonest};
 ghost use Rattle.records.specs.Calls.{OnAnswer, IsRequestCall, IsRequestReading};
+ghost use Rattle.records.specs.Parts.{of_policies};
 ghost use Rattle.api_json.specs.Readers as reader;
 ghost use Rattle.api_json.specs.Reads.{IsRead};
 ghost use Rattle.broker_model.specs.declared.commands.PolicyCommand.TheVariants as commands;
 ghost use Rattle.broker_model.specs.parts.AclPolicies as part;
 ghost use Rattle.broker_model.specs.parts.AclPolicyCommands.{policy_command};
 ghost use Rattle.broker_model.specs.parts.Bodies.{read_as};
+ghost use Rattle.broker_rows.specs.Changed.{ChangesOnly};
 ghost use Rattle.broker_rows.specs.Context as known;
 ghost use Rattle.broker_rows.specs.Operating.{Performs};
 ghost use Rattle.broker_rows.specs.ReadableRow.{IsReadablePolicy};
@@ -75,7 +77,7 @@ pub fn act_on_policies<T: RecordsTx>(
     ensures readable { IsHonest (T.seen tx.new)
         → OnAnswer result (AreReadablePolicies (T.seen tx.old).rows name.now command) }
 
-    // And what only reads changes no row.
+    // And what only reads changes no row, and all else only those of policies.
     ensures rows { IsHonest (T.seen tx.new)
         → OnAnswer result (ChangesPolicies command (T.seen tx.old).rows (T.seen tx.new).rows) }
     ensures call { IsRequestCall (T.seen tx.old) (T.seen tx.new) result IsNotBadStart }
@@ -135,6 +137,10 @@ fn set<T: RecordsTx>(
     requires { length text.now < 2 ^ 32 }
     ensures told { (who : Option Text) (x : known.Context) → Performs who x [] (T.seen tx.old) (T.seen tx.new)
         (λ b. part.set b name.now text.now) result }
+
+    // Whatever the rows are: no row changes but those of policies.
+    ensures rows { IsHonest (T.seen tx.new)
+        → OnAnswer result (ChangesOnly of_policies (T.seen tx.old).rows (T.seen tx.new).rows) }
     ensures call { IsRequestCall (T.seen tx.old) (T.seen tx.new) result IsNotBadStart }
 {
     policies::set(alloc, tx, name, text)?;
@@ -145,6 +151,10 @@ fn set<T: RecordsTx>(
 fn remove<T: RecordsTx>(tx: &mut T, name: &str) -> Result<Answered, RequestError>
     ensures told { (who : Option Text) (x : known.Context) → Performs who x [] (T.seen tx.old) (T.seen tx.new)
         (λ b. part.remove b name.now) result }
+
+    // Whatever the rows are: no row changes but those of policies.
+    ensures rows { IsHonest (T.seen tx.new)
+        → OnAnswer result (ChangesOnly of_policies (T.seen tx.old).rows (T.seen tx.new).rows) }
     ensures call { IsRequestCall (T.seen tx.old) (T.seen tx.new) result IsNotBadStart }
 {
     policies::delete(tx, name)?;

@@ -7,6 +7,7 @@ ghost use Rattle.broker_types.specs.Name.{is_mount_name};
 ghost use Rattle.broker_types.specs.Names.{names_of};
 ghost use Rattle.broker_types.specs.Text.{Text};
 ghost use Rattle.records.specs.Calls.{OnAnswer, IsCall, IsRequestCall, IsRequestReading};
+ghost use Rattle.records.specs.Parts.{of_mounts};
 ghost use Rattle.records.specs.Table.{table};
 ghost use Rattle.records.specs.Transaction.{IsHonest, rows_under};
 ghost use Rattle.records.specs.declared.kind.Kind.TheVariants as kind;
@@ -18,11 +19,12 @@ ghost use Rattle.broker_model.specs.declared.commands.MountCommand.TheVariants a
 ghost use Rattle.broker_model.specs.parts.Bodies.{read_as};
 ghost use Rattle.broker_model.specs.parts.Mounts as part;
 ghost use Rattle.broker_model.specs.parts.Mounts.{mount_command};
+ghost use Rattle.broker_rows.specs.Changed.{ChangesOnly};
 ghost use Rattle.broker_rows.specs.Context as known;
 ghost use Rattle.broker_rows.specs.Operating.{Performs};
 ghost use Rattle.broker_rows.specs.Reads.{AreReadableMounts};
 ghost use Rattle.broker_rows.specs.Representing.{Represents};
-ghost use Rattle.system_operations.specs.ChangedRows.{ChangesMounts};
+ghost use Rattle.system_operations.specs.ChangedRows.{ChangesMounts, of_kept, of_mounts_and_kept};
 
 use api_json::{MountCreation, MountObject, mount_creation, mounts_object, read_body};
 use broker_model::MountCommand;
@@ -73,7 +75,7 @@ pub fn act_on_mounts<T: RecordsTx>(
     ensures readable { IsHonest (T.seen tx.new)
         → OnAnswer result (AreReadableMounts (T.seen tx.old).rows name.now command) }
 
-    // And what only reads changes no row.
+    // And what only reads changes no row, and all else only those of mounts and of what is kept there.
     ensures rows { IsHonest (T.seen tx.new)
         → OnAnswer result (ChangesMounts command (T.seen tx.old).rows (T.seen tx.new).rows) }
     ensures call { IsRequestCall (T.seen tx.old) (T.seen tx.new) result IsNotBadStart }
@@ -163,6 +165,10 @@ fn enable<T: RecordsTx>(
 ) -> Result<Answered, RequestError>
     ensures told { (who : Option Text) (x : known.Context) → Performs who x [] (T.seen tx.old) (T.seen tx.new)
         (λ b. part.enable b name.now asked) result }
+
+    // Whatever the rows are: no row changes but those of mounts.
+    ensures rows { IsHonest (T.seen tx.new)
+        → OnAnswer result (ChangesOnly of_mounts (T.seen tx.old).rows (T.seen tx.new).rows) }
     ensures call { IsRequestCall (T.seen tx.old) (T.seen tx.new) result IsNotBadStart }
 {
     mounts::enable(alloc, tx, name, asked.type_name.as_str(), asked.version)?;
@@ -177,6 +183,10 @@ fn disable<T: RecordsTx>(alloc: Global, tx: &mut T, name: &str) -> Result<Answer
     // Whatever the rows are: no mount is disabled with a damaged lease.
     ensures readable { IsHonest (T.seen tx.new)
         → OnAnswer result (AreReadableMounts (T.seen tx.old).rows name.now commands.Disable) }
+
+    // And no row changes but those of mounts and of what is kept there.
+    ensures rows { IsHonest (T.seen tx.new)
+        → OnAnswer result (ChangesOnly of_mounts_and_kept (T.seen tx.old).rows (T.seen tx.new).rows) }
     ensures call { IsRequestCall (T.seen tx.old) (T.seen tx.new) result IsNotBadStart }
 {
     let was_there = mounts::disable(tx, name)?;
@@ -198,6 +208,10 @@ fn drop_kept<T: RecordsTx>(alloc: Global, tx: &mut T, name: &str) -> Result<(), 
     // Whatever the rows are: the leases that go have been read.
     ensures readable { IsHonest (T.seen tx.new)
         → OnOk result (AreReadable (is_under name.now) (table (T.seen tx.old))) }
+
+    // And no row changes but those of secrets, roles and leases.
+    ensures rows { IsHonest (T.seen tx.new)
+        → OnOk result (ChangesOnly of_kept (T.seen tx.old).rows (T.seen tx.new).rows) }
     ensures wants { IsHonest (T.seen tx.new) → (who : Option Text) (b : Broker)
         → Represents who (T.seen tx.old).rows b → is_mount_name name.now ≡ true → IfErr result IsMemoryOrStorage }
     ensures call { IsCall (T.seen tx.old) (T.seen tx.new) result IsNotBadStart }

@@ -8,6 +8,7 @@ ghost use Rattle.broker_types.specs.Operation.{nothing, plainly};
 ghost use Rattle.broker_types.specs.Text.{Text};
 ghost use Rattle.records.specs.Transaction.{IsHonest};
 ghost use Rattle.records.specs.Calls.{OnAnswer, IsRequestCall, IsRequestReading};
+ghost use Rattle.records.specs.Parts.{of_leases};
 ghost use Rattle.records.specs.Table.{table};
 ghost use Rattle.leases.specs.Endings.{AreReadable, is_named, is_under};
 ghost use Rattle.leases.specs.LeaseRows.{AreTimesInRange, IsReadableLease};
@@ -15,6 +16,7 @@ ghost use Rattle.leases.specs.Leases as leases;
 ghost use Rattle.api_json.specs.Reads.{IsRead};
 ghost use Rattle.broker_model.specs.parts.Leases as part;
 ghost use Rattle.broker_model.specs.parts.Leases.{lease_command};
+ghost use Rattle.broker_rows.specs.Changed.{ChangesOnly};
 ghost use Rattle.broker_rows.specs.Context as known;
 ghost use Rattle.broker_rows.specs.Operating.{Performs};
 ghost use Rattle.broker_rows.specs.Reads.{AreReadableLeases};
@@ -67,7 +69,7 @@ pub fn act_on_leases<T: RecordsTx>(
     ensures readable { IsHonest (T.seen tx.new)
         → OnAnswer result (AreReadableLeases (T.seen tx.old).rows prefix.now command) }
 
-    // And what only reads changes no row.
+    // And what only reads changes no row, and all else only those of leases and their credentials.
     ensures rows { IsHonest (T.seen tx.new)
         → OnAnswer result (ChangesLeases command (T.seen tx.old).rows (T.seen tx.new).rows) }
     ensures call { IsRequestCall (T.seen tx.old) (T.seen tx.new) result IsNotBadStart }
@@ -113,6 +115,10 @@ fn renew<T: RecordsTx>(
     // Whatever the rows are: a damaged row is answered neither as a lease nor as an unknown id.
     ensures readable { IsHonest (T.seen tx.new)
         → OnAnswer result (IsReadableLease (table (T.seen tx.old)) asked.lease_id) }
+
+    // And no row changes but those of leases and their credentials.
+    ensures rows { IsHonest (T.seen tx.new)
+        → OnAnswer result (ChangesOnly of_leases (T.seen tx.old).rows (T.seen tx.new).rows) }
     ensures call { IsRequestCall (T.seen tx.old) (T.seen tx.new) result IsNotBadStart }
 {
     let ends = leases::renew(
@@ -135,6 +141,10 @@ fn revoke<T: RecordsTx>(tx: &mut T, lease_id: &str) -> Result<Answered, RequestE
     // Whatever the rows are: it is neither answered nor refused if the row of the lease is damaged.
     ensures readable { IsHonest (T.seen tx.new)
         → OnAnswer result (AreReadable (is_named lease_id.now) (table (T.seen tx.old))) }
+
+    // And no row changes but those of leases and their credentials.
+    ensures rows { IsHonest (T.seen tx.new)
+        → OnAnswer result (ChangesOnly of_leases (T.seen tx.old).rows (T.seen tx.new).rows) }
     ensures call { IsRequestCall (T.seen tx.old) (T.seen tx.new) result IsNotBadStart }
 {
     leases::revoke(tx, lease_id)?;
@@ -153,6 +163,10 @@ fn revoke_under<T: RecordsTx>(
     // Whatever the rows are: it is neither answered nor refused if the row of one of them is damaged.
     ensures readable { IsHonest (T.seen tx.new)
         → OnAnswer result (AreReadable (is_under prefix.now) (table (T.seen tx.old))) }
+
+    // And no row changes but those of leases and their credentials.
+    ensures rows { IsHonest (T.seen tx.new)
+        → OnAnswer result (ChangesOnly of_leases (T.seen tx.old).rows (T.seen tx.new).rows) }
     ensures call { IsRequestCall (T.seen tx.old) (T.seen tx.new) result IsNotBadStart }
 {
     leases::revoke_under(alloc, tx, prefix)?;

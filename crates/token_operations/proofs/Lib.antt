@@ -13,3 +13,4 @@ pub mod TokenRules
 pub mod TokenSets
 pub mod TokenSound
 pub mod TokenTables
+pub mod TokenUses

@@ -9,6 +9,7 @@ ghost use Rattle.records.specs.Transaction.{IsHonest};
 ghost use Rattle.broker_model.specs.parts.TokenCommands.{own_names};
 ghost use Rattle.broker_model.specs.parts.Tokens as part;
 ghost use Rattle.broker_rows.specs.Caller.{AreItsRules, IsCallerAt};
+ghost use Rattle.broker_rows.specs.Ending.{KeepsUses};
 ghost use Rattle.broker_rows.specs.Operating.{ArePrinted, PerformsBy};
 ghost use Rattle.broker_rows.specs.Reads.{AreReadableTokens};
 ghost use Rattle.token_operations.specs.ChangedTokens.{ChangesTokens};
@@ -48,9 +49,15 @@ pub fn act_on_tokens<T: RecordsTx>(
     ensures readable { IsHonest (T.seen tx.new) → IsCallerAt (T.seen tx.old).rows asker.now.caller
         → OnAnswer result (AreReadableTokens (T.seen tx.old).rows asker.now.caller.token command) }
 
-    // And a look-up changes no row, what is revoked is gone, and no other row; and what is refused changes no row.
+    // And a look-up changes no row, what is revoked is gone, and no other row; a token that is made or renewed changes
+    // only rows of tokens, and of the identifiers that are given out; and what is refused changes no row.
     ensures rows { IsHonest (T.seen tx.new) → OnOk result
         (ChangesTokens asker.now.caller.token command (T.seen tx.old).rows (T.seen tx.new).rows) }
+
+    // And none takes the last use that a token has left, makes a token without any, or damages the row of a token that
+    // could be read.
+    ensures uses { IsHonest (T.seen tx.new) → IsCallerAt (T.seen tx.old).rows asker.now.caller
+        → OnOk result (KeepsUses (T.seen tx.old).rows (T.seen tx.new).rows) }
     ensures refused { IsHonest (T.seen tx.new) → OnRefused result ((T.seen tx.new).rows ≡ (T.seen tx.old).rows) }
     ensures call { IsRequestCall (T.seen tx.old) (T.seen tx.new) result IsNotBadStart }
 {

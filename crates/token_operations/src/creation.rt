@@ -1,6 +1,6 @@
 //! Creation of tokens.
 
-ghost use Rattle.std.specs.Prelude.{◌≡◌, Option, IfOk, OnOk};
+ghost use Rattle.std.specs.Prelude.{◌≡◌, false, Option, IfOk, OnOk};
 ghost use Rattle.broker_types.specs.Fault.{IsNotBadStart};
 ghost use Rattle.broker_types.specs.Names.{names_of};
 ghost use Rattle.broker_types.specs.Text.{Text};
@@ -15,7 +15,10 @@ ghost use Rattle.broker_model.specs.parts.TokenCommands.{token_names};
 ghost use Rattle.broker_model.specs.parts.TokenCreation.{making_path};
 ghost use Rattle.broker_model.specs.parts.Tokens as part;
 ghost use Rattle.broker_rows.specs.Caller.{AreItsRules, IsCallerAt};
+ghost use Rattle.broker_rows.specs.Changed.{ChangesOnly};
+ghost use Rattle.broker_rows.specs.Ending.{KeepsUses, has_no_uses};
 ghost use Rattle.broker_rows.specs.Operating.{ArePrinted, PerformsBy};
+ghost use Rattle.token_operations.specs.ChangedTokens.{of_made};
 ghost use Rattle.token_operations.specs.TokenMaking.{MayMakeAt, PutsToken};
 
 use crate::new_policies::new_policies;
@@ -52,6 +55,11 @@ pub(crate) fn create<T: RecordsTx>(
     ensures may { IsHonest (T.seen tx.new) → IsCallerAt (T.seen tx.old).rows asker.now.caller
         → AreItsRules (T.seen tx.old).rows asker.now
         → OnOk result (MayMakeAt (T.seen tx.old).rows asker.now.caller.token making asked) }
+
+    // And no row changes but those of tokens and identifiers. The new token has uses left, and no other loses its last.
+    ensures rows { IsHonest (T.seen tx.new)
+        → OnOk result (ChangesOnly of_made (T.seen tx.old).rows (T.seen tx.new).rows) }
+    ensures uses { IsHonest (T.seen tx.new) → OnOk result (KeepsUses (T.seen tx.old).rows (T.seen tx.new).rows) }
     ensures refused { IsHonest (T.seen tx.new) → OnRefused result ((T.seen tx.new).rows ≡ (T.seen tx.old).rows) }
     ensures call { IsRequestCall (T.seen tx.old) (T.seen tx.new) result IsNotBadStart }
 {
@@ -87,6 +95,13 @@ fn put<T: RecordsTx>(
     requires { IsTokenInRange token }
     ensures told { (who : Option Text) → identifier.now ≡ (names_of context.now.words).token
         → PutsToken who context.now (T.seen tx.old) (T.seen tx.new) token result }
+
+    // Whatever the rows are: none changes but those of tokens and identifiers. No token loses its last use, if the new
+    // one has some.
+    ensures rows { IsHonest (T.seen tx.new)
+        → OnOk result (ChangesOnly of_made (T.seen tx.old).rows (T.seen tx.new).rows) }
+    ensures uses { IsHonest (T.seen tx.new) → has_no_uses token ≡ false
+        → OnOk result (KeepsUses (T.seen tx.old).rows (T.seen tx.new).rows) }
     ensures refused { IsHonest (T.seen tx.new) → OnRefused result ((T.seen tx.new).rows ≡ (T.seen tx.old).rows) }
     ensures call { IsRequestCall (T.seen tx.old) (T.seen tx.new) result IsNotBadStart }
 {

@@ -1,16 +1,22 @@
 //! Renewal of tokens.
 
-ghost use Rattle.std.specs.Prelude.{◌≡◌, [], Option, Some, option_map};
+ghost use Rattle.std.specs.Prelude.{◌≡◌, [], Option, Some, option_map, OnOk};
 ghost use Rattle.broker_types.specs.Broker.{Broker};
 ghost use Rattle.broker_types.specs.Fault.{IsNotBadStart};
 ghost use Rattle.broker_types.specs.Map.{get};
 ghost use Rattle.broker_types.specs.Names.{names_of};
 ghost use Rattle.broker_types.specs.Text.{Text};
+ghost use Rattle.records.specs.Parts.{of_tokens};
 ghost use Rattle.records.specs.Ranges.{IsTokenInRange};
+ghost use Rattle.records.specs.Table.{table};
 ghost use Rattle.records.specs.TokenEntry.{token_entry};
 ghost use Rattle.records.specs.Transaction.{IsHonest};
 ghost use Rattle.records.specs.Calls.{OnAnswer, OnRefused, IsRequestCall};
+ghost use Rattle.token_tree.specs.TokenRows.{IsTokenAt};
 ghost use Rattle.broker_model.specs.parts.Tokens as part;
+ghost use Rattle.broker_rows.specs.Caller.{IsCallerAt};
+ghost use Rattle.broker_rows.specs.Changed.{ChangesOnly};
+ghost use Rattle.broker_rows.specs.Ending.{KeepsUses};
 ghost use Rattle.broker_rows.specs.Operating.{ActsAs, Begins, Performs, PerformsBy};
 ghost use Rattle.broker_rows.specs.ReadableRow.{IsReadableToken};
 
@@ -38,6 +44,11 @@ pub(crate) fn renew<T: RecordsTx>(
     // Whatever the rows are: a damaged row is answered neither as a token nor as an unknown text.
     ensures readable { IsHonest (T.seen tx.new)
         → OnAnswer result (IsReadableToken (T.seen tx.old).rows token.now) }
+
+    // And no row changes but those of tokens, of which none loses its last use.
+    ensures rows { IsHonest (T.seen tx.new)
+        → OnOk result (ChangesOnly of_tokens (T.seen tx.old).rows (T.seen tx.new).rows) }
+    ensures uses { IsHonest (T.seen tx.new) → OnOk result (KeepsUses (T.seen tx.old).rows (T.seen tx.new).rows) }
     ensures refused { IsHonest (T.seen tx.new) → OnRefused result ((T.seen tx.new).rows ≡ (T.seen tx.old).rows) }
     ensures call { IsRequestCall (T.seen tx.old) (T.seen tx.new) result IsNotBadStart }
 {
@@ -58,6 +69,13 @@ pub(crate) fn renew_self<T: RecordsTx>(
     requires { IsTokenInRange caller.now.known }
     ensures told { PerformsBy caller.now context.now [] (T.seen tx.old) (T.seen tx.new)
         (λ b. part.renew b (names_of context.now.words) caller.now.token increment) result }
+
+    // Whatever the rows are: none changes but those of tokens. No token loses its last use, if the row of the caller
+    // says what is known of it.
+    ensures rows { IsHonest (T.seen tx.new)
+        → OnOk result (ChangesOnly of_tokens (T.seen tx.old).rows (T.seen tx.new).rows) }
+    ensures uses { IsHonest (T.seen tx.new) → IsCallerAt (T.seen tx.old).rows caller.now
+        → OnOk result (KeepsUses (T.seen tx.old).rows (T.seen tx.new).rows) }
     ensures refused { IsHonest (T.seen tx.new) → OnRefused result ((T.seen tx.new).rows ≡ (T.seen tx.old).rows) }
     ensures call { IsRequestCall (T.seen tx.old) (T.seen tx.new) result IsNotBadStart }
 {
@@ -78,6 +96,13 @@ fn renew_found<T: RecordsTx>(
     ensures told { IsHonest (T.seen tx.new) → (who : Option Text) (b : Broker)
         → Begins who context.now (T.seen tx.old).rows b → Some found ≡ option_map token_entry (get b.tokens token.now)
         → ActsAs who b (T.seen tx.new).rows result (part.renew b (names_of context.now.words) token.now increment) }
+
+    // Whatever the rows are: none changes but those of tokens. No token loses its last use, if the row of this one says
+    // what was found.
+    ensures rows { IsHonest (T.seen tx.new)
+        → OnOk result (ChangesOnly of_tokens (T.seen tx.old).rows (T.seen tx.new).rows) }
+    ensures uses { IsHonest (T.seen tx.new) → IsTokenAt (table (T.seen tx.old)) token.now (Some found)
+        → OnOk result (KeepsUses (T.seen tx.old).rows (T.seen tx.new).rows) }
     ensures refused { IsHonest (T.seen tx.new) → OnRefused result ((T.seen tx.new).rows ≡ (T.seen tx.old).rows) }
     ensures call { IsRequestCall (T.seen tx.old) (T.seen tx.new) result IsNotBadStart }
 {

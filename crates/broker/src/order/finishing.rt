@@ -1,23 +1,24 @@
 //! The end of a request.
 
-ghost use Rattle.std.specs.Prelude.{◌≡◌, Some, Result, IfOk, IfErr, OnOk};
+ghost use Rattle.std.specs.Prelude.{◌≡◌, None, Some, Result, IfOk, IfErr, OnOk};
 ghost use Rattle.broker_types.specs.Answer.{HasRoom, response_of, refused};
 ghost use Rattle.broker_types.specs.Broker.{Broker};
 ghost use Rattle.broker_types.specs.Fault.{IsMemoryOrStorage, IsNotBadStart};
+ghost use Rattle.broker_types.specs.Spending as spending;
 ghost use Rattle.broker_types.specs.declared.refusal.Refusal as declared;
 ghost use Rattle.records.specs.Calls.{IsCall};
 ghost use Rattle.records.specs.Transaction.{IsHonest};
 ghost use Rattle.broker_model.specs.Listed.{IsListed};
 ghost use Rattle.broker_model.specs.Order as order;
-ghost use Rattle.broker_rows.specs.Ending.{EndsCaller};
-ghost use Rattle.broker_rows.specs.Representing.{Gives};
+ghost use Rattle.broker_rows.specs.Ending.{EndsCaller, IsUnspentStill};
+ghost use Rattle.broker_rows.specs.Representing.{Gives, Represents};
 ghost use Rattle.broker_rows.specs.Done.{answered_of};
 ghost use Rattle.broker.specs.Stages.{HasServed};
 
 use crate::answers::{answer, refuse};
 use broker_rows::{Answered, end_spent};
 use broker_types::{Answer, Fault, Refusal};
-use records::RecordsTx;
+use records::{RecordsTx, token_rows_tell_their_entries};
 use std::alloc::Global;
 
 /// Ends a caller that has spent its last use, whether it was served or refused. Then it answers the request, with room
@@ -26,9 +27,11 @@ pub(crate) fn finish<T: RecordsTx>(
     alloc: Global,
     tx: &mut T,
     caller: &str,
+    is_last_use: bool,
     served: Result<Answered, Refusal>,
 ) -> Result<Answer, Fault>
-    ensures told { IsHonest (T.seen tx.new) → (b : Broker) (m : Result order.Wrapped declared.Refusal)
+    ensures told { IsHonest (T.seen tx.new) → IsUnspentStill (T.seen tx.old).rows caller.now is_last_use
+        → (b : Broker) (m : Result order.Wrapped declared.Refusal)
         → HasServed (Some caller.now) (T.seen tx.old).rows b served m
         → IfOk result (λ a. Gives a (T.seen tx.new).rows (order.finish b (Some caller.now) m)) }
     ensures wants { IsHonest (T.seen tx.new) → (b : Broker) (m : Result order.Wrapped declared.Refusal)
@@ -37,15 +40,39 @@ pub(crate) fn finish<T: RecordsTx>(
     ensures listed { IfOk result (λ a. IsListed (response_of a)) }
 
     // Whatever the rows are: the caller's row decides whether the caller ends, and the call fails if it is damaged.
-    ensures rows { IsHonest (T.seen tx.new)
+    ensures rows { IsHonest (T.seen tx.new) → IsUnspentStill (T.seen tx.old).rows caller.now is_last_use
         → OnOk result (EndsCaller caller.now (T.seen tx.old).rows (T.seen tx.new).rows) }
     ensures answered { IfOk served (λ x. IfOk result (λ a. response_of a ≡ order.response_to (answered_of x))) }
     ensures refused { IfErr served (λ r. IfOk result (λ a. response_of a ≡ refused r)) }
     ensures call { IsCall (T.seen tx.old) (T.seen tx.new) result IsNotBadStart }
 {
-    end_spent(alloc, tx, caller)?;
+    end_caller(alloc, tx, caller, is_last_use)?;
     match served {
         Ok(answered) => Ok(answer(alloc, answered)?),
         Err(refusal) => refuse(alloc, refusal),
     }
+}
+
+/// Ends the caller if it has no uses left. One that was not on its last use has some still, or is gone, since no operation
+/// takes any: its row is not read again.
+fn end_caller<T: RecordsTx>(
+    alloc: Global,
+    tx: &mut T,
+    caller: &str,
+    is_last_use: bool,
+) -> Result<(), Fault>
+    ensures told { IsHonest (T.seen tx.new) → IsUnspentStill (T.seen tx.old).rows caller.now is_last_use → (b : Broker)
+        → Represents (Some caller.now) (T.seen tx.old).rows b
+        → OnOk result (Represents None (T.seen tx.new).rows (spending.end_spent b (Some caller.now))) }
+    ensures wants { IsHonest (T.seen tx.new) → (b : Broker) → Represents (Some caller.now) (T.seen tx.old).rows b
+        → IfErr result IsMemoryOrStorage }
+    ensures rows { IsHonest (T.seen tx.new) → IsUnspentStill (T.seen tx.old).rows caller.now is_last_use
+        → OnOk result (EndsCaller caller.now (T.seen tx.old).rows (T.seen tx.new).rows) }
+    ensures call { IsCall (T.seen tx.old) (T.seen tx.new) result IsNotBadStart }
+{
+    token_rows_tell_their_entries();
+    if !is_last_use {
+        return Ok(());
+    }
+    end_spent(alloc, tx, caller)
 }

@@ -14,6 +14,7 @@ ghost use Rattle.broker_model.specs.Serving as serving;
 ghost use Rattle.broker_model.specs.Serving.{acted, needed_by, operated};
 ghost use Rattle.broker_model.specs.Step.{traits};
 ghost use Rattle.broker_rows.specs.Caller.{AreItsRules, IsCallerAt};
+ghost use Rattle.broker_rows.specs.Ending.{KeepsUses};
 ghost use Rattle.broker_rows.specs.Operating.{ActsAs, ArePrinted, Performs, PerformsBy};
 ghost use Rattle.broker_rows.specs.Representing.{Represents};
 ghost use Rattle.broker.specs.Answering.{IsReadableBy, IsReadableCommand, IsReadableIfNew, IsReadableOpenly};
@@ -56,6 +57,10 @@ pub(crate) fn operate<T: RecordsTx>(
     ensures readable { IsHonest (T.seen tx.new) → IsAskerAt (T.seen tx.old).rows asker.now
         → OnAnswer result (IsReadableIfNew (T.seen tx.old).rows (who_of asker.now) (names_of context.now.words) ask.now
         (meant command.entry)) }
+
+    // And no token has lost its uses.
+    ensures uses { IsHonest (T.seen tx.new) → IsAskerAt (T.seen tx.old).rows asker.now
+        → OnAnswer result (KeepsUses (T.seen tx.old).rows (T.seen tx.new).rows) }
     ensures call { IsRequestCall (T.seen tx.old) (T.seen tx.new) result IsNotBadStart }
 {
     let needed = needed_identifiers(alloc, context.words, ask, &command)?;
@@ -91,6 +96,10 @@ fn carry_out<T: RecordsTx>(
     // Whatever the rows are: it is neither answered nor refused if a row that the command reads is damaged.
     ensures readable { IsHonest (T.seen tx.new) → IsAskerAt (T.seen tx.old).rows asker.now
         → OnAnswer result (IsReadableBy (T.seen tx.old).rows (who_of asker.now) (meant command.entry)) }
+
+    // And no token has lost its uses.
+    ensures uses { IsHonest (T.seen tx.new) → IsAskerAt (T.seen tx.old).rows asker.now
+        → OnAnswer result (KeepsUses (T.seen tx.old).rows (T.seen tx.new).rows) }
     ensures call { IsRequestCall (T.seen tx.old) (T.seen tx.new) result IsNotBadStart }
 {
     operations_are_proper();
@@ -135,6 +144,10 @@ fn act<T: RecordsTx>(
     // Whatever the rows are: it is neither answered nor refused if a row that the command reads is damaged.
     ensures readable { IsHonest (T.seen tx.new) → IsAskerAt (T.seen tx.old).rows asker.now
         → OnAnswer result (IsReadableBy (T.seen tx.old).rows (who_of asker.now) (meant command.entry)) }
+
+    // And no token has lost its uses.
+    ensures uses { IsHonest (T.seen tx.new) → IsAskerAt (T.seen tx.old).rows asker.now
+        → OnAnswer result (KeepsUses (T.seen tx.old).rows (T.seen tx.new).rows) }
     ensures call { IsRequestCall (T.seen tx.old) (T.seen tx.new) result IsNotBadStart }
 {
     match asker {
@@ -157,6 +170,8 @@ fn act_openly<T: RecordsTx>(
         (λ b. model.act_openly b (names_of context.now.words) (meant command.entry)) result }
     ensures readable { IsHonest (T.seen tx.new)
         → OnAnswer result (IsReadableOpenly (T.seen tx.old).rows (meant command.entry)) }
+    ensures uses { IsHonest (T.seen tx.new)
+        → OnAnswer result (KeepsUses (T.seen tx.old).rows (T.seen tx.new).rows) }
     ensures call { IsRequestCall (T.seen tx.old) (T.seen tx.new) result IsNotBadStart }
 {
     match command {
@@ -186,6 +201,10 @@ fn act_for<T: RecordsTx>(
     // caller was read before.
     ensures readable { IsHonest (T.seen tx.new) → IsCallerAt (T.seen tx.old).rows asker.now.caller
         → OnAnswer result (IsReadableCommand (T.seen tx.old).rows asker.now.caller.token (meant command.entry)) }
+
+    // And no token has lost its uses.
+    ensures uses { IsHonest (T.seen tx.new) → IsCallerAt (T.seen tx.old).rows asker.now.caller
+        → OnAnswer result (KeepsUses (T.seen tx.old).rows (T.seen tx.new).rows) }
     ensures call { IsRequestCall (T.seen tx.old) (T.seen tx.new) result IsNotBadStart }
 {
     match command {

@@ -12,6 +12,7 @@ ghost use Rattle.records.specs.Transaction.{IsHonest};
 ghost use Rattle.broker_model.specs.Order as order;
 ghost use Rattle.broker_model.specs.Serving.{is_open, served};
 ghost use Rattle.broker_rows.specs.Caller.{IsCallerAt};
+ghost use Rattle.broker_rows.specs.Ending.{KeepsUses};
 ghost use Rattle.broker_rows.specs.Operating.{BeginsBy};
 ghost use Rattle.broker_rows.specs.Representing.{Represents, Gives};
 ghost use Rattle.broker.specs.Answering.{IsForbidden, IsCarriedOutOrForbidden, MayBeDone};
@@ -55,9 +56,10 @@ pub(crate) fn answer_caller<T: RecordsTx>(
     ensures faults { IfErr result IsNotBadStart }
 {
     let token = caller.token;
+    let is_last_use = caller.is_on_last_use();
     match serve(alloc, tx, context, caller, ask) {
-        Ok(answered) => finish(alloc, tx, token, Ok(answered)),
-        Err(RequestError::Refused(refusal)) => finish(alloc, tx, token, Err(refusal)),
+        Ok(answered) => finish(alloc, tx, token, is_last_use, Ok(answered)),
+        Err(RequestError::Refused(refusal)) => finish(alloc, tx, token, is_last_use, Err(refusal)),
         Err(RequestError::Fault(fault)) => Err(fault),
     }
 }
@@ -83,6 +85,10 @@ fn serve<T: RecordsTx>(
         → OnAnswer result (MayBeDone (T.seen tx.old).rows caller.entry.token
         (names_of context.now.words) ask.now
         ⊎ IsForbidden (T.seen tx.old).rows (T.seen tx.new).rows caller.entry.token ask.now result) }
+
+    // And no token has lost its uses.
+    ensures uses { IsHonest (T.seen tx.new) → IsCallerAt (T.seen tx.old).rows caller.entry
+        → OnAnswer result (KeepsUses (T.seen tx.old).rows (T.seen tx.new).rows) }
     ensures call { IsRequestCall (T.seen tx.old) (T.seen tx.new) result IsNotBadStart }
 {
     let path = ask.path.as_str();

@@ -1,7 +1,6 @@
 //! Credentials of roles, each with a lease.
 
-ghost use Rattle.std.specs.Prelude.{◌≡◌, ◌==◌, [], false, true, None, Some, Option, Ok, IfOk};
-ghost use Rattle.std.specs.Option.{option_map_or};
+ghost use Rattle.std.specs.Prelude.{◌≡◌, [], false, true, None, Some, Option, Ok, IfOk};
 ghost use Rattle.api_json.specs.Objects.{credential_object};
 ghost use Rattle.api_json.specs.Reply.{lease_reply};
 ghost use Rattle.broker_types.specs.Fault.{IsNotBadStart};
@@ -18,8 +17,10 @@ ghost use Rattle.leases.specs.RoleRows.{IsReadableRole};
 ghost use Rattle.broker_model.specs.parts.Issued as part;
 ghost use Rattle.broker_model.specs.parts.Issued.{lease_names};
 ghost use Rattle.broker_model.specs.parts.Place.{at};
+ghost use Rattle.broker_rows.specs.Changed.{ChangesOnly};
 ghost use Rattle.broker_rows.specs.Done.{answered_of};
 ghost use Rattle.broker_rows.specs.Operating.{ArePrinted, Performs, PerformsBy};
+ghost use Rattle.secret_operations.specs.ChangedRows.{of_issued};
 ghost use Rattle.secret_operations.specs.Issuing.{IssuesLease};
 
 use api_json::{credential_object, lease_reply, valid_object};
@@ -48,6 +49,10 @@ pub(super) fn issue<T: RecordsTx>(
     // Whatever the rows are: a damaged row is neither one of a role nor of none.
     ensures readable { IsHonest (T.seen tx.new)
         → OnAnswer result (IsReadableRole (table (T.seen tx.old)) mount.now name.now) }
+
+    // And only rows of leases, of credentials and of identifiers given out change.
+    ensures rows { IsHonest (T.seen tx.new)
+        → OnAnswer result (ChangesOnly of_issued (T.seen tx.old).rows (T.seen tx.new).rows) }
     ensures call { IsRequestCall (T.seen tx.old) (T.seen tx.new) result IsNotBadStart }
 {
     let named = own[0].as_str();
@@ -73,11 +78,15 @@ fn put<T: RecordsTx>(
         credential.now (T.seen tx.old) (T.seen tx.new) result }
     ensures readable { IsHonest (T.seen tx.new)
         → OnAnswer result (IsReadableRole (table (T.seen tx.old)) mount.now name.now) }
+
+    // And only rows of leases, of credentials and of identifiers given out change.
+    ensures rows { IsHonest (T.seen tx.new)
+        → OnAnswer result (ChangesOnly of_issued (T.seen tx.old).rows (T.seen tx.new).rows) }
     ensures call { IsRequestCall (T.seen tx.old) (T.seen tx.new) result IsNotBadStart }
 {
     let holder = leases::Caller {
         token: caller.token,
-        is_last_use: is_last_use(caller),
+        is_last_use: caller.is_on_last_use(),
     };
     let names = Names {
         lease: named,
@@ -87,16 +96,6 @@ fn put<T: RecordsTx>(
     use_up(alloc, tx, credential)?;
     use_up(alloc, tx, named)?;
     Ok(lease)
-}
-
-/// Whether the caller has no uses left after this request.
-fn is_last_use(caller: &Caller<'_>) -> bool
-    ensures { result ≡ option_map_or (λ n. n == 0) caller.now.known.uses_left false }
-{
-    match caller.known.uses_left {
-        None => false,
-        Some(uses) => uses == 0,
-    }
 }
 
 /// Answers with a lease and its credential.

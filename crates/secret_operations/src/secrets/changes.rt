@@ -8,10 +8,12 @@ ghost use Rattle.broker_types.specs.Path.{is_path};
 ghost use Rattle.broker_types.specs.Text.{Text};
 ghost use Rattle.records.specs.Transaction.{IsHonest};
 ghost use Rattle.records.specs.Calls.{OnAnswer, IsRequestCall};
+ghost use Rattle.records.specs.Parts.{of_secrets};
 ghost use Rattle.records.specs.Table.{table};
 ghost use Rattle.kv2.specs.SecretRows.{AreReadableVersions};
 ghost use Rattle.kv2.specs.Secrets as secrets;
 ghost use Rattle.kv2.specs.Secrets.{secret_name};
+ghost use Rattle.broker_rows.specs.Changed.{ChangesOnly};
 ghost use Rattle.broker_rows.specs.Context as known;
 ghost use Rattle.broker_rows.specs.Operating.{Performs};
 ghost use Rattle.broker_rows.specs.Reads.{IsReadableCurrent};
@@ -37,6 +39,10 @@ pub(super) fn delete_current<T: RecordsTx>(
     // Whatever the rows are: a damaged row is told neither as deleted nor as absent.
     ensures readable { IsHonest (T.seen tx.new)
         → OnAnswer result (IsReadableCurrent (T.seen tx.old).rows (secret_name mount.now path.now)) }
+
+    // And only rows of secrets and of versions change.
+    ensures rows { IsHonest (T.seen tx.new)
+        → OnAnswer result (ChangesOnly of_secrets (T.seen tx.old).rows (T.seen tx.new).rows) }
     ensures call { IsRequestCall (T.seen tx.old) (T.seen tx.new) result IsNotBadStart }
 {
     kv2::delete(alloc, tx, context.clock, mount, path)?;
@@ -59,6 +65,10 @@ pub(super) fn delete<T: RecordsTx>(
     // Whatever the rows are: a damaged row is told neither as deleted nor as absent.
     ensures readable { IsHonest (T.seen tx.new) → OnAnswer result
         (AreReadableVersions (table (T.seen tx.old)) (secret_name mount.now path.now) numbers.now) }
+
+    // And only rows of secrets and of versions change.
+    ensures rows { IsHonest (T.seen tx.new)
+        → OnAnswer result (ChangesOnly of_secrets (T.seen tx.old).rows (T.seen tx.new).rows) }
     ensures call { IsRequestCall (T.seen tx.old) (T.seen tx.new) result IsNotBadStart }
 {
     delete_versions(alloc, tx, context.clock, mount, path, numbers)?;
@@ -80,6 +90,10 @@ pub(super) fn undelete<T: RecordsTx>(
     // Whatever the rows are: a damaged row is told neither as restored nor as absent.
     ensures readable { IsHonest (T.seen tx.new) → OnAnswer result
         (AreReadableVersions (table (T.seen tx.old)) (secret_name mount.now path.now) numbers.now) }
+
+    // And only rows of secrets and of versions change.
+    ensures rows { IsHonest (T.seen tx.new)
+        → OnAnswer result (ChangesOnly of_secrets (T.seen tx.old).rows (T.seen tx.new).rows) }
     ensures call { IsRequestCall (T.seen tx.old) (T.seen tx.new) result IsNotBadStart }
 {
     kv2::undelete(alloc, tx, mount, path, numbers)?;
@@ -101,6 +115,10 @@ pub(super) fn destroy<T: RecordsTx>(
     // Whatever the rows are: a damaged row is told neither as destroyed nor as absent.
     ensures readable { IsHonest (T.seen tx.new) → OnAnswer result
         (AreReadableVersions (table (T.seen tx.old)) (secret_name mount.now path.now) numbers.now) }
+
+    // And only rows of secrets and of versions change.
+    ensures rows { IsHonest (T.seen tx.new)
+        → OnAnswer result (ChangesOnly of_secrets (T.seen tx.old).rows (T.seen tx.new).rows) }
     ensures call { IsRequestCall (T.seen tx.old) (T.seen tx.new) result IsNotBadStart }
 {
     kv2::destroy(alloc, tx, mount, path, numbers)?;
@@ -117,6 +135,10 @@ pub(super) fn remove<T: RecordsTx>(
     ensures told { is_mount_name mount.now ≡ true → is_path path.now ≡ true
         → (who : Option Text) (x : known.Context) → Performs who x [] (T.seen tx.old) (T.seen tx.new)
         (λ b. Ok (plainly nothing (secrets.remove_key b mount.now path.now))) result }
+
+    // Whatever the rows are: only rows of secrets and of versions change.
+    ensures rows { IsHonest (T.seen tx.new)
+        → OnAnswer result (ChangesOnly of_secrets (T.seen tx.old).rows (T.seen tx.new).rows) }
     ensures call { IsRequestCall (T.seen tx.old) (T.seen tx.new) result IsNotBadStart }
 {
     remove_key(alloc, tx, mount, path)?;

@@ -6,10 +6,12 @@ ghost use Rattle.broker_types.specs.Names.{names_of};
 ghost use Rattle.broker_types.specs.Text.{Text};
 ghost use Rattle.records.specs.Transaction.{IsHonest};
 ghost use Rattle.records.specs.Calls.{OnAnswer, IsRequestCall, IsRequestReading};
+ghost use Rattle.records.specs.Parts.{of_mounts};
 ghost use Rattle.records.specs.Table.{table};
 ghost use Rattle.kv2.specs.SecretRows.{IsReadableMount};
 ghost use Rattle.broker_model.specs.parts.Place.{at};
 ghost use Rattle.broker_model.specs.parts.Secrets as part;
+ghost use Rattle.broker_rows.specs.Changed.{ChangesOnly};
 ghost use Rattle.broker_rows.specs.Context as known;
 ghost use Rattle.broker_rows.specs.Operating.{Performs};
 
@@ -55,6 +57,10 @@ pub(super) fn set<T: RecordsTx>(
     // Whatever the rows are: a change of settings over a damaged row is neither answered nor refused.
     ensures readable { IsHonest (T.seen tx.new)
         → OnAnswer result (IsReadableMount (table (T.seen tx.old)) mount.now) }
+
+    // And only rows of mounts change.
+    ensures rows { IsHonest (T.seen tx.new)
+        → OnAnswer result (ChangesOnly of_mounts (T.seen tx.old).rows (T.seen tx.new).rows) }
     ensures call { IsRequestCall (T.seen tx.old) (T.seen tx.new) result IsNotBadStart }
 {
     set_config(alloc, tx, mount, asked.cas_required, asked.max_versions)?;

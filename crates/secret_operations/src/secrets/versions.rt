@@ -7,12 +7,14 @@ ghost use Rattle.broker_types.specs.Path.{is_path};
 ghost use Rattle.broker_types.specs.Text.{Text};
 ghost use Rattle.records.specs.Transaction.{IsHonest};
 ghost use Rattle.records.specs.Calls.{OnAnswer, IsRequestCall, IsRequestReading};
+ghost use Rattle.records.specs.Parts.{of_secrets};
 ghost use Rattle.records.specs.Table.{table};
 ghost use Rattle.api_json.specs.Kept.{IsKept};
 ghost use Rattle.kv2.specs.SecretRows.{AreReadableToWrite};
 ghost use Rattle.kv2.specs.Secrets.{secret_name};
 ghost use Rattle.broker_model.specs.parts.Place.{at};
 ghost use Rattle.broker_model.specs.parts.Secrets as part;
+ghost use Rattle.broker_rows.specs.Changed.{ChangesOnly};
 ghost use Rattle.broker_rows.specs.Operating.{Performs};
 ghost use Rattle.broker_rows.specs.ReadableRow.{IsReadableSecret};
 
@@ -63,6 +65,10 @@ pub(super) fn write<T: RecordsTx>(
     // Whatever the rows are: a write over a damaged row is neither answered nor refused.
     ensures readable { IsHonest (T.seen tx.new) → OnAnswer result
         (AreReadableToWrite (table (T.seen tx.old)) mount.now (secret_name mount.now path.now)) }
+
+    // And only rows of secrets and of versions change.
+    ensures rows { IsHonest (T.seen tx.new)
+        → OnAnswer result (ChangesOnly of_secrets (T.seen tx.old).rows (T.seen tx.new).rows) }
     ensures call { IsRequestCall (T.seen tx.old) (T.seen tx.new) result IsNotBadStart }
 {
     let now = context.clock;

@@ -1,6 +1,5 @@
 use Rattle.std.proofs.Common.{◌≡◌, Some, true, refl, sym, subst}
 use Rattle.broker_types.specs.Name.{is_mount_name}
-use Rattle.records.specs.CallLaws.{on_answer}
 use Rattle.broker_model.specs.parts.Place.{Place}
 use Rattle.secret_operations.proofs.issued.act_on_issued.Goals as goal
 
@@ -20,12 +19,3 @@ returns-in-ShowRole-clause-rows g c honest = rw c.in-ShowRole.is (c.show.ensures
 
 pub returns-in-Verify-clause-rows : goal.returns-in-Verify-clause-rows
 returns-in-Verify-clause-rows g c honest = rw c.in-Verify.is (c.verify.ensures.call.same honest)
-
-pub returns-in-SetRole-clause-rows : goal.returns-in-SetRole-clause-rows
-returns-in-SetRole-clause-rows g c honest = rw c.in-SetRole.is (on_answer c.set.result tt)
-
-pub returns-in-RemoveRole-clause-rows : goal.returns-in-RemoveRole-clause-rows
-returns-in-RemoveRole-clause-rows g c honest = rw c.in-RemoveRole.is (on_answer c.remove.result tt)
-
-pub returns-in-Issue-clause-rows : goal.returns-in-Issue-clause-rows
-returns-in-Issue-clause-rows g c honest = rw c.in-Issue.is (on_answer c.issue.result tt)

@@ -1,7 +1,6 @@
 use Rattle.std.proofs.Common.{◌≡◌, true, ap, sym, subst}
 use Rattle.broker_types.specs.Name.{is_mount_name}
 use Rattle.broker_types.specs.Path.{is_path}
-use Rattle.records.specs.CallLaws.{on_answer}
 use Rattle.broker_model.specs.parts.Place.{Place}
 use Rattle.secret_operations.specs.Paths.{needs_path}
 use Rattle.secret_operations.proofs.secrets.act_on_secrets.Goals as goal
@@ -43,24 +42,3 @@ returns-in-ShowMetadata-clause-rows g c honest = rw c.in-ShowMetadata.is (c.show
 
 pub returns-in-List-clause-rows : goal.returns-in-List-clause-rows
 returns-in-List-clause-rows g c honest = rw c.in-List.is (c.list.ensures.call.same honest)
-
-pub returns-in-SetSettings-clause-rows : goal.returns-in-SetSettings-clause-rows
-returns-in-SetSettings-clause-rows g c honest = rw c.in-SetSettings.is (on_answer c.set.result tt)
-
-pub returns-in-Write-clause-rows : goal.returns-in-Write-clause-rows
-returns-in-Write-clause-rows g c honest = rw c.in-Write.is (on_answer c.write.result tt)
-
-pub returns-in-DeleteCurrent-clause-rows : goal.returns-in-DeleteCurrent-clause-rows
-returns-in-DeleteCurrent-clause-rows g c honest = rw c.in-DeleteCurrent.is (on_answer c.delete_current.result tt)
-
-pub returns-in-Delete-clause-rows : goal.returns-in-Delete-clause-rows
-returns-in-Delete-clause-rows g c honest = rw c.in-Delete.is (on_answer c.delete.result tt)
-
-pub returns-in-Undelete-clause-rows : goal.returns-in-Undelete-clause-rows
-returns-in-Undelete-clause-rows g c honest = rw c.in-Undelete.is (on_answer c.undelete.result tt)
-
-pub returns-in-Destroy-clause-rows : goal.returns-in-Destroy-clause-rows
-returns-in-Destroy-clause-rows g c honest = rw c.in-Destroy.is (on_answer c.destroy.result tt)
-
-pub returns-in-Remove-clause-rows : goal.returns-in-Remove-clause-rows
-returns-in-Remove-clause-rows g c honest = rw c.in-Remove.is (on_answer c.remove.result tt)

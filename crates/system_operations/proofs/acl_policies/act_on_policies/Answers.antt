@@ -1,5 +1,4 @@
 use Rattle.std.proofs.Common.{sym}
-use Rattle.records.specs.CallLaws.{on_answer}
 use Rattle.system_operations.proofs.acl_policies.act_on_policies.Goals as goal
 
 pub returns-in-Set-clause-told : goal.returns-in-Set-clause-told
@@ -19,7 +18,7 @@ pub returns-in-Show-clause-rows : goal.returns-in-Show-clause-rows
 returns-in-Show-clause-rows g c honest = rw c.in-Show.is (c.show.ensures.call.same honest)
 
 pub returns-in-Set-clause-rows : goal.returns-in-Set-clause-rows
-returns-in-Set-clause-rows g c honest = rw c.in-Set.is (on_answer c.set.result tt)
+returns-in-Set-clause-rows g c honest = rw c.in-Set.is (c.set.ensures.rows honest)
 
 pub returns-in-Remove-clause-rows : goal.returns-in-Remove-clause-rows
-returns-in-Remove-clause-rows g c honest = rw c.in-Remove.is (on_answer c.remove.result tt)
+returns-in-Remove-clause-rows g c honest = rw c.in-Remove.is (c.remove.ensures.rows honest)

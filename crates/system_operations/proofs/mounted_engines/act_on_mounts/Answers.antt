@@ -1,4 +1,3 @@
-use Rattle.records.specs.CallLaws.{on_answer}
 use Rattle.system_operations.proofs.mounted_engines.act_on_mounts.Goals as goal
 
 pub returns-in-Enable-clause-told : goal.returns-in-Enable-clause-told
@@ -15,7 +14,7 @@ pub returns-in-List-clause-rows : goal.returns-in-List-clause-rows
 returns-in-List-clause-rows g c honest = rw c.in-List.is (c.list.ensures.call.same honest)
 
 pub returns-in-Enable-clause-rows : goal.returns-in-Enable-clause-rows
-returns-in-Enable-clause-rows g c honest = rw c.in-Enable.is (on_answer c.enable.result tt)
+returns-in-Enable-clause-rows g c honest = rw c.in-Enable.is (c.enable.ensures.rows honest)
 
 pub returns-in-Disable-clause-rows : goal.returns-in-Disable-clause-rows
-returns-in-Disable-clause-rows g c honest = rw c.in-Disable.is (on_answer c.disable.result tt)
+returns-in-Disable-clause-rows g c honest = rw c.in-Disable.is (c.disable.ensures.rows honest)

@@ -1,5 +1,4 @@
 use Rattle.std.proofs.Common.{sym}
-use Rattle.records.specs.CallLaws.{on_answer}
 use Rattle.system_operations.proofs.token_leases.act_on_leases.Goals as goal
 
 pub returns-in-Revoke-clause-told : goal.returns-in-Revoke-clause-told
@@ -16,10 +15,10 @@ pub returns-in-LookUp-clause-rows : goal.returns-in-LookUp-clause-rows
 returns-in-LookUp-clause-rows g c honest = rw c.in-LookUp.is (c.look_up.ensures.call.same honest)
 
 pub returns-in-Renew-clause-rows : goal.returns-in-Renew-clause-rows
-returns-in-Renew-clause-rows g c honest = rw c.in-Renew.is (on_answer c.renew.result tt)
+returns-in-Renew-clause-rows g c honest = rw c.in-Renew.is (c.renew.ensures.rows honest)
 
 pub returns-in-Revoke-clause-rows : goal.returns-in-Revoke-clause-rows
-returns-in-Revoke-clause-rows g c honest = rw c.in-Revoke.is (on_answer c.revoke.result tt)
+returns-in-Revoke-clause-rows g c honest = rw c.in-Revoke.is (c.revoke.ensures.rows honest)
 
 pub returns-in-RevokeUnder-clause-rows : goal.returns-in-RevokeUnder-clause-rows
-returns-in-RevokeUnder-clause-rows g c honest = rw c.in-RevokeUnder.is (on_answer c.revoke_under.result tt)
+returns-in-RevokeUnder-clause-rows g c honest = rw c.in-RevokeUnder.is (c.revoke_under.ensures.rows honest)

@@ -31,3 +31,6 @@ returns-clause-told g c who x honest b starts fresh =
 
 pub returns-clause-readable : goal.returns-clause-readable
 returns-clause-readable g c honest = (c.in_ok-revoke_under.ensures.rows honest).readable
+
+pub returns-clause-rows : goal.returns-clause-rows
+returns-clause-rows g c honest = c.in_ok-revoke_under.ensures.call.others honest

@@ -1,14 +1,17 @@
 use Rattle.std.specs.Prelude.{Some}
 use Rattle.std.proofs.Common.{refl, sym, subst}
 use Rattle.std.proofs.lemmas.Option.{same_Some}
-use Rattle.records.specs.CallLaws.{on_answer, on_ok}
+use Rattle.std.proofs.lemmas.Result.{on_ok_weaker}
+use Rattle.records.specs.CallLaws.{on_answer}
 use Rattle.records.specs.Ranges.{IsTokenInRange}
 use Rattle.records.specs.Transaction.{Rows}
 use Rattle.broker_model.specs.declared.commands.TokenCommand.{TokenCommand}
 use Rattle.broker_rows.specs.Caller.{Caller, IsCallerAt}
 use Rattle.broker_rows.specs.ReadableRow.{IsReadableToken}
 use Rattle.broker_rows.specs.Reads.{AreReadableTokens}
+use Rattle.broker_rows.specs.UsesLaws.{uses_same}
 use Rattle.token_operations.proofs.Refused.{answers, refuses}
+use Rattle.token_operations.proofs.TokenUses.{revokes_keep, revokes_named_keep, revokes_one_keep}
 use Rattle.token_operations.proofs.acting.act_on_tokens.Goals as goal
 
 -- the row of the caller can be read
@@ -57,13 +60,13 @@ pub returns-in_ok-look_up_self-in-LookUpSelf-clause-rows : goal.returns-in_ok-lo
 returns-in_ok-look_up_self-in-LookUpSelf-clause-rows g c honest = rw (c.in-LookUpSelf.is) refl
 
 pub returns-in-Create-clause-rows : goal.returns-in-Create-clause-rows
-returns-in-Create-clause-rows g c honest = rw (c.in-Create.is) (on_ok c.create.result tt)
+returns-in-Create-clause-rows g c honest = rw (c.in-Create.is) (c.create.ensures.rows honest)
 
 pub returns-in-Renew-clause-rows : goal.returns-in-Renew-clause-rows
-returns-in-Renew-clause-rows g c honest = rw (c.in-Renew.is) (on_ok c.renew.result tt)
+returns-in-Renew-clause-rows g c honest = rw (c.in-Renew.is) (c.renew.ensures.rows honest)
 
 pub returns-in-RenewSelf-clause-rows : goal.returns-in-RenewSelf-clause-rows
-returns-in-RenewSelf-clause-rows g c honest = rw (c.in-RenewSelf.is) (on_ok c.renew_self.result tt)
+returns-in-RenewSelf-clause-rows g c honest = rw (c.in-RenewSelf.is) (c.renew_self.ensures.rows honest)
 
 pub returns-in-Revoke-clause-rows : goal.returns-in-Revoke-clause-rows
 returns-in-Revoke-clause-rows g c honest =
@@ -82,3 +85,32 @@ returns-in-RevokeAccessor-clause-rows g c honest =
 pub returns-in-RevokeSelf-clause-rows : goal.returns-in-RevokeSelf-clause-rows
 returns-in-RevokeSelf-clause-rows g c honest =
     rw (c.in-RevokeSelf.is, ← c.asker.view_is, ← c.asker-inside.view_is) (answers c.revoke-in-RevokeSelf.result (λ rows. rows) (c.revoke-in-RevokeSelf.ensures.rows honest))
+
+-- ---- the uses that tokens have left
+
+pub returns-in-LookUp-clause-uses : goal.returns-in-LookUp-clause-uses
+returns-in-LookUp-clause-uses g c honest at =
+    answers c.look_up.result (uses_same _ _) (c.look_up.ensures.call.same honest)
+
+pub returns-in-LookUpAccessor-clause-uses : goal.returns-in-LookUpAccessor-clause-uses
+returns-in-LookUpAccessor-clause-uses g c honest at =
+    answers c.look_up_accessor.result (uses_same _ _) (c.look_up_accessor.ensures.call.same honest)
+
+pub returns-in-ListAccessors-clause-uses : goal.returns-in-ListAccessors-clause-uses
+returns-in-ListAccessors-clause-uses g c honest at =
+    answers c.list_accessors.result (uses_same _ _) (c.list_accessors.ensures.call.same honest)
+
+pub returns-in-Revoke-clause-uses : goal.returns-in-Revoke-clause-uses
+returns-in-Revoke-clause-uses g c honest at = answers c.revoke.result (revokes_keep _ _ _) (c.revoke.ensures.rows honest)
+
+pub returns-in-RevokeOrphan-clause-uses : goal.returns-in-RevokeOrphan-clause-uses
+returns-in-RevokeOrphan-clause-uses g c honest at =
+    answers c.revoke_orphan.result (revokes_one_keep _ _ _) (c.revoke_orphan.ensures.rows honest)
+
+pub returns-in-RevokeAccessor-clause-uses : goal.returns-in-RevokeAccessor-clause-uses
+returns-in-RevokeAccessor-clause-uses g c honest at =
+    on_ok_weaker c.revoke_accessor.result (revokes_named_keep _ _ _) (c.revoke_accessor.ensures.rows honest)
+
+pub returns-in-RevokeSelf-clause-uses : goal.returns-in-RevokeSelf-clause-uses
+returns-in-RevokeSelf-clause-uses g c honest at =
+    answers c.revoke-in-RevokeSelf.result (revokes_keep _ _ _) (c.revoke-in-RevokeSelf.ensures.rows honest)

@@ -20,6 +20,7 @@ use Rattle.broker_model.specs.parts.TokenCreation.{making_path, is_privileged, n
 use Rattle.broker_model.specs.parts.TokenCreation.{new_token}
 use Rattle.broker_rows.specs.Caller.{Asker, Caller}
 use Rattle.broker_rows.specs.Context.{Context}
+use Rattle.broker_rows.specs.Ending.{has_no_uses}
 use Rattle.broker_rows.specs.Operating.{ArePrinted}
 use Rattle.broker_rows.specs.RepresentingLaws.{named_policies_there}
 use Rattle.token_operations.specs.TokenEntries.{token_told, new_entry}
@@ -30,6 +31,7 @@ use Rattle.token_operations.proofs.TokenPolicies.{ArePolicies, IsPolicyName, eac
 use Rattle.token_operations.proofs.TokenRecords.{new_in_range, new_policies_short, same_new}
 use Rattle.token_operations.proofs.TokenRules.{allowed}
 use Rattle.token_operations.proofs.TokenSound.{may_be_made, sound_policies}
+use Rattle.token_operations.proofs.TokenUses.{limit_unspent}
 use Rattle.token_operations.proofs.creation.create.Goals as goal
 
 -- the identifiers that were printed are those of a token and of its accessor
@@ -112,6 +114,10 @@ returns-clause-may g c honest at are =
       sudo = sudo_at rows e.policies are.0 asker.rules (making_path making) privileged are.1 said;
       may = (λ i. may_make privileged making (token_told (sym known i)) (sym given i) asked) ∙ sym c.check.ensures ∙ c.in_ok-check.was;
     })
+
+pub returns-clause-uses : goal.returns-clause-uses
+returns-clause-uses g c honest =
+    c.put.ensures.uses honest (ap has_no_uses c.in_ok-token.ensures.entry ∙ limit_unspent c.args.asked.num_uses)
 
 pub returns-clause-told : goal.returns-clause-told
 returns-clause-told g c are honest b starts fresh =

@@ -6,7 +6,7 @@ use Rattle.broker_types.specs.TokenText.{token_text}
 use Rattle.records.specs.CallLaws.{honest_before}
 use Rattle.records.specs.Parts.{Tells, of_tokens}
 use Rattle.records.specs.RowForms.{used_row}
-use Rattle.records.specs.Table.{table_of, with_row}
+use Rattle.records.specs.Table.{Table, table_of, with_row}
 use Rattle.records.specs.TokenEntry.{TokenEntry}
 use Rattle.records.specs.declared.kind.Kind.TheVariants as kind
 use Rattle.token_tree.specs.Tokens.{with_token}
@@ -16,7 +16,8 @@ use Rattle.broker_rows.specs.Context.{Context}
 use Rattle.broker_rows.specs.declared.answered.Answered.TheVariants.{Made}
 use Rattle.broker_rows.specs.RepresentingLaws.{represents_tokens}
 use Rattle.token_operations.specs.TokenMaking.{PutsToken}
-use Rattle.token_operations.proofs.TokenMade.{made_done}
+use Rattle.token_operations.proofs.TokenMade.{made_done, made_others}
+use Rattle.token_operations.proofs.TokenUses.{made_keep}
 use Rattle.token_operations.proofs.creation.put.Goals as goal
 
 pub returns-clause-told : goal.returns-clause-told
@@ -46,3 +47,25 @@ returns-clause-told g c who is =
     made_done b names y rows (seen c.create.new.tx).rows (seen c.use_up-2.new.tx).rows st can bare named tells (c.in_ok-create.ensures.call.others made) marks
     c.in_ok-reply.reply c.in_ok-accessor.accessor
     (c.in_ok-reply.ensures ∙ (λ i. auth_reply (request i) (sym starts.clock i) (shown i) (sym entry i))) given)
+
+-- ---- whatever the rows are
+
+pub returns-clause-rows : goal.returns-clause-rows
+returns-clause-rows g c honest =
+    let seen = g.T.RecordsTx.seen in
+    let once = honest_before (seen c.use_up.new.tx) (seen c.use_up-2.new.tx) _ c.in_ok-use_up-2.ensures.call.goes_on honest in
+    let made = honest_before (seen c.create.new.tx) (seen c.use_up.new.tx) _ c.in_ok-use_up.ensures.call.goes_on once in
+    let i = c.args.identifier.now in
+    let marks = c.in_ok-use_up-2.ensures.rows honest ∙ ap (λ (rows : Table). with_row rows kind.Used i used_row) (c.in_ok-use_up.ensures.rows once) in
+    made_others (table_of (seen c.args.tx.now).rows) (table_of (seen c.create.new.tx).rows) (table_of (seen c.use_up-2.new.tx).rows)
+    i c.as_str-3.result.now (c.in_ok-create.ensures.call.others made) marks
+
+pub returns-clause-uses : goal.returns-clause-uses
+returns-clause-uses g c honest unspent =
+    let seen = g.T.RecordsTx.seen in
+    let once = honest_before (seen c.use_up.new.tx) (seen c.use_up-2.new.tx) _ c.in_ok-use_up-2.ensures.call.goes_on honest in
+    let made = honest_before (seen c.create.new.tx) (seen c.use_up.new.tx) _ c.in_ok-use_up.ensures.call.goes_on once in
+    let i = c.args.identifier.now in
+    let marks = c.in_ok-use_up-2.ensures.rows honest ∙ ap (λ (rows : Table). with_row rows kind.Used i used_row) (c.in_ok-use_up.ensures.rows once) in
+    made_keep (seen c.args.tx.now).rows (seen c.create.new.tx).rows (seen c.use_up-2.new.tx).rows c.as_str-2.result.now
+    i c.as_str-3.result.now c.args.token c.requires unspent (c.in_ok-create.ensures.rows made) marks

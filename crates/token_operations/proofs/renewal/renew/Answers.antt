@@ -1,10 +1,16 @@
-use Rattle.std.specs.Prelude.{Err}
-use Rattle.std.proofs.Common.{sym, ap, ◌∙◌}
+use Rattle.std.specs.Prelude.{Err, Some, OnOk}
+use Rattle.std.proofs.Common.{sym, ap, ◌∙◌, subst}
 use Rattle.std.proofs.lemmas.Result.{err_from_is_err_and}
 use Rattle.broker_types.specs.Names.{names_of}
 use Rattle.records.specs.CallLaws.{honest_before, on_answer}
+use Rattle.records.specs.Parts.{of_tokens}
+use Rattle.records.specs.Table.{table_of}
+use Rattle.records.specs.Transaction.{Rows}
 use Rattle.records.specs.ValueLaws.{none_of}
+use Rattle.token_tree.specs.TokenRows.{IsTokenAt}
 use Rattle.broker_model.specs.Forms.{forms}
+use Rattle.broker_rows.specs.Changed.{ChangesOnly}
+use Rattle.broker_rows.specs.Ending.{KeepsUses}
 use Rattle.broker_rows.specs.RepresentingLaws.{represents_tokens, still_represented}
 use Rattle.token_operations.proofs.Refused.{refused_weaker}
 use Rattle.token_operations.proofs.TokenRenewals.{acts_unknown}
@@ -48,6 +54,25 @@ returns-clause-readable g c honest =
     let seen = g.T.RecordsTx.seen in
     let before = honest_before (seen c.find.new.tx) (seen c.renew_found.new.tx) _ c.renew_found.ensures.call.goes_on honest in
     on_answer c.renew_found.result (c.in_ok-found.field-0, c.in_ok-found.ensures.in_range, c.in_ok-found.ensures.found before)
+
+pub returns-clause-rows : goal.returns-clause-rows
+returns-clause-rows g c honest =
+    let seen = g.T.RecordsTx.seen in
+    let new = (seen c.renew_found.new.tx).rows in
+    let before = honest_before (seen c.find.new.tx) (seen c.renew_found.new.tx) _ c.renew_found.ensures.call.goes_on honest in
+    subst (λ (rows : Rows). OnOk c.renew_found.result (ChangesOnly of_tokens rows new)) (c.in_ok-found.ensures.call.same before)
+    (c.renew_found.ensures.rows honest)
+
+pub returns-clause-uses : goal.returns-clause-uses
+returns-clause-uses g c honest =
+    let seen = g.T.RecordsTx.seen in
+    let t = c.args.token.now in
+    let new = (seen c.renew_found.new.tx).rows in
+    let found = c.in-Some.found in
+    let before = honest_before (seen c.find.new.tx) (seen c.renew_found.new.tx) _ c.renew_found.ensures.call.goes_on honest in
+    let at = subst (IsTokenAt (table_of (seen c.args.tx.now).rows) t) c.in-Some.is (c.in_ok-found.ensures.found before) in
+    subst (λ (rows : Rows). IsTokenAt (table_of rows) t (Some found) → OnOk c.renew_found.result (KeepsUses rows new))
+    (c.in_ok-found.ensures.call.same before) (c.renew_found.ensures.uses honest) at
 
 pub returns-clause-refused : goal.returns-clause-refused
 returns-clause-refused g c honest =

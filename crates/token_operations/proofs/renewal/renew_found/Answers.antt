@@ -12,6 +12,7 @@ use Rattle.broker_rows.specs.declared.answered.Answered.TheVariants.{Given}
 use Rattle.broker_rows.specs.RepresentingLaws.{represents_tokens}
 use Rattle.token_operations.proofs.TokenRenewals.{acts_endless, acts_renewed, new_end_near}
 use Rattle.token_operations.proofs.TokenTables.{represents-renewed}
+use Rattle.token_operations.proofs.TokenUses.{renewed_keep}
 use Rattle.token_operations.proofs.renewal.renew_found.Goals as goal
 
 pub returns-then-is_none-clause-told : goal.returns-then-is_none-clause-told
@@ -42,3 +43,10 @@ returns-clause-told g c honest who b starts here =
     (subst IsEnd (sym c.new_end-ends.ensures) (new_end_near now asked c.args.found c.requires))
     (c.in_ok-renewed.ensures.told honest forms b (represents_tokens b old st) here)
     (c.in_ok-renewed.ensures.call.others honest)))
+
+pub returns-clause-uses : goal.returns-clause-uses
+returns-clause-uses g c honest at =
+    let seen = g.T.RecordsTx.seen in
+    let near = new_end_near c.context.inside.clock c.args.increment c.args.found c.requires in
+    renewed_keep (seen c.args.tx.now).rows (seen c.renew.new.tx).rows c.args.token.now c.args.found c.new_end-ends.result
+    (subst IsEnd (sym c.new_end-ends.ensures) near) at (c.in_ok-renewed.ensures.rows honest)

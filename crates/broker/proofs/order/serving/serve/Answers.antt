@@ -4,6 +4,7 @@ use Rattle.std.proofs.lemmas.Option.{same_Some}
 use Rattle.std.proofs.lemmas.Result.{err_from_is_err_and}
 use Rattle.records.specs.Ranges.{IsTokenInRange}
 use Rattle.records.specs.CallLaws.{honest_before, on_answer_weaker}
+use Rattle.records.specs.Calls.{OnAnswer}
 use Rattle.records.specs.Transaction.{Rows}
 use Rattle.records.specs.ValueLaws.{none_of, ok_inj}
 use Rattle.broker_types.specs.declared.request_error.RequestError.TheVariants.{Refused}
@@ -11,6 +12,7 @@ use Rattle.broker_types.specs.Names.{names_of}
 use Rattle.broker_model.specs.Command.{Command, command_for}
 use Rattle.broker_model.specs.Permission.{permits}
 use Rattle.broker_rows.specs.Caller.{Asker, AreRulesAt}
+use Rattle.broker_rows.specs.Ending.{KeepsUses}
 use Rattle.broker_rows.specs.Operating.{BeginsBy, IsWellFormed}
 use Rattle.broker_rows.specs.RepresentingLaws.{mounts_there, still_represented}
 use Rattle.broker_rows.specs.declared.answered.Answered.{Answered}
@@ -204,3 +206,14 @@ returns-clause-readable g c honest at =
           (subst (λ (rows : Rows). IsReadableIfNew rows (Some caller) names ask (meant c.in_ok-command.command)) same read);
     }))
     (c.operate.ensures.readable honest (caller_still old (seen c.permitted.new.tx).rows c.args.caller same at))
+
+pub returns-clause-uses : goal.returns-clause-uses
+returns-clause-uses g c honest at =
+    let seen = g.T.RecordsTx.seen in
+    let old = (seen c.args.tx.now).rows in
+    let begun = (seen c.permitted.new.tx).rows in
+    let later = honest_before (seen c.permitted.new.tx) (seen c.operate.new.tx) _ c.operate.ensures.call.goes_on honest in
+    let mid = honest_before (seen c.find_route.new.tx) (seen c.permitted.new.tx) _ c.in_ok-rules.ensures.call.goes_on later in
+    let same = c.in_ok-rules.ensures.call.same later ∙ c.in_ok-found.ensures.call.same mid in
+    subst (λ (rows : Rows). OnAnswer c.operate.result (KeepsUses rows (seen c.operate.new.tx).rows)) same
+    (c.operate.ensures.uses honest (caller_still old begun c.args.caller same at))

@@ -1,8 +1,9 @@
 use Rattle.std.specs.Prelude.{length}
 use Rattle.std.specs.Option.{option_map_or}
-use Rattle.std.proofs.Common.{◌≡◌, ◌==◌, Ok, Err, false, refl, sym, ap, subst, arith, ◌∙◌}
+use Rattle.std.proofs.Common.{◌≡◌, ◌==◌, ℕ, Ok, Err, false, refl, sym, ap, subst, arith, ◌∙◌}
 use Rattle.std.proofs.lemmas.Result.{err_from_is_err_and}
 use Rattle.broker_types.specs.IdentifierLaws.{id-length}
+use Rattle.broker_types.specs.Text.{Text}
 use Rattle.records.specs.CallLaws.{honest_before}
 use Rattle.records.specs.Parts.{of_roles}
 use Rattle.records.specs.RowForms.{used_row}
@@ -13,9 +14,11 @@ use Rattle.broker_model.specs.Forms.{forms}
 use Rattle.broker_rows.specs.Context.{Context}
 use Rattle.broker_rows.specs.Caller.{Caller}
 use Rattle.broker_rows.specs.RepresentingLaws.{represents_leases, still_represented, tells_part}
+use Rattle.secret_operations.specs.ChangedRows.{of_issued}
 use Rattle.secret_operations.specs.Issuing.{IssuesLease}
 use Rattle.secret_operations.proofs.IssuedAnswers.{ends_weaker}
-use Rattle.secret_operations.proofs.IssuedRows.{last_use, id_new, credential_new, leased}
+use Rattle.secret_operations.proofs.IssuedRows.{last_use, id_new, credential_new, leased, only_issued}
+use Rattle.secret_operations.proofs.Refusals.{unchanged_by_role}
 use Rattle.secret_operations.proofs.issued.credentials.put.Goals as goal
 
 pub creds-requires : goal.creds-requires
@@ -39,7 +42,7 @@ returns-in_err-lease-clause-told g c is_mount =
     let token = c.caller.inside.token.now in
     let st = starts.begins.represents in
     let here = starts.begins.here token refl in
-    let last = c.is_last_use.ensures
+    let last = c.is_on_last_use.ensures
     ∙ ap (λ (x : Caller). option_map_or (λ n. n == 0) x.known.uses_left false) (sym c.caller.view_is) ∙ last_use b _ starts.caller in
     let clock = ap (λ (x : Context). x.clock) c.context.view_is ∙ sym starts.begins.clock in
     let ends = c.in_err-lease.ensures.told honest forms b (represents_leases b old old st (λ k q h. refl)) st.sound.roles (tells_part of_roles b old st)
@@ -66,7 +69,7 @@ returns-clause-told g c is_mount =
     let here = starts.begins.here token refl in
     let once = honest_before (seen c.use_up.new.tx) (seen c.use_up-2.new.tx) _ c.in_ok-use_up-2.ensures.call.goes_on honest in
     let made = honest_before (seen c.creds.new.tx) (seen c.use_up.new.tx) _ c.in_ok-use_up.ensures.call.goes_on once in
-    let last = c.is_last_use.ensures
+    let last = c.is_on_last_use.ensures
     ∙ ap (λ (x : Caller). option_map_or (λ n. n == 0) x.known.uses_left false) (sym c.caller.view_is) ∙ last_use b _ starts.caller in
     let clock = ap (λ (x : Context). x.clock) c.context.view_is ∙ sym starts.begins.clock in
     let ends = c.in_ok-lease.ensures.told made forms b (represents_leases b old old st (λ k q h. refl)) st.sound.roles (tells_part of_roles b old st)
@@ -76,3 +79,22 @@ returns-clause-told g c is_mount =
     let marks = c.in_ok-use_up-2.ensures.rows honest ∙ (λ i. with_row (c.in_ok-use_up.ensures.rows once i) kind.Used named used_row) in
     leased b token st.sound mount name named credential is_mount c.requires.named c.requires.credential new here old (seen c.creds.new.tx).rows
     (seen c.use_up-2.new.tx).rows st (c.in_ok-lease.ensures.call.others made) marks c.in_ok-lease.lease ends)
+
+pub returns-in_err-lease-clause-rows : goal.returns-in_err-lease-clause-rows
+returns-in_err-lease-clause-rows g c honest =
+    let seen = g.T.RecordsTx.seen in
+    let p = err_from_is_err_and c.from_residual.result c.from_residual.ensures.1 in
+    rw (p.1 ∙ ap Err p.2)
+    (unchanged_by_role of_issued (seen c.args.tx.now).rows (seen c.creds.new.tx).rows (Text × ℕ) c.args.mount.now
+    c.args.name.now c.in_err-lease.field-0.0 _ (c.in_err-lease.ensures.readable honest)
+    (c.in_err-lease.ensures.rows honest))
+
+pub returns-clause-rows : goal.returns-clause-rows
+returns-clause-rows g c honest =
+    let seen = g.T.RecordsTx.seen in
+    let once = honest_before (seen c.use_up.new.tx) (seen c.use_up-2.new.tx) _ c.in_ok-use_up-2.ensures.call.goes_on honest in
+    let made = honest_before (seen c.creds.new.tx) (seen c.use_up.new.tx) _ c.in_ok-use_up.ensures.call.goes_on once in
+    only_issued c.args.named.now c.args.credential.now (seen c.args.tx.now).rows (seen c.creds.new.tx).rows
+    (seen c.use_up-2.new.tx).rows (c.in_ok-lease.ensures.call.others made)
+    (c.in_ok-use_up-2.ensures.rows honest
+    ∙ (λ i. with_row (c.in_ok-use_up.ensures.rows once i) kind.Used c.args.named.now used_row))

@@ -11,7 +11,7 @@ use Rattle.broker_rows.specs.Context.{Context}
 use Rattle.broker_rows.specs.Operating.{ActsAs}
 use Rattle.broker_rows.specs.RepresentingLaws.{tells_part}
 use Rattle.broker_rows.specs.declared.answered.Answered.TheVariants.{Nothing}
-use Rattle.secret_operations.proofs.Changes.{acts_on_versions, versions_readable}
+use Rattle.secret_operations.proofs.Changes.{acts_on_versions, only_secrets, versions_readable}
 use Rattle.secret_operations.proofs.secrets.changes.delete.Goals as goal
 
 pub returns-in_err-delete_versions-clause-told : goal.returns-in_err-delete_versions-clause-told
@@ -41,3 +41,10 @@ returns-clause-readable g c honest =
     let seen = g.T.RecordsTx.seen in
     versions_readable (soft_deleted c.context.inside.clock) c.args.numbers.now c.args.mount.now c.args.path.now (seen c.args.tx.now)
     (seen c.delete_versions.new.tx) c.in_ok-delete_versions.field-0 c.in_ok-delete_versions.ensures honest
+
+pub returns-clause-rows : goal.returns-clause-rows
+returns-clause-rows g c honest =
+    let seen = g.T.RecordsTx.seen in
+    only_secrets (soft_deleted c.context.inside.clock) c.args.numbers.now c.args.mount.now c.args.path.now
+    (seen c.args.tx.now) (seen c.delete_versions.new.tx) c.in_ok-delete_versions.field-0
+    c.in_ok-delete_versions.ensures honest

@@ -38,3 +38,9 @@ returns-clause-readable g c honest =
       changed_readable (soft_deleted c.context.inside.clock) (current_of key.0) (secret_name c.args.mount.now c.args.path.now) old new
           (c.in_ok-delete.ensures.rows honest key.0 key.1),
     )
+
+pub returns-clause-rows : goal.returns-clause-rows
+returns-clause-rows g c honest =
+    let seen = g.T.RecordsTx.seen in
+    keeps_outside (secret_name c.args.mount.now c.args.path.now) (table_of (seen c.args.tx.now).rows)
+    (table_of (seen c.delete.new.tx).rows) (c.in_ok-delete.ensures.call.others honest)

@@ -5,7 +5,7 @@ use Rattle.kv2.specs.SoundLaws.{destroy_sound, is_secret_name}
 use Rattle.kv2.specs.Versions.{destroyed}
 use Rattle.broker_model.specs.Forms.{forms}
 use Rattle.broker_rows.specs.RepresentingLaws.{tells_part}
-use Rattle.secret_operations.proofs.Changes.{acts_on_versions, versions_readable}
+use Rattle.secret_operations.proofs.Changes.{acts_on_versions, only_secrets, versions_readable}
 use Rattle.secret_operations.proofs.secrets.changes.destroy.Goals as goal
 
 pub returns-in_err-destroy-clause-told : goal.returns-in_err-destroy-clause-told
@@ -31,3 +31,9 @@ returns-clause-readable g c honest =
     let seen = g.T.RecordsTx.seen in
     versions_readable destroyed c.args.numbers.now c.args.mount.now c.args.path.now (seen c.args.tx.now) (seen c.destroy.new.tx)
     c.in_ok-destroy.field-0 c.in_ok-destroy.ensures honest
+
+pub returns-clause-rows : goal.returns-clause-rows
+returns-clause-rows g c honest =
+    let seen = g.T.RecordsTx.seen in
+    only_secrets destroyed c.args.numbers.now c.args.mount.now c.args.path.now (seen c.args.tx.now)
+    (seen c.destroy.new.tx) c.in_ok-destroy.field-0 c.in_ok-destroy.ensures honest

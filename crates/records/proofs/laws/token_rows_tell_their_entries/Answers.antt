@@ -1,0 +1,5 @@
+use Rattle.records.proofs.RowLemmas.{entry_row-injective}
+use Rattle.records.proofs.laws.token_rows_tell_their_entries.Goals as goal
+
+pub returns : goal.returns
+returns c = entry_row-injective
