@@ -1,5 +1,5 @@
 use Rattle.std.specs.Prelude.{false}
-use Rattle.std.proofs.Common.{refl, sym, ◌∙◌}
+use Rattle.std.proofs.Common.{refl}
 use Rattle.std.proofs.lemmas.Bool.{false≢true}
 use Rattle.broker_rows.specs.UsesLaws.{unspent_represented}
 use Rattle.broker.proofs.order.finishing.end_caller.Goals as goal

@@ -1,4 +1,4 @@
-use Rattle.std.proofs.Common.{◌≡◌, None, Err, sym, ap, ◌∙◌, subst}
+use Rattle.std.proofs.Common.{None, Err, sym, ap, ◌∙◌, subst}
 use Rattle.std.proofs.lemmas.Result.{err_from_is_err_and}
 use Rattle.records.specs.CallLaws.{honest_before, on_answer_weaker}
 use Rattle.records.specs.Transaction.{Rows}

@@ -15,8 +15,8 @@ use Rattle.broker_model.specs.parts.Place.{at}
 use Rattle.broker_rows.specs.Context.{Context}
 use Rattle.broker_rows.specs.declared.answered.Answered.{Answered}
 use Rattle.broker_rows.specs.RepresentingLaws.{tells_part}
-use Rattle.secret_operations.proofs.SecretAnswers.{IsWrittenAs, acts_written, acts_not_written, on_written}
 use Rattle.secret_operations.proofs.Refusals.{unchanged_if_refused}
+use Rattle.secret_operations.proofs.SecretAnswers.{IsWrittenAs, acts_written, acts_not_written, on_written}
 use Rattle.secret_operations.proofs.SecretTables.{keeps_outside}
 use Rattle.secret_operations.proofs.secrets.versions.write.Goals as goal
 
