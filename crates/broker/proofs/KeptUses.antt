@@ -1,4 +1,4 @@
--- No operation takes the uses of a token: from the operations to the request.
+-- No operation takes a token's last use: from the operations to the request.
 use Rattle.std.specs.Prelude.{◌≡◌, Bool, false, Result, Ok, Err, IfOk, OnOk}
 use Rattle.std.proofs.Common.{refl, sym, ap, ◌∙◌, subst, inr}
 use Rattle.broker_types.specs.Broker.{Waiting}

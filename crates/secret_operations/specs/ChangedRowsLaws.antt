@@ -1,4 +1,4 @@
--- No operation on cubbyholes, secrets, roles or credentials takes the uses of a token, whatever the rows are.
+-- No operation on cubbyholes, secrets, roles or credentials takes a token's last use, whatever the rows are.
 use Rattle.std.proofs.Common.{refl}
 use Rattle.records.specs.Parts.{of_cubbyholes, of_mounts, of_roles, of_secrets}
 use Rattle.records.specs.Transaction.{Rows}

@@ -1,4 +1,4 @@
--- No operation on policies, mounts, leases or responses changes how many uses a token has left, whatever the rows are.
+-- No operation on policies, mounts, leases or responses takes a token's last use, whatever the rows are.
 use Rattle.std.specs.Prelude.{Some, None}
 use Rattle.std.proofs.Common.{refl, ap}
 use Rattle.records.specs.Parts.{of_policies, of_mounts, of_leases}

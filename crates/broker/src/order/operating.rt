@@ -58,7 +58,7 @@ pub(crate) fn operate<T: RecordsTx>(
         → OnAnswer result (IsReadableIfNew (T.seen tx.old).rows (who_of asker.now) (names_of context.now.words) ask.now
         (meant command.entry)) }
 
-    // And no token has lost its uses.
+    // And no token has lost its last use.
     ensures uses { IsHonest (T.seen tx.new) → IsAskerAt (T.seen tx.old).rows asker.now
         → OnAnswer result (KeepsUses (T.seen tx.old).rows (T.seen tx.new).rows) }
     ensures call { IsRequestCall (T.seen tx.old) (T.seen tx.new) result IsNotBadStart }
@@ -97,7 +97,7 @@ fn carry_out<T: RecordsTx>(
     ensures readable { IsHonest (T.seen tx.new) → IsAskerAt (T.seen tx.old).rows asker.now
         → OnAnswer result (IsReadableBy (T.seen tx.old).rows (who_of asker.now) (meant command.entry)) }
 
-    // And no token has lost its uses.
+    // And no token has lost its last use.
     ensures uses { IsHonest (T.seen tx.new) → IsAskerAt (T.seen tx.old).rows asker.now
         → OnAnswer result (KeepsUses (T.seen tx.old).rows (T.seen tx.new).rows) }
     ensures call { IsRequestCall (T.seen tx.old) (T.seen tx.new) result IsNotBadStart }
@@ -145,7 +145,7 @@ fn act<T: RecordsTx>(
     ensures readable { IsHonest (T.seen tx.new) → IsAskerAt (T.seen tx.old).rows asker.now
         → OnAnswer result (IsReadableBy (T.seen tx.old).rows (who_of asker.now) (meant command.entry)) }
 
-    // And no token has lost its uses.
+    // And no token has lost its last use.
     ensures uses { IsHonest (T.seen tx.new) → IsAskerAt (T.seen tx.old).rows asker.now
         → OnAnswer result (KeepsUses (T.seen tx.old).rows (T.seen tx.new).rows) }
     ensures call { IsRequestCall (T.seen tx.old) (T.seen tx.new) result IsNotBadStart }
@@ -202,7 +202,7 @@ fn act_for<T: RecordsTx>(
     ensures readable { IsHonest (T.seen tx.new) → IsCallerAt (T.seen tx.old).rows asker.now.caller
         → OnAnswer result (IsReadableCommand (T.seen tx.old).rows asker.now.caller.token (meant command.entry)) }
 
-    // And no token has lost its uses.
+    // And no token has lost its last use.
     ensures uses { IsHonest (T.seen tx.new) → IsCallerAt (T.seen tx.old).rows asker.now.caller
         → OnAnswer result (KeepsUses (T.seen tx.old).rows (T.seen tx.new).rows) }
     ensures call { IsRequestCall (T.seen tx.old) (T.seen tx.new) result IsNotBadStart }

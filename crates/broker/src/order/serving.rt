@@ -86,7 +86,7 @@ fn serve<T: RecordsTx>(
         (names_of context.now.words) ask.now
         ⊎ IsForbidden (T.seen tx.old).rows (T.seen tx.new).rows caller.entry.token ask.now result) }
 
-    // And no token has lost its uses.
+    // And no token has lost its last use.
     ensures uses { IsHonest (T.seen tx.new) → IsCallerAt (T.seen tx.old).rows caller.entry
         → OnAnswer result (KeepsUses (T.seen tx.old).rows (T.seen tx.new).rows) }
     ensures call { IsRequestCall (T.seen tx.old) (T.seen tx.new) result IsNotBadStart }
