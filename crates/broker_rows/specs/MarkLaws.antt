@@ -27,6 +27,16 @@ inner false false o u h = h
 abbrev pub marked : Broker → Text → Text → Broker
 marked b i j = record b { used = use_up b.used (i ∷ j ∷ []) }
 
+module _ (i j : Text) (mid new : Table) (is : new ≡ with_row (with_row mid kind.Used j used_row) kind.Used i used_row) where
+  marks_outside : (k : Kind) (q : Text) → of_used k ≡ false
+      → with_row (with_row mid kind.Used j used_row) kind.Used i used_row k q ≡ mid k q
+  marks_outside kind.Used q h = absurd (true≢false h)
+  marks_outside _ q h = refl
+
+  -- where two were marked, no other row has changed
+  pub marks_keep : KeepsOthers of_used mid new
+  marks_keep k q h = ap (λ (table : Table). table k q) is ∙ marks_outside k q h
+
 module _ (b : Broker) (i j : Text) (mid new : Table)
     (is : new ≡ with_row (with_row mid kind.Used j used_row) kind.Used i used_row) where
   -- the rows of identifiers tell it
@@ -39,18 +49,9 @@ module _ (b : Broker) (i j : Text) (mid new : Table)
       (sym (get-put (put b.used j tt) i tt q ∙ ap (cond (same q i) (Some (tt {0}))) (get-put b.used j tt q)))
   marks_told before _ q h = absurd (false≢true h)
 
-  marks_outside : (k : Kind) (q : Text) → of_used k ≡ false
-      → with_row (with_row mid kind.Used j used_row) kind.Used i used_row k q ≡ mid k q
-  marks_outside kind.Used q h = absurd (true≢false h)
-  marks_outside _ q h = refl
-
-  -- and no other row has changed
-  marks_keep : KeepsOthers of_used mid new
-  marks_keep k q h = ap (λ (table : Table). table k q) is ∙ marks_outside k q h
-
   -- so the rows of a broker become those of the broker in which the two were given out
   pub marks_joined : mid ≡ rows_of b → new ≡ rows_of (marked b i j)
   marks_joined told =
       joined_rows of_used mid new b (marked b i j) told
-      (marks_told (λ q. ap (λ (table : Table). table kind.Used q) told)) marks_keep
+      (marks_told (λ q. ap (λ (table : Table). table kind.Used q) told)) (marks_keep i j mid new is)
       (rows_of-other_used b (use_up b.used (i ∷ j ∷ [])))

@@ -4,7 +4,7 @@ use Rattle.std.specs.Prelude.{Option, Some, None, option_map, is_none, Result, O
 use Rattle.std.specs.List.{list_all}
 use Rattle.std.specs.Option.{option_map_or}
 use Rattle.std.proofs.Common.{arith, refl, sym, ◌∙◌, ap, subst, append_assoc}
-use Rattle.std.proofs.lemmas.Bool.{false≢true, true≢false, and_parts}
+use Rattle.std.proofs.lemmas.Bool.{false≢true, and_parts}
 use Rattle.std.proofs.lemmas.Bool.Decides.{nat_tests}
 use Rattle.std.proofs.lemmas.Option.{none-some, same_Some}
 use Rattle.broker_types.specs.Broker.{Broker, Role}
@@ -25,7 +25,6 @@ use Rattle.broker_types.specs.UsedLaws.{first_new}
 use Rattle.broker_types.specs.declared.refusal.Refusal.{Refusal}
 use Rattle.broker_types.specs.declared.refusal.Refusal.TheVariants as refusal
 use Rattle.broker_types.specs.declared.refusal.Reason.TheVariants as reason
-use Rattle.records.specs.declared.kind.Kind.{Kind}
 use Rattle.records.specs.declared.kind.Kind.TheVariants as kind
 use Rattle.records.specs.PartLaws.{joined_rows}
 use Rattle.records.specs.Parts.{Tells, KeepsOthers, of_leases, of_used}
@@ -33,7 +32,7 @@ use Rattle.records.specs.RowForms.{used_row}
 use Rattle.records.specs.Rows.{rows_of}
 use Rattle.records.specs.SplitLaws.{split-lacking}
 use Rattle.records.specs.Splits.{slash, split_once, lacks}
-use Rattle.records.specs.Table.{Table, table_of, with_row}
+use Rattle.records.specs.Table.{table_of, with_row}
 use Rattle.records.specs.TokenEntry.{TokenEntry, token_entry}
 use Rattle.records.specs.Transaction.{Rows}
 use Rattle.records.specs.ValueLaws.{ok_inj}
@@ -47,7 +46,7 @@ use Rattle.broker_model.specs.Forms.{forms}
 use Rattle.broker_rows.specs.Caller.{Caller, IsCallerOf}
 use Rattle.broker_rows.specs.Changed.{ChangesOnly}
 use Rattle.broker_rows.specs.EndingLaws.{neither}
-use Rattle.broker_rows.specs.MarkLaws.{marks_joined}
+use Rattle.broker_rows.specs.MarkLaws.{marks_joined, marks_keep}
 use Rattle.broker_rows.specs.Representing.{Represents}
 use Rattle.secret_operations.specs.ChangedRows.{of_issued}
 use Rattle.secret_operations.specs.Issuing.{IsLeased}
@@ -55,19 +54,13 @@ use Rattle.secret_operations.specs.Issuing.{IsLeased}
 -- ---- on any rows
 
 module _ (identifier credential : Text) (old mid new : Rows) where
-  -- only identifiers were marked
-  marks_outside : (k : Kind) (q : Text) → of_used k ≡ false
-      → with_row (with_row (table_of mid) kind.Used credential used_row) kind.Used identifier used_row k q ≡ table_of mid k q
-  marks_outside kind.Used q h = absurd (true≢false h)
-  marks_outside _ q h = refl
-
-  -- so only leases, their credentials and identifiers have changed
+  -- only leases, their credentials and identifiers have changed
   pub only_issued : KeepsOthers of_leases (table_of old) (table_of mid)
       → table_of new ≡ with_row (with_row (table_of mid) kind.Used credential used_row) kind.Used identifier used_row
       → ChangesOnly of_issued old new
   only_issued keeps marks k q h =
       let apart = neither (of_leases k) (of_used k) h in
-      ap (λ (rows : Table). rows k q) marks ∙ marks_outside k q apart.1 ∙ keeps k q apart.0
+      marks_keep identifier credential (table_of mid) (table_of new) marks k q apart.1 ∙ keeps k q apart.0
 
 -- ---- the name of a role that is there
 

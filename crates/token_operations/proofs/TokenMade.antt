@@ -1,5 +1,5 @@
 -- A token that was made: its rows, its identifiers, and the answer.
-use Rattle.std.specs.Prelude.{◌≡◌, ◌==◌, length, [], ◌∷◌, true, false, Option, Some, None, option_map}
+use Rattle.std.specs.Prelude.{◌≡◌, ◌==◌, length, [], ◌∷◌, true, Option, Some, None, option_map}
 use Rattle.std.proofs.Common.{refl, ◌∙◌, ap, subst}
 use Rattle.std.proofs.lemmas.Bool.{true≢false}
 use Rattle.broker_types.specs.Broker.{Broker}
@@ -16,7 +16,6 @@ use Rattle.records.specs.RowForms.{used_row}
 use Rattle.records.specs.Table.{Table, table_of, with_row}
 use Rattle.records.specs.TokenEntry.{token_entry}
 use Rattle.records.specs.Transaction.{Rows}
-use Rattle.records.specs.declared.kind.Kind.{Kind}
 use Rattle.records.specs.declared.kind.Kind.TheVariants as kind
 use Rattle.token_tree.specs.SoundLaws.{create_sound}
 use Rattle.token_tree.specs.Tokens.{MayBeMade, with_token}
@@ -24,6 +23,7 @@ use Rattle.broker_model.specs.Forms.{forms}
 use Rattle.broker_model.specs.parts.TokenReplies.{auth_reply}
 use Rattle.broker_model.specs.parts.Tokens.{made}
 use Rattle.broker_rows.specs.EndingLaws.{neither}
+use Rattle.broker_rows.specs.MarkLaws.{marks_keep}
 use Rattle.broker_rows.specs.Representing.{Represents}
 use Rattle.broker_rows.specs.Done.{IsDone}
 use Rattle.broker_rows.specs.declared.answered.Answered.TheVariants.{Made}
@@ -52,11 +52,7 @@ pub made_others : (old mid new : Table) (i j : Text) → KeepsOthers of_tokens o
     → new ≡ with_row (with_row mid kind.Used j used_row) kind.Used i used_row → KeepsOthers of_made old new
 made_others old mid new i j others marks k q h =
     let apart = neither (of_tokens k) (of_used k) h in
-    ap (λ (rows : Table). rows k q) marks ∙ unmarked k apart.1 ∙ others k q apart.0
-  where
-    unmarked : (k : Kind) → of_used k ≡ false → with_row (with_row mid kind.Used j used_row) kind.Used i used_row k q ≡ mid k q
-    unmarked kind.Used h = absurd (true≢false h)
-    unmarked _ h = refl
+    marks_keep i j mid new marks k q apart.1 ∙ others k q apart.0
 
 -- ---- no token has an empty text
 
