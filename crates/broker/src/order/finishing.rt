@@ -53,8 +53,8 @@ pub(crate) fn finish<T: RecordsTx>(
     }
 }
 
-/// Ends the caller if it has no uses left. One that was not on its last use has some still, or is gone, since no operation
-/// takes a token's last use: its row is not read again.
+/// Ends the caller if it has no uses left. One that was not on its last use has some still, or is gone, since no
+/// operation takes a token's last use: its row is not read again.
 fn end_caller<T: RecordsTx>(
     alloc: Global,
     tx: &mut T,
