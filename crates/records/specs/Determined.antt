@@ -14,7 +14,7 @@ RowsDetermineTheBroker =
     (forms : Forms) (v w : Option Text) (b c : Broker) → Sound forms v b → Sound forms w c
     → rows_of b ≡ rows_of c → b ≡ c
 
--- a row is that of one entry of a token
+-- entries of tokens that rows can hold are equal if their rows are
 abbrev pub TokenRowsTellTheirEntries : Type 0
 TokenRowsTellTheirEntries =
     (x y : TokenEntry) → IsTokenInRange x → IsTokenInRange y → entry_row x ≡ entry_row y → x ≡ y

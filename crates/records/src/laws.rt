@@ -22,7 +22,7 @@ pub fn rows_determine_the_broker()
     ensures { RowsDetermineTheBroker }
 {}
 
-/// A law: a row is that of one entry of a token.
+/// A law: entries of tokens that rows can hold are equal if their rows are.
 pub fn token_rows_tell_their_entries()
     ensures { TokenRowsTellTheirEntries }
 {}

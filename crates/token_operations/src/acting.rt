@@ -54,8 +54,7 @@ pub fn act_on_tokens<T: RecordsTx>(
     ensures rows { IsHonest (T.seen tx.new) → OnOk result
         (ChangesTokens asker.now.caller.token command (T.seen tx.old).rows (T.seen tx.new).rows) }
 
-    // And none takes the last use that a token has left, makes a token without any, or damages the row of a token that
-    // could be read.
+    // And each token that had uses left, or was not there, has some left by a row that can be read, or is not there.
     ensures uses { IsHonest (T.seen tx.new) → IsCallerAt (T.seen tx.old).rows asker.now.caller
         → OnOk result (KeepsUses (T.seen tx.old).rows (T.seen tx.new).rows) }
     ensures refused { IsHonest (T.seen tx.new) → OnRefused result ((T.seen tx.new).rows ≡ (T.seen tx.old).rows) }
