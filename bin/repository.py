@@ -1,6 +1,7 @@
 """What the scripts of this folder know of the repository: its crates, and how a must-fail edit is applied."""
 
 import os
+import shutil
 from pathlib import Path
 
 TOP = Path(__file__).resolve().parent.parent
@@ -25,6 +26,18 @@ def libraries_below(crate, crates):
             found.add(library)
             wanted.extend(crates.get(library, []))
     return found
+
+
+def copy_crates(to, names):
+    """Copies crates to a new folder that is the top of a repository, without what was built and without their edits."""
+    lines = (TOP / "crates.txt").read_text(encoding="utf-8").splitlines(keepends=True)
+    for name in names:
+        skipped = shutil.ignore_patterns("out", "must-fail", "more-edits", "more.edits")
+        shutil.copytree(TOP / "crates" / name, to / "crates" / name, ignore=skipped)
+    (to / "crates.txt").write_text("".join(it for it in lines if it.split(":")[0] in names), encoding="utf-8")
+    shutil.copy(TOP / "HANDLES", to)
+    (to / ".git").mkdir()
+    return to
 
 
 class NotApplied(Exception):

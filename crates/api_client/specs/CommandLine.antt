@@ -32,13 +32,15 @@ unwrap_app = with_rule (new_app (codes "unwrap")) (value_rule (codes "token"))
 
 -- ---- the client
 
--- `client --addr ADDR [--token T] [--wrap-ttl D]`, which requires a request
+-- `client --addr ADDR [--token T] [--wrap-ttl D]`, which has a version and requires a request
 abbrev pub options_app : App
 options_app =
     with_rule
     (with_rule
     (with_rule
-    (record (new_app (codes "client")) { top = record (new_app (codes "client")).top { subcommand_required = true } })
+    (record (new_app (codes "client")) {
+      top = record (new_app (codes "client")).top { has_version = true; subcommand_required = true };
+    })
     (wanted (option_rule (codes "addr"))))
     (option_rule (codes "token")))
     (option_rule (codes "wrap-ttl"))

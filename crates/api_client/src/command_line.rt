@@ -7,6 +7,7 @@ ghost use Rattle.api_client.specs.CommandLine.{option_rule, value_rule, wanted};
 
 use clap::Arg;
 use std::alloc::{AllocError, Global};
+use version::VERSION;
 
 const AFTER_HELP: &str =
     "The body of the reply goes to standard output. The exit status is 0 after a reply\n\
@@ -15,7 +16,9 @@ const AFTER_HELP: &str =
     if body=$(client --addr 127.0.0.1:8200 --token \"$TOKEN\" read secret/data/app)\n    \
     then echo \"$body\"\n    \
     else echo \"no secret\" >&2\n    \
-    fi";
+    fi\n\n\
+    VAULT_ADDR=http://HOST:PORT and VAULT_TOKEN in the environment take the place of --addr\n\
+    and --token.";
 
 /// The parser of the command line.
 pub(crate) fn client<'a>(alloc: Global) -> Result<clap::Command<'a>, AllocError>
@@ -36,6 +39,7 @@ fn options<'a>(alloc: Global) -> Result<clap::Command<'a>, AllocError>
     clap::Command::new(alloc, "client")
         .about("Sends one request to a Vault server, and prints the body of its reply")
         .after_help(AFTER_HELP)
+        .version(VERSION)
         .subcommand_required(true)
         .arg(address(alloc))?
         .arg(token(alloc))?
@@ -136,7 +140,7 @@ fn body<'a>(alloc: Global) -> Arg<'a>
 {
     Arg::new(alloc, "body")
         .value_name("BODY")
-        .help("The object, as JSON; {} if it is left out")
+        .help("The object, as JSON; {} if it is left out; - reads it from standard input")
 }
 
 fn wrapping_token<'a>(alloc: Global) -> Arg<'a>

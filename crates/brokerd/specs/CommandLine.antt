@@ -2,6 +2,7 @@
 use Rattle.std.specs.Prelude.{◌≡◌, ◌≢◌, ◌⊎◌, ◌<◌, ◌^◌, codes, true, option_map, Option, Some, None, List, ℕ, ⊤, pos}
 use Rattle.std.specs.Str.Parse.{IsNumeral, digits_value, without_leading_plus}
 use Rattle.clap.specs.Words.{App, Row, Rule, Text, first_of, new_app, new_rule, one_of, with_rule, with_subcommand}
+use Rattle.clap.specs.declared.builder.action.ArgAction.TheVariants.{SetTrue}
 use Rattle.clap.specs.declared.builder.value_parser.ValueParser.TheVariants.{Signed}
 use Rattle.brokerd.specs.declared.command.Command.{Command}
 use Rattle.brokerd.specs.declared.command.Command.TheVariants.{Replay, Serve}
@@ -24,18 +25,28 @@ connections_rule =
       parser = Some (Signed (pos 1) (pos 4294967295));
     }
 
+-- `--until-stopped`
+abbrev pub until_stopped_rule : Rule
+until_stopped_rule =
+    record (new_rule (codes "until-stopped")) { long = Some (codes "until-stopped"); action = Some SetTrue }
+
 -- `brokerd replay`
 abbrev pub replay_app : App
 replay_app = new_app (codes "replay")
 
--- `brokerd serve --listen ADDR [--db FILE] [--connections N]`
+-- `brokerd serve --listen ADDR [--db FILE] [--connections N] [--until-stopped]`
 abbrev pub serve_app : App
-serve_app = with_rule (with_rule (with_rule (new_app (codes "serve")) listen_rule) db_rule) connections_rule
+serve_app =
+    with_rule
+    (with_rule (with_rule (with_rule (new_app (codes "serve")) listen_rule) db_rule) connections_rule)
+    until_stopped_rule
 
--- `brokerd`, which requires a subcommand
+-- `brokerd`, which has a version and requires a subcommand
 abbrev pub top_app : App
 top_app =
-    record (new_app (codes "brokerd")) { top = record (new_app (codes "brokerd")).top { subcommand_required = true } }
+    record (new_app (codes "brokerd")) {
+      top = record (new_app (codes "brokerd")).top { has_version = true; subcommand_required = true };
+    }
 
 -- the whole command line
 unfoldable pub program_app : App
@@ -46,16 +57,35 @@ abbrev pub IsNumber : Text → Type 0
 IsNumber text =
     IsNumeral 10 (without_leading_plus text) × (digits_value 10 (without_leading_plus text) < 2 ^ 32)
 
--- how many connections to serve: the number that the text is, or 1,000 if there is none
-abbrev pub IsCount : Option Text → ℕ → Type 0
-IsCount None count = count ≡ 1000
-IsCount (Some text) count = IsNumber text × (count ≡ digits_value 10 (without_leading_plus text))
+-- so many connections: the number that the text is, or 1,000 if there is none
+abbrev pub IsNumberOf : Option Text → ℕ → Type 0
+IsNumberOf None count = count ≡ 1000
+IsNumberOf (Some text) count = IsNumber text × (count ≡ digits_value 10 (without_leading_plus text))
 
--- the values have no address, or a text for the connections that is no number; `clap` lets neither through
+-- a flag is set; `clap` gives it the text "true" or "false"
+abbrev pub IsSet : Option Text → Type 0
+IsSet text = (text ≢ None) × (text ≢ Some (codes "false"))
+
+abbrev pub IsNotSet : Option Text → Type 0
+IsNotSet text = text ≢ Some (codes "true")
+
+-- how many connections to serve: without an end if that alone is asked for, else the number
+abbrev pub IsCount : List Row → Option ℕ → Type 0
+IsCount rows None =
+    IsSet (one_of (codes "until-stopped") rows) × (one_of (codes "connections") rows ≡ None)
+IsCount rows (Some count) =
+    IsNotSet (one_of (codes "until-stopped") rows) × IsNumberOf (one_of (codes "connections") rows) count
+
+-- both a number of connections and no end are asked for, or a text for the connections is no number; `clap` does not
+-- let the second through
+abbrev pub LacksCount : List Row → Type 0
+LacksCount rows =
+    (text : Text) × (one_of (codes "connections") rows ≡ Some text)
+    × (IsSet (one_of (codes "until-stopped") rows) ⊎ (¬ IsNumber text))
+
+-- the values have no address, which `clap` does not let through, or no count
 abbrev pub LacksValues : List Row → Type 0
-LacksValues rows =
-    (first_of (codes "listen") rows ≡ None)
-    ⊎ ((text : Text) × (one_of (codes "connections") rows ≡ Some text) × ¬ IsNumber text)
+LacksValues rows = (first_of (codes "listen") rows ≡ None) ⊎ LacksCount rows
 
 -- the command that a subcommand's name and the values of its matches mean; none if it is the name of another
 abbrev pub IsMeant : Text → List Row → Option Command → Type 0
@@ -65,7 +95,7 @@ IsMeant name rows (Some (Serve listen db connections)) =
     (name ≡ codes "serve")
     × (first_of (codes "listen") rows ≡ Some listen.now)
     × (option_map (λ path. path.now) db ≡ first_of (codes "db") rows)
-    × IsCount (one_of (codes "connections") rows) connections
+    × IsCount rows connections
 
 -- the command that the words of a line name, by the subcommand that they enter
 abbrev pub IsCommandOf : Option (Text × List Row) → Option Command → Type 0

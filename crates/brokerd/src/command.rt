@@ -1,12 +1,13 @@
-ghost use Rattle.std.specs.Prelude.{◌≡◌, IfOk, IfErr, codes, false, map, string_bytes, true};
+ghost use Rattle.std.specs.Prelude.{◌≡◌, IfOk, IfErr, IfSome, None, codes, false, map, string_bytes, true};
 ghost use Rattle.clap.specs.Words.{app_of, found_of, kind_of, rows_of, rule_of, subcommand_of, takes};
 ghost use Rattle.brokerd.specs.CommandLine.{program_app, replay_app, serve_app, listen_rule};
-ghost use Rattle.brokerd.specs.CommandLine.{connections_rule, db_rule};
-ghost use Rattle.brokerd.specs.CommandLine.{IsMeant, IsCommandOf};
+ghost use Rattle.brokerd.specs.CommandLine.{connections_rule, db_rule, until_stopped_rule};
+ghost use Rattle.brokerd.specs.CommandLine.{IsMeant, IsCommandOf, IsCount, LacksCount};
 
 use clap::error::{Error, ErrorKind};
-use clap::{Arg, ArgMatches};
+use clap::{Arg, ArgAction, ArgMatches};
 use std::alloc::{AllocError, Global};
+use version::VERSION;
 
 /// How many connections are served if the command line does not say.
 const CONNECTIONS: u32 = 1_000;
@@ -16,17 +17,18 @@ const CONNECTIONS: u32 = 1_000;
 pub(crate) enum Command<'a> {
     /// Run the lines of standard input, and write the replies to standard output.
     Replay,
-    /// Serve so many connections to an address, from the broker of a file, or from one in memory.
+    /// Serve so many connections to an address, or serve without an end, from the broker of a file, or from one in
+    /// memory.
     Serve {
         listen: &'a str,
         db: Option<&'a str>,
-        connections: u32,
+        connections: Option<u32>,
     },
 }
 
 /// The command that the words name. The first is the name of the program. None if they name another
-/// subcommand. The error is one of `clap`: a wrong command line, help that was asked for, or running out
-/// of memory.
+/// subcommand, or ask both for a number of connections and for no end. The error is one of `clap`: a wrong command
+/// line, help or the version that was asked for, or running out of memory.
 pub(crate) fn command_of<'a>(
     alloc: Global,
     words: &'a [String],
@@ -43,7 +45,8 @@ pub(crate) fn command_of<'a>(
     }
 }
 
-/// The command that a subcommand's name and what it was given mean; none if it is the name of another.
+/// The command that a subcommand's name and what it was given mean; none if it is the name of another, or if it is to
+/// serve both so many connections and without an end.
 fn meant<'a>(name: &str, found: &ArgMatches<'a>) -> Option<Command<'a>>
     ensures { IsMeant name.now (rows_of (found_of found.now)) result }
 {
@@ -56,14 +59,28 @@ fn meant<'a>(name: &str, found: &ArgMatches<'a>) -> Option<Command<'a>>
     let Some(listen) = found.get_str("listen") else {
         return None;
     };
-    let Ok(given) = found.try_get_one::<u32>("connections") else {
-        return None;
-    };
     Some(Command::Serve {
         listen,
         db: found.get_str("db"),
-        connections: given.unwrap_or(CONNECTIONS),
+        connections: count(found)?,
     })
+}
+
+/// How many connections to serve, and in it none to serve without an end. None if both were asked for.
+fn count(found: &ArgMatches<'_>) -> Option<Option<u32>>
+    ensures some { IfSome result (IsCount (rows_of (found_of found.now))) }
+    ensures none { (result ≡ None) → LacksCount (rows_of (found_of found.now)) }
+{
+    let Ok(given) = found.try_get_one::<u32>("connections") else {
+        return None;
+    };
+    if !found.get_flag("until-stopped") {
+        return Some(Some(given.unwrap_or(CONNECTIONS)));
+    }
+    match given {
+        Some(_) => None,
+        None => Some(None),
+    }
 }
 
 /// The parser of the command line.
@@ -72,6 +89,7 @@ fn program<'a>(alloc: Global) -> Result<clap::Command<'a>, AllocError>
 {
     clap::Command::new(alloc, "brokerd")
         .about("A broker for secrets that speaks the HTTP API of HashiCorp Vault")
+        .version(VERSION)
         .subcommand_required(true)
         .subcommand(replay(alloc))?
         .subcommand(serve(alloc)?)
@@ -92,7 +110,8 @@ fn serve<'a>(alloc: Global) -> Result<clap::Command<'a>, AllocError>
         .about("Serves connections from a broker; a new one is started, and its root token printed")
         .arg(listen(alloc))?
         .arg(db(alloc))?
-        .arg(connections(alloc))
+        .arg(connections(alloc))?
+        .arg(until_stopped(alloc))
 }
 
 fn listen<'a>(alloc: Global) -> Arg<'a>
@@ -124,4 +143,14 @@ fn connections<'a>(alloc: Global) -> Arg<'a>
         .value_name("N")
         .help("How many connections to serve before the program ends; 1000 if not given")
         .value_parser(clap::value_parser!(u32).range(1..))
+}
+
+fn until_stopped<'a>(alloc: Global) -> Arg<'a>
+    ensures rule { rule_of result ≡ until_stopped_rule }
+    ensures local { result.global ≡ false }
+{
+    Arg::new(alloc, "until-stopped")
+        .long("until-stopped")
+        .action(ArgAction::SetTrue)
+        .help("Serve without an end, in place of --connections")
 }

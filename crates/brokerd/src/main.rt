@@ -44,13 +44,16 @@ fn main(rt: HostRuntime) -> anyhow::Result<ExitCode> {
             let exit = serve(&rt, listen, db, connections);
             tell(&rt, exit)
         }
-        Ok(None) => Ok(ExitCode::from(2)),
+        Ok(None) => {
+            eprintln!(&rt; "brokerd: --until-stopped takes the place of --connections: give one of them")?;
+            Ok(ExitCode::from(2))
+        }
         Err(error) => refuse(&rt, &error),
     }
 }
 
-/// Serves connections from the broker of a file, or else from one in memory.
-fn serve(rt: &HostRuntime, listen: &str, db: Option<&str>, connections: u32) -> Exit {
+/// Serves connections from the broker of a file, or else from one in memory: so many, or without an end.
+fn serve(rt: &HostRuntime, listen: &str, db: Option<&str>, connections: Option<u32>) -> Exit {
     let served = match db {
         Some(path) => serve_file(rt, path, listen, connections),
         None => serve_in_memory(rt, listen, connections),
@@ -94,12 +97,14 @@ fn refuse_words<R: Eprint>(rt: &R, error: &io::Error) -> anyhow::Result<ExitCode
     Ok(ExitCode::from(2))
 }
 
-/// Prints the text of a command line that names no command: on standard error with status 2, or, if help
-/// was asked for, on standard output with status 0. Running out of memory is a fault.
+/// Prints the text of a command line that names no command: on standard error with status 2, or, if help or the
+/// version was asked for, on standard output with status 0. Running out of memory is a fault.
 fn refuse<R: Eprint + Print>(rt: &R, error: &Error) -> anyhow::Result<ExitCode>
     ensures memory { kind_of error.now ≡ ErrorKind.OutOfMemory
         → IfOk result (λ code. exit_status code ≡ 1) }
     ensures help { kind_of error.now ≡ ErrorKind.DisplayHelp
+        → IfOk result (λ code. exit_status code ≡ 0) }
+    ensures version { kind_of error.now ≡ ErrorKind.DisplayVersion
         → IfOk result (λ code. exit_status code ≡ 0) }
     ensures mistake { kind_of error.now ≢ ErrorKind.OutOfMemory
         → kind_of error.now ≢ ErrorKind.DisplayHelp

@@ -8,6 +8,8 @@ ghost use Rattle.std.specs.Process.{exit_status};
 ghost use Rattle.clap.specs.Words.{kind_of};
 ghost use Rattle.api_client.specs.declared.failure.Failure.TheVariants.{Memory, Unreached};
 
+mod words;
+
 use api_client::{Command, Failure, NoCommand, Peer, command_of, exchange, tell};
 use clap::error::{Error, ErrorKind};
 use endpoints::{Reading, Writing};
@@ -15,13 +17,17 @@ use std::io::{Eprint, Print, Write};
 use std::net::{Net, TcpListener, TcpStream};
 use std::process::ExitCode;
 use std::{env, io};
+use words::{Incomplete, complete};
 
 fn main(rt: HostRuntime) -> anyhow::Result<ExitCode> {
     let alloc = rt.alloc();
-    let words = match env::args(&rt).and_then(|words| Ok(words.collect::<Vec<String>>(alloc)?)) {
+    let mut words = match env::args(&rt).and_then(|words| Ok(words.collect::<Vec<String>>(alloc)?)) {
         Ok(words) => words,
         Err(error) => return refuse_words(&rt, &error),
     };
+    if let Err(why) = complete(&rt, &mut words) {
+        return refuse_incomplete(&rt, words.as_slice(), why);
+    }
     match command_of(alloc, words.as_slice()) {
         Ok(command) => {
             let status = send(&rt, &command, rt.stdout(), rt.stderr());
@@ -86,10 +92,35 @@ fn refuse_words<R: Eprint>(rt: &R, error: &io::Error) -> anyhow::Result<ExitCode
     Ok(ExitCode::from(2))
 }
 
-/// Prints the text of a command line that names no command: on standard error with status 2, or, if help
-/// was asked for, on standard output with status 0.
+/// Says why the words cannot be completed, unless they ask for help or for the version.
+fn refuse_incomplete<R: AllocGlobal + Eprint + Print>(
+    rt: &R,
+    words: &[String],
+    why: Incomplete,
+) -> anyhow::Result<ExitCode> {
+    let fault = match why {
+        Incomplete::Mistake(text) => {
+            if let Err(NoCommand::Usage(error)) = command_of(rt.alloc(), words)
+                && error.exit_code() == 0
+            {
+                return refuse(rt, &error);
+            }
+            eprintln!(rt; "client: {text}")?;
+            return Ok(ExitCode::from(2));
+        }
+        Incomplete::Memory => 1,
+        Incomplete::Unread => 5,
+    };
+    eprintln!(rt; "fault {fault}")?;
+    Ok(ExitCode::from(1))
+}
+
+/// Prints the text of a command line that names no command: on standard error with status 2, or, if help or
+/// the version was asked for, on standard output with status 0.
 fn refuse<R: Eprint + Print>(rt: &R, error: &Error) -> anyhow::Result<ExitCode>
     ensures help { kind_of error.now ≡ ErrorKind.DisplayHelp
+        → IfOk result (λ code. exit_status code ≡ 0) }
+    ensures version { kind_of error.now ≡ ErrorKind.DisplayVersion
         → IfOk result (λ code. exit_status code ≡ 0) }
     ensures mistake { kind_of error.now ≢ ErrorKind.DisplayHelp
         → kind_of error.now ≢ ErrorKind.DisplayVersion

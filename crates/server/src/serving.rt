@@ -17,7 +17,7 @@ use std::time::{Clock, Duration};
 /// How long to wait after a connection could not be accepted, in milliseconds.
 const PAUSE: u64 = 100;
 
-/// Serves so many connections of the listener, one after another. One that cannot be accepted, or ends
+/// Serves so many connections of the listener, one after another, or serves without an end. One that cannot be accepted, or ends
 /// by a fault of memory, of reading or of writing, is skipped; another fault ends the whole. After one that
 /// cannot be accepted a tenth of a second passes. A peer that is idle or slow for too long is one whose read
 /// or write failed. After a connection what waits on it is dropped.
@@ -28,7 +28,7 @@ pub fn serve<S: Store, C: hub::Clock, D: WordSource, R: Clock>(
     rt: &R,
     hub: &mut Hub<S>,
     listener: &TcpListener,
-    connections: u32,
+    connections: Option<u32>,
     clock: &mut C,
     words: &mut D,
 ) -> Result<(), Fault>
@@ -41,7 +41,8 @@ pub fn serve<S: Store, C: hub::Clock, D: WordSource, R: Clock>(
     ensures lawful { ServesLawfully S.seen hub.old hub.new }
 {
     all_that_is_asked_keeps_the_laws();
-    for _ in 0..connections {
+    // Without an end there are more than a program can ever accept.
+    for _ in 0..connections.map_or(u64::MAX, u64::from) {
         let Ok((stream, _)) = listener.accept() else {
             // Most likely the system has too many open files. Peers wait meanwhile.
             thread::sleep(rt, Duration::from_millis(PAUSE));

@@ -23,12 +23,16 @@ use std::random::RandomSource;
 use std::rt::HostRuntime;
 use std::{io, time};
 
-/// Starts a broker in memory, prints its root token on standard output, and serves so many connections to
-/// the address, one after another. It fails before it serves if memory runs out, the words of the root token and its
-/// accessor are equal, the system has no randomness or the address cannot be listened on (a fault of reading), or the
-/// token cannot be printed (one of writing); and at any time if the database in memory fails, which it does if memory
-/// runs out for it.
-pub fn serve_in_memory<R>(rt: &R, address: &str, connections: u32) -> Result<(), ConnectionFault>
+/// Starts a broker in memory, prints its root token on standard output, and serves so many connections to the
+/// address, one after another, or serves without an end. It fails before it serves if memory runs out, the words of
+/// the root token and its accessor are equal, the system has no randomness or the address cannot be listened on (a
+/// fault of reading), or the token cannot be printed (one of writing); and at any time if the database in memory
+/// fails, which it does if memory runs out for it.
+pub fn serve_in_memory<R>(
+    rt: &R,
+    address: &str,
+    connections: Option<u32>,
+) -> Result<(), ConnectionFault>
 where
     R: AllocGlobal
         + Print
@@ -42,15 +46,15 @@ where
 }
 
 /// Serves the broker that a file keeps, with its log beside it, or starts one in a file that is new, and prints its
-/// root token on standard output: so many connections to the address, one after another. A file that is not there is
-/// made, for its owner alone. It fails as `serve_in_memory` does; and with `Storage` if the file cannot be opened, or
-/// has another table than that of a broker, with `BadStart` if it has rows and none of the clock, and with `Damaged` if
-/// a row cannot be read.
+/// root token on standard output: so many connections to the address, one after another, or without an end. A file
+/// that is not there is made, for its owner alone. It fails as `serve_in_memory` does; and with `Storage` if the
+/// file cannot be opened, or has another table than that of a broker, with `BadStart` if it has rows and none of
+/// the clock, and with `Damaged` if a row cannot be read.
 pub fn serve_file(
     rt: &HostRuntime,
     path: &str,
     address: &str,
-    connections: u32,
+    connections: Option<u32>,
 ) -> Result<(), ConnectionFault> {
     // If it is there, or cannot be made, opening it tells.
     let _ = make_private(rt, path);
@@ -74,7 +78,7 @@ fn serve_records<R, S: Alter + Drop>(
     rt: &R,
     records: SqlRecords<S>,
     address: &str,
-    connections: u32,
+    connections: Option<u32>,
 ) -> Result<(), ConnectionFault>
 where
     R: AllocGlobal

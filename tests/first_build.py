@@ -1,0 +1,130 @@
+#!/usr/bin/env python3
+"""Runs bin/run-program over a repository of one program, with a command `rt` of its own, and looks at what it tells.
+
+The last line is 'N passed, M failed'.
+"""
+
+import os
+import shutil
+import signal
+import subprocess
+import sys
+import tempfile
+import time
+from pathlib import Path
+
+TOP = Path(__file__).resolve().parent.parent
+
+# In place of the toolchain: it proves `below`, takes its time over `tiny`, and then builds it, or fails.
+RT = """#!/bin/bash
+[ "$1" = ci ] || exit 2
+[ ! -e crates/other ] && [ ! -e crates/tiny/must-fail ] || exit 3
+echo 'rt: below proved'
+touch "$BEGUN"
+"$(dirname "$0")/rattle" check --crate-name tiny src/main.rt
+[ -e "$FAILS" ] && { echo 'fn tiny::main: not proved'; echo '1 passed, 1 failed'; exit 1; }
+echo 'rt: tiny proved'
+mkdir -p crates/tiny/out
+printf '#!/bin/sh\\necho "tiny $*"\\n' > crates/tiny/out/tiny
+chmod +x crates/tiny/out/tiny
+echo '2 passed, 0 failed'
+"""
+
+
+class Checkout:
+    """A repository with the programs `tiny` and `other`, and a PATH with that `rt`."""
+
+    def __init__(self, room, seconds):
+        self.top, self.begun, self.fails = room / "top", room / "begun", room / "fails"
+        for name in ("below", "tiny", "other"):
+            (self.top / f"crates/{name}/src").mkdir(parents=True)
+            (self.top / f"crates/{name}/src/main.rt").write_text("// a source\n")
+        (self.top / "crates/tiny/must-fail").mkdir()
+        (self.top / "crates.txt").write_text("# layers\nbelow:\nother: below\ntiny: below\n")
+        (self.top / "HANDLES").write_text("Handles allowed: none.\n")
+        shutil.copytree(TOP / "bin", self.top / "bin", ignore=shutil.ignore_patterns("__pycache__"))
+        (room / "tools").mkdir()
+        for name, text in (("rt", RT), ("rattle", f"#!/bin/bash\nsleep {seconds}\n")):
+            (room / "tools" / name).write_text(text)
+            (room / "tools" / name).chmod(0o755)
+        self.environment = {**os.environ, "PATH": f"{room}/tools:{os.environ['PATH']}", "BEGUN": str(self.begun),
+                            "FAILS": str(self.fails)}
+
+    def start(self, *words, environment=None):
+        return subprocess.Popen([sys.executable, self.top / "bin/run-program", *words], stdin=subprocess.DEVNULL,
+                                stdout=subprocess.PIPE, stderr=subprocess.PIPE, text=True,
+                                env=environment or self.environment)
+
+    def run(self, *words, environment=None):
+        ran = self.start(*words, environment=environment)
+        output, told = ran.communicate(timeout=120)
+        return ran.returncode, output, told
+
+
+def builds_and_runs(checkout):
+    """It tells what is being proved, never silent for 15 seconds, runs the program, and does not build it again."""
+    ran = checkout.start("tiny", "a", "b")
+    times, told = [time.monotonic()], []
+    for line in ran.stderr:
+        times.append(time.monotonic())
+        told.append(line.rstrip("\n"))
+    output = ran.stdout.read()
+    silent = max(after - before for before, after in zip(times, times[1:]))
+    yield "the program's output", ran.wait() == 0 and output == "tiny a b\n"
+    yield "the number of crates", "2 crates" in told[0]
+    yield "what is being proved", any("1 of 2 crates proved; now tiny" in line for line in told)
+    yield "no long silence", silent < 15 and any("now tiny" in line for line in told[3:])
+    yield "the end", told[-1].startswith("bin/tiny: built in ")
+    yield "no second build", checkout.run("tiny", "c") == (0, "tiny c\n", "")
+    old = time.time() + 5
+    os.utime(checkout.top / "crates/other/src/main.rt", (old, old))
+    yield "no build for a source that is not below", checkout.run("tiny") == (0, "tiny \n", "")
+
+
+def fails(checkout):
+    """After an error it shows the end of the log and says where the log is."""
+    checkout.fails.touch()
+    status, output, told = checkout.run("tiny")
+    yield "the status of an error", status == 1 and output == ""
+    yield "the end of the log", "fn tiny::main: not proved" in told
+    log = Path(told.splitlines()[-1].removeprefix("The whole log is "))
+    yield "the whole log", log.is_file() and "rt: below proved" in log.read_text()
+
+
+def stops(checkout):
+    """A signal ends it, and it says that what was proved is kept."""
+    for number in (signal.SIGINT, signal.SIGTERM):
+        checkout.begun.unlink(missing_ok=True)
+        ran = checkout.start("tiny")
+        while not checkout.begun.is_file():
+            time.sleep(0.05)
+        ran.send_signal(number)
+        _, told = ran.communicate(timeout=60)
+        yield f"{number.name}: what it says", ran.returncode == 1 and "the next start goes on from there" in told
+        yield f"{number.name}: no program", not (checkout.top / "crates/tiny/out/tiny").exists()
+
+
+def lacks_the_toolchain(checkout):
+    """Without the toolchain one line says what to do."""
+    tools = Path(checkout.environment["PATH"].partition(":")[0])
+    (tools / "rt").unlink()
+    (tools / "python3").symlink_to(sys.executable)
+    (tools / "env").symlink_to(shutil.which("env"))
+    status, output, told = checkout.run("tiny", environment={**checkout.environment, "PATH": str(tools)})
+    yield "no toolchain", status == 1 and output == "" and len(told.splitlines()) == 1 and "bin/package" in told
+
+
+def main():
+    passed, failed = 0, 0
+    for case, seconds in ((builds_and_runs, 20), (fails, 1), (stops, 5), (lacks_the_toolchain, 1)):
+        with tempfile.TemporaryDirectory() as room:
+            for name, well in case(Checkout(Path(room), seconds)):
+                passed, failed = passed + well, failed + (not well)
+                if not well:
+                    print(f"first build, {name}: not so")
+    print(f"{passed} passed, {failed} failed")
+    return 1 if failed else 0
+
+
+if __name__ == "__main__":
+    sys.exit(main())

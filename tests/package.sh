@@ -1,0 +1,82 @@
+#!/bin/bash
+# Makes the package twice and compares the bytes, unpacks it into an empty folder, and there types the quick start of
+# README.md on a PATH without the toolchain. The last line is 'N passed, M failed'; the status is 0 if nothing failed.
+set -u
+cd "$(dirname "$0")/.."
+
+passed=0
+failed=0
+found=$(mktemp -d)
+trap 'rm -rf "$found"' EXIT
+
+pass() { passed=$((passed + 1)); }
+fail() { echo "package, $1: $2"; failed=$((failed + 1)); }
+
+finish() {
+    echo "$passed passed, $failed failed"
+    [ "$failed" -eq 0 ]
+    exit
+}
+
+# The folders of the PATH that have no toolchain.
+path_without_toolchain() {
+    local folder kept=
+    IFS=: read -ra folders <<< "$PATH"
+    for folder in "${folders[@]}"; do
+        [ -e "$folder/rt" ] || kept=$kept:$folder
+    done
+    echo "${kept#:}"
+}
+
+# A folder with what the quick start uses, where the toolchain lies beside it.
+tools() {
+    local tool
+    mkdir "$found/tools"
+    for tool in bash curl python3; do ln -s "$(command -v "$tool")" "$found/tools/$tool"; done
+    echo "$found/tools:$(path_without_toolchain)"
+}
+
+for turn in 1 2; do
+    if ! bin/package "$found/$turn" > "$found/said"; then
+        fail "making it" "$(tail -n 1 "$found/said")"
+        finish
+    fi
+done
+package=$(basename "$(tail -n 1 "$found/said")")
+if cmp -s "$found/1/$package" "$found/2/$package"; then pass; else fail "$package" "it has other bytes each time"; fi
+
+mkdir "$found/unpacked"
+tar -xzf "$found/1/$package" -C "$found/unpacked"
+unpacked=$found/unpacked/${package%.tar.gz}
+if (cd "$unpacked" && sha256sum --quiet -c SHA256SUMS); then pass; else fail "SHA256SUMS" "it does not fit the files"; fi
+listed=$(wc -l < "$unpacked/SHA256SUMS")
+if [ "$(find "$unpacked" -type f ! -name SHA256SUMS | wc -l)" -eq "$listed" ]; then pass; else fail "SHA256SUMS" "it lacks files"; fi
+if grep -q '^commit [0-9a-f]\{40\}' "$unpacked/BUILT_FROM" && grep -q 'logic [0-9a-f]\{16\}$' "$unpacked/BUILT_FROM"; then
+    pass
+else
+    fail "BUILT_FROM" "it names no commit or no toolchain"
+fi
+version=$(sed -n 's/^dehluvima-\(.*\)-linux-x86_64\.tar\.gz$/\1/p' <<< "$package")
+for program in brokerd client; do
+    said=$("$unpacked/bin/$program" --version)
+    if [ $? -eq 0 ] && [ "$said" = "$program $version" ]; then pass; else fail "$program --version" "$said"; fi
+done
+if command -v systemd-analyze > /dev/null; then
+    sed "s|/usr/local/bin/brokerd|$unpacked/bin/brokerd|" "$unpacked/dehluvima.service" > "$found/dehluvima.service"
+    said=$(systemd-analyze verify "$found/dehluvima.service" 2>&1 | grep -F dehluvima.service)
+    if [ -z "$said" ]; then pass; else fail "the unit" "$said"; fi
+fi
+
+PATH=$(tools)
+export PATH
+if command -v rt > /dev/null; then fail "the path" "it has the toolchain"; fi
+python3 tests/quick_start.py "$unpacked" > "$found/quick" 2>&1
+head -n -1 "$found/quick"
+line=$(tail -n 1 "$found/quick")
+if [[ $line =~ ^([0-9]+)\ passed,\ ([0-9]+)\ failed$ ]]; then
+    passed=$((passed + BASH_REMATCH[1]))
+    failed=$((failed + BASH_REMATCH[2]))
+else
+    fail "quick start" "it ended with: $line"
+fi
+finish

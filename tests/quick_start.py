@@ -1,0 +1,112 @@
+#!/usr/bin/env python3
+"""Types the quick start of README.md in a folder, and compares what the commands print with what the page shows.
+
+usage: tests/quick_start.py FOLDER
+
+The first command of the section "Run it" is started, and stopped by Ctrl-C at the end and started once more; the other
+commands of the shell are run as they stand, but for the port, which is a free one, and the token, which is the one that
+was printed. In what the page shows, `..` is any text, and a time is any time. The last line is 'N passed, M failed'.
+"""
+
+import os
+import re
+import select
+import signal
+import subprocess
+import sys
+from pathlib import Path
+
+TOP = Path(__file__).resolve().parent.parent
+sys.path.insert(0, str(TOP / "tests/clients"))
+import broker  # noqa: E402
+
+PORT = "8200"
+TOKEN = re.compile(r"hvs\.[0-9a-f-]{36}")
+TIME = re.compile(r"\d{4}-\d\d-\d\dT\d\d\\:\d\d\\:\d\dZ|\d{4}\\-\d\d\\-\d\dT\d\d:\d\d:\d\dZ")
+COMMANDS = ("bin/", "curl ", "export ")
+SECONDS = 30
+
+
+def steps():
+    """The commands of the section, each with the lines that it prints, in order."""
+    text = (TOP / "README.md").read_text(encoding="utf-8")
+    section = re.search(r"^## Run it\n(.*?)^## ", text, re.MULTILINE | re.DOTALL)[1]
+    found = []
+    for line in section.splitlines():
+        if line.startswith("    ") and line.strip().startswith(COMMANDS):
+            found.append((line.strip(), []))
+        elif line.startswith("    {") or line.startswith("    root token: "):
+            found[-1][1].append(line.strip())
+    return found
+
+
+def pattern_of(shown):
+    """What a shown line allows."""
+    pattern = ".*".join(re.escape(part.strip()) for part in re.split(r"\s\.\.\s", shown))
+    return TIME.sub(r"[0-9TZ:-]+", pattern)
+
+
+class Broker:
+    """The program that the first command starts."""
+
+    def __init__(self, command, folder):
+        self.ran = subprocess.Popen(["bash", "-c", f"exec {command}"], cwd=folder, stdin=subprocess.DEVNULL,
+                                    stdout=subprocess.PIPE, stderr=subprocess.PIPE, text=True)
+
+    def line(self):
+        """The next line of its standard output."""
+        ready, _, _ = select.select([self.ran.stdout], [], [], SECONDS)
+        return self.ran.stdout.readline().strip() if ready else ""
+
+    def stop(self):
+        self.ran.send_signal(signal.SIGINT)
+        self.ran.wait(SECONDS)
+
+
+def run(command, folder, token, port):
+    """What a shell prints for a command, after the exports of the page."""
+    exports = f"export VAULT_ADDR=http://127.0.0.1:{port} VAULT_TOKEN={token}; "
+    done = subprocess.run(["bash", "-c", exports + command], cwd=folder, stdin=subprocess.DEVNULL, capture_output=True,
+                          text=True, timeout=SECONDS, check=False)
+    return done.stdout.strip() if done.returncode == 0 else f"status {done.returncode}: {done.stderr.strip()}"
+
+
+def main():
+    folder = Path(sys.argv[1])
+    first, *others = steps()
+    port = str(broker.free_port())
+    results = []
+
+    def compare(name, found, shown):
+        well = re.fullmatch(pattern_of(shown), found) is not None
+        results.append(well)
+        if not well:
+            print(f"quick start, {name}: {found[:300]} in place of {shown}")
+
+    server = Broker(first[0].replace(PORT, port), folder)
+    said = server.line()
+    compare("start", TOKEN.sub("TOKEN", said), TOKEN.sub("TOKEN", first[1][0]))
+    token = (TOKEN.findall(said) or [""])[0]
+    broker.connect(int(port)).close()
+    asked = [(command, shown) for command, shown in others if not command.startswith("export ")]
+    for command, shown in asked:
+        compare(command, run(command.replace(PORT, port), folder, token, port), "\n".join(shown))
+    server.stop()
+    server = Broker(first[0].replace(PORT, port), folder)
+    broker.connect(int(port)).close()
+    command, shown = asked[-1]
+    compare(f"after a restart, {command}", run(command.replace(PORT, port), folder, token, port), "\n".join(shown))
+    server.stop()
+    compare("the restart prints no token", server.ran.stdout.read(), "")
+    enough = len(asked) >= 3
+    if not enough:
+        print("quick start: the page has fewer than three commands beside the first")
+    results.append(enough)
+    print(f"{sum(results)} passed, {len(results) - sum(results)} failed")
+    return 0 if all(results) else 1
+
+
+if __name__ == "__main__":
+    os.environ.pop("VAULT_ADDR", None)
+    os.environ.pop("VAULT_TOKEN", None)
+    sys.exit(main())
