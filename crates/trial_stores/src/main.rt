@@ -1,10 +1,10 @@
-//! The program `stores`, for tests: it runs the lines of a replay over either store, and writes the numbers by which
+//! The program `trial_stores`, for tests: it runs the lines of a replay over either store, and writes the numbers by which
 //! such lines are drawn.
 #![tactic(auto)]
 
 ghost use Rattle.std.specs.Prelude.{◌≡◌, IfOk};
 ghost use Rattle.std.specs.Process.{exit_status};
-ghost use Rattle.stores.specs.Exits.{status_after};
+ghost use Rattle.trial_stores.specs.Exits.{status_after};
 
 mod numbers;
 mod retrying;
@@ -21,7 +21,7 @@ use std::process::ExitCode;
 use std::{env, io};
 use task::{Task, task_of};
 
-const USAGE: &str = "usage: stores list | sql | retry | numbers";
+const USAGE: &str = "usage: trial_stores list | sql | retry | numbers";
 
 fn main(rt: HostRuntime) -> anyhow::Result<ExitCode> {
     let alloc = rt.alloc();

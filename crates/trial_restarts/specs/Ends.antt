@@ -1,8 +1,8 @@
 -- How the program ends (this project's).
 use Rattle.std.specs.Prelude.{ℕ}
 use Rattle.replay.specs.declared.replaying.Exit.TheVariants.{Done, Faulted, BadLine}
-use Rattle.restarts.specs.declared.ending.End.{End}
-use Rattle.restarts.specs.declared.ending.End.TheVariants.{Replayed, Wrong}
+use Rattle.trial_restarts.specs.declared.ending.End.{End}
+use Rattle.trial_restarts.specs.declared.ending.End.TheVariants.{Replayed, Wrong}
 
 -- the status that the program ends with after a task
 abbrev pub status_after : End → ℕ

@@ -1,10 +1,10 @@
-//! The program `restarts`, for tests: it runs the lines of a replay over files that are closed and opened again, and
+//! The program `trial_restarts`, for tests: it runs the lines of a replay over files that are closed and opened again, and
 //! over files that stop.
 #![tactic(auto)]
 
 ghost use Rattle.std.specs.Prelude.{◌≡◌, IfOk};
 ghost use Rattle.std.specs.Process.{exit_status};
-ghost use Rattle.restarts.specs.Ends.{status_after};
+ghost use Rattle.trial_restarts.specs.Ends.{status_after};
 
 mod again;
 mod ending;
@@ -30,7 +30,7 @@ use std::{env, io};
 use stopped::run_stopped;
 use task::{Task, task_of};
 
-const USAGE: &str = "usage: restarts reopened | stopped | again";
+const USAGE: &str = "usage: trial_restarts reopened | stopped | again";
 
 fn main(rt: HostRuntime) -> anyhow::Result<ExitCode> {
     let alloc = rt.alloc();

@@ -10,9 +10,9 @@ of them, spread over all; `write` writes one more version of one; `create` makes
 and creations, so that no secret has more than two versions. Nothing ends meanwhile.
 
 `measure` calls PROGRAM, a built program itself, as `PROGRAM WORD` without the requests and with those of each kind, N
-times each by turns (3 if not given): `brokerd replay`, or `stores list` or `stores sql`, over one store or the other.
-It prints the medians of the user time, and what their difference is for one request; in brackets the least and the
-greatest difference of one turn.
+times each by turns (3 if not given): `brokerd replay`, or `trial_stores list` or `trial_stores sql`, over one store or
+the other. It prints the medians of the user time, and what their difference is for one request; in brackets the least
+and the greatest difference of one turn.
 """
 
 import argparse

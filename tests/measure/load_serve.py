@@ -29,7 +29,7 @@ from pathlib import Path
 
 import many_rows
 
-sys.path.insert(0, str(Path(__file__).resolve().parent / "clients"))
+sys.path.insert(0, str(Path(__file__).resolve().parent.parent / "clients"))
 from broker import Broker, connect, reply, request  # noqa: E402
 from load import asked  # noqa: E402
 

@@ -3,10 +3,11 @@
 
     python3 instructions_serve.py PROGRAM MANY REQUESTS [--db [FOLDER]] [--kinds KIND..] [--caller policies]
 
-The kinds are those of instructions.py, and `look_up`, `wrap`, `unwrap` and `list` of load_serve.py. The rows and --db are as there, and
-the caller is root, or else that of instructions.py with its policies. No instructions are counted until the rows are
-there; then those of REQUESTS requests of each kind, one kind after the other, and with them those of one look-up of the
-root token by itself, which is the first request of each connection. It prints what one of them costs.
+The kinds are those of instructions.py, and `look_up`, `wrap`, `unwrap` and `list` of load_serve.py. The rows and --db
+are as there, and the caller is root, or else that of instructions.py with its policies. No instructions are counted
+until the rows are there; then those of REQUESTS requests of each kind, one kind after the other, and with them those of
+one look-up of the root token by itself, which is the first request of each connection. It prints what one of them
+costs.
 """
 
 import argparse
@@ -14,13 +15,16 @@ import json
 import os
 import re
 import subprocess
+import sys
 import tempfile
 from pathlib import Path
 
 import many_rows
-from clients.broker import Broker, connect, reply, request
-from instructions import KINDS, POLICIES, by, policy
-from load_serve import Asked, filled, token_in
+
+sys.path.insert(0, str(Path(__file__).resolve().parent.parent / "clients"))
+from broker import Broker, connect, reply, request  # noqa: E402
+from instructions import KINDS, POLICIES, by, policy  # noqa: E402
+from load_serve import Asked, filled, token_in  # noqa: E402
 
 ALL_KINDS = ["read", "look_up_self", "look_up", "write", "create", "wrap", "unwrap", "list"]
 
