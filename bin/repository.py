@@ -41,13 +41,33 @@ def copy_crates(to, names):
 
 
 class NotApplied(Exception):
-    """An edit that cannot be applied; its text says why."""
+    """An edit that cannot be applied, or no edit; its text says why."""
+
+
+def edits_in(place):
+    """The texts of edits by name: of a folder with a file NAME.edit for each, or of a file of blocks (docs/GATE.md)."""
+    if not place.is_file():
+        return {path.stem: path.read_text(encoding="utf-8") for path in sorted(place.glob("*.edit"))}
+    edits, name = {}, ""
+    for number, line in enumerate(place.read_text(encoding="utf-8").split("\n"), start=1):
+        if not name and line.startswith("edit: "):
+            name = line[6:].strip()
+            if name in edits:
+                raise NotApplied(f"{place}:{number}: there are two edits {name}")
+            edits[name] = ""
+        elif name and line.startswith(("file: ", "old: ", "new:")):
+            edits[name] += f"{line}\n"
+        elif not line:
+            name = ""
+        elif name or not line.startswith("#"):
+            raise NotApplied(f"{place}:{number}: it is no line of an edit")
+    return edits
 
 
 def changes_of(edit):
-    """The changes that an edit lists: the path of a file in the crate, the old text and the new one."""
+    """The changes that the text of an edit lists: the path of a file in the crate, the old text and the new one."""
     path, old, changes = "", None, []
-    for line in edit.read_text(encoding="utf-8").split("\n"):
+    for line in edit.split("\n"):
         if line.startswith("file: "):
             path = line[6:].strip()
         elif line.startswith("old: "):

@@ -1,7 +1,7 @@
 #!/usr/bin/env python3
 """Writes the lines of a replay: a start, and 5,000 whole requests over all routes, to compare the two stores.
 
-    bin/stores numbers | python3 tests/drawn_requests.py > lines
+    tests/trial_stores numbers | python3 tests/drawn_requests.py > lines
 
 The numbers on standard input, one on each line in hexadecimal digits, draw the requests: the same numbers draw the same
 requests. `REQUESTS` is what is asked. Paths and tokens are among eight each, so that requests meet what earlier ones

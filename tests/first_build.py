@@ -74,7 +74,7 @@ def builds_and_runs(checkout):
     yield "the number of crates", "2 crates" in told[0]
     yield "what is being proved", any("1 of 2 crates proved; now tiny" in line for line in told)
     yield "no long silence", silent < 15 and any("now tiny" in line for line in told[3:])
-    yield "the end", told[-1].startswith("bin/tiny: built in ")
+    yield "the end", told[-1].startswith("tiny: built in ")
     yield "no second build", checkout.run("tiny", "c") == (0, "tiny c\n", "")
     old = time.time() + 5
     os.utime(checkout.top / "crates/other/src/main.rt", (old, old))

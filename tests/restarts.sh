@@ -15,7 +15,7 @@ fail() { echo "restarts, $1: $2"; failed=$((failed + 1)); }
 
 # Runs the rows over files that are opened again, and adds their counts.
 run_rows() {
-    tests/rows.sh bin/restarts reopened > "$found/rows"
+    tests/rows.sh tests/trial_restarts reopened > "$found/rows"
     if [[ $(tail -n 1 "$found/rows") =~ ^([0-9]+)\ passed,\ ([0-9]+)\ failed$ ]]; then
         passed=$((passed + BASH_REMATCH[1]))
         failed=$((failed + BASH_REMATCH[2]))
@@ -27,7 +27,7 @@ run_rows() {
 
 # Stops a run at each call on each file. Each file has to meet a stop at least: stop ROW
 stop() {
-    bin/restarts stopped < "tests/rows/$1.replay" > "$found/out" 2> "$found/err"
+    tests/trial_restarts stopped < "tests/rows/$1.replay" > "$found/out" 2> "$found/err"
     local status=$?
     if [ "$status" -ne 0 ] || [ -s "$found/err" ]; then
         fail "stopped, $1" "status $status: $(head -c 200 "$found/err")"
@@ -42,7 +42,7 @@ stop() {
 # There the step that was stopped was taken sometimes, and sometimes not. Without it the reply to the last event has to
 # be the last but one of the row, and with it the last one: again ROW
 again() {
-    bin/restarts again < "tests/rows/$1.replay" > "$found/out" 2> "$found/err"
+    tests/trial_restarts again < "tests/rows/$1.replay" > "$found/out" 2> "$found/err"
     local status=$? times='[1-9][0-9]* times'
     head -n -1 "$found/out" > "$found/replies"
     awk -v events="$(wc -l < "tests/rows/$1.replay")" '/^HTTP\/1.1 / { count += 1 } count > events - 3' \
@@ -60,8 +60,8 @@ again() {
 
 # A wrong command line has to be refused with a usage message: refuse ARGUMENT..
 refuse() {
-    bin/restarts "$@" < /dev/null > "$found/out" 2> "$found/err"
-    if [ $? -eq 2 ] && [ ! -s "$found/out" ] && grep -q '^usage: restarts ' "$found/err"; then
+    tests/trial_restarts "$@" < /dev/null > "$found/out" 2> "$found/err"
+    if [ $? -eq 2 ] && [ ! -s "$found/out" ] && grep -q '^usage: trial_restarts ' "$found/err"; then
         pass
     else
         fail "the command line '$*'" "it is taken: $(head -c 200 "$found/err")"

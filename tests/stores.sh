@@ -1,7 +1,7 @@
 #!/bin/bash
 # Compares the two stores: every row of tests/rows over each, and 5,000 requests that tests/drawn_requests.py draws by
-# the numbers of `stores numbers`. Both stores have to answer these byte for byte as the reference broker does. The last
-# line is 'N passed, M failed'; the status is 0 if nothing failed.
+# the numbers of `trial_stores numbers`. Both stores have to answer these byte for byte as the reference broker does.
+# The last line is 'N passed, M failed'; the status is 0 if nothing failed.
 set -u
 cd "$(dirname "$0")/.."
 
@@ -15,7 +15,7 @@ fail() { echo "stores, $1: $2"; failed=$((failed + 1)); }
 
 # Runs the rows over a store, and adds their counts.
 run_rows() {
-    tests/rows.sh bin/stores "$1" > "$found/rows"
+    tests/rows.sh tests/trial_stores "$1" > "$found/rows"
     if [[ $(tail -n 1 "$found/rows") =~ ^([0-9]+)\ passed,\ ([0-9]+)\ failed$ ]]; then
         passed=$((passed + BASH_REMATCH[1]))
         failed=$((failed + BASH_REMATCH[2]))
@@ -27,7 +27,7 @@ run_rows() {
 
 # Runs a task, which has to end with status 0 and nothing on standard error: run TASK INPUT OUTPUT
 run() {
-    bin/stores "$1" < "$2" > "$3" 2> "$found/err"
+    tests/trial_stores "$1" < "$2" > "$3" 2> "$found/err"
     local status=$?
     if [ "$status" -eq 0 ] && [ ! -s "$found/err" ]; then
         pass
@@ -48,8 +48,8 @@ replies() {
 
 # A wrong command line has to be refused with a usage message: refuse ARGUMENT..
 refuse() {
-    bin/stores "$@" < /dev/null > "$found/out" 2> "$found/err"
-    if [ $? -eq 2 ] && [ ! -s "$found/out" ] && grep -q '^usage: stores ' "$found/err"; then
+    tests/trial_stores "$@" < /dev/null > "$found/out" 2> "$found/err"
+    if [ $? -eq 2 ] && [ ! -s "$found/out" ] && grep -q '^usage: trial_stores ' "$found/err"; then
         pass
     else
         fail "the command line '$*'" "it is taken: $(head -c 200 "$found/err")"

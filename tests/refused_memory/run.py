@@ -4,8 +4,8 @@
     python3 run.py PROGRAM WORD [REPLAY...]
 
 PROGRAM is a built program itself, and is called as `PROGRAM WORD` with a replay on its standard input: `brokerd replay`,
-`stores list`, or `stores retry`, which sends a request that met a fault once more. Beside `NAME.replay` stands
-`NAME.out`, the usual replies. For each N, the Nth allocation is refused in one run, and the Nth and all later ones in
+`trial_stores list`, or `trial_stores retry`, which sends a request that met a fault once more. Beside `NAME.replay`
+stands `NAME.out`, the usual replies. For each N, the Nth allocation is refused in one run, and the Nth and all later ones in
 another. Each run has to give the usual replies, status 0 and nothing on standard error, or else whole replies from the
 first one on, status 1 and `fault 1`, or `fault 2` if the database failed. The greater N, the more replies come before
 the fault, by one reply at a time. With `retry`, where the Nth allocation alone is refused, only a start may end by a

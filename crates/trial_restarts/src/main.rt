@@ -1,0 +1,96 @@
+//! The program `trial_restarts`, for tests: it runs the lines of a replay over files that are closed and opened again, and
+//! over files that stop.
+#![tactic(auto)]
+
+ghost use Rattle.std.specs.Prelude.{◌≡◌, IfOk};
+ghost use Rattle.std.specs.Process.{exit_status};
+ghost use Rattle.trial_restarts.specs.Ends.{status_after};
+
+mod again;
+mod ending;
+mod left;
+mod lent;
+mod opening;
+mod reading;
+mod reopened;
+mod rows;
+mod running;
+mod stopped;
+mod stops;
+mod task;
+
+use again::run_again;
+use ending::End;
+use endpoints::{Reading, Writing};
+use reopened::replay_reopened;
+use replay::Exit;
+use std::io::Eprint;
+use std::process::ExitCode;
+use std::{env, io};
+use stopped::run_stopped;
+use task::{Task, task_of};
+
+const USAGE: &str = "usage: trial_restarts reopened | stopped | again";
+
+fn main(rt: HostRuntime) -> anyhow::Result<ExitCode> {
+    let alloc = rt.alloc();
+    let words = match env::args(&rt).and_then(|words| Ok(words.collect::<Vec<String>>(alloc)?)) {
+        Ok(words) => words,
+        Err(_) => return tell(&rt, End::Replayed(Exit::Faulted(1))),
+    };
+    let Some(task) = task_of(words.as_slice()) else {
+        eprintln!(rt; "{USAGE}")?;
+        return Ok(ExitCode::from(2));
+    };
+    let mut reader = Reading::new(rt.reader());
+    let end = match task {
+        Task::Reopened => {
+            let mut writer = Writing::new(io::writer(&rt));
+            End::Replayed(replay_reopened(alloc, &mut reader, &mut writer))
+        }
+        Task::Stopped => match run_stopped(alloc, &mut reader) {
+            Ok((log, database)) => {
+                println!(rt; "{log} stops of the log, {database} of the database")?;
+                End::Replayed(Exit::Done)
+            }
+            Err(end) => end,
+        },
+        Task::Again => {
+            let mut writer = Writing::new(io::writer(&rt));
+            match run_again(alloc, &mut reader, &mut writer) {
+                Ok((without, with)) => {
+                    println!(rt; "not taken {without} times, taken {with} times")?;
+                    End::Replayed(Exit::Done)
+                }
+                Err(end) => end,
+            }
+        }
+        Task::Help => {
+            println!(rt; "{USAGE}")?;
+            End::Replayed(Exit::Done)
+        }
+    };
+    tell(&rt, end)
+}
+
+/// Says on standard error why the task did not end well, if so, and answers the status: 0, or 1 after a fault or at rows
+/// that are not what they should be, or 2 at a bad line.
+fn tell<R: Eprint>(rt: &R, end: End) -> anyhow::Result<ExitCode>
+    ensures { IfOk result (λ code. exit_status code ≡ status_after end) }
+{
+    match end {
+        End::Replayed(Exit::Done) => Ok(ExitCode::SUCCESS),
+        End::Replayed(Exit::Faulted(number)) => {
+            eprintln!(rt; "fault {number}")?;
+            Ok(ExitCode::from(1))
+        }
+        End::Replayed(Exit::BadLine(number)) => {
+            eprintln!(rt; "bad line {number}")?;
+            Ok(ExitCode::from(2))
+        }
+        End::Wrong(stop) => {
+            eprintln!(rt; "{stop}: another broker is found")?;
+            Ok(ExitCode::from(1))
+        }
+    }
+}
