@@ -32,13 +32,13 @@ free_port() { python3 -c 'import sys; sys.path.insert(0, "tests/clients"); impor
 
 is_listened_on() { (exec 3<> "/dev/tcp/127.0.0.1/$port") 2> /dev/null; }
 
-# Starts the program on a free port, for so many connections beside the one that finds out whether it listens, and with
-# more arguments: start CONNECTIONS [ARGUMENT..]
+# Starts the program on a free port, with more arguments: start ARGUMENT.. It takes a connection to find out whether the
+# program listens.
 start() {
     local attempt turn
     for attempt in 1 2 3 4 5; do
         port=$(free_port)
-        "$program" serve --listen "127.0.0.1:$port" --connections "$@" > "$found/served" 2> "$found/served.err" &
+        "$program" serve --listen "127.0.0.1:$port" "$@" > "$found/served" 2> "$found/served.err" &
         pid=$!
         for turn in $(seq 100); do
             is_listened_on && return
@@ -156,10 +156,70 @@ ask_by_client() {
     if [ $? -eq 1 ] && grep -qF 'wrapping token is' "$found/body"; then pass; else fail "client" "another unwrap"; fi
 }
 
+# Runs the client with VAULT_ADDR and VAULT_TOKEN, and compares its status and what it writes to a stream:
+# client_says NAME STATUS out|err TEXT ARGUMENT..
+client_says() {
+    local name=$1 wanted=$2 stream=$3 text=$4 status
+    shift 4
+    VAULT_ADDR=$url VAULT_TOKEN=$token timeout 20 "${CLIENT:-bin/client}" "$@" > "$found/out" 2> "$found/err"
+    status=$?
+    if [ "$status" != "$wanted" ]; then
+        fail "client, $name" "status $status in place of $wanted: $(head -c 200 "$found/err")"
+    elif ! grep -qF -- "$text" "$found/$stream"; then
+        fail "client, $name" "no $text in $(head -c 200 "$found/$stream")"
+    else
+        pass
+    fi
+}
+
+# The client takes its server and its token from the environment, and a body from standard input.
+ask_by_environment() {
+    local url=http://127.0.0.1:$port bad
+    [ -x "${CLIENT:-bin/client}" ] || return
+    echo '{"data":{"from":"standard input"}}' > "$found/body.json"
+    client_says "a body of standard input" 0 out '"version":1' write secret/data/input - < "$found/body.json"
+    client_says "what was written" 0 out '"data":{"from":"standard input"}' read secret/data/input
+    url=$url/ client_says "a slash at the end" 0 out '"from"' read secret/data/input
+    url=http://127.0.0.1:1 client_says "the option for the server" 0 out '"from"' \
+        --addr "127.0.0.1:$port" read secret/data/input
+    url=http://127.0.0.1:1 client_says "the server of the environment" 1 err 'fault 5' read secret/data/input
+    client_says "the option for the token" 1 out 'permission denied' --token=hvs.none read secret/data/input
+    token=hvs.none client_says "the token of the environment" 1 out 'permission denied' read secret/data/input
+    token= client_says "an empty token" 1 out 'missing client token' read secret/data/input
+    url='' client_says "no server" 2 err '--addr <ADDR>' read secret/data/input
+    url=https://127.0.0.1:$port client_says "TLS" 2 err 'has no TLS' read secret/data/input
+    for bad in 127.0.0.1:8200 http://127.0.0.1 http://:8200 http://127.0.0.1:8200/v1 http://127.0.0.1:99999; do
+        url=$bad client_says "the server $bad" 2 err 'VAULT_ADDR is not http://HOST:PORT' read secret/data/input
+    done
+    url=https://nowhere client_says "help" 0 out 'Usage:' --help
+    url=https://nowhere client_says "version" 0 out "client " --version
+    head -c 1048576 /dev/zero | tr '\0' ' ' > "$found/longest"
+    client_says "a body as long as it can be" 1 out 'errors' write secret/data/input - < "$found/longest"
+    client_says "a body that is too long" 2 err 'longer than 1048576 bytes' write secret/data/input - < "$found/long"
+    printf '\377' > "$found/bytes"
+    client_says "a body that is no text" 2 err 'not UTF-8' write secret/data/input - < "$found/bytes"
+    client_says "a path of -" 1 out '"errors"' read - < "$found/body.json"
+}
+
+# Without --connections the program ends after 1,000 connections, and with --until-stopped it does not.
+serve_without_an_end() {
+    local number
+    start
+    for number in $(seq 999); do is_listened_on || break; done
+    wait "$pid"
+    if [ $? -eq 0 ] && [ "$number" -eq 999 ]; then pass; else fail "1,000 connections" "status $?, after $number"; fi
+    start --until-stopped
+    token=$(sed -n 's/^root token: //p' "$found/served")
+    for number in $(seq 1500); do is_listened_on || break; done
+    ask "after 1,500 connections" 200 '"policies":["root"]' "http://127.0.0.1:$port/v1/auth/token/lookup-self"
+    if [ "$number" -eq 1500 ] && kill -0 "$pid" 2> /dev/null; then pass; else fail "--until-stopped" "it has ended"; fi
+    stop
+}
+
 # A broker in a file: stopped by SIGKILL and started again it is the one that it was, and prints no token.
 keep_in_a_file() {
     local file=$found/broker.db url wrapping
-    start 4294967295 --db "$file"
+    start --until-stopped --db "$file"
     token=$(sed -n 's/^root token: //p' "$found/served")
     url=http://127.0.0.1:$port/v1
     ask "write to a file" 200 '"version":1' -d '{"data":{"user":"app"}}' "$url/secret/data/app"
@@ -169,7 +229,7 @@ keep_in_a_file() {
     if [ "$(stat -c %a "$file" "$file-wal" | sort -u)" = 600 ]; then pass; else fail "a file" "others may read it"; fi
     kill -9 "$pid"
     stop
-    start 4294967295 --db "$file"
+    start --until-stopped --db "$file"
     if [ ! -s "$found/served" ]; then pass; else fail "a restart" "it prints $(head -c 200 "$found/served")"; fi
     url=http://127.0.0.1:$port/v1
     ask "read after a restart" 200 '"data":{"user":"app"}' "$url/secret/data/app"
@@ -180,7 +240,7 @@ keep_in_a_file() {
 import sqlite3
 with sqlite3.connect('$file') as database:
     database.execute(\"UPDATE broker_rows SET body = x'02' WHERE kind = 11\")"
-    start 4294967295 --db "$file"
+    start --until-stopped --db "$file"
     curl -s -m 20 -o "$found/body" -H "X-Vault-Token: $token" "http://127.0.0.1:$port/v1/secret/data/app"
     wait "$pid"
     if [ $? -eq 1 ] && [ "$(cat "$found/served.err")" = 'fault 3' ]; then pass; else fail "a damaged row" "it is served on"; fi
@@ -202,11 +262,12 @@ fi
 program=${BROKERD:-crates/brokerd/out/brokerd}
 head -c 1048577 /dev/zero > "$found/long"
 
-start 4294967295
+start --until-stopped
 token=$(sed -n 's/^root token: \(hvs\.[0-9a-f-]\{36\}\)$/\1/p' "$found/served")
 if [ -n "$token" ]; then pass; else fail "root token" "$(head -c 200 "$found/served")"; fi
 ask_by_curl
 ask_by_client
+ask_by_environment
 count python3 tests/clients/keep_alive.py "$port" "$token" 10000
 count "$(python_with_hvac)" tests/clients/hvac_calls.py "$port" "$token"
 count "$(python_with_hvac)" tests/clients/hvac_methods.py "$port" "$token"
@@ -221,12 +282,16 @@ run "a command with too many words" 2 'Usage:' replay twice
 run "no address" 2 '--listen <ADDR>' serve
 run "no connections" 2 '--connections <N>' serve --listen 127.0.0.1:0 --connections 0
 run "too many connections" 2 '--connections <N>' serve --listen 127.0.0.1:0 --connections 4294967296
+run "both a number and no end" 2 'give one of them' serve --listen 127.0.0.1:0 --connections 1 --until-stopped
+run "no end with a value" 2 '--until-stopped' serve --listen 127.0.0.1:0 --until-stopped=yes
 run "another machine's address" 1 'fault 5' serve --listen 192.0.2.1:8200
 run "no address at all" 1 'fault 5' serve --listen nowhere
 output=/dev/full run "a token that cannot be printed" 1 'fault 6' serve --listen 127.0.0.1:0
 
+if [[ $("$program" --version) =~ ^brokerd\ [0-9]+\.[0-9]+\.[0-9]+$ ]]; then pass; else fail "--version" "no version"; fi
+
 first=$token
-start 3
+start --connections 3
 token=$(sed -n 's/^root token: //p' "$found/served")
 if [ "$token" != "$first" ]; then pass; else fail "root token" "two brokers have the same"; fi
 ask "the second of three" 200 '"policies":["root"]' "http://127.0.0.1:$port/v1/auth/token/lookup-self"
@@ -236,6 +301,7 @@ status=$?
 pid=
 if [ "$status" -eq 0 ] && [ ! -s "$found/served.err" ]; then pass; else fail "after three connections" "status $status"; fi
 
+serve_without_an_end
 keep_in_a_file
 count python3 tests/clients/databases.py "$program"
 count python3 tests/clients/slow_peers.py "$program"
