@@ -203,11 +203,13 @@ ask_by_environment() {
 
 # Without --connections the program ends after 1,000 connections, and with --until-stopped it does not.
 serve_without_an_end() {
-    local number
+    local number status
     start
     for number in $(seq 999); do is_listened_on || break; done
     wait "$pid"
-    if [ $? -eq 0 ] && [ "$number" -eq 999 ]; then pass; else fail "1,000 connections" "status $?, after $number"; fi
+    status=$?
+    pid=
+    if [ "$status" -eq 0 ] && [ "$number" -eq 999 ]; then pass; else fail "1,000 connections" "status $status, after $number"; fi
     start --until-stopped
     token=$(sed -n 's/^root token: //p' "$found/served")
     for number in $(seq 1500); do is_listened_on || break; done
