@@ -2,10 +2,11 @@
 """Each method of Python's hvac that a broker serves, called and its answer compared; and each that it does not serve.
 
     python3 tests/clients/hvac_methods.py PORT ROOT_TOKEN
+    python3 tests/clients/hvac_methods.py --table
 
-Those that are not served are in docs/CLIENTS.md, and are tried by hvac_refused.py. What the installed hvac lacks is
-named, and is neither passed nor failed. If hvac is not installed, it says so, and nothing is tried. The last line is
-'N passed, M failed'.
+Those that are not served are tried by hvac_refused.py; the second line prints them as a table, without a broker. What
+the installed hvac lacks is named, and is neither passed nor failed. If hvac is not installed, it says so, and nothing
+is tried. The last line is 'N passed, M failed'.
 """
 
 import inspect
@@ -13,7 +14,7 @@ import sys
 import warnings
 from unittest.mock import ANY
 
-from hvac_refused import method_of, try_refused
+from hvac_refused import method_of, table, try_refused
 
 try:
     import hvac
@@ -460,6 +461,9 @@ def try_served(client):
 
 
 def main():
+    if sys.argv[1:] == ["--table"]:
+        print(table())
+        return 0
     if hvac is None:
         print("hvac is not installed for this Python: its methods are skipped")
         print("0 passed, 0 failed")
