@@ -138,9 +138,9 @@ fn body<'a>(alloc: Global) -> Arg<'a>
     ensures rule { rule_of result ≡ value_rule (codes "body") }
     ensures local { result.global ≡ false }
 {
-    Arg::new(alloc, "body")
-        .value_name("BODY")
-        .help("The object, as JSON; {} if it is left out; - reads it from standard input")
+    Arg::new(alloc, "body").value_name("BODY").help(
+        "The object, as JSON; {} if it is left out; - reads it from standard input",
+    )
 }
 
 fn wrapping_token<'a>(alloc: Global) -> Arg<'a>

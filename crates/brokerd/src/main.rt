@@ -45,7 +45,9 @@ fn main(rt: HostRuntime) -> anyhow::Result<ExitCode> {
             tell(&rt, exit)
         }
         Ok(None) => {
-            eprintln!(&rt; "brokerd: --until-stopped takes the place of --connections: give one of them")?;
+            eprintln!(&rt;
+                "brokerd: --until-stopped takes the place of --connections: give one of them"
+            )?;
             Ok(ExitCode::from(2))
         }
         Err(error) => refuse(&rt, &error),

@@ -21,7 +21,9 @@ use words::{Incomplete, complete};
 
 fn main(rt: HostRuntime) -> anyhow::Result<ExitCode> {
     let alloc = rt.alloc();
-    let mut words = match env::args(&rt).and_then(|words| Ok(words.collect::<Vec<String>>(alloc)?)) {
+    let mut words = match env::args(&rt).and_then(|words| Ok(words.collect::<Vec<String>>(
+        alloc,
+    )?)) {
         Ok(words) => words,
         Err(error) => return refuse_words(&rt, &error),
     };

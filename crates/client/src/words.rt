@@ -114,11 +114,9 @@ fn put_option(
 /// The host and the port of a URL `http://HOST:PORT`, which may end with a slash.
 fn address_of(url: &str) -> Result<&str, Incomplete> {
     if url.starts_with("https://") {
-        return Err(
-            Incomplete::Mistake(
-                "VAULT_ADDR begins with https://, and this client has no TLS: write http://HOST:PORT",
-            ),
-        );
+        return Err(Incomplete::Mistake(
+            "VAULT_ADDR begins with https://, and this client has no TLS: write http://HOST:PORT",
+        ));
     }
     let Some(rest) = url.strip_prefix("http://") else {
         return Err(Incomplete::Mistake("VAULT_ADDR is not http://HOST:PORT"));
@@ -133,10 +131,12 @@ fn address_of(url: &str) -> Result<&str, Incomplete> {
 /// Whether the words are those of a write with the body `-`.
 fn asks_for_input(alloc: Global, words: &[String]) -> bool {
     match command_of(alloc, words) {
-        Ok(Command {
-            request: Request::Write(_, body),
-            ..
-        }) => body.as_slice() == b"-",
+        Ok(
+            Command {
+                request: Request::Write(_, body),
+                ..
+            },
+        ) => body.as_slice() == b"-",
         _ => false,
     }
 }
@@ -150,9 +150,7 @@ fn text_of<I: Read + Drop>(alloc: Global, input: I) -> Result<String, Incomplete
         Err(_) => return Err(Incomplete::Unread),
     }
     if bytes.len() > LONGEST_BODY {
-        return Err(Incomplete::Mistake(
-            "BODY on standard input is longer than 1048576 bytes",
-        ));
+        return Err(Incomplete::Mistake("BODY on standard input is longer than 1048576 bytes"));
     }
     match String::from_utf8(bytes) {
         Ok(text) => Ok(text),

@@ -65,7 +65,14 @@ fn two_peers_over_the_loopback(rt: HostRuntime) -> Result<(), Fail> {
     second.write_all(READ.as_bytes())?;
     second.shutdown(Shutdown::Write)?;
     let mut words = Same(Words([32, 33, 34, 35, 36, 37, 38, 39]));
-    serve(&rt, &mut hub, &listener, Some(2), &mut Fixed(moment), &mut words)?;
+    serve(
+        &rt,
+        &mut hub,
+        &listener,
+        Some(2),
+        &mut Fixed(moment),
+        &mut words,
+    )?;
     let written = io::read_to_string(alloc, first)?;
     assert_eq!(rt; written.as_str(), WRITTEN);
     let found = io::read_to_string(alloc, second)?;

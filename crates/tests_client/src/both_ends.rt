@@ -75,7 +75,14 @@ fn serve_one(
 ) -> Result<(), Fault> {
     let mut hub = Hub::new(rt.alloc(), store);
     let mut same = Same(Words([32, 33, 34, 35, 36, 37, 38, 39]));
-    serve(rt, &mut hub, listener, Some(1), &mut Fixed(moment), &mut same)
+    serve(
+        rt,
+        &mut hub,
+        listener,
+        Some(1),
+        &mut Fixed(moment),
+        &mut same,
+    )
 }
 
 /// The status and the body of the reply that comes on the stream.
