@@ -136,7 +136,7 @@ fn asks_for_input(alloc: Global, words: &[String]) -> bool {
                 request: Request::Write(_, body),
                 ..
             },
-        ) => body.as_slice() == b"-",
+        ) => body.as_slice() == b"-".as_slice(),
         _ => false,
     }
 }
