@@ -23,6 +23,9 @@ local c a same plain =
 top : {a b : App} → a ≡ b → a.top ≡ b.top
 top e = ap (λ (a : App). a.top) e
 
+abbrev has_a_version : App → App
+has_a_version a = record a { top = record a.top { has_version = true } }
+
 abbrev wants_subcommand : App → App
 wants_subcommand a = record a { top = record a.top { subcommand_required = true } }
 
@@ -30,7 +33,8 @@ pub returns : goal.returns
 unfolding program_app
 returns c =
     let told : app_of c.about.result ≡ new_app _ = ap app_of_fields c.about.ensures ∙ c.new.ensures.app in
-    let begun : app_of c.subcommand_required.result ≡ top_app = ap app_of_fields c.subcommand_required.ensures ∙ ap wants_subcommand told in
+    let versioned : app_of c.version.result ≡ has_a_version (new_app _) = ap app_of_fields c.version.ensures ∙ ap has_a_version told in
+    let begun : app_of c.subcommand_required.result ≡ top_app = ap app_of_fields c.subcommand_required.ensures ∙ ap wants_subcommand versioned in
     let one = c.in_ok-subcommand.ensures.shape (local _ _ c.replay.ensures refl) ∙ ap₂ with_subcommand begun (top c.replay.ensures) in
     IfOk-weaker c.subcommand-2.result _ _
     (λ d h. h.shape (local _ _ c.in_ok-serve.ensures refl) ∙ ap₂ with_subcommand one (top c.in_ok-serve.ensures))

@@ -9,4 +9,5 @@ returns c =
     let told : app_of c.about.result ≡ new_app _ = ap app_of_fields c.about.ensures ∙ c.new.ensures.app in
     let one = c.in_ok-arg.ensures.shape c.listen.ensures.local ∙ ap₂ with_rule told c.listen.ensures.rule in
     let two = c.in_ok-arg-2.ensures.shape c.db.ensures.local ∙ ap₂ with_rule one c.db.ensures.rule in
-    IfOk-weaker c.arg-3.result _ _ (λ d h. h.shape c.connections.ensures.local ∙ ap₂ with_rule two c.connections.ensures.rule) c.arg-3.ensures
+    let three = c.in_ok-arg-3.ensures.shape c.connections.ensures.local ∙ ap₂ with_rule two c.connections.ensures.rule in
+    IfOk-weaker c.arg-4.result _ _ (λ d h. h.shape c.until_stopped.ensures.local ∙ ap₂ with_rule three c.until_stopped.ensures.rule) c.arg-4.ensures
