@@ -13,6 +13,7 @@ use Rattle.hub.specs.HistoriesLaws.{asked_on, left_on, run_left}
 use Rattle.hub.specs.Representing.{ConnectionsRepresent, HubRepresents, hub_store}
 use Rattle.hub.specs.Serving.{Exchange, IsAllowed, IsGone, IsKnown, LeavesClosed, LeavesOthers, Proceeds, Stops}
 use Rattle.hub.specs.World.{Connections, History, World, history_at, new_history}
+use Rattle.hub.specs.declared.event.Event.{Event}
 use Rattle.hub.specs.declared.hub.Hub.{Hub}
 use Rattle.hub.specs.declared.serve.ConnectionFault.{ConnectionFault}
 use Rattle.hub.specs.declared.serve.ConnectionFault.TheVariants.{Broker, Read, Write}
@@ -198,21 +199,21 @@ closed_world seen mid new w left same broker connections =
     record { broker = subst (λ (k : Kept). Represents None k.rows w.broker) (sym same) broker; connections = connections }
 
 -- what the events of the connection asked, up to a fault, before it was closed
-serves_connection : {A S : Type 0} (seen : S → Kept) (conn : ℕ) (Reads Writes : List ℕ → Type 0) (end : Result A ConnectionFault)
-    (old mid new : Hub S) → ((all : Connections) → ConnectionsRepresent old all → all conn ≡ None)
-    → MatchResult end (λ _. Proceeds seen conn Reads Writes old mid) (λ fault. Stops seen conn Reads Writes fault old mid)
+serves_connection : {A S : Type 0} (seen : S → Kept) (conn : ℕ) (Reads Writes : List ℕ → Type 0) (Draws : List Event → Type 0)
+    (end : Result A ConnectionFault) (old mid new : Hub S) → ((all : Connections) → ConnectionsRepresent old all → all conn ≡ None)
+    → MatchResult end (λ _. Proceeds seen conn Reads Writes Draws old mid) (λ fault. Stops seen conn Reads Writes Draws fault old mid)
     → ((all : Connections) → ConnectionsRepresent mid all
     → (after : Connections) × ConnectionsRepresent new after × LeavesClosed all conn after)
     → hub_store seen new ≡ hub_store seen mid
     → IsHonestStore (hub_store seen mid) → IsTrue (hub_store seen mid).is_open → (w : World) → HubRepresents seen old w
     → ServesOn seen w new
-serves_connection seen conn Reads Writes (Ok a) old mid new fresh proceeds closed same honest open_ w represents =
+serves_connection seen conn Reads Writes Draws (Ok a) old mid new fresh proceeds closed same honest open_ w represents =
     let ran = proceeds.answers honest w represents in
     let c = closed ran.after.connections ran.represents.connections in
     serves_one seen w conn proceeds.exchange ran.history ran.after c.0 new (fresh w.connections represents.connections) ran.asks ran.asked
     (gone_by ran.after.connections conn c.0 c.2)
     (closed_world seen mid new ran.after c.0 same ran.represents.broker c.1)
-serves_connection seen conn Reads Writes (Err fault) old mid new fresh stops closed same honest open_ w represents =
+serves_connection seen conn Reads Writes Draws (Err fault) old mid new fresh stops closed same honest open_ w represents =
     let until = stops.answers honest (known fault (hub_store seen mid) open_) w represents in
     let c = closed until.after until.represents.connections in
     serves_one seen w conn stops.exchange until.history until.before c.0 new (fresh w.connections represents.connections) until.asks until.asked
@@ -220,10 +221,10 @@ serves_connection seen conn Reads Writes (Err fault) old mid new fresh stops clo
     (gone_by until.after conn c.0 c.2))
     (closed_world seen mid new until.before c.0 same until.represents.broker c.1)
 
-pub leaves_connection : {A B S : Type 0} (seen : S → Kept) (conn : ℕ) (Reads Writes : List ℕ → Type 0)
+pub leaves_connection : {A B S : Type 0} (seen : S → Kept) (conn : ℕ) (Reads Writes : List ℕ → Type 0) (Draws : List Event → Type 0)
     (end : Result A ConnectionFault) (r : Result B Fault) (old mid new : Hub S)
     → ((all : Connections) → ConnectionsRepresent old all → all conn ≡ None)
-    → MatchResult end (λ _. Proceeds seen conn Reads Writes old mid) (λ fault. Stops seen conn Reads Writes fault old mid)
+    → MatchResult end (λ _. Proceeds seen conn Reads Writes Draws old mid) (λ fault. Stops seen conn Reads Writes Draws fault old mid)
     → (IsHonestStore (hub_store seen mid) → (w : World) → HubRepresents seen old w → IfErr end IsAllowed)
     → (end ≡ Err (Broker Storage) → IsTrue (hub_store seen mid).has_failed)
     → (IsHonestStore (hub_store seen mid) → MatchResult end
@@ -233,7 +234,7 @@ pub leaves_connection : {A B S : Type 0} (seen : S → Kept) (conn : ℕ) (Reads
     → ((all : Connections) → ConnectionsRepresent mid all
     → (after : Connections) × ConnectionsRepresent new after × LeavesClosed all conn after)
     → hub_store seen new ≡ hub_store seen mid → IsUnskipped end r → LeavesServed seen r old new
-leaves_connection seen conn Reads Writes end r old mid new fresh served wants storage stays later closed same is =
+leaves_connection seen conn Reads Writes Draws end r old mid new fresh served wants storage stays later closed same is =
     let honest_mid : IsHonestStore (hub_store seen new) → IsHonestStore (hub_store seen mid) = subst IsHonestStore same in
     record {
       skipped = skipped_by end r is;
@@ -244,7 +245,7 @@ leaves_connection seen conn Reads Writes end r old mid new fresh served wants st
           (open_by end r (hub_store seen mid).is_open (hub_store seen old).is_open is (stays (honest_mid honest)));
       wants = λ honest open_ w represents. unwanted end r is (wants (honest_mid honest) w represents);
       represents = λ honest open_ w represents.
-          serves_connection seen conn Reads Writes end old mid new fresh served closed same (honest_mid honest)
+          serves_connection seen conn Reads Writes Draws end old mid new fresh served closed same (honest_mid honest)
           (subst (λ (k : Kept). IsTrue k.is_open) same open_) w represents;
       later = subst (λ (k : Kept). IsLater (hub_store seen old) k) (sym same) later;
     }

@@ -16,7 +16,7 @@ returns-in_default-open_conn-clause-closed g c = λ all each. leaves_all all c.a
 
 pub returns-clause-served : goal.returns-clause-served
 returns-clause-served g c =
-    leaves_connection g.S.Store.seen c.in-Some.conn _ _ c.serve_connection-end.result c.unskipped.result c.args.hub.now
+    leaves_connection g.S.Store.seen c.in-Some.conn _ _ _ c.serve_connection-end.result c.unskipped.result c.args.hub.now
     c.serve_connection-end.new.hub c.close.new.self (λ all each. (c.in-Some.ensures all each).unseen c.in-Some.conn (omega arith))
     c.serve_connection-end.ensures.served c.serve_connection-end.ensures.wants
     c.serve_connection-end.ensures.storage c.serve_connection-end.ensures.stays_open c.serve_connection-end.ensures.later
