@@ -18,7 +18,7 @@ use Rattle.hub.specs.HistoriesLaws.{asked_on, run_left}
 use Rattle.hub.specs.Listed.{IsListedReply}
 use Rattle.hub.specs.Representing.{ConnectionsRepresent, HubRepresents, hub_store}
 use Rattle.hub.specs.Runs.{Answers, AnswersOne}
-use Rattle.hub.specs.Serving.{Exchange, read_in, sent_in, Proceeds, Stops, LeavesClosed, LeavesOthers, IsEventOf, longest_piece}
+use Rattle.hub.specs.Serving.{Exchange, pieces_in, sent_in, Proceeds, Stops, LeavesClosed, LeavesOthers, IsEventOf, longest_piece}
 use Rattle.hub.specs.Serving.{HasEnded, IsAnswered, RunsBefore}
 use Rattle.hub.specs.World.{Connections, History, World, history_at, put_history}
 use Rattle.hub.specs.declared.event.Event.{Event}
@@ -63,31 +63,33 @@ exchange_on conn p q =
       listed = All-append IsListedReply p.replies q.replies p.listed q.listed;
     }
 
-read_on : (conn : ℕ) (p q : Exchange conn) → read_in (exchange_on conn p q) ≡ read_in p ++ read_in q
-read_on conn p q = ap concat (map-append (λ (e : Event). e.piece) p.events q.events)
-    ∙ concat-append (map (λ (e : Event). e.piece) p.events) (map (λ (e : Event). e.piece) q.events)
+pieces_on : (es fs : List Event) → pieces_in (es ++ fs) ≡ pieces_in es ++ pieces_in fs
+pieces_on es fs = ap concat (map-append (λ (e : Event). e.piece) es fs)
+    ∙ concat-append (map (λ (e : Event). e.piece) es) (map (λ (e : Event). e.piece) fs)
 
 sent_on : (conn : ℕ) (p q : Exchange conn) → sent_in (exchange_on conn p q) ≡ sent_in p ++ sent_in q
 sent_on conn p q = concat-append p.replies q.replies
 
 -- ---- one call after another
 
--- what two calls read or wrote, one after the other
-abbrev pub Joins : (List ℕ → Type 0) → (List ℕ → Type 0) → (List ℕ → Type 0) → Type 0
-Joins P Q R = (a b : List ℕ) → P a → Q b → R (a ++ b)
+-- what two calls read, wrote or drew, one after the other
+abbrev pub Joins : {A : Type 0} → (List A → Type 0) → (List A → Type 0) → (List A → Type 0) → Type 0
+Joins {A} P Q R = (a b : List A) → P a → Q b → R (a ++ b)
 
 -- the store was honest before, if it is
 abbrev pub HonestBefore : {S : Type 0} → (S → Kept) → Hub S → Hub S → Type 0
 HonestBefore seen mid new = IsHonestStore (hub_store seen new) → IsHonestStore (hub_store seen mid)
 
-pub proceeds_on : {S : Type 0} (seen : S → Kept) (conn : ℕ) (P Q R T U V : List ℕ → Type 0) (old mid new : Hub S)
-    → Joins P Q R → Joins T U V → HonestBefore seen mid new → Proceeds seen conn P T old mid → Proceeds seen conn Q U mid new
-    → Proceeds seen conn R V old new
-proceeds_on seen conn P Q R T U V old mid new reads writes before p q =
+pub proceeds_on : {S : Type 0} (seen : S → Kept) (conn : ℕ) (P Q R T U V : List ℕ → Type 0) (X Y Z : List Event → Type 0)
+    (old mid new : Hub S) → Joins P Q R → Joins T U V → Joins X Y Z → HonestBefore seen mid new → Proceeds seen conn P T X old mid
+    → Proceeds seen conn Q U Y mid new → Proceeds seen conn R V Z old new
+proceeds_on seen conn P Q R T U V X Y Z old mid new reads writes draws before p q =
     record {
       exchange = exchange_on conn p.exchange q.exchange;
-      reads = subst R (sym (read_on conn p.exchange q.exchange)) (reads (read_in p.exchange) (read_in q.exchange) p.reads q.reads);
+      reads = subst R (sym (pieces_on p.exchange.events q.exchange.events))
+          (reads (pieces_in p.exchange.events) (pieces_in q.exchange.events) p.reads q.reads);
       writes = subst V (sym (sent_on conn p.exchange q.exchange)) (writes (sent_in p.exchange) (sent_in q.exchange) p.writes q.writes);
+      draws = draws p.exchange.events q.exchange.events p.draws q.draws;
       answers = λ honest w represents.
           let a = p.answers (before honest) w represents in
           answers_on seen w p.exchange.events q.exchange.events p.exchange.replies q.exchange.replies mid new a
@@ -118,20 +120,22 @@ before_on seen w es fs rs ss hub a b =
 before_none : (w : World) → RunsBefore w [] []
 before_none w = record { after = w; run = refl; history = []; asks = refl; asked = tt }
 
-pub stops_on : {S : Type 0} (seen : S → Kept) (conn : ℕ) (P Q R T U V : List ℕ → Type 0) (fault : ConnectionFault) (old mid new : Hub S)
-    → Joins P Q R → Joins T U V → HonestBefore seen mid new → Proceeds seen conn P T old mid → Stops seen conn Q U fault mid new
-    → Stops seen conn R V fault old new
-stops_on seen conn P Q R T U V fault old mid new reads writes before p s =
+pub stops_on : {S : Type 0} (seen : S → Kept) (conn : ℕ) (P Q R T U V : List ℕ → Type 0) (X Y Z : List Event → Type 0)
+    (fault : ConnectionFault) (old mid new : Hub S) → Joins P Q R → Joins T U V → Joins X Y Z → HonestBefore seen mid new
+    → Proceeds seen conn P T X old mid → Stops seen conn Q U Y fault mid new → Stops seen conn R V Z fault old new
+stops_on seen conn P Q R T U V X Y Z fault old mid new reads writes draws before p s =
+    let fed = s.exchange.events ++ s.last in
+    let same = append_assoc p.exchange.events s.exchange.events s.last in
     record {
       exchange = exchange_on conn p.exchange s.exchange;
       last = s.last;
       unanswered = s.unanswered;
-      reads = subst R
-          (sym (ap (λ (l : List ℕ). l ++ s.last) (read_on conn p.exchange s.exchange) ∙ append_assoc (read_in p.exchange) (read_in s.exchange) s.last))
-          (reads (read_in p.exchange) (read_in s.exchange ++ s.last) p.reads s.reads);
+      reads = subst R (sym (ap pieces_in same ∙ pieces_on p.exchange.events fed))
+          (reads (pieces_in p.exchange.events) (pieces_in fed) p.reads s.reads);
       writes = λ other.
           subst V (sym (sent_on conn p.exchange s.exchange))
           (writes (sent_in p.exchange) (sent_in s.exchange) p.writes (s.writes other));
+      draws = subst Z (sym same) (draws p.exchange.events fed p.draws s.draws);
       before = λ honest w represents.
           let a = p.answers (before honest) w represents in
           before_on seen w p.exchange.events s.exchange.events p.exchange.replies s.exchange.replies mid a
@@ -164,37 +168,41 @@ stops_on seen conn P Q R T U V fault old mid new reads writes before p s =
     }
 
 -- nothing was done so far
-pub proceeds_none : {S : Type 0} (seen : S → Kept) (conn : ℕ) (P T : List ℕ → Type 0) (hub : Hub S) → P [] → T [] → Proceeds seen conn P T hub hub
-proceeds_none seen conn P T hub p t =
+pub proceeds_none : {S : Type 0} (seen : S → Kept) (conn : ℕ) (P T : List ℕ → Type 0) (X : List Event → Type 0) (hub : Hub S)
+    → P [] → T [] → X [] → Proceeds seen conn P T X hub hub
+proceeds_none seen conn P T X hub p t x =
     record {
       exchange = exchange_none conn;
       reads = p;
       writes = t;
+      draws = x;
       answers = λ honest w represents. answers_none seen w hub represents;
       turns = λ all represents. record { after = all; run = refl; represents = represents };
     }
 
 -- with other words for what was read
-pub proceeds_so : {S : Type 0} (seen : S → Kept) (conn : ℕ) (P Q T : List ℕ → Type 0) (old new : Hub S) → ((l : List ℕ) → P l → Q l)
-    → Proceeds seen conn P T old new → Proceeds seen conn Q T old new
-proceeds_so seen conn P Q T old new reads p =
+pub proceeds_so : {S : Type 0} (seen : S → Kept) (conn : ℕ) (P Q T : List ℕ → Type 0) (X : List Event → Type 0) (old new : Hub S)
+    → ((l : List ℕ) → P l → Q l) → Proceeds seen conn P T X old new → Proceeds seen conn Q T X old new
+proceeds_so seen conn P Q T X old new reads p =
     record {
       exchange = p.exchange;
-      reads = reads (read_in p.exchange) p.reads;
+      reads = reads (pieces_in p.exchange.events) p.reads;
       writes = p.writes;
+      draws = p.draws;
       answers = p.answers;
       turns = p.turns;
     }
 
-pub stops_so : {S : Type 0} (seen : S → Kept) (conn : ℕ) (P Q T : List ℕ → Type 0) (fault : ConnectionFault) (old new : Hub S)
-    → ((l : List ℕ) → P l → Q l) → Stops seen conn P T fault old new → Stops seen conn Q T fault old new
-stops_so seen conn P Q T fault old new reads s =
+pub stops_so : {S : Type 0} (seen : S → Kept) (conn : ℕ) (P Q T : List ℕ → Type 0) (X : List Event → Type 0) (fault : ConnectionFault)
+    (old new : Hub S) → ((l : List ℕ) → P l → Q l) → Stops seen conn P T X fault old new → Stops seen conn Q T X fault old new
+stops_so seen conn P Q T X fault old new reads s =
     record {
       exchange = s.exchange;
       last = s.last;
       unanswered = s.unanswered;
-      reads = reads (read_in s.exchange ++ s.last) s.reads;
+      reads = reads (pieces_in (s.exchange.events ++ s.last)) s.reads;
       writes = s.writes;
+      draws = s.draws;
       before = s.before;
       answers = s.answers;
       turns = s.turns;
@@ -202,11 +210,15 @@ stops_so seen conn P Q T fault old new reads s =
 
 -- ---- one event
 
+-- what comes on the connection, with its moment and its words
+abbrev pub event_of : ℕ → List ℕ → ℕ → Words → Event
+event_of conn piece m ws = record { conn = conn; piece = piece; moment = m; words = ws }
+
 -- what feeding an event that had no fault ensures
 pub record Fed {S : Type 0} (seen : S → Kept) (conn : ℕ) (piece : List ℕ) (m : ℕ) (ws : Words) (bytes : List ℕ) (old new : Hub S) : Type 0 where
   pub short : length piece ≤ longest_piece
   pub answers : IsHonestStore (hub_store seen new) → (w : World) → HubRepresents seen old w
-      → AnswersOne seen w (record { conn = conn; piece = piece; moment = m; words = ws }) bytes new
+      → AnswersOne seen w (event_of conn piece m ws) bytes new
   pub gives : (all : Connections) → ConnectionsRepresent old all
       → (after : Connections) × ConnectionsRepresent new after × NextConnections all conn piece m bytes after
   pub listed : IsListedReply bytes
@@ -214,18 +226,20 @@ pub record Fed {S : Type 0} (seen : S → Kept) (conn : ℕ) (piece : List ℕ) 
 abbrev exchange_fed : {S : Type 0} (seen : S → Kept) (conn : ℕ) (piece : List ℕ) (m : ℕ) (ws : Words) (bytes : List ℕ) (old new : Hub S)
     → Fed seen conn piece m ws bytes old new → Exchange conn
 exchange_fed seen conn piece m ws bytes old new f =
-    exchange_one conn (record { conn = conn; piece = piece; moment = m; words = ws }) bytes (refl, f.short) f.listed
+    exchange_one conn (event_of conn piece m ws) bytes (refl, f.short) f.listed
 
 -- an event was answered, and its reply was written
 pub proceeds_one : {S : Type 0} (seen : S → Kept) (conn : ℕ) (piece : List ℕ) (m : ℕ) (ws : Words) (bytes : List ℕ) (before after : Option (List ℕ))
-    (old new : Hub S) → Fed seen conn piece m ws bytes old new → Appends before after bytes
-    → Proceeds seen conn (λ read. read ≡ piece) (Appends before after) old new
-proceeds_one seen conn piece m ws bytes before after old new f written =
-    let e : Event = record { conn = conn; piece = piece; moment = m; words = ws } in
+    (X : List Event → Type 0) (old new : Hub S) → Fed seen conn piece m ws bytes old new → Appends before after bytes
+    → X (event_of conn piece m ws ∷ [])
+    → Proceeds seen conn (λ read. read ≡ piece) (Appends before after) X old new
+proceeds_one seen conn piece m ws bytes before after X old new f written drawn =
+    let e : Event = event_of conn piece m ws in
     record {
       exchange = exchange_fed seen conn piece m ws bytes old new f;
       reads = append-nil piece;
       writes = subst (Appends before after) (sym (append-nil bytes)) written;
+      draws = drawn;
       answers = λ honest w represents. answers_one seen w e bytes new represents.broker.sound (f.answers honest w represents);
       turns = λ all represents.
           let a = f.gives all represents in
@@ -252,16 +266,18 @@ closed_world seen conn mid new w c represents =
 
 -- an event was answered, and writing its reply failed
 pub stops_writing : {S : Type 0} (seen : S → Kept) (conn : ℕ) (piece : List ℕ) (m : ℕ) (ws : Words) (bytes : List ℕ) (before after : Option (List ℕ))
-    (old mid new : Hub S) → Fed seen conn piece m ws bytes old mid → Closes seen conn mid new
-    → Stops seen conn (λ read. read ≡ piece) (Appends before after) Write old new
-stops_writing seen conn piece m ws bytes before after old mid new f c =
-    let e : Event = record { conn = conn; piece = piece; moment = m; words = ws } in
+    (X : List Event → Type 0) (old mid new : Hub S) → Fed seen conn piece m ws bytes old mid → Closes seen conn mid new
+    → X (event_of conn piece m ws ∷ [])
+    → Stops seen conn (λ read. read ≡ piece) (Appends before after) X Write old new
+stops_writing seen conn piece m ws bytes before after X old mid new f c drawn =
+    let e : Event = event_of conn piece m ws in
     record {
       exchange = exchange_fed seen conn piece m ws bytes old mid f;
       last = [];
       unanswered = refl;
-      reads = append-nil (piece ++ []) ∙ append-nil piece;
+      reads = append-nil piece;
       writes = λ other. absurd (other refl);
+      draws = drawn;
       before = λ honest w represents.
           let a = answers_one seen w e bytes mid represents.broker.sound (f.answers (subst IsHonestStore c.store honest) w represents) in
           record { after = a.after; run = a.run; history = a.history; asks = a.asks; asked = a.asked };
@@ -285,15 +301,16 @@ stops_writing seen conn piece m ws bytes before after old mid new f c =
     }
 
 -- the connection was closed at a fault of the source
-pub stops_reading : {S : Type 0} (seen : S → Kept) (conn : ℕ) (P T : List ℕ → Type 0) (mid new : Hub S)
-    → P [] → T [] → Closes seen conn mid new → Stops seen conn P T Read mid new
-stops_reading seen conn P T mid new p t c =
+pub stops_reading : {S : Type 0} (seen : S → Kept) (conn : ℕ) (P T : List ℕ → Type 0) (X : List Event → Type 0) (mid new : Hub S)
+    → P [] → T [] → X [] → Closes seen conn mid new → Stops seen conn P T X Read mid new
+stops_reading seen conn P T X mid new p t x c =
     record {
       exchange = exchange_none conn;
       last = [];
       unanswered = refl;
       reads = p;
       writes = λ other. t;
+      draws = x;
       before = λ honest w represents. before_none w;
       answers = λ honest known w represents.
           let left = closed_world seen conn mid new w c represents in
@@ -321,18 +338,21 @@ leaves_closed fault all conn piece after f = at f.left
     at (inr (memory, unseen, same)) = inr (unseen, same)
 
 -- an event had a fault
-pub stops_feeding : {S : Type 0} (seen : S → Kept) (conn : ℕ) (piece : List ℕ) (known : Option (List ℕ)) (fault : Fault) (old new : Hub S)
-    → length piece ≤ longest_piece
+pub stops_feeding : {S : Type 0} (seen : S → Kept) (conn : ℕ) (piece : List ℕ) (m : ℕ) (ws : Words) (known : Option (List ℕ))
+    (X : List Event → Type 0) (fault : Fault) (old new : Hub S) → length piece ≤ longest_piece
+    → X (event_of conn piece m ws ∷ [])
     → (IsHonestStore (hub_store seen new) → IsTrue (hub_store seen new).is_open → (hub_store seen new).rows ≡ (hub_store seen old).rows)
     → ((all : Connections) → ConnectionsRepresent old all → (after : Connections) × ConnectionsRepresent new after × FaultsAt fault all conn piece after)
-    → Stops seen conn (λ read. read ≡ piece) (Appends known known) (OfBroker fault) old new
-stops_feeding seen conn piece known fault old new short kept faults =
+    → Stops seen conn (λ read. read ≡ piece) (Appends known known) X (OfBroker fault) old new
+stops_feeding seen conn piece m ws known X fault old new short drawn kept faults =
+    let e : Event = event_of conn piece m ws in
     record {
       exchange = exchange_none conn;
-      last = piece;
-      unanswered = short;
-      reads = refl;
+      last = e ∷ [];
+      unanswered = (e, (refl, short), refl);
+      reads = append-nil piece;
       writes = λ other. Appends-nil known;
+      draws = drawn;
       before = λ honest w represents. before_none w;
       answers = λ honest is_open w represents.
           let f = faults w.connections represents.connections in

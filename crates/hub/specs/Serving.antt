@@ -1,5 +1,5 @@
 -- What serving a connection between a source and a sink leaves (this project's definition).
-use Rattle.std.specs.Prelude.{◌≡◌, ◌≢◌, ◌⊎◌, ◌≤◌, ℕ, true, List, [], ◌++◌, Option, None, ⊤, IsTrue, length, map}
+use Rattle.std.specs.Prelude.{◌≡◌, ◌≢◌, ◌⊎◌, ◌≤◌, ℕ, true, List, [], ◌∷◌, ◌++◌, Option, None, ⊤, IsTrue, length, map}
 use Rattle.std.specs.Io.KnownBytes.{IsAtEnd}
 use Rattle.std.specs.List.{All, concat}
 use Rattle.broker_types.specs.Fault.{IsMemoryOrStorage, fault_number}
@@ -53,8 +53,8 @@ pub record Exchange (conn : ℕ) : Type 0 where
   pub listed : All IsListedReply replies
 
 -- the pieces of the events, joined
-abbrev pub read_in : {conn : ℕ} → Exchange conn → List ℕ
-read_in exchange = concat (map (λ e. e.piece) exchange.events)
+abbrev pub pieces_in : List Event → List ℕ
+pieces_in events = concat (map (λ e. e.piece) events)
 
 -- the replies, joined
 abbrev pub sent_in : {conn : ℕ} → Exchange conn → List ℕ
@@ -63,13 +63,14 @@ sent_in exchange = concat exchange.replies
 -- ---- serving
 
 -- There are events of the connection whose pieces joined are what was read, and whose replies joined are what was
--- written: from each world that the hub represented they ran with these replies and no others, and it represents the
--- world after them. Whatever rows its store has, each took its turn.
-pub record Proceeds {S : Type 0} (seen : S → Kept) (conn : ℕ) (Reads Writes : List ℕ → Type 0) (old new : Hub S)
-    : Type 0 where
+-- written; their moments and words are what was drawn. From each world that the hub represented they ran with these
+-- replies and no others, and it represents the world after them. Whatever rows its store has, each took its turn.
+pub record Proceeds {S : Type 0} (seen : S → Kept) (conn : ℕ) (Reads Writes : List ℕ → Type 0)
+    (Draws : List Event → Type 0) (old new : Hub S) : Type 0 where
   pub exchange : Exchange conn
-  pub reads : Reads (read_in exchange)
+  pub reads : Reads (pieces_in exchange.events)
   pub writes : Writes (sent_in exchange)
+  pub draws : Draws exchange.events
   pub answers : IsHonestStore (hub_store seen new) → (w : World) → HubRepresents seen old w
       → Answers seen w exchange.events exchange.replies new
   pub turns : (all : Connections) → ConnectionsRepresent old all
@@ -114,22 +115,23 @@ IsKnown (Broker fault) store = IsTrue store.is_open
 IsKnown Read store = ⊤
 IsKnown Write store = ⊤
 
--- What was read and is in no event that was answered: the piece of the event that had the fault, of at most 8,192
--- bytes; nothing if a read or a write failed.
-abbrev pub IsUnanswered : ConnectionFault → List ℕ → Type 0
-IsUnanswered (Broker fault) last = length last ≤ longest_piece
-IsUnanswered Read last = last ≡ []
-IsUnanswered Write last = last ≡ []
+-- the event that was not answered: the one that had a fault of the broker; none if a read or a write failed
+abbrev pub IsUnanswered : ℕ → ConnectionFault → List Event → Type 0
+IsUnanswered conn (Broker fault) last = (e : Event) × IsEventOf conn e × (last ≡ e ∷ [])
+IsUnanswered conn Read last = last ≡ []
+IsUnanswered conn Write last = last ≡ []
 
--- The same of events before the fault. What was read is their pieces joined, and what no event has that was answered.
--- Unless a write failed, what was written is their replies joined. What the fault left is said where it is known.
+-- The same of events before the fault. With the event that was not answered, their pieces joined are what was read, and
+-- their moments and words are what was drawn. Unless a write failed, what was written is their replies joined. What the
+-- fault left is said where it is known.
 pub record Stops {S : Type 0} (seen : S → Kept) (conn : ℕ) (Reads Writes : List ℕ → Type 0)
-    (fault : ConnectionFault) (old new : Hub S) : Type 0 where
+    (Draws : List Event → Type 0) (fault : ConnectionFault) (old new : Hub S) : Type 0 where
   pub exchange : Exchange conn
-  pub last : List ℕ
-  pub unanswered : IsUnanswered fault last
-  pub reads : Reads (read_in exchange ++ last)
+  pub last : List Event
+  pub unanswered : IsUnanswered conn fault last
+  pub reads : Reads (pieces_in (exchange.events ++ last))
   pub writes : fault ≢ Write → Writes (sent_in exchange)
+  pub draws : Draws (exchange.events ++ last)
   pub before : IsHonestStore (hub_store seen new) → (w : World) → HubRepresents seen old w
       → RunsBefore w exchange.events exchange.replies
   pub answers : IsHonestStore (hub_store seen new) → IsKnown fault (hub_store seen new)

@@ -6,6 +6,7 @@ ghost use Rattle.hub.specs.Feeding.{IsLater};
 ghost use Rattle.hub.specs.Representing.{ConnectionsRepresent, HubRepresents, hub_store, hub_waiting};
 ghost use Rattle.hub.specs.Serving.{Proceeds, Stops, LeavesOthers, IsAllowed, HasEnded, IsAnswered, IsGone};
 ghost use Rattle.hub.specs.Serving.{longest_piece, most_reads};
+ghost use Rattle.hub.specs.Supplies.{Supplies};
 ghost use Rattle.hub.specs.World.{Connections, World};
 ghost use Rattle.hub.specs.declared.serve.ConnectionFault.TheVariants.{Broker, Read, Write};
 
@@ -21,16 +22,29 @@ const PIECE: usize = 8_192;
 /// How many reads one connection gets.
 const READS: u64 = 4_294_967_296;
 
-/// Where moments come from. No contract says which they are.
+/// Where moments come from. Which they are is for each clock to say; by default it says nothing.
 pub trait Clock {
+    ghost use Rattle.std.specs.Prelude.{ℕ, ⊤};
+
+    /// Holds of the clock before a call, the moment that it told, and the clock after it.
+    ghost may_tell: { Self → ℕ → Self → Type 0 } = { λ _ _ _. ⊤ };
+
     /// The moment of the next event. It takes no memory.
-    fn now(&mut self) -> Moment;
+    fn now(&mut self) -> Moment
+        ensures { may_tell self.old result self.new };
 }
 
-/// Where the words of events come from. No contract says which they are.
+/// Where the words of events come from. Which they are is for each source to say; by default it says nothing.
 pub trait WordSource {
+    ghost use Rattle.std.specs.Prelude.{⊤};
+    ghost use Rattle.broker_types.specs.declared.words.Words.{Words};
+
+    /// Holds of the source before a call, the words that it gave, and the source after it.
+    ghost may_give: { Self → Words → Self → Type 0 } = { λ _ _ _. ⊤ };
+
     /// The words of the next event. It takes no memory.
-    fn words(&mut self) -> Words;
+    fn words(&mut self) -> Words
+        ensures { may_give self.old result self.new };
 }
 
 /// Why a connection was not served to its end.
@@ -92,6 +106,9 @@ impl From<Fault> for ConnectionFault {
 /// pieces joined are what was read, and whose replies joined are what was written. For each world that the
 /// hub represents they ran from this world, and the hub then represents the world after them, as long as
 /// the storage returns what was written. After a fault the same holds of the events before it.
+///
+/// **Each event has its own moment and its own words**: for each the clock is asked once and words are drawn once, in
+/// the order of the events, and not otherwise.
 pub fn serve_connection<S: Store, R: Source, W: Sink, C: Clock, D: WordSource>(
     hub: &mut Hub<S>,
     conn: u64,
@@ -102,9 +119,11 @@ pub fn serve_connection<S: Store, R: Source, W: Sink, C: Clock, D: WordSource>(
 ) -> Result<(), ConnectionFault>
     ensures served { MatchResult result
         (λ _. Proceeds S.seen conn (Consumes (R.left reader.old) (R.left reader.new))
-        (Appends (W.written writer.old) (W.written writer.new)) hub.old hub.new)
+        (Appends (W.written writer.old) (W.written writer.new))
+        (Supplies C.may_tell clock.old clock.new D.may_give words.old words.new) hub.old hub.new)
         (λ fault. Stops S.seen conn (Consumes (R.left reader.old) (R.left reader.new))
-        (Appends (W.written writer.old) (W.written writer.new)) fault hub.old hub.new) }
+        (Appends (W.written writer.old) (W.written writer.new))
+        (Supplies C.may_tell clock.old clock.new D.may_give words.old words.new) fault hub.old hub.new) }
 
     // Whatever the rows are, no other connection changes. This one is then closed, or the input has ended and
     // its next request needs more bytes; after a fault it is closed or not seen.
@@ -151,9 +170,11 @@ fn serve_piece<S: Store, R: Source, W: Sink, C: Clock, D: WordSource>(
 ) -> Result<bool, ConnectionFault>
     ensures served { MatchResult result
         (λ _. Proceeds S.seen conn (Consumes (R.left reader.old) (R.left reader.new))
-        (Appends (W.written writer.old) (W.written writer.new)) hub.old hub.new)
+        (Appends (W.written writer.old) (W.written writer.new))
+        (Supplies C.may_tell clock.old clock.new D.may_give words.old words.new) hub.old hub.new)
         (λ fault. Stops S.seen conn (Consumes (R.left reader.old) (R.left reader.new))
-        (Appends (W.written writer.old) (W.written writer.new)) fault hub.old hub.new) }
+        (Appends (W.written writer.old) (W.written writer.new))
+        (Supplies C.may_tell clock.old clock.new D.may_give words.old words.new) fault hub.old hub.new) }
     ensures others { (all : Connections) → ConnectionsRepresent hub.old all → LeavesOthers conn all hub.new }
     ensures ended { IfOk result (λ ended. ended ≡ true → (all : Connections) → ConnectionsRepresent hub.new all
         → HasEnded (R.left reader.new) all conn) }
@@ -191,9 +212,11 @@ fn answer<S: Store, W: Sink, C: Clock, D: WordSource>(
     requires { length piece.now ≤ longest_piece }
     ensures served { MatchResult result
         (λ _. Proceeds S.seen conn (λ read. read ≡ piece.now)
-        (Appends (W.written writer.old) (W.written writer.new)) hub.old hub.new)
+        (Appends (W.written writer.old) (W.written writer.new))
+        (Supplies C.may_tell clock.old clock.new D.may_give words.old words.new) hub.old hub.new)
         (λ fault. Stops S.seen conn (λ read. read ≡ piece.now)
-        (Appends (W.written writer.old) (W.written writer.new)) fault hub.old hub.new) }
+        (Appends (W.written writer.old) (W.written writer.new))
+        (Supplies C.may_tell clock.old clock.new D.may_give words.old words.new) fault hub.old hub.new) }
     ensures others { (all : Connections) → ConnectionsRepresent hub.old all → LeavesOthers conn all hub.new }
     ensures answered { OnOk result ((all : Connections) → ConnectionsRepresent hub.new all
         → IsAnswered all conn) }
@@ -228,9 +251,11 @@ fn answer_one<S: Store, W: Sink, C: Clock, D: WordSource>(
     requires { length piece.now ≤ longest_piece }
     ensures served { MatchResult result
         (λ _. Proceeds S.seen conn (λ read. read ≡ piece.now)
-        (Appends (W.written writer.old) (W.written writer.new)) hub.old hub.new)
+        (Appends (W.written writer.old) (W.written writer.new))
+        (Supplies C.may_tell clock.old clock.new D.may_give words.old words.new) hub.old hub.new)
         (λ fault. Stops S.seen conn (λ read. read ≡ piece.now)
-        (Appends (W.written writer.old) (W.written writer.new)) fault hub.old hub.new) }
+        (Appends (W.written writer.old) (W.written writer.new))
+        (Supplies C.may_tell clock.old clock.new D.may_give words.old words.new) fault hub.old hub.new) }
     ensures others { (all : Connections) → ConnectionsRepresent hub.old all → LeavesOthers conn all hub.new }
     ensures answered { IfOk result (λ more. more ≡ false → (all : Connections) → ConnectionsRepresent hub.new all
         → IsAnswered all conn) }

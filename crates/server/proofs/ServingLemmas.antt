@@ -11,31 +11,37 @@ use Rattle.hub.specs.Feeding.{IsLater}
 use Rattle.hub.specs.Histories.{EventsAsked}
 use Rattle.hub.specs.HistoriesLaws.{asked_on, left_on, run_left}
 use Rattle.hub.specs.Representing.{ConnectionsRepresent, HubRepresents, hub_store}
-use Rattle.hub.specs.Serving.{Exchange, IsAllowed, IsGone, IsKnown, LeavesClosed, LeavesOthers, Proceeds, Stops}
+use Rattle.hub.specs.Serving.{Exchange, IsAllowed, IsGone, IsKnown, IsUnanswered, LeavesClosed, LeavesOthers, Proceeds, Stops}
 use Rattle.hub.specs.World.{Connections, History, World, history_at, new_history}
+use Rattle.hub.specs.declared.event.Event.{Event}
 use Rattle.hub.specs.declared.hub.Hub.{Hub}
 use Rattle.hub.specs.declared.serve.ConnectionFault.{ConnectionFault}
 use Rattle.hub.specs.declared.serve.ConnectionFault.TheVariants.{Broker, Read, Write}
 use Rattle.server.specs.Laws.{AllKeepLaws}
-use Rattle.server.specs.Serving.{LeavesGone, LeavesOrCloses, LeavesServed, Served, ServedInTurn, ServesLawfully, ServesOn, asked_by, is_skipped}
+use Rattle.server.specs.Serving.{IsAtMostOneOf, LeavesGone, LeavesOrCloses, LeavesServed, Served, ServedInTurn, ServesLawfully, ServesOn, asked_by, fed_to, is_skipped}
 
 -- ---- nothing is served
 
-serves_none : {S : Type 0} (seen : S → Kept) (w : World) (hub : Hub S) → HubRepresents seen hub w → ServesOn seen w hub
-serves_none seen w hub represents =
-    record { connections = []; after = w; in_turn = refl; asked = tt; left = refl; represents = represents }
+serves_none : {S : Type 0} (seen : S → Kept) (X : List Event → Type 0) (w : World) (hub : Hub S) → X [] → HubRepresents seen hub w
+    → ServesOn seen X w hub
+serves_none seen X w hub x represents =
+    record { connections = []; after = w; in_turn = refl; draws = x; asked = tt; left = refl; represents = represents }
 
-pub leaves_none : {A S : Type 0} (seen : S → Kept) (a : A) (hub : Hub S) → LeavesServed seen (Ok a) hub hub
-leaves_none seen a hub = record {
+pub leaves_none : {A S : Type 0} (seen : S → Kept) (X : List Event → Type 0) (a : A) (hub : Hub S) → X [] → LeavesServed seen X (Ok a) hub hub
+leaves_none seen X a hub x = record {
   skipped = tt;
   storage = λ is. cc is;
   stays_open = λ honest. refl;
   wants = λ honest open_ w represents. tt;
-  represents = λ honest open_ w represents. serves_none seen w hub represents;
+  represents = λ honest open_ w represents. serves_none seen X w hub x represents;
   later = record { mismatches = omega arith; closes = λ open_. open_ };
 }
 
 -- ---- two after each other
+
+-- what was drawn for events, and then for others
+abbrev pub Joins : (List Event → Type 0) → (List Event → Type 0) → (List Event → Type 0) → Type 0
+Joins X Y Z = (es fs : List Event) → X es → Y fs → Z (es ++ fs)
 
 honest_before : (a b : Kept) → IsLater a b → IsHonestStore b → IsHonestStore a
 honest_before a b later honest = omega (arith, later.mismatches, honest)
@@ -56,10 +62,16 @@ asked_by-append [] ts = refl
 asked_by-append (s ∷ ss) ts =
     ap (λ (l : Requests). s.history ++ l) (asked_by-append ss ts) ∙ sym (append_assoc s.history (asked_by ss) (asked_by ts))
 
+fed_to-append : (ss ts : List Served) → fed_to (ss ++ ts) ≡ fed_to ss ++ fed_to ts
+fed_to-append [] ts = refl
+fed_to-append (s ∷ ss) ts =
+    ap (λ (l : List Event). (s.exchange.events ++ s.last) ++ l) (fed_to-append ss ts)
+    ∙ sym (append_assoc (s.exchange.events ++ s.last) (fed_to ss) (fed_to ts))
+
 -- what was served first, and what was served then
-serves_on : {S : Type 0} (seen : S → Kept) (w : World) (mid new : Hub S) (first : ServesOn seen w mid)
-    → ServesOn seen first.after new → ServesOn seen w new
-serves_on seen w mid new first second =
+serves_on : {S : Type 0} (seen : S → Kept) (X Y Z : List Event → Type 0) (w : World) (mid new : Hub S) → Joins X Y Z
+    → (first : ServesOn seen X w mid) → ServesOn seen Y first.after new → ServesOn seen Z w new
+serves_on seen X Y Z w mid new joins first second =
     let one = asked_by first.connections in
     let other = asked_by second.connections in
     let joined = sym (asked_by-append first.connections second.connections) in
@@ -67,14 +79,16 @@ serves_on seen w mid new first second =
       connections = first.connections ++ second.connections;
       after = second.after;
       in_turn = in_turn_on w first.after second.after first.connections second.connections first.in_turn second.in_turn;
+      draws = subst Z (sym (fed_to-append first.connections second.connections))
+          (joins (fed_to first.connections) (fed_to second.connections) first.draws second.draws);
       asked = subst (AreAsked w.broker) joined (asked_on w.broker first.after.broker one other first.left first.asked second.asked);
       left = left_on w.broker first.after.broker second.after.broker one other first.left second.left ∙ ap (left_by w.broker) joined;
       represents = second.represents;
     }
 
-pub leaves_on : {A B S : Type 0} (seen : S → Kept) (a : A) (r : Result B Fault) (old mid new : Hub S)
-    → LeavesServed seen (Ok a) old mid → LeavesServed seen r mid new → LeavesServed seen r old new
-leaves_on seen a r old mid new first second =
+pub leaves_on : {A B S : Type 0} (seen : S → Kept) (X Y Z : List Event → Type 0) (a : A) (r : Result B Fault) (old mid new : Hub S)
+    → Joins X Y Z → LeavesServed seen X (Ok a) old mid → LeavesServed seen Y r mid new → LeavesServed seen Z r old new
+leaves_on seen X Y Z a r old mid new joins first second =
     let before = honest_before (hub_store seen mid) (hub_store seen new) second.later in
     record {
       skipped = second.skipped;
@@ -87,7 +101,7 @@ leaves_on seen a r old mid new first second =
           second.wants honest still one.after one.represents;
       represents = λ honest open_ w represents.
           let one = first.represents (before honest) (second.later.closes open_) w represents in
-          serves_on seen w mid new one (second.represents honest open_ one.after one.represents);
+          serves_on seen X Y Z w mid new joins one (second.represents honest open_ one.after one.represents);
       later = record {
         mismatches = omega (arith, first.later.mismatches, second.later.mismatches);
         closes = λ open_. first.later.closes (second.later.closes open_);
@@ -95,9 +109,9 @@ leaves_on seen a r old mid new first second =
     }
 
 -- all that was asked keeps the laws
-pub lawful : {A S : Type 0} (seen : S → Kept) (r : Result A Fault) (old new : Hub S) → LeavesServed seen r old new → AllKeepLaws
-    → ServesLawfully seen old new
-lawful seen r old new served laws = λ honest open_ w represents.
+pub lawful : {A S : Type 0} (seen : S → Kept) (X : List Event → Type 0) (r : Result A Fault) (old new : Hub S)
+    → LeavesServed seen X r old new → AllKeepLaws → ServesLawfully seen X old new
+lawful seen X r old new served laws = λ honest open_ w represents.
     let on = served.represents honest open_ w represents in (on, laws w.broker (asked_by on.connections) on.asked)
 
 -- ---- one connection
@@ -129,16 +143,18 @@ gone_on all mid conn after first second =
     record { gone = second.gone; others = λ k ne. second.others k ne ∙ first.others k ne }
 
 -- one connection was served
-serves_one : {S : Type 0} (seen : S → Kept) (w : World) (conn : ℕ) (exchange : Exchange conn) (history : Requests) (mid : World)
-    (left : Connections) (hub : Hub S) → w.connections conn ≡ None → EventsAsked w exchange.events exchange.replies history mid
+serves_one : {S : Type 0} (seen : S → Kept) (X : List Event → Type 0) (w : World) (conn : ℕ) (exchange : Exchange conn) (last : List Event)
+    (history : Requests) (mid : World) (left : Connections) (hub : Hub S) → IsAtMostOneOf conn last → X (exchange.events ++ last)
+    → w.connections conn ≡ None → EventsAsked w exchange.events exchange.replies history mid
     → AreAsked w.broker history → LeavesGone mid.connections conn left → HubRepresents seen hub (record mid { connections = left })
-    → ServesOn seen w hub
-serves_one seen w conn exchange history mid left hub fresh asks asked gone represents =
+    → ServesOn seen X w hub
+serves_one seen X w conn exchange last history mid left hub unanswered drawn fresh asks asked gone represents =
     let alone = sym (append-nil history) in
     record {
-      connections = record { conn = conn; exchange = exchange; history = history } ∷ [];
+      connections = record { conn = conn; exchange = exchange; history = history; last = last; unanswered = unanswered } ∷ [];
       after = record mid { connections = left };
       in_turn = (mid, left, fresh, asks, gone, refl);
+      draws = subst X (sym (append-nil (exchange.events ++ last))) drawn;
       asked = subst (AreAsked w.broker) alone asked;
       left = run_left w exchange.events exchange.replies history mid asks ∙ ap (left_by w.broker) alone;
       represents = represents;
@@ -197,33 +213,41 @@ closed_world : {S : Type 0} (seen : S → Kept) (mid new : Hub S) (w : World) (l
 closed_world seen mid new w left same broker connections =
     record { broker = subst (λ (k : Kept). Represents None k.rows w.broker) (sym same) broker; connections = connections }
 
+-- the event that was not answered is at most one
+at_most_one_of : (conn : ℕ) (fault : ConnectionFault) (last : List Event) → IsUnanswered conn fault last → IsAtMostOneOf conn last
+at_most_one_of conn (Broker fault) last is = inr is
+at_most_one_of conn Read last is = inl is
+at_most_one_of conn Write last is = inl is
+
 -- what the events of the connection asked, up to a fault, before it was closed
-serves_connection : {A S : Type 0} (seen : S → Kept) (conn : ℕ) (Reads Writes : List ℕ → Type 0) (end : Result A ConnectionFault)
-    (old mid new : Hub S) → ((all : Connections) → ConnectionsRepresent old all → all conn ≡ None)
-    → MatchResult end (λ _. Proceeds seen conn Reads Writes old mid) (λ fault. Stops seen conn Reads Writes fault old mid)
+serves_connection : {A S : Type 0} (seen : S → Kept) (conn : ℕ) (Reads Writes : List ℕ → Type 0) (Draws : List Event → Type 0)
+    (end : Result A ConnectionFault) (old mid new : Hub S) → ((all : Connections) → ConnectionsRepresent old all → all conn ≡ None)
+    → MatchResult end (λ _. Proceeds seen conn Reads Writes Draws old mid) (λ fault. Stops seen conn Reads Writes Draws fault old mid)
     → ((all : Connections) → ConnectionsRepresent mid all
     → (after : Connections) × ConnectionsRepresent new after × LeavesClosed all conn after)
     → hub_store seen new ≡ hub_store seen mid
     → IsHonestStore (hub_store seen mid) → IsTrue (hub_store seen mid).is_open → (w : World) → HubRepresents seen old w
-    → ServesOn seen w new
-serves_connection seen conn Reads Writes (Ok a) old mid new fresh proceeds closed same honest open_ w represents =
+    → ServesOn seen Draws w new
+serves_connection seen conn Reads Writes Draws (Ok a) old mid new fresh proceeds closed same honest open_ w represents =
     let ran = proceeds.answers honest w represents in
     let c = closed ran.after.connections ran.represents.connections in
-    serves_one seen w conn proceeds.exchange ran.history ran.after c.0 new (fresh w.connections represents.connections) ran.asks ran.asked
+    serves_one seen Draws w conn proceeds.exchange [] ran.history ran.after c.0 new (inl refl)
+    (subst Draws (sym (append-nil proceeds.exchange.events)) proceeds.draws) (fresh w.connections represents.connections) ran.asks ran.asked
     (gone_by ran.after.connections conn c.0 c.2)
     (closed_world seen mid new ran.after c.0 same ran.represents.broker c.1)
-serves_connection seen conn Reads Writes (Err fault) old mid new fresh stops closed same honest open_ w represents =
+serves_connection seen conn Reads Writes Draws (Err fault) old mid new fresh stops closed same honest open_ w represents =
     let until = stops.answers honest (known fault (hub_store seen mid) open_) w represents in
     let c = closed until.after until.represents.connections in
-    serves_one seen w conn stops.exchange until.history until.before c.0 new (fresh w.connections represents.connections) until.asks until.asked
+    serves_one seen Draws w conn stops.exchange stops.last until.history until.before c.0 new
+    (at_most_one_of conn fault stops.last stops.unanswered) stops.draws (fresh w.connections represents.connections) until.asks until.asked
     (gone_on until.before.connections until.after conn c.0 (gone_by until.before.connections conn until.after until.left)
     (gone_by until.after conn c.0 c.2))
     (closed_world seen mid new until.before c.0 same until.represents.broker c.1)
 
-pub leaves_connection : {A B S : Type 0} (seen : S → Kept) (conn : ℕ) (Reads Writes : List ℕ → Type 0)
+pub leaves_connection : {A B S : Type 0} (seen : S → Kept) (conn : ℕ) (Reads Writes : List ℕ → Type 0) (Draws : List Event → Type 0)
     (end : Result A ConnectionFault) (r : Result B Fault) (old mid new : Hub S)
     → ((all : Connections) → ConnectionsRepresent old all → all conn ≡ None)
-    → MatchResult end (λ _. Proceeds seen conn Reads Writes old mid) (λ fault. Stops seen conn Reads Writes fault old mid)
+    → MatchResult end (λ _. Proceeds seen conn Reads Writes Draws old mid) (λ fault. Stops seen conn Reads Writes Draws fault old mid)
     → (IsHonestStore (hub_store seen mid) → (w : World) → HubRepresents seen old w → IfErr end IsAllowed)
     → (end ≡ Err (Broker Storage) → IsTrue (hub_store seen mid).has_failed)
     → (IsHonestStore (hub_store seen mid) → MatchResult end
@@ -232,8 +256,8 @@ pub leaves_connection : {A B S : Type 0} (seen : S → Kept) (conn : ℕ) (Reads
     → IsLater (hub_store seen old) (hub_store seen mid)
     → ((all : Connections) → ConnectionsRepresent mid all
     → (after : Connections) × ConnectionsRepresent new after × LeavesClosed all conn after)
-    → hub_store seen new ≡ hub_store seen mid → IsUnskipped end r → LeavesServed seen r old new
-leaves_connection seen conn Reads Writes end r old mid new fresh served wants storage stays later closed same is =
+    → hub_store seen new ≡ hub_store seen mid → IsUnskipped end r → LeavesServed seen Draws r old new
+leaves_connection seen conn Reads Writes Draws end r old mid new fresh served wants storage stays later closed same is =
     let honest_mid : IsHonestStore (hub_store seen new) → IsHonestStore (hub_store seen mid) = subst IsHonestStore same in
     record {
       skipped = skipped_by end r is;
@@ -244,7 +268,7 @@ leaves_connection seen conn Reads Writes end r old mid new fresh served wants st
           (open_by end r (hub_store seen mid).is_open (hub_store seen old).is_open is (stays (honest_mid honest)));
       wants = λ honest open_ w represents. unwanted end r is (wants (honest_mid honest) w represents);
       represents = λ honest open_ w represents.
-          serves_connection seen conn Reads Writes end old mid new fresh served closed same (honest_mid honest)
+          serves_connection seen conn Reads Writes Draws end old mid new fresh served closed same (honest_mid honest)
           (subst (λ (k : Kept). IsTrue k.is_open) same open_) w represents;
       later = subst (λ (k : Kept). IsLater (hub_store seen old) k) (sym same) later;
     }

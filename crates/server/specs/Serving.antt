@@ -8,8 +8,9 @@ use Rattle.histories.specs.History.{AreAsked, History, left_by}
 use Rattle.hub.specs.Feeding.{IsLater}
 use Rattle.hub.specs.Histories.{EventsAsked}
 use Rattle.hub.specs.Representing.{ConnectionsRepresent, HubRepresents, hub_store}
-use Rattle.hub.specs.Serving.{Exchange, IsGone}
+use Rattle.hub.specs.Serving.{Exchange, IsEventOf, IsGone}
 use Rattle.hub.specs.World.{Connections, World, history_at}
+use Rattle.hub.specs.declared.event.Event.{Event}
 use Rattle.hub.specs.declared.hub.Hub.{Hub}
 use Rattle.hub.specs.declared.serve.ConnectionFault.{ConnectionFault}
 use Rattle.hub.specs.declared.serve.ConnectionFault.TheVariants.{Broker, Read, Write}
@@ -30,16 +31,28 @@ pub record LeavesOrCloses {S : Type 0} (all : Connections) (new : Hub S) : Type 
   pub represents : ConnectionsRepresent new after
   pub each : (conn : ℕ) → (after conn ≡ all conn) ⊎ ((history_at after conn).closed ≡ true)
 
--- a connection that was served: events of it with listed replies, and what they asked
+-- at most one event of the connection, with a piece of the length that is read at once
+abbrev pub IsAtMostOneOf : ℕ → List Event → Type 0
+IsAtMostOneOf conn events = (events ≡ []) ⊎ ((e : Event) × IsEventOf conn e × (events ≡ e ∷ []))
+
+-- A connection that was served: events of it with listed replies, and what they asked; and the event that had a fault,
+-- if one had.
 pub record Served : Type 0 where
   pub conn : ℕ
   pub exchange : Exchange conn
   pub history : History
+  pub last : List Event
+  pub unanswered : IsAtMostOneOf conn last
 
 -- all that connections asked, one after another
 abbrev pub asked_by : List Served → History
 asked_by [] = []
 asked_by (s ∷ later) = s.history ++ asked_by later
+
+-- all events on connections, one after another
+abbrev pub fed_to : List Served → List Event
+fed_to [] = []
+fed_to (s ∷ later) = (s.exchange.events ++ s.last) ++ fed_to later
 
 -- the connection is closed, or not seen, and no other changes
 pub record LeavesGone (all : Connections) (conn : ℕ) (after : Connections) : Type 0 where
@@ -55,12 +68,15 @@ ServedInTurn w (s ∷ later) after =
     × EventsAsked w s.exchange.events s.exchange.replies s.history mid
     × LeavesGone mid.connections s.conn left × ServedInTurn (record mid { connections = left }) later after
 
--- There are connections that were served so from the world on, all that they asked was asked of the world's broker, one
--- request after another, and the hub represents the world after them, with the broker that they left.
-pub record ServesOn {S : Type 0} (seen : S → Kept) (w : World) (hub : Hub S) : Type 0 where
+-- There are connections that were served so from the world on, with moments and words that were drawn; all that they
+-- asked was asked of the world's broker, one request after another, and the hub represents the world after them, with
+-- the broker that they left.
+pub record ServesOn {S : Type 0} (seen : S → Kept) (Draws : List Event → Type 0) (w : World) (hub : Hub S)
+    : Type 0 where
   pub connections : List Served
   pub after : World
   pub in_turn : ServedInTurn w connections after
+  pub draws : Draws (fed_to connections)
   pub asked : AreAsked w.broker (asked_by connections)
   pub left : after.broker ≡ left_by w.broker (asked_by connections)
   pub represents : HubRepresents seen hub after
@@ -69,7 +85,8 @@ pub record ServesOn {S : Type 0} (seen : S → Kept) (w : World) (hub : Hub S) :
 -- storage only if the store failed. From a hub that represents a world, whose storage has returned what was written
 -- and could be asked, no other fault ends it than a failure of the storage. As long as the storage can still be asked,
 -- as it can unless that failed, the hub then represents a world after requests that were asked of the first.
-pub record LeavesServed {A S : Type 0} (seen : S → Kept) (r : Result A Fault) (old new : Hub S) : Type 0 where
+pub record LeavesServed {A S : Type 0} (seen : S → Kept) (Draws : List Event → Type 0) (r : Result A Fault)
+    (old new : Hub S) : Type 0 where
   pub skipped : IfErr r (λ fault. fault ≢ Memory)
   pub storage : r ≡ Err Storage → IsTrue (hub_store seen new).has_failed
   pub stays_open : IsHonestStore (hub_store seen new) → MatchResult r
@@ -78,12 +95,12 @@ pub record LeavesServed {A S : Type 0} (seen : S → Kept) (r : Result A Fault) 
   pub wants : IsHonestStore (hub_store seen new) → IsTrue (hub_store seen old).is_open
       → (w : World) → HubRepresents seen old w → IfErr r (λ fault. fault ≡ Storage)
   pub represents : IsHonestStore (hub_store seen new) → IsTrue (hub_store seen new).is_open
-      → (w : World) → HubRepresents seen old w → ServesOn seen w new
+      → (w : World) → HubRepresents seen old w → ServesOn seen Draws w new
   pub later : IsLater (hub_store seen old) (hub_store seen new)
 
 -- From each world that the hub represented, all that was asked over all connections keeps the laws over every run, as
 -- long as the storage has returned what was written and can still be asked.
-abbrev pub ServesLawfully : {S : Type 0} → (S → Kept) → Hub S → Hub S → Type 0
-ServesLawfully seen old new =
+abbrev pub ServesLawfully : {S : Type 0} → (S → Kept) → (List Event → Type 0) → Hub S → Hub S → Type 0
+ServesLawfully seen Draws old new =
     IsHonestStore (hub_store seen new) → IsTrue (hub_store seen new).is_open → (w : World) → HubRepresents seen old w
-    → (on : ServesOn seen w new) × KeepsLaws w.broker (asked_by on.connections)
+    → (on : ServesOn seen Draws w new) × KeepsLaws w.broker (asked_by on.connections)

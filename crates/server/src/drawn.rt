@@ -29,7 +29,9 @@ impl<R: Rng> DrawnWords<R> {
 
 impl<R: Rng> WordSource for DrawnWords<R> {
     ghost use Rattle.std.specs.Prelude.{◌≡◌};
-    ghost use Rattle.server.specs.Drawn.{drawn, left_after, stream_of};
+    ghost use Rattle.server.specs.Drawn.{AreDrawn, drawn, left_after, stream_of};
+
+    ghost may_give = { AreDrawn R.stream };
 
     /// The words that the next sixteen draws make, the high half of each word first.
     fn words(&mut self) -> Words

@@ -2,6 +2,7 @@ ghost use Rattle.std.specs.Prelude.{◌≡◌, ◌≢◌, Err, true, IfErr, Matc
 ghost use Rattle.broker_types.specs.declared.fault.Fault.TheVariants.{Memory};
 ghost use Rattle.hub.specs.declared.serve.ConnectionFault.TheVariants.{Broker};
 ghost use Rattle.hub.specs.Representing.{ConnectionsRepresent};
+ghost use Rattle.hub.specs.Supplies.{Supplies};
 ghost use Rattle.hub.specs.World.{Connections};
 ghost use Rattle.server.specs.Serving.{LeavesOrCloses, LeavesServed, ServesLawfully, is_skipped};
 
@@ -23,7 +24,8 @@ const PAUSE: u64 = 100;
 /// or write failed. After a connection what waits on it is dropped.
 ///
 /// Whatever comes on the connections, the broker afterwards is the one before after some requests, one after another
-/// over all of them, each answered as the model does. No contract says that they are those which the peers sent.
+/// over all of them, each answered as the model does. No contract says that they are those which the peers sent. Each
+/// event has its own moment and its own words: for each the clock is asked once and words are drawn once.
 pub fn serve<S: Store, C: hub::Clock, D: WordSource, R: Clock>(
     rt: &R,
     hub: &mut Hub<S>,
@@ -32,13 +34,15 @@ pub fn serve<S: Store, C: hub::Clock, D: WordSource, R: Clock>(
     clock: &mut C,
     words: &mut D,
 ) -> Result<(), Fault>
-    ensures served { LeavesServed S.seen result hub.old hub.new }
+    ensures served { LeavesServed S.seen
+        (Supplies C.may_tell clock.old clock.new D.may_give words.old words.new) result hub.old hub.new }
     ensures closed { (all : Connections) → ConnectionsRepresent hub.old all → LeavesOrCloses all hub.new }
 
     // All that was asked, over all the connections, keeps the laws over every run: no identifier is given out twice; a
     // response is handed out once, and is the reply that was kept; what was revoked, or ended in another way, does not
     // come back.
-    ensures lawful { ServesLawfully S.seen hub.old hub.new }
+    ensures lawful { ServesLawfully S.seen
+        (Supplies C.may_tell clock.old clock.new D.may_give words.old words.new) hub.old hub.new }
 {
     all_that_is_asked_keeps_the_laws();
     // Without an end there are more than a program can ever accept.
@@ -61,7 +65,8 @@ fn serve_stream<S: Store, C: hub::Clock, D: WordSource, R: Clock>(
     clock: &mut C,
     words: &mut D,
 ) -> Result<(), Fault>
-    ensures served { LeavesServed S.seen result hub.old hub.new }
+    ensures served { LeavesServed S.seen
+        (Supplies C.may_tell clock.old clock.new D.may_give words.old words.new) result hub.old hub.new }
     ensures closed { (all : Connections) → ConnectionsRepresent hub.old all → LeavesOrCloses all hub.new }
 {
     let Ok(peer) = Peer::new(rt, stream) else {

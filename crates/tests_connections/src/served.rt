@@ -7,6 +7,7 @@ use endpoints::{Reading, Sink, Source, Writing};
 use hub::{Clock, ConnectionFault, Hub, WordSource, serve_connection};
 use std::alloc::Global;
 use std::io;
+use std::io::Read;
 use std::test::Fail;
 
 const WRITE: &str = "PUT /v1/cubbyhole/a HTTP/1.1\r\nHost: b\r\n\
@@ -30,6 +31,44 @@ const FOUND: &str = "HTTP/1.1 200 OK\r\n\
     {\"auth\":null,\"data\":{\"k\":\"v\"},\"lease_duration\":0,\"lease_id\":\"\",\"renewable\":false,\
     \"request_id\":\"00000000-0000-0000-0000-000000000020\",\"warnings\":null,\"wrap_info\":null}\n";
 
+const OUTSIDE: &str = "GET /b HTTP/1.1\r\nHost: b\r\n\r\n";
+
+/// The replies to `OUTSIDE` of the first, the second and the fourth event.
+const THREE_MOMENTS: &str = "HTTP/1.1 404 Not Found\r\n\
+    Date: Tue, 14 Nov 2023 22:13:20 GMT\r\n\
+    Cache-Control: no-store\r\n\
+    Content-Type: application/json\r\n\
+    Content-Length: 14\r\n\r\n\
+    {\"errors\":[]}\n\
+    HTTP/1.1 404 Not Found\r\n\
+    Date: Tue, 14 Nov 2023 22:13:21 GMT\r\n\
+    Cache-Control: no-store\r\n\
+    Content-Type: application/json\r\n\
+    Content-Length: 14\r\n\r\n\
+    {\"errors\":[]}\n\
+    HTTP/1.1 404 Not Found\r\n\
+    Date: Tue, 14 Nov 2023 22:13:23 GMT\r\n\
+    Cache-Control: no-store\r\n\
+    Content-Type: application/json\r\n\
+    Content-Length: 14\r\n\r\n\
+    {\"errors\":[]}\n";
+
+/// It makes the token of word 17 for one second.
+const CREATE: &str = "POST /v1/auth/token/create HTTP/1.1\r\nHost: b\r\n\
+    X-Vault-Token: hvs.00000000-0000-0000-0000-000000000001\r\n\
+    Content-Length: 12\r\n\r\n{\"ttl\":\"1s\"}";
+
+const READ_BY_IT: &str = "GET /v1/cubbyhole/a HTTP/1.1\r\nHost: b\r\n\
+    X-Vault-Token: hvs.00000000-0000-0000-0000-000000000011\r\n\r\n";
+
+/// The reply to `READ_BY_IT` two seconds later.
+const DENIED: &str = "HTTP/1.1 403 Forbidden\r\n\
+    Date: Tue, 14 Nov 2023 22:13:22 GMT\r\n\
+    Cache-Control: no-store\r\n\
+    Content-Type: application/json\r\n\
+    Content-Length: 33\r\n\r\n\
+    {\"errors\":[\"permission denied\"]}\n";
+
 /// A clock that stands still.
 #[derive(Drop)]
 struct Fixed(Moment);
@@ -37,6 +76,18 @@ struct Fixed(Moment);
 impl Clock for Fixed {
     fn now(&mut self) -> Moment {
         self.0
+    }
+}
+
+/// A clock that goes on by a second at each call.
+#[derive(Drop)]
+struct Ticking(Moment);
+
+impl Clock for Ticking {
+    fn now(&mut self) -> Moment {
+        let now = self.0;
+        self.0 = Moment::new(now.seconds() + 1).unwrap_or(now);
+        now
     }
 }
 
@@ -110,6 +161,26 @@ fn written(
     }
 }
 
+/// What serving two pieces on the connection writes, where it ends without a fault: each event comes a second after the
+/// one before it.
+fn written_in_time(
+    alloc: Global,
+    hub: &mut Hub<ListStore>,
+    conn: u64,
+    first: &str,
+    second: &str,
+) -> Result<Vec<u8>, Fail> {
+    let mut reader = Reading::new(first.as_bytes().chain(second.as_bytes()));
+    let mut output = Vec::new(alloc);
+    let mut writer = Writing::new(&mut output);
+    let mut clock = Ticking(moment()?);
+    let mut words = Counting { next: 32 };
+    match serve_connection(hub, conn, &mut reader, &mut writer, &mut clock, &mut words) {
+        Ok(()) => Ok(output),
+        Err(_) => Err(Fail::from("a fault")),
+    }
+}
+
 /// Computes `Proceeds`, `HasEnded`, `IsNextNumber`.
 #[test]
 fn two_requests_of_one_piece(rt: HostRuntime) -> Result<(), Fail> {
@@ -161,5 +232,36 @@ fn an_end_that_fails_closes_the_connection(rt: HostRuntime) -> Result<(), Fail> 
     assert!(rt; hub.is_closed(2));
     let output = written(alloc, &mut hub, 3, READ)?;
     assert_eq!(rt; output.as_slice(), NOT_FOUND.as_bytes());
+    Ok(())
+}
+
+/// Computes `Supplies`, `GivesInTurn`. Each event has a moment of its own: two requests come in one piece, and a third in
+/// the next. The third event finds no request.
+#[test]
+fn three_requests_at_three_moments(rt: HostRuntime) -> Result<(), Fail> {
+    let alloc = rt.alloc();
+    let mut hub = started(alloc, moment()?)?;
+    let input = format!(in alloc; "{OUTSIDE}{OUTSIDE}")?;
+    let output = written_in_time(alloc, &mut hub, 7, input.as_str(), OUTSIDE)?;
+    assert_eq!(rt; output.as_slice(), THREE_MOMENTS.as_bytes());
+    Ok(())
+}
+
+/// Computes `Supplies`. A token of one second is good for the first request of a connection, and has expired at the
+/// second, two seconds later.
+#[test]
+fn a_token_expires_on_an_open_connection(rt: HostRuntime) -> Result<(), Fail> {
+    let alloc = rt.alloc();
+    let mut hub = started(alloc, moment()?)?;
+    let made = hub.feed(
+        0,
+        CREATE.as_bytes(),
+        moment()?,
+        &Words([16, 17, 18, 19, 20, 21, 22, 23]),
+    )?;
+    drop(made);
+    let output = written_in_time(alloc, &mut hub, 7, READ_BY_IT, READ_BY_IT)?;
+    let wanted = format!(in alloc; "{NOT_FOUND}{DENIED}")?;
+    assert_eq!(rt; output.as_slice(), wanted.as_bytes());
     Ok(())
 }

@@ -2,6 +2,7 @@ use Rattle.std.proofs.Common.{◌≡◌, ◌∙◌, Err, Ok, ap, refl}
 use Rattle.std.proofs.lemmas.Result.{err_from_is_err_and}
 use Rattle.std.specs.Io.KnownBytes.{Appends}
 use Rattle.hub.specs.Representing.{hub_store, hub_waiting}
+use Rattle.hub.specs.SuppliesLaws.{Supplies-append}
 use Rattle.hub.proofs.AnswersLemmas.{honest_before, later_still}
 use Rattle.hub.proofs.KnownLemmas.{Appends-append}
 use Rattle.hub.proofs.ServingLemmas.{joins_nothing, leaves_on, measure_falls, proceeds_on, stops_on}
@@ -41,8 +42,10 @@ returns-in_err-more-2-clause-served g c =
     let end = g.W.Sink.written c.answer_one-in-loop-more.new.writer in
     rw (p.1 ∙ ap Err p.2)
     (stops_on seen c.args.conn (λ read. read ≡ c.args.piece.now) _ (λ read. read ≡ c.args.piece.now) (Appends start now) (Appends now end)
-    (Appends start end) c.in_err-more-2.field-0.0 c.args.hub.now c.loop-more.hub c.answer_one-in-loop-more.new.hub
+    (Appends start end) _ _ _ c.in_err-more-2.field-0.0 c.args.hub.now c.loop-more.hub c.answer_one-in-loop-more.new.hub
     (joins_nothing c.args.piece.now _ refl) (Appends-append start now end)
+    (Supplies-append g.C.Clock.may_tell c.args.clock.now c.loop-more.clock c.answer_one-in-loop-more.new.clock g.D.WordSource.may_give
+    c.args.words.now c.loop-more.words c.answer_one-in-loop-more.new.words)
     (honest_before (hub_store seen c.loop-more.hub) (hub_store seen c.answer_one-in-loop-more.new.hub) later.mismatches)
     c.loop-more.invariant.proceeds c.in_err-more-2.ensures.served)
 
@@ -95,8 +98,10 @@ loop-more-preserved g c =
           c.loop-more.invariant.later later;
       is_open = λ honest. c.in_ok-more-2.ensures.stays_open honest ∙ c.loop-more.invariant.is_open (before honest);
       proceeds = proceeds_on seen c.args.conn (λ read. read ≡ c.args.piece.now) _ (λ read. read ≡ c.args.piece.now) (Appends start now) (Appends now end)
-          (Appends start end) c.args.hub.now c.loop-more.hub c.answer_one-in-loop-more.new.hub
-          (joins_nothing c.args.piece.now _ refl) (Appends-append start now end) before
+          (Appends start end) _ _ _ c.args.hub.now c.loop-more.hub c.answer_one-in-loop-more.new.hub
+          (joins_nothing c.args.piece.now _ refl) (Appends-append start now end)
+          (Supplies-append g.C.Clock.may_tell c.args.clock.now c.loop-more.clock c.answer_one-in-loop-more.new.clock g.D.WordSource.may_give
+          c.args.words.now c.loop-more.words c.answer_one-in-loop-more.new.words) before
           c.loop-more.invariant.proceeds c.in_ok-more-2.ensures.served;
       others = λ all each.
           leaves_on c.args.conn all c.loop-more.hub c.answer_one-in-loop-more.new.hub (c.loop-more.invariant.others all each)

@@ -8,10 +8,11 @@ use Rattle.std.proofs.lemmas.Result.{err_from_is_err_and}
 use Rattle.broker_types.specs.declared.fault.Fault.{Fault}
 use Rattle.broker.specs.Kept.{IsHonestStore, Kept}
 use Rattle.hub.specs.Representing.{hub_connections}
+use Rattle.hub.specs.SuppliesLaws.{Supplies-one}
 use Rattle.hub.specs.declared.serve.ConnectionFault.TheVariants.{Broker}
 use Rattle.hub.proofs.EndingLemmas.{answered_silent, gone_closing, gone_faulting, not_storage}
 use Rattle.hub.proofs.KnownLemmas.{Appends-nil}
-use Rattle.hub.proofs.ServingLemmas.{closed_leaves, fault_leaves, fed_leaves, leaves_on, proceeds_one, stops_feeding, stops_writing}
+use Rattle.hub.proofs.ServingLemmas.{closed_leaves, event_of, fault_leaves, fed_leaves, leaves_on, proceeds_one, stops_feeding, stops_writing}
 use Rattle.hub.proofs.WaitingLemmas.{standing_all, standing_each, waiting_falls}
 use Rattle.hub.proofs.serve.answer_one.Goals as goal
 
@@ -28,8 +29,11 @@ returns-in_err-bytes-clause-served g c =
     let p = err_from_is_err_and c.from_residual.result c.from_residual.ensures.1 in
     let fed = c.in_err-bytes.ensures in
     rw (p.1 ∙ ap Err p.2)
-    (stops_feeding g.S.Store.seen c.args.conn c.args.piece.now (g.W.Sink.written c.args.writer.now) c.in_err-bytes.field-0.0 c.args.hub.now
-    c.feed.new.self c.requires fed.keeps.kept fed.connections)
+    (stops_feeding g.S.Store.seen c.args.conn c.args.piece.now c.now-moment.result c.words-drawn.result (g.W.Sink.written c.args.writer.now) _
+    c.in_err-bytes.field-0.0 c.args.hub.now c.feed.new.self c.requires
+    (Supplies-one g.C.Clock.may_tell c.args.clock.now c.now-moment.new.self g.D.WordSource.may_give c.args.words.now c.words-drawn.new.self
+    (event_of c.args.conn c.args.piece.now c.now-moment.result c.words-drawn.result) c.now-moment.ensures c.words-drawn.ensures)
+    fed.keeps.kept fed.connections)
 
 pub returns-in_err-bytes-clause-others : goal.returns-in_err-bytes-clause-others
 returns-in_err-bytes-clause-others g c = λ all each.
@@ -60,9 +64,11 @@ returns-then-is_empty-clause-served g c =
     let nothing = nothing_of c.in_ok-bytes.bytes.items _ (let ok = c.in_ok-bytes.bytes.ok in omega (arith, ok)) (sym c.is_empty.ensures ∙ c.if-is_empty.true) in
     let known = g.W.Sink.written c.args.writer.now in
     let fed = c.in_ok-bytes.ensures in
-    proceeds_one g.S.Store.seen c.args.conn c.args.piece.now c.now-moment.result c.words-drawn.result c.in_ok-bytes.bytes.items known known
+    proceeds_one g.S.Store.seen c.args.conn c.args.piece.now c.now-moment.result c.words-drawn.result c.in_ok-bytes.bytes.items known known _
     c.args.hub.now c.feed.new.self (record { short = c.requires; answers = fed.ok; gives = fed.connections; listed = fed.listed })
     (subst (Appends known known) (sym nothing) (Appends-nil known))
+    (Supplies-one g.C.Clock.may_tell c.args.clock.now c.now-moment.new.self g.D.WordSource.may_give c.args.words.now c.words-drawn.new.self
+    (event_of c.args.conn c.args.piece.now c.now-moment.result c.words-drawn.result) c.now-moment.ensures c.words-drawn.ensures)
 
 pub returns-then-is_empty-clause-others : goal.returns-then-is_empty-clause-others
 returns-then-is_empty-clause-others g c = λ all each.
@@ -84,9 +90,11 @@ returns-in-Ok-clause-served g c =
     let known = g.W.Sink.written c.args.writer.now in
     let after = g.W.Sink.written c.push.new.self in
     let fed = c.in_ok-bytes.ensures in
-    proceeds_one g.S.Store.seen c.args.conn c.args.piece.now c.now-moment.result c.words-drawn.result c.in_ok-bytes.bytes.items known after
+    proceeds_one g.S.Store.seen c.args.conn c.args.piece.now c.now-moment.result c.words-drawn.result c.in_ok-bytes.bytes.items known after _
     c.args.hub.now c.feed.new.self (record { short = c.requires; answers = fed.ok; gives = fed.connections; listed = fed.listed })
     (subst (Appends known after) c.as_slice.ensures.value c.in-Ok.ensures.ok)
+    (Supplies-one g.C.Clock.may_tell c.args.clock.now c.now-moment.new.self g.D.WordSource.may_give c.args.words.now c.words-drawn.new.self
+    (event_of c.args.conn c.args.piece.now c.now-moment.result c.words-drawn.result) c.now-moment.ensures c.words-drawn.ensures)
 
 pub returns-in-Ok-clause-others : goal.returns-in-Ok-clause-others
 returns-in-Ok-clause-others g c = λ all each.
@@ -111,9 +119,11 @@ pub returns-clause-served : goal.returns-clause-served
 returns-clause-served g c =
     let fed = c.in_ok-bytes.ensures in
     stops_writing g.S.Store.seen c.args.conn c.args.piece.now c.now-moment.result c.words-drawn.result c.in_ok-bytes.bytes.items
-    (g.W.Sink.written c.args.writer.now) (g.W.Sink.written c.push.new.self) c.args.hub.now c.feed.new.self c.close.new.self
+    (g.W.Sink.written c.args.writer.now) (g.W.Sink.written c.push.new.self) _ c.args.hub.now c.feed.new.self c.close.new.self
     (record { short = c.requires; answers = fed.ok; gives = fed.connections; listed = fed.listed })
     (record { store = c.close.ensures.store; connections = c.close.ensures.connections })
+    (Supplies-one g.C.Clock.may_tell c.args.clock.now c.now-moment.new.self g.D.WordSource.may_give c.args.words.now c.words-drawn.new.self
+    (event_of c.args.conn c.args.piece.now c.now-moment.result c.words-drawn.result) c.now-moment.ensures c.words-drawn.ensures)
 
 pub returns-clause-others : goal.returns-clause-others
 returns-clause-others g c = λ all each.

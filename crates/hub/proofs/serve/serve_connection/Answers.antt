@@ -3,6 +3,7 @@ use Rattle.std.proofs.lemmas.Result.{err_from_is_err_and}
 use Rattle.std.specs.Io.KnownBytes.{Appends, Consumes}
 use Rattle.broker.specs.Kept.{IsHonestStore, Kept}
 use Rattle.hub.specs.Representing.{hub_store}
+use Rattle.hub.specs.SuppliesLaws.{Supplies-append, Supplies-nil}
 use Rattle.hub.specs.declared.serve.ConnectionFault.TheVariants.{Read}
 use Rattle.hub.proofs.AnswersLemmas.{honest_before, later_still}
 use Rattle.hub.proofs.EndingLemmas.{gone_closing}
@@ -14,7 +15,8 @@ use Rattle.hub.proofs.serve.serve_connection.Goals as goal
 
 pub returns-then-is_closed-clause-served : goal.returns-then-is_closed-clause-served
 returns-then-is_closed-clause-served g c =
-    proceeds_none g.S.Store.seen c.args.conn _ _ c.args.hub.now (Consumes-nil _) (Appends-nil _)
+    proceeds_none g.S.Store.seen c.args.conn _ _ _ c.args.hub.now (Consumes-nil _) (Appends-nil _)
+    (Supplies-nil g.C.Clock.may_tell c.args.clock.now g.D.WordSource.may_give c.args.words.now)
 
 pub returns-then-is_closed-clause-others : goal.returns-then-is_closed-clause-others
 returns-then-is_closed-clause-others g c = λ all each. leaves_none c.args.conn all c.args.hub.now each
@@ -38,8 +40,10 @@ returns-in_err-serve_piece-clause-served g c =
     let before = honest_before (hub_store seen c.loop.hub) (hub_store seen c.serve_piece.new.hub) later.mismatches in
     rw (p.1 ∙ ap Err p.2)
     (stops_on seen c.args.conn (Consumes was left) (Consumes left rest) (Consumes was rest) (Appends start now) (Appends now end)
-    (Appends start end) c.in_err-serve_piece.field-0.0 c.args.hub.now c.loop.hub c.serve_piece.new.hub
-    (Consumes-append was left rest) (Appends-append start now end) before c.loop.invariant.proceeds c.in_err-serve_piece.ensures.served)
+    (Appends start end) _ _ _ c.in_err-serve_piece.field-0.0 c.args.hub.now c.loop.hub c.serve_piece.new.hub
+    (Consumes-append was left rest) (Appends-append start now end)
+    (Supplies-append g.C.Clock.may_tell c.args.clock.now c.loop.clock c.serve_piece.new.clock g.D.WordSource.may_give
+    c.args.words.now c.loop.words c.serve_piece.new.words) before c.loop.invariant.proceeds c.in_err-serve_piece.ensures.served)
 
 pub returns-in_err-serve_piece-clause-others : goal.returns-in_err-serve_piece-clause-others
 returns-in_err-serve_piece-clause-others g c = λ all each.
@@ -83,8 +87,10 @@ returns-then-branch-clause-served g c =
     let end = g.W.Sink.written c.serve_piece.new.writer in
     let before = honest_before (hub_store seen c.loop.hub) (hub_store seen c.serve_piece.new.hub) later.mismatches in
     proceeds_on seen c.args.conn (Consumes was left) (Consumes left rest) (Consumes was rest) (Appends start now) (Appends now end)
-    (Appends start end) c.args.hub.now c.loop.hub c.serve_piece.new.hub
-    (Consumes-append was left rest) (Appends-append start now end) before c.loop.invariant.proceeds c.in_ok-serve_piece.ensures.served
+    (Appends start end) _ _ _ c.args.hub.now c.loop.hub c.serve_piece.new.hub
+    (Consumes-append was left rest) (Appends-append start now end)
+    (Supplies-append g.C.Clock.may_tell c.args.clock.now c.loop.clock c.serve_piece.new.clock g.D.WordSource.may_give
+    c.args.words.now c.loop.words c.serve_piece.new.words) before c.loop.invariant.proceeds c.in_ok-serve_piece.ensures.served
 
 pub returns-then-branch-clause-others : goal.returns-then-branch-clause-others
 returns-then-branch-clause-others g c = λ all each.
@@ -107,7 +113,8 @@ loop-init g c = record {
   later = search rules;
   is_open = λ honest. search rules;
   counted = search rules;
-  proceeds = proceeds_none g.S.Store.seen c.args.conn _ _ c.args.hub.now (Consumes-nil _) (Appends-nil _);
+  proceeds = proceeds_none g.S.Store.seen c.args.conn _ _ _ c.args.hub.now (Consumes-nil _) (Appends-nil _)
+      (Supplies-nil g.C.Clock.may_tell c.args.clock.now g.D.WordSource.may_give c.args.words.now);
   others = λ all each. leaves_none c.args.conn all c.args.hub.now each;
 }
 
@@ -127,8 +134,10 @@ loop-preserved g c =
       is_open = λ honest. c.in_ok-serve_piece.ensures.stays_open honest ∙ c.loop.invariant.is_open (before honest);
       counted = omega (arith, c.in_ok-serve_piece.ensures.counted, c.loop.invariant.counted);
       proceeds = proceeds_on seen c.args.conn (Consumes was left) (Consumes left rest) (Consumes was rest) (Appends start now) (Appends now end)
-          (Appends start end) c.args.hub.now c.loop.hub c.serve_piece.new.hub
-          (Consumes-append was left rest) (Appends-append start now end) before c.loop.invariant.proceeds c.in_ok-serve_piece.ensures.served;
+          (Appends start end) _ _ _ c.args.hub.now c.loop.hub c.serve_piece.new.hub
+          (Consumes-append was left rest) (Appends-append start now end)
+          (Supplies-append g.C.Clock.may_tell c.args.clock.now c.loop.clock c.serve_piece.new.clock g.D.WordSource.may_give
+          c.args.words.now c.loop.words c.serve_piece.new.words) before c.loop.invariant.proceeds c.in_ok-serve_piece.ensures.served;
       others = λ all each.
           leaves_on c.args.conn all c.loop.hub c.serve_piece.new.hub (c.loop.invariant.others all each) c.serve_piece.ensures.others;
     }
@@ -143,9 +152,12 @@ returns-clause-served g c =
     let start = g.W.Sink.written c.args.writer.now in
     let now = g.W.Sink.written c.loop.writer in
     stops_on seen c.args.conn (Consumes was left) (Consumes left left) (Consumes was left) (Appends start now) (Appends now now)
-    (Appends start now) Read c.args.hub.now c.loop.hub c.close.new.self (Consumes-append was left left) (Appends-append start now now)
+    (Appends start now) _ _ _ Read c.args.hub.now c.loop.hub c.close.new.self (Consumes-append was left left) (Appends-append start now now)
+    (Supplies-append g.C.Clock.may_tell c.args.clock.now c.loop.clock c.loop.clock g.D.WordSource.may_give
+    c.args.words.now c.loop.words c.loop.words)
     (λ honest. subst IsHonestStore c.close.ensures.store honest) c.loop.invariant.proceeds
-    (stops_reading seen c.args.conn (Consumes left left) (Appends now now) c.loop.hub c.close.new.self (Consumes-nil left) (Appends-nil now)
+    (stops_reading seen c.args.conn (Consumes left left) (Appends now now) _ c.loop.hub c.close.new.self (Consumes-nil left) (Appends-nil now)
+    (Supplies-nil g.C.Clock.may_tell c.loop.clock g.D.WordSource.may_give c.loop.words)
     (record { store = c.close.ensures.store; connections = c.close.ensures.connections }))
 
 pub returns-clause-others : goal.returns-clause-others

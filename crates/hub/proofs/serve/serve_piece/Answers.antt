@@ -3,6 +3,7 @@ use Rattle.std.proofs.lemmas.Result.{err_from_is_err_and}
 use Rattle.std.proofs.lemmas.Bool.Decides.{nat_tests}
 use Rattle.std.specs.Io.KnownBytes.{Consumes}
 use Rattle.broker.specs.Kept.{Kept}
+use Rattle.hub.specs.SuppliesLaws.{Supplies-nil}
 use Rattle.hub.proofs.EndingLemmas.{gone_closing}
 use Rattle.hub.proofs.KnownLemmas.{Appends-nil, Consumes-kept}
 use Rattle.hub.proofs.ServingLemmas.{closed_leaves, ended_at, proceeds_so, stops_reading, stops_so}
@@ -12,7 +13,8 @@ use Rattle.hub.proofs.serve.serve_piece.Goals as goal
 
 pub returns-in_default-clause-served : goal.returns-in_default-clause-served
 returns-in_default-clause-served g c =
-    stops_reading g.S.Store.seen c.args.conn _ _ c.args.hub.now c.close.new.self (Consumes-kept _ _ c.in_default.ensures.bytes) (Appends-nil _)
+    stops_reading g.S.Store.seen c.args.conn _ _ _ c.args.hub.now c.close.new.self (Consumes-kept _ _ c.in_default.ensures.bytes) (Appends-nil _)
+    (Supplies-nil g.C.Clock.may_tell c.args.clock.now g.D.WordSource.may_give c.args.words.now)
     (record { store = c.close.ensures.store; connections = c.close.ensures.connections })
 
 pub returns-in_default-clause-others : goal.returns-in_default-clause-others
@@ -31,7 +33,7 @@ returns-in_err-answer-clause-served g c =
     let p = err_from_is_err_and c.from_residual.result c.from_residual.ensures.1 in
     let read = c.in-Ok.ensures.bytes.0 in
     rw (p.1 ∙ ap Err p.2)
-    (stops_so g.S.Store.seen c.args.conn _ (Consumes (g.R.Source.left c.args.reader.now) (g.R.Source.left c.pull.new.self)) _ _ c.args.hub.now
+    (stops_so g.S.Store.seen c.args.conn _ (Consumes (g.R.Source.left c.args.reader.now) (g.R.Source.left c.pull.new.self)) _ _ _ c.args.hub.now
     c.answer.new.hub (λ l is. subst (Consumes (g.R.Source.left c.args.reader.now) (g.R.Source.left c.pull.new.self)) (sym is) read)
     c.in_err-answer.ensures.served)
 
@@ -55,7 +57,7 @@ returns-in_err-answer-clause-stays_open g c =
 pub returns-then-count-eq0-clause-served : goal.returns-then-count-eq0-clause-served
 returns-then-count-eq0-clause-served g c =
     let read = c.in-Ok.ensures.bytes.0 in
-    proceeds_so g.S.Store.seen c.args.conn _ (Consumes (g.R.Source.left c.args.reader.now) (g.R.Source.left c.pull.new.self)) _ c.args.hub.now
+    proceeds_so g.S.Store.seen c.args.conn _ (Consumes (g.R.Source.left c.args.reader.now) (g.R.Source.left c.pull.new.self)) _ _ c.args.hub.now
     c.answer.new.hub (λ l is. subst (Consumes (g.R.Source.left c.args.reader.now) (g.R.Source.left c.pull.new.self)) (sym is) read)
     c.in_ok-answer.ensures.served
 
@@ -70,7 +72,7 @@ returns-then-count-eq0-clause-ended g c = λ last all each.
 pub returns-else-count-eq0-clause-served : goal.returns-else-count-eq0-clause-served
 returns-else-count-eq0-clause-served g c =
     let read = c.in-Ok.ensures.bytes.0 in
-    proceeds_so g.S.Store.seen c.args.conn _ (Consumes (g.R.Source.left c.args.reader.now) (g.R.Source.left c.pull.new.self)) _ c.args.hub.now
+    proceeds_so g.S.Store.seen c.args.conn _ (Consumes (g.R.Source.left c.args.reader.now) (g.R.Source.left c.pull.new.self)) _ _ c.args.hub.now
     c.answer.new.hub (λ l is. subst (Consumes (g.R.Source.left c.args.reader.now) (g.R.Source.left c.pull.new.self)) (sym is) read)
     c.in_ok-answer.ensures.served
 
