@@ -323,6 +323,24 @@ shut_others f g conn is_open replaced none others n apart = at (connection_at f 
 pub shut_at : (o : Option Connection) (c : Connection) → o ≡ Some c → closed_at o ≡ true → (d : Connection) × (o ≡ Some d) × (is_closed d ≡ true)
 shut_at o c is closed = (c, is, sym (ap closed_at is) ∙ closed)
 
+-- ---- feeding
+
+-- an open connection's entry changes, and then entries are joined
+module _ (F : Connection → Connection → Type 0) (f g h : ℕ → Option Entry) (conn : ℕ) (is_open : closed_at (connection_at f conn) ≡ false)
+    (feeds : (c : Connection) → f conn ≡ Some (One c) → (d : Connection) × (g conn ≡ Some (One d)) × F c d)
+    (settles : (k : ℕ) → connection_at h k ≡ connection_at g k) where
+  pub fed_here : (c : Connection) → connection_at f conn ≡ Some c → (d : Connection) × (connection_at h conn ≡ Some d) × F c d
+  fed_here c is =
+      let d = feeds c (open_entry f conn c is (sym (ap closed_at is) ∙ is_open)) in
+      (d.0, settles conn ∙ at_one g conn d.0 d.1, d.2)
+
+  pub fed_others : is_some (connection_at f conn) ≡ true → ((k : ℕ) → k ≢ conn → g k ≡ f k) → (k : ℕ) → k ≢ conn → connection_at h k ≡ connection_at f k
+  fed_others seen others k apart =
+      let c = some_of (connection_at f conn) seen in
+      let was = open_entry f conn c.0 c.1 (sym (ap closed_at c.1) ∙ is_open) in
+      let d = feeds c.0 was in
+      settles k ∙ changed f g conn c.0 d.0 was d.1 others k apart
+
 -- ---- joining
 
 -- two closed runs, the second of which begins where the first ends, become one

@@ -14,7 +14,7 @@ pub struct Hub<S: Store> {
 }
 
 impl<S: Store> Hub<S> {
-    ghost use Rattle.std.specs.Prelude.{◌≡◌, ◌≢◌, ℕ, List, [], Some, IfOk, IfErr, IsOk, OnOk, true, false};
+    ghost use Rattle.std.specs.Prelude.{◌≡◌, ◌≢◌, ℕ, List, [], Some, IsSome, IfOk, IfErr, IsOk, OnOk, true, false};
     ghost use Rattle.std.specs.Ordering.{nat_cmp};
     ghost use Rattle.std.specs.BTreeMap.{get};
     ghost use Rattle.broker_types.specs.Broker.{Broker};
@@ -24,7 +24,8 @@ impl<S: Store> Hub<S> {
     ghost use Rattle.hub.specs.Feeding.{Feeds, Keeps};
     ghost use Rattle.hub.specs.Listed.{IsListedReply};
     ghost use Rattle.hub.specs.Numbers.{IsNextNumber};
-    ghost use Rattle.hub.specs.Representing.{HubRepresents, ConnectionsRepresent, hub_store};
+    ghost use Rattle.hub.specs.Pending.{closed_at};
+    ghost use Rattle.hub.specs.Representing.{HubRepresents, ConnectionsRepresent, hub_connections, hub_store};
     ghost use Rattle.hub.specs.Runs.{AnswersOne};
     ghost use Rattle.hub.specs.Serving.{LeavesClosed};
     ghost use Rattle.hub.specs.World.{World, Connections, history_at, new_world, no_connections};
@@ -129,12 +130,31 @@ impl<S: Store> Hub<S> {
             return Ok(Vec::new(self.alloc));
         }
         open(&mut self.connections, self.alloc, conn)?;
+        self.feed_open(conn, piece, moment, words)
+    }
+
+    /// Takes a piece that comes on a connection that was seen and is open.
+    fn feed_open(
+        &mut self,
+        conn: u64,
+        piece: &[u8],
+        moment: Moment,
+        words: &Words,
+    ) -> Result<Vec<u8>, Fault>
+        requires seen { IsSome (hub_connections self.old conn) }
+        requires is_open { closed_at (hub_connections self.old conn) ≡ false }
+        ensures fed { (c : Seen) → hub_connections self.old conn ≡ Some c
+            → (d : Seen) × (hub_connections self.new conn ≡ Some d)
+            × Feeds (hub_store S.seen self.old) (hub_store S.seen self.new) c d piece.now moment
+            words.now result }
+        ensures others { (k : ℕ) → k ≢ conn → hub_connections self.new k ≡ hub_connections self.old k }
+    {
         let fed = self.feed_seen(conn, piece, moment, words);
         settle(&mut self.connections, conn);
         fed
     }
 
-    /// Takes a piece that comes on an open connection, which has an entry of its own.
+    /// The same. Its entry does not join those of closed connections yet, if it closes.
     fn feed_seen(
         &mut self,
         conn: u64,
