@@ -1,5 +1,5 @@
 use crate::entry::Entry;
-use crate::table::{close, is_closed, next_number, open, settle};
+use crate::table::{close, empty, is_closed, next_number, open, settle};
 use broker::Store;
 use broker_types::{Fault, Moment, Words};
 use std::alloc::Global;
@@ -42,7 +42,7 @@ impl<S: Store> Hub<S> {
         Hub {
             alloc,
             store,
-            connections: BTreeMap::new(alloc),
+            connections: empty(alloc),
         }
     }
 
