@@ -1,8 +1,9 @@
 #!/bin/bash
 # Starts `brokerd serve` and asks it as its users do: by curl, by `client` if it is there, by Python's hvac and by
-# Ansible if they are installed, and on one connection 10,000 times; then by peers that are idle or slow, by wrong
-# command lines, and over a file that is opened again. It takes some 30 seconds, and 40 more with Ansible. BROKERD and
-# CLIENT name other programs. The last line is 'N passed, M failed'; the status is 0 if nothing failed.
+# Ansible if they are installed, and on one connection 10,000 times; then by wrong command lines, over a file that is
+# opened again, by peers that are idle or slow, and on 100,000 connections. It takes some 70 seconds, and 40 more with
+# Ansible. BROKERD and CLIENT name other programs. The last line is 'N passed, M failed'; the status is 0 if nothing
+# failed.
 set -u
 cd "$(dirname "$0")/.."
 
@@ -307,4 +308,5 @@ serve_without_an_end
 keep_in_a_file
 count python3 tests/clients/databases.py "$program"
 count python3 tests/clients/slow_peers.py "$program"
+limit=600 count python3 tests/clients/closed_connections.py "$program" 100000
 finish

@@ -1,6 +1,7 @@
 pub mod AnswersLemmas
 pub mod AskingLemmas
 pub mod EndingLemmas
+pub mod EntryLemmas
 pub mod HistoryLemmas
 pub mod HubLemmas
 pub mod KnownLemmas

@@ -1,5 +1,5 @@
-use crate::connection::Connection;
-use crate::table::{close, is_closed, next_number, open};
+use crate::entry::Entry;
+use crate::table::{close, empty, is_closed, next_number, open, settle};
 use broker::Store;
 use broker_types::{Fault, Moment, Words};
 use std::alloc::Global;
@@ -10,11 +10,13 @@ use std::collections::BTreeMap;
 pub struct Hub<S: Store> {
     alloc: Global,
     store: S,
-    connections: BTreeMap<u64, Connection>,
+    connections: BTreeMap<u64, Entry>,
 }
 
 impl<S: Store> Hub<S> {
-    ghost use Rattle.std.specs.Prelude.{◌≡◌, ◌≢◌, ℕ, List, [], Some, IfOk, IfErr, IsOk, OnOk, true, false};
+    ghost use Rattle.std.specs.Prelude.{◌≡◌, ◌≢◌, ℕ, List, [], Some, IsSome, IfOk, IfErr, IsOk, OnOk, true, false};
+    ghost use Rattle.std.specs.Ordering.{nat_cmp};
+    ghost use Rattle.std.specs.BTreeMap.{get};
     ghost use Rattle.broker_types.specs.Broker.{Broker};
     ghost use Rattle.broker_rows.specs.Representing.{Represents};
     ghost use Rattle.broker.specs.Kept.{IsHonestStore};
@@ -22,11 +24,13 @@ impl<S: Store> Hub<S> {
     ghost use Rattle.hub.specs.Feeding.{Feeds, Keeps};
     ghost use Rattle.hub.specs.Listed.{IsListedReply};
     ghost use Rattle.hub.specs.Numbers.{IsNextNumber};
+    ghost use Rattle.hub.specs.Pending.{closed_at};
     ghost use Rattle.hub.specs.Representing.{HubRepresents, ConnectionsRepresent, hub_connections, hub_store};
     ghost use Rattle.hub.specs.Runs.{AnswersOne};
     ghost use Rattle.hub.specs.Serving.{LeavesClosed};
     ghost use Rattle.hub.specs.World.{World, Connections, history_at, new_world, no_connections};
     ghost use Rattle.hub.specs.declared.connection.Connection.{Connection as Seen};
+    ghost use Rattle.hub.specs.declared.entry.Entry.TheVariants.{One};
 
     /// A hub over a store that was started. No connection is seen. It takes no memory.
     pub fn new(alloc: Global, store: S) -> Hub<S>
@@ -38,7 +42,7 @@ impl<S: Store> Hub<S> {
         Hub {
             alloc,
             store,
-            connections: BTreeMap::new(alloc),
+            connections: empty(alloc),
         }
     }
 
@@ -126,10 +130,31 @@ impl<S: Store> Hub<S> {
             return Ok(Vec::new(self.alloc));
         }
         open(&mut self.connections, self.alloc, conn)?;
-        self.feed_seen(conn, piece, moment, words)
+        self.feed_open(conn, piece, moment, words)
     }
 
-    /// Takes a piece that comes on a connection that was seen.
+    /// Takes a piece that comes on a connection that was seen and is open.
+    fn feed_open(
+        &mut self,
+        conn: u64,
+        piece: &[u8],
+        moment: Moment,
+        words: &Words,
+    ) -> Result<Vec<u8>, Fault>
+        requires seen { IsSome (hub_connections self.old conn) }
+        requires is_open { closed_at (hub_connections self.old conn) ≡ false }
+        ensures fed { (c : Seen) → hub_connections self.old conn ≡ Some c
+            → (d : Seen) × (hub_connections self.new conn ≡ Some d)
+            × Feeds (hub_store S.seen self.old) (hub_store S.seen self.new) c d piece.now moment
+            words.now result }
+        ensures others { (k : ℕ) → k ≢ conn → hub_connections self.new k ≡ hub_connections self.old k }
+    {
+        let fed = self.feed_seen(conn, piece, moment, words);
+        settle(&mut self.connections, conn);
+        fed
+    }
+
+    /// The same. Its entry does not join those of closed connections yet, if it closes.
     fn feed_seen(
         &mut self,
         conn: u64,
@@ -137,14 +162,15 @@ impl<S: Store> Hub<S> {
         moment: Moment,
         words: &Words,
     ) -> Result<Vec<u8>, Fault>
-        ensures fed { (c : Seen) → hub_connections self.old conn ≡ Some c
-            → (d : Seen) × (hub_connections self.new conn ≡ Some d)
+        ensures fed { (c : Seen) → get nat_cmp self.old.connections conn ≡ Some (One c)
+            → (d : Seen) × (get nat_cmp self.new.connections conn ≡ Some (One d))
             × Feeds (hub_store S.seen self.old) (hub_store S.seen self.new) c d piece.now moment
             words.now result }
-        ensures others { (k : ℕ) → k ≢ conn → hub_connections self.new k ≡ hub_connections self.old k }
+        ensures others { (k : ℕ) → k ≢ conn
+            → get nat_cmp self.new.connections k ≡ get nat_cmp self.old.connections k }
     {
         match self.connections.get_mut(&conn) {
-            Some(connection) => connection.feed(self.alloc, &mut self.store, piece, moment, words),
+            Some(entry) => entry.feed(self.alloc, &mut self.store, piece, moment, words),
             None => Ok(Vec::new(self.alloc)),
         }
     }

@@ -3,6 +3,7 @@
 
 mod buffer;
 mod connection;
+mod entry;
 mod event;
 mod hub;
 mod laws;

@@ -133,3 +133,46 @@ fn a_fault_closes_its_connection_alone(rt: HostRuntime) -> Result<(), Fail> {
     }
     Ok(())
 }
+
+/// Feeds no bytes on the connection, which opens it.
+fn open(hub: &mut Hub<Broken>, conn: u64) -> Result<(), Fail> {
+    let moment = Moment::new(1_700_000_000).ok_or("the moment is in range")?;
+    match hub.feed(conn, &[], moment, &Words([0; 8])) {
+        Ok(_) => Ok(()),
+        Err(_) => Err(Fail::from("a fault")),
+    }
+}
+
+/// Computes `connections_in`, `LeavesClosed`, `close_history`, `IsNextNumber`. In whatever order connections close,
+/// those that did are closed, and no others; nor is a number closed that was left out between them.
+#[test]
+fn connections_close_in_any_order(rt: HostRuntime) -> Result<(), Fail> {
+    let alloc = rt.alloc();
+    for order in [[1, 2, 3, 5], [5, 3, 2, 1], [2, 1, 5, 3], [3, 5, 1, 2]] {
+        let mut hub = Hub::new(alloc, Broken { failed: false });
+        for conn in order {
+            open(&mut hub, conn)?;
+        }
+        for (i, conn) in order.iter().enumerate() {
+            hub.close(*conn);
+            for (j, other) in order.iter().enumerate() {
+                assert_eq!(rt;
+                    hub.is_closed(*other),
+                    j <= i,
+                    "{other} once {conn} is closed"
+                );
+            }
+        }
+        for unseen in [0, 4, 6] {
+            assert!(rt; !hub.is_closed(unseen));
+        }
+        open(&mut hub, 4)?;
+        assert!(rt; !hub.is_closed(4));
+        assert_eq!(rt; hub.open_conn(), Some(6));
+        hub.close(4);
+        assert!(rt; hub.is_closed(4));
+        assert!(rt; !hub.is_closed(0));
+        assert_eq!(rt; hub.open_conn(), Some(6));
+    }
+    Ok(())
+}

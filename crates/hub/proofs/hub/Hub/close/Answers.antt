@@ -1,5 +1,5 @@
-use Rattle.std.proofs.Common.{ℕ, nat_cmp, refl}
-use Rattle.std.specs.BTreeMap.{get}
+use Rattle.std.proofs.Common.{refl}
+use Rattle.hub.specs.Entries.{connections_in}
 use Rattle.hub.specs.Representing.{hub_connections}
 use Rattle.hub.proofs.HubLemmas.{closed_represents, unseen_represents}
 use Rattle.hub.proofs.ServingLemmas.{closed_world}
@@ -7,12 +7,12 @@ use Rattle.hub.proofs.hub.Hub.close.Goals as goal
 
 pub returns-clause-connections : goal.returns-clause-connections
 returns-clause-connections g c = λ all each.
-    closed_represents (hub_connections c.args.self.now) (λ (k : ℕ). get nat_cmp c.close.new.connections k) c.args.conn all each
+    closed_represents (hub_connections c.args.self.now) (connections_in c.close.new.connections) c.args.conn all each
     c.close.ensures.closed c.close.ensures.unseen c.close.ensures.others
 
 pub returns-clause-unseen : goal.returns-clause-unseen
 returns-clause-unseen g c = λ all each none.
-    unseen_represents (hub_connections c.args.self.now) (λ (k : ℕ). get nat_cmp c.close.new.connections k) c.args.conn all each
+    unseen_represents (hub_connections c.args.self.now) (connections_in c.close.new.connections) c.args.conn all each
     c.close.ensures.unseen c.close.ensures.others none
 
 pub returns-clause-worlds : goal.returns-clause-worlds
