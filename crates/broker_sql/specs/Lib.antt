@@ -1,4 +1,5 @@
 pub mod Atomic
 pub mod Beginning
+pub mod Found
 pub mod HonestLaws
 pub mod SqlKept

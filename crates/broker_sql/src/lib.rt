@@ -6,7 +6,7 @@ mod emptiness;
 mod laws;
 mod sql_store;
 
-pub use laws::memory_returns_what_was_written;
+pub use laws::{memory_returns_what_was_written, what_was_committed_is_found};
 pub use sql_store::SqlStore;
 
 #[cfg(test)]

@@ -51,13 +51,6 @@ impl SqlStore<FileStore<RamFile>> {
 }
 
 impl<S: Alter> SqlStore<S> {
-    /// A store over records, whatever rows they have; `adopt` asks whether they are those of a broker.
-    pub fn new(alloc: Global, records: SqlRecords<S>) -> SqlStore<S>
-        ensures { sql_kept S.Store result ≡ kept_records S.Store records }
-    {
-        SqlStore { alloc, records }
-    }
-
     /// Gives the records back.
     pub fn into_records(self) -> SqlRecords<S>
         ensures { kept_records S.Store result ≡ sql_kept S.Store self }

@@ -1,12 +1,16 @@
 use crate::sql_store::SqlStore;
 use broker::Store;
 use broker_types::{
-    Ask, BodyBytes, CowBytes, CowText, Fault, Moment, Path, Seconds, Status, Verb, Words, WrapTtl,
+    Ask, BodyBytes, Bytes, CowBytes, CowText, Fault, Moment, Path, Seconds, Status, TextBuf, Verb,
+    Words, WrapTtl,
 };
 use ram_disk::RamFile;
+use records::{Kind, RecordsTx, Row};
+use records_sql::SqlRecords;
 use sqlite::FileStore;
 use std::alloc::Global;
 use std::borrow::{CowSlice, CowStr};
+use std::mem::forget;
 use std::test::Fail;
 
 const ROOT: &str = "hvs.00000000-0000-0000-0000-000000000001";
@@ -54,5 +58,33 @@ fn answers_once_started(alloc: Global) -> Result<bool, Fault> {
 #[test]
 fn a_store_is_started_once(rt: HostRuntime) -> Result<(), Fail> {
     assert!(rt; answers_once_started(rt.alloc())?);
+    Ok(())
+}
+
+/// A row that nobody reads.
+fn row(alloc: Global) -> Result<Row, Fault> {
+    Ok(Row {
+        owner: TextBuf::copied(alloc, ROOT)?,
+        due: None,
+        body: Bytes::new(vec![in alloc; 1u8]?),
+    })
+}
+
+/// Whether rows without that of the clock are refused. One of them was written once the transaction before had been
+/// forgotten with what it wrote.
+fn refuses_rows_without_a_clock(alloc: Global) -> Result<bool, Fault> {
+    let mut records = SqlRecords::in_memory(alloc)?;
+    let mut forgotten = records.begin()?;
+    forgotten.put(Kind::Clock, "", row(alloc)?)?;
+    forget(forgotten);
+    let mut tx = records.begin()?;
+    tx.put(Kind::Cubby, "a", row(alloc)?)?;
+    tx.commit()?;
+    Ok(matches!(SqlStore::adopt(alloc, records), Err(Fault::BadStart)))
+}
+
+#[test]
+fn rows_without_a_clock_are_refused(rt: HostRuntime) -> Result<(), Fail> {
+    assert!(rt; refuses_rows_without_a_clock(rt.alloc())?);
     Ok(())
 }

@@ -1,6 +1,6 @@
 //! Rows in a table of a database.
 
-ghost use Rattle.std.specs.Prelude.{◌≡◌, ◌≤◌, ◌||◌, IsTrue, OnOk, OnErr, IfOk, IfErr, option_map, take};
+ghost use Rattle.std.specs.Prelude.{◌≡◌, ◌≤◌, ◌||◌, false, IsTrue, OnOk, OnErr, IfOk, IfErr, option_map, take};
 ghost use Rattle.std.specs.Option.{option_copied};
 ghost use Rattle.std.specs.FinMap as map;
 ghost use Rattle.sqlite.specs.Held.{state};
@@ -9,7 +9,7 @@ ghost use Rattle.broker_types.specs.Fault.{IsMemoryOrStorage};
 ghost use Rattle.records.specs.DueRows.{AreDue};
 ghost use Rattle.records.specs.Transaction.{is_storage, rows_under, rows_from, rows_upto, rows_owned};
 ghost use Rattle.records_sql.specs.Props.{state_props};
-ghost use Rattle.records_sql.specs.Table.{IsSoundAt, IsActive, IsUsable, Stays, rows_of, mismatches};
+ghost use Rattle.records_sql.specs.Table.{IsSoundAt, IsActive, IsUsable, HasEnded, Stays, rows_of, mismatches};
 
 use crate::reading::{bound_above, entries_of, entries_under, first_row, later, whole_entries};
 use crate::statements;
@@ -301,20 +301,17 @@ impl<S: Alter> SqlRecords<S> {
         Ok(())
     }
 
-    /// Opens a transaction. It asks again whether one is open, since `BEGIN` alone does not tell that the connection
-    /// was open.
+    /// Opens a transaction, once what is still open is rolled back. It asks whether one is open then, since `BEGIN`
+    /// alone does not tell that the connection was open.
     pub(crate) fn start(&mut self) -> Result<(), Fault>
         ensures begun { HasCleanDisk (state S.Store self.new.conn) → OnOk result
             (rows_of (state S.Store self.new.conn).now.trees ≡ rows_of (state S.Store self.old.conn).committed.trees) }
         ensures stays { Stays (state S.Store self.old.conn) (state S.Store self.new.conn) }
+        ensures ended { OnErr result (HasEnded (state S.Store self.new.conn)) }
         ensures failed { self.new.failed ≡ is_storage result }
         ensures storage { IfErr result (λ fault. fault ≡ Fault.Storage) }
     {
-        if !self.conn.is_autocommit() {
-            self.failed = true;
-            return Err(Fault::Storage);
-        }
-        self.is_active = false;
+        self.roll_back();
         let Ok(_) = statements::begin(&mut self.conn) else {
             self.failed = true;
             return Err(Fault::Storage);
@@ -328,9 +325,13 @@ impl<S: Alter> SqlRecords<S> {
         Ok(())
     }
 
-    /// Gives up what the transaction wrote. If that fails, the database rolls back by itself when it is opened again;
-    /// what was committed stands either way.
+    /// Gives up what the transaction wrote, and ends it: where memory runs out, SQLite rolls back all the same. What
+    /// was committed stands, also if the storage fails.
     pub(crate) fn roll_back(&mut self)
+        ensures ended { HasEnded (state S.Store self.new.conn) }
+        ensures settled { IsUsable (state S.Store self.new.conn)
+            → (state S.Store self.new.conn).now ≡ (state S.Store self.new.conn).committed }
+        ensures inactive { self.new.is_active ≡ false }
         ensures stays { Stays (state S.Store self.old.conn) (state S.Store self.new.conn) }
         ensures failed { self.new.failed ≡ self.old.failed }
     {
@@ -340,13 +341,14 @@ impl<S: Alter> SqlRecords<S> {
         }
     }
 
-    /// Makes what the transaction wrote the rows, unless something in it has failed.
+    /// Makes what the transaction wrote the rows, unless something in it has failed. It is ended either way.
     pub(crate) fn finish(&mut self) -> Result<(), Fault>
         ensures committed { HasCleanDisk (state S.Store self.new.conn) → OnOk result
             (rows_of (state S.Store self.new.conn).committed.trees ≡ rows_of (state S.Store self.old.conn).now.trees) }
         ensures stands { HasCleanDisk (state S.Store self.new.conn)
             → OnOk result (IsUsable (state S.Store self.new.conn)) }
         ensures kept { OnErr result (Stays (state S.Store self.old.conn) (state S.Store self.new.conn)) }
+        ensures ended { HasEnded (state S.Store self.new.conn) }
         ensures mismatches { mismatches (state S.Store self.old.conn) ≤ mismatches (state S.Store self.new.conn) }
         ensures closes { IsUsable (state S.Store self.new.conn) → IsUsable (state S.Store self.old.conn) }
         ensures failed { self.new.failed ≡ (self.old.failed || is_storage result) }

@@ -6,7 +6,7 @@ ghost use Rattle.sqlite.specs.Held.{state};
 ghost use Rattle.sqlite.specs.State.{HasCleanDisk};
 ghost use Rattle.records.specs.Transaction.{is_storage};
 ghost use Rattle.records_sql.specs.Refused.{IsRefused};
-ghost use Rattle.records_sql.specs.Table.{IsUsable, Stays, rows_of, mismatches};
+ghost use Rattle.records_sql.specs.Table.{IsUsable, HasEnded, Stays, rows_of, mismatches};
 ghost use Rattle.records_sql.specs.contracts.sql_records.SqlRecords.{the_row};
 
 use crate::sql_records::SqlRecords;
@@ -20,8 +20,8 @@ pub struct SqlTx<'c, S: Alter> {
 }
 
 impl<S: Alter> SqlRecords<S> {
-    /// Begins a transaction, which shows the rows that were committed. The only error is `Storage`: the rows are as
-    /// before, and `failed` says so.
+    /// Begins a transaction, which shows the rows that were committed; what is still open is rolled back first. The only
+    /// error is `Storage`: the rows are as before, and `failed` says so.
     pub fn begin(&mut self) -> Result<SqlTx<'_, S>, Fault>
         ensures* refused { sem 𝓛 (RestsIfErr (the_row S.row S.Store) self.entry (λ tx. tx.records.ghost_name) result
             (IsRefused S.Store self.old)) }
@@ -49,6 +49,7 @@ impl<S: Alter> SqlTx<'_, S> {
             → OnOk result (IsUsable (state S.Store self.exit.0.now.conn)) }
         ensures kept { OnErr result
             (Stays (state S.Store self.entry.records.now.conn) (state S.Store self.exit.0.now.conn)) }
+        ensures ended { HasEnded (state S.Store self.exit.0.now.conn) }
         ensures mismatches { mismatches (state S.Store self.entry.records.now.conn)
             ≤ mismatches (state S.Store self.exit.0.now.conn) }
         ensures closes { IsUsable (state S.Store self.exit.0.now.conn)
@@ -64,6 +65,7 @@ impl<S: Alter> SqlTx<'_, S> {
 impl<S: Alter> Drop for SqlTx<'_, S> {
     fn drop(self)
         ensures stays { Stays (state S.Store self.entry.records.now.conn) (state S.Store self.exit.0.now.conn) }
+        ensures ended { HasEnded (state S.Store self.exit.0.now.conn) }
         ensures failed { self.exit.0.now.failed ≡ self.entry.records.now.failed }
     {
         let SqlTx { records } = self;

@@ -46,6 +46,12 @@ begun moment words token records store mid last adopted first second none differ
     let before : IsHonestStore store = omega (arith, first, between) in
     record { empty = sym (adopted before) ∙ none between; differ = differ; broker = broker honest; root = root }
 
+pub no_rows : (records store mid : Kept) → (IsHonestStore store → store.rows ≡ records.rows) → store.mismatches ≤ mid.mismatches
+    → (IsHonestStore mid → store.rows ≡ empty) → IsHonestStore mid → records.rows ≡ empty
+no_rows records store mid adopted less none honest =
+    let before : IsHonestStore store = omega (arith, less, honest) in
+    sym (adopted before) ∙ none honest
+
 pub lacking : (records store last : Kept) → (IsHonestStore store → store.rows ≡ records.rows) → store.mismatches ≤ last.mismatches
     → (IsHonestStore last → HasNoClock store.rows × (store.rows ≢ empty)) → IsHonestStore last → HasNoClock records.rows × (records.rows ≢ empty)
 lacking records store last adopted less told honest =

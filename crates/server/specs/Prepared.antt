@@ -1,14 +1,18 @@
 -- What a store is made ready as (this project's definition).
-use Rattle.std.specs.Prelude.{◌≡◌, ◌≢◌, ℕ, Option, Some, None, slice_index}
+use Rattle.std.specs.Prelude.{◌≡◌, ◌≢◌, ◌≤◌, ℕ, Option, Some, None, slice_index}
 use Rattle.std.specs.FinMap as map
+use Rattle.sqlite_trees.specs.declared.store.Store as store
 use Rattle.broker_types.specs.First.{first_broker}
 use Rattle.broker_types.specs.Identifier.{id}
 use Rattle.broker_types.specs.Text.{Text}
 use Rattle.broker_types.specs.TokenText.{token_text}
 use Rattle.broker_types.specs.declared.words.Words.{Words}
 use Rattle.records.specs.Transaction.{Rows}
+use Rattle.records_sql.specs.declared.sql_records.SqlRecords.{SqlRecords}
 use Rattle.broker_rows.specs.ClockRow.{HasNoClock}
 use Rattle.broker_rows.specs.Representing.{Represents}
+use Rattle.broker.specs.Kept.{IsHonestStore}
+use Rattle.broker_sql.specs.SqlKept.{kept_records}
 
 -- a broker that was there before, with the row of the clock, as it was
 pub record IsOpened (before after : Rows) : Type 0 where
@@ -26,3 +30,11 @@ pub record IsStarted (moment : ℕ) (words : Words) (before after : Rows) (token
 abbrev pub IsPrepared : ℕ → Words → Rows → Rows → Option Text → Type 0
 IsPrepared moment words before after None = IsOpened before after
 IsPrepared moment words before after (Some token) = IsStarted moment words before after token
+
+-- Words 1 and 2 are equal, and there is no row: they would be those of the first broker. The records have shown that
+-- before they were let go: it holds, if the storage has returned what was written as they were then.
+pub record CannotStart {S : Type 0} (g : store.Ghosts S) (records : SqlRecords S g) (words : Words) : Type 0 where
+  pub equal : slice_index words.0 1 ≡ slice_index words.0 2
+  pub last : SqlRecords S g
+  pub mismatches : (kept_records g records).mismatches ≤ (kept_records g last).mismatches
+  pub told : IsHonestStore (kept_records g last) → (kept_records g records).rows ≡ map.empty

@@ -1,11 +1,11 @@
 //! A broker made ready: the one that a database keeps, or a new one.
 
-ghost use Rattle.std.specs.Prelude.{◌≡◌, ◌⊎◌, ◌≤◌, IsTrue, IfOk, IfErr, Err, slice_index};
+ghost use Rattle.std.specs.Prelude.{◌≡◌, ◌⊎◌, ◌≤◌, IsTrue, IfOk, IfErr, Err};
 ghost use Rattle.broker_types.specs.Fault.{IsMemoryOrStorage};
 ghost use Rattle.broker.specs.Kept.{IsHonestStore};
 ghost use Rattle.broker_sql.specs.Beginning.{LacksClock};
 ghost use Rattle.broker_sql.specs.SqlKept.{kept_records, sql_kept};
-ghost use Rattle.server.specs.Prepared.{IsPrepared};
+ghost use Rattle.server.specs.Prepared.{CannotStart, IsPrepared};
 
 use broker_sql::SqlStore;
 use broker_types::{Fault, Moment, TokenText, Words};
@@ -30,7 +30,7 @@ pub fn prepare<S: Alter + Drop>(
     ensures mismatches { IfOk result (λ made.
         (kept_records S.Store records).mismatches ≤ (sql_kept S.Store made.0).mismatches) }
     ensures bad_start { result ≡ Err Fault.BadStart
-        → LacksClock S.Store records ⊎ (slice_index words.now.0 1 ≡ slice_index words.now.0 2) }
+        → LacksClock S.Store records ⊎ CannotStart S.Store records words.now }
     ensures faults { IfErr result (λ fault. IsMemoryOrStorage fault ⊎ (fault ≡ Fault.BadStart)) }
 {
     let mut store = SqlStore::adopt(alloc, records)?;

@@ -1,10 +1,12 @@
 //! One process that is both ends of its connections.
 
 use crate::waiting::{Wait, patience};
-use crate::{SystemClock, seeded, serve};
+use crate::{SystemClock, prepare, seeded, serve};
 use broker::ListStore;
-use broker_types::{Moment, Words};
+use broker_types::{Fault, Moment, Words};
 use hub::{Clock, Hub, WordSource};
+use records_sql::SqlRecords;
+use std::alloc::Global;
 use std::io;
 use std::io::Write;
 use std::net::{Shutdown, TcpListener, TcpStream};
@@ -106,5 +108,25 @@ fn words_differ(rt: HostRuntime) -> Result<(), Fail> {
     assert!(rt; first != words.words());
     assert!(rt; first != seeded(&rt)?.words());
     assert!(rt; SystemClock::new(&rt).now().seconds() > 1_700_000_000);
+    Ok(())
+}
+
+/// Whether records in memory become the first broker, whose root token is told, and are opened from then on: by the same
+/// words, and by equal ones, which cannot start a broker.
+fn prepares_once(alloc: Global) -> Result<bool, Fault> {
+    let moment = Moment::new(1_000).ok_or(Fault::Damaged)?;
+    let words = Words([0, 1, 2, 3, 4, 5, 6, 7]);
+    let (store, told) = prepare(alloc, SqlRecords::in_memory(alloc)?, moment, &words)?;
+    let (store, again) = prepare(alloc, store.into_records(), moment, &words)?;
+    let (_, equal) = prepare(alloc, store.into_records(), moment, &Words([7; 8]))?;
+    let root = told.is_some_and(|token| {
+        token.as_str() == "hvs.00000000-0000-0000-0000-000000000001"
+    });
+    Ok(root && again.is_none() && equal.is_none())
+}
+
+#[test]
+fn a_broker_is_started_once(rt: HostRuntime) -> Result<(), Fail> {
+    assert!(rt; prepares_once(rt.alloc())?);
     Ok(())
 }

@@ -4,7 +4,7 @@ use Rattle.std.proofs.lemmas.Bool.Decides.{eqb_tells}
 use Rattle.broker_types.specs.declared.fault.Fault.{Fault}
 use Rattle.broker_types.specs.declared.fault.Fault.TheVariants.{BadStart}
 use Rattle.broker_sql.specs.SqlKept.{kept_records, sql_kept}
-use Rattle.server.proofs.PreparedLemmas.{begun, lacking, opened, refused}
+use Rattle.server.proofs.PreparedLemmas.{begun, lacking, no_rows, opened, refused}
 use Rattle.server.proofs.preparing.prepare.Goals as goal
 
 abbrev fault_of : {A : Type 0} → Fault → Result A Fault → Fault
@@ -52,7 +52,12 @@ returns-in_err-root-clause-bad_start g c is =
     let first : store.mismatches ≤ mid.mismatches = c.in_ok-is_started.ensures.mismatches in
     let second : mid.mismatches ≤ last.mismatches = c.in_err-root.ensures.mismatches in
     elim (eqb_tells (slice_index words 1) (slice_index words 2)) [
-      | inl equal ↦ inr equal.1
+      | inl equal ↦ inr (record {
+        equal = equal.1;
+        last = c.is_started.new.self.records;
+        mismatches = omega (arith, adopted, first);
+        told = no_rows (kept_records g.S.Store c.args.records) store mid c.in_ok-store.ensures.rows first (λ h. (c.in_ok-is_started.ensures.told h).empty c.if-branch.false);
+      })
       | inr differ ↦ inl (record {
         last = c.start.new.self.records;
         mismatches = omega (arith, adopted, first, second);
