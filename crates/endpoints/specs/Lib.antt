@@ -1,2 +1,5 @@
+pub mod Now
+pub mod NowReading
+pub mod NowWriting
 pub mod Reading
 pub mod Writing

@@ -1,9 +1,12 @@
-//! Where bytes come from and where they go: readers and writers that remember whether they failed.
+//! Where bytes come from and where they go: readers and writers that remember whether they failed, and ones that also
+//! do not wait.
 #![tactic(auto)]
 
+mod now;
 mod reading;
 mod writing;
 
+pub use now::{NowReading, NowSink, NowSource, NowWriting};
 pub use reading::{Reading, Source};
 pub use writing::{Sink, Writing};
 

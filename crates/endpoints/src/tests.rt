@@ -1,6 +1,6 @@
 //! Readers and writers that fail.
 
-use crate::{Failed, Reading, Sink, Source, Writing};
+use crate::{Failed, NowReading, NowSink, NowSource, NowWriting, Reading, Sink, Source, Writing};
 use std::io;
 
 /// A reader or a writer that takes three bytes at its first call, and fails at its second alone.
@@ -30,6 +30,61 @@ impl io::Write for Stumbling {
     fn write(&mut self, bytes: &[u8]) -> io::Result<usize> {
         let count = self.take(bytes.len())?;
         Ok(count.min(bytes.len()))
+    }
+
+    fn flush(&mut self) -> io::Result<()> {
+        Ok(())
+    }
+}
+
+/// A reader or a writer that would wait at every other call, the first one among them, and else takes two bytes at most.
+#[derive(Drop)]
+struct Stuttering<T> {
+    inner: T,
+    waits: bool,
+}
+
+impl<T> Stuttering<T> {
+    fn take(&mut self, len: usize) -> io::Result<usize> {
+        self.waits = !self.waits;
+        if self.waits {
+            return Err(io::Error::from(io::ErrorKind::WouldBlock));
+        }
+        Ok(len.min(2))
+    }
+}
+
+impl<R: io::Read> io::Read for Stuttering<R> {
+    fn read(&mut self, buffer: &mut [u8]) -> io::Result<usize> {
+        let count = self.take(buffer.len())?.min(buffer.len());
+        self.inner.read(&mut buffer[..count])
+    }
+}
+
+impl<W: io::Write> io::Write for Stuttering<W> {
+    fn write(&mut self, bytes: &[u8]) -> io::Result<usize> {
+        let count = self.take(bytes.len())?.min(bytes.len());
+        self.inner.write(&bytes[..count])
+    }
+
+    fn flush(&mut self) -> io::Result<()> {
+        Ok(())
+    }
+}
+
+/// A reader or a writer that is interrupted.
+#[derive(Drop)]
+struct Interrupted;
+
+impl io::Read for Interrupted {
+    fn read(&mut self, _: &mut [u8]) -> io::Result<usize> {
+        Err(io::Error::from(io::ErrorKind::Interrupted))
+    }
+}
+
+impl io::Write for Interrupted {
+    fn write(&mut self, _: &[u8]) -> io::Result<usize> {
+        Err(io::Error::from(io::ErrorKind::Interrupted))
     }
 
     fn flush(&mut self) -> io::Result<()> {
@@ -88,4 +143,67 @@ fn a_failed_push_is_remembered(rt: HostRuntime) {
     assert_eq!(rt; pushed(&mut sink, b"abc"), (true, false));
     assert_eq!(rt; pushed(&mut sink, b"abc"), (false, true));
     assert_eq!(rt; pushed(&mut sink, b"abc"), (true, true));
+}
+
+#[test]
+fn bytes_are_pulled_when_they_come(rt: HostRuntime) {
+    let mut source = NowReading::new(Stuttering {
+        inner: b"abc".as_slice(),
+        waits: false,
+    });
+    let mut buffer = [b'.'; 2];
+    let wanted = [
+        (Ok(None), true),
+        (Ok(Some(2)), false),
+        (Ok(None), true),
+        (Ok(Some(1)), true),
+        (Ok(None), true),
+        (Ok(Some(0)), true),
+    ];
+    for (pulled, emptied) in wanted {
+        assert_eq!(rt; source.pull_now(&mut buffer), pulled);
+        assert_eq!(rt; source.is_emptied(), emptied);
+    }
+    assert_eq!(rt; buffer, [b'c', b'b']);
+    assert!(rt; !source.failed());
+}
+
+#[test]
+fn bytes_are_pushed_when_there_is_room(rt: HostRuntime) {
+    let mut bytes = Vec::new(rt.alloc());
+    let mut sink = NowWriting::new(Stuttering {
+        inner: &mut bytes,
+        waits: false,
+    });
+    assert_eq!(rt; sink.push_now(b"abc"), Ok(0));
+    assert!(rt; sink.is_full());
+    assert_eq!(rt; sink.push_now(b"abc"), Ok(2));
+    assert!(rt; !sink.is_full());
+    assert_eq!(rt; sink.push_now(b"c"), Ok(0));
+    assert_eq!(rt; sink.push_now(b"c"), Ok(1));
+    assert!(rt; !sink.failed());
+    drop(sink);
+    assert_eq!(rt; bytes.as_slice(), b"abc".as_slice());
+}
+
+#[test]
+fn an_interrupted_call_is_tried_again(rt: HostRuntime) {
+    let mut source = NowReading::new(Interrupted);
+    assert_eq!(rt; source.pull_now(&mut [0; 8]), Ok(None));
+    assert!(rt; !source.is_emptied() && !source.failed());
+    let mut sink = NowWriting::new(Interrupted);
+    assert_eq!(rt; sink.push_now(b"abc"), Ok(0));
+    assert!(rt; !sink.is_full() && !sink.failed());
+}
+
+#[test]
+fn other_errors_are_failures(rt: HostRuntime) {
+    let mut source = NowReading::new(Stumbling { calls: 1 });
+    assert_eq!(rt; source.pull_now(&mut [0; 8]), Err(Failed));
+    assert_eq!(rt; source.pull_now(&mut [0; 8]), Ok(Some(3)));
+    assert!(rt; source.failed());
+    let mut sink = NowWriting::new(Stumbling { calls: 1 });
+    assert_eq!(rt; sink.push_now(b"abc"), Err(Failed));
+    assert_eq!(rt; sink.push_now(b"abc"), Ok(3));
+    assert!(rt; sink.failed());
 }

@@ -1,11 +1,13 @@
 -- What was written before a fault.
-use Rattle.std.proofs.Common.{◌≡◌, ◌⊎◌, inl, inr, ℕ, List, [], Option, Some, None, take, refl, sym, subst}
-use Rattle.std.specs.Io.KnownBytes.{Appends}
-use Rattle.std.specs.List.{concat}
-use Rattle.hub.specs.World.{World, Run}
+use Rattle.std.proofs.Common.{◌≡◌, ◌≢◌, ◌⊎◌, inl, inr, ℕ, List, [], Option, Some, None, refl, sym, subst, ◌∙◌}
+use Rattle.broker.specs.Kept.{Kept, IsHonestStore}
+use Rattle.hub.specs.Representing.{HubRepresents, hub_store}
+use Rattle.hub.specs.Runs.{bytes_of}
+use Rattle.hub.specs.World.{World}
 use Rattle.hub.specs.declared.event.Event.{Event}
+use Rattle.hub.specs.declared.hub.Hub.{Hub}
 use Rattle.replay.specs.Lines.{Told}
-use Rattle.replay.specs.Replays.{Ran, StoppedFrom, Stopped, started}
+use Rattle.replay.specs.Replays.{StopsRun, StoppedRun, StoppedFrom, Stopped, started}
 use Rattle.replay.specs.declared.replaying.Exit.{Exit}
 use Rattle.replay.specs.declared.replaying.Exit.TheVariants.{Done, Faulted, BadLine}
 use Rattle.replay.proofs.WritingLemmas.{Appends-none}
@@ -24,15 +26,22 @@ stopped_none None known (BadLine line) = tt
 stopped_none None known (Faulted number) = λ other. Appends-none known
 stopped_none (Some t) known exit = from_none (started t.start) t.events known exit
 
--- the replies were written, or a write failed
-pub stopped_of : (w : World) (events : List Event) (old new : Option (List ℕ)) (result exit : Exit) (A B : Type 0)
-    → ((result ≡ exit) × A) ⊎ ((result ≡ Faulted 6) × B) → (A → StoppedFrom w events old new exit) → StoppedFrom w events old new result
-stopped_of w events old new result exit A B (inl p) wrote = subst (StoppedFrom w events old new) (sym p.0) (wrote p.1)
-stopped_of w events old new result exit A B (inr p) wrote = subst (StoppedFrom w events old new) (sym p.0) (λ other. absurd (other refl))
+-- the run stopped and its replies were written, or a write failed
+pub stopped_of : {S : Type 0} (seen : S → Kept) (events : List Event) (before after : Hub S) (old new : Option (List ℕ))
+    (result exit : Exit) (number : ℕ) (A B : Type 0) → ((result ≡ exit) × A) ⊎ ((result ≡ Faulted 6) × B) → exit ≡ Faulted number
+    → (A → StopsRun seen events before after old new number) → StoppedRun seen events before after old new result
+stopped_of seen events before after old new result exit number A B (inl p) is wrote =
+    subst (StoppedRun seen events before after old new) (sym (p.0 ∙ is)) (λ (other : number ≢ 6). wrote p.1)
+stopped_of seen events before after old new result exit number A B (inr p) is wrote =
+    subst (StoppedRun seen events before after old new) (sym p.0) (λ (other : 6 ≢ 6). absurd (other refl))
 
--- so many events were answered, and their replies written
-pub stopped_at : (w : World) (events : List Event) (old new : Option (List ℕ)) (exit : Exit) (count : ℕ) → Ran w (take count events) old new
+-- from a world that the hub represented, some number of the first events were answered
+pub stopped_from : {S : Type 0} (seen : S → Kept) (w : World) (events : List Event) (before after : Hub S) (old new : Option (List ℕ))
+    (exit : Exit) → IsHonestStore (hub_store seen after) → HubRepresents seen before w → StoppedRun seen events before after old new exit
     → StoppedFrom w events old new exit
-stopped_at w events old new Done count ran = tt
-stopped_at w events old new (BadLine line) count ran = tt
-stopped_at w events old new (Faulted number) count ran = λ other. (count, ran)
+stopped_from seen w events before after old new Done honest is stopped = tt
+stopped_from seen w events before after old new (BadLine line) honest is stopped = tt
+stopped_from seen w events before after old new (Faulted number) honest is stopped = λ other.
+    let s = stopped other in
+    let run = s.run honest w is in
+    (s.place, record { replies = bytes_of s.replies; after = run.0; run = run.1; written = s.written })

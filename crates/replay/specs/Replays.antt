@@ -1,11 +1,18 @@
 -- What a replay answers (this project's definition).
-use Rattle.std.specs.Prelude.{◌≡◌, ◌≢◌, ◌+◌, ℕ, List, [], Option, Some, None, ⊤, length, take, slice_index}
-use Rattle.std.specs.Prelude.{if◌then◌else◌}
+use Rattle.std.specs.Prelude.{◌≡◌, ◌≢◌, ◌⊎◌, ◌+◌, ◌<◌, ℕ, List, [], Option, Some, None, Vec, IsTrue, ⊤, length, take}
+use Rattle.std.specs.Prelude.{slice_index, if◌then◌else◌}
 use Rattle.std.specs.Io.KnownBytes.{Appends}
 use Rattle.std.specs.List.{concat}
+use Rattle.std.specs.declared.alloc.Global.{Global}
+use Rattle.broker_types.specs.Fault.{fault_number}
 use Rattle.broker_types.specs.First.{first_broker}
-use Rattle.hub.specs.World.{World, Run, new_world}
+use Rattle.broker_types.specs.declared.fault.Fault.{Fault}
+use Rattle.broker.specs.Kept.{Kept, IsHonestStore}
+use Rattle.hub.specs.Representing.{ConnectionsRepresent, HubRepresents, hub_store}
+use Rattle.hub.specs.Runs.{bytes_of, HadNoRoom, StopsAt, StopsTurns}
+use Rattle.hub.specs.World.{Connections, World, Run, new_world}
 use Rattle.hub.specs.declared.event.Event.{Event}
+use Rattle.hub.specs.declared.hub.Hub.{Hub}
 use Rattle.replay.specs.Lines.{Told}
 use Rattle.replay.specs.declared.lines.Start.{Start}
 use Rattle.replay.specs.declared.replaying.Exit.{Exit}
@@ -47,8 +54,36 @@ abbrev pub Replays : Option Told → Option (List ℕ) → Option (List ℕ) →
 Replays None old new exit = (exit ≡ BadLine 1) × Appends old new []
 Replays (Some t) old new exit = (exit ≡ exit_of t) × Replayed t.start t.events old new
 
--- If it ended by a fault other than one of writing, the replies to some number of the first events were written whole,
--- and nothing else. How many there were before the fault is left open.
+-- ---- after a fault
+
+-- A run of the events stopped at the event of the place, or found no room for the replies: of the hub before and after
+-- it, `run` says so. The replies to the events before that place were written whole, and nothing else.
+pub record StopsRun {S : Type 0} (seen : S → Kept) (events : List Event) (before after : Hub S)
+    (old new : Option (List ℕ)) (number : ℕ) : Type 0 where
+  pub place : ℕ
+  pub replies : List (Vec ℕ Global)
+  pub fault : Fault
+  pub number_is : number ≡ fault_number fault
+  pub written : Appends old new (concat (bytes_of replies))
+  pub run : IsHonestStore (hub_store seen after) → (w : World) → HubRepresents seen before w
+      → (mid : World) × Run w (take place events) (bytes_of replies) mid
+  -- what the hub represents, as long as the storage can still be asked
+  pub stopped : HadNoRoom place replies fault before after
+      ⊎ ((place < length events) × (IsHonestStore (hub_store seen after) → IsTrue (hub_store seen after).is_open
+      → (w : World) → HubRepresents seen before w → StopsAt seen w events place (bytes_of replies) fault after))
+  -- which connections it represents, whatever the rows are
+  pub turns : (all : Connections) → ConnectionsRepresent before all
+      → HadNoRoom place replies fault before after ⊎ StopsTurns all events place (bytes_of replies) fault after
+
+-- the same of how a script ended; after a failed write (6) it is left open what was written
+abbrev pub StoppedRun : {S : Type 0} → (S → Kept) → List Event → Hub S → Hub S → Option (List ℕ) → Option (List ℕ)
+    → Exit → Type 0
+StoppedRun seen events before after old new (Faulted number) =
+    number ≢ 6 → StopsRun seen events before after old new number
+StoppedRun seen events before after old new _ = ⊤
+
+-- The same where the hub is lost: the replies to some number of the first events were written whole, and nothing else.
+-- Nothing that is left tells how many there were before the fault.
 abbrev pub StoppedFrom : World → List Event → Option (List ℕ) → Option (List ℕ) → Exit → Type 0
 StoppedFrom before events old new (Faulted number) =
     number ≢ 6 → (count : ℕ) × Ran before (take count events) old new

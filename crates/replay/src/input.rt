@@ -1,4 +1,4 @@
-ghost use Rattle.std.specs.Prelude.{◌≡◌, ◌⊎◌, ◌+◌, ◌≤◌, IfOk, IfErr, IsTrue};
+ghost use Rattle.std.specs.Prelude.{◌≡◌, ◌⊎◌, ◌+◌, IfOk, IfErr, IsTrue};
 ghost use Rattle.std.specs.Io.KnownBytes.{Consumes, IsAtEnd};
 
 use endpoints::Source;
@@ -30,7 +30,7 @@ pub fn read_to_end<R: Source>(alloc: Global, reader: &mut R) -> Result<Vec<u8>, 
         × IsAtEnd (R.left reader.new)) }
     ensures failed { IfErr result (λ unread. unread ≡ Unread.Failed
         → IsTrue (R.has_failed reader.new)
-        ⊎ (R.pulls reader.old + 4294967296 ≤ R.pulls reader.new)) }
+        ⊎ (R.pulls reader.new ≡ R.pulls reader.old + 4294967296)) }
 {
     let mut bytes = Vec::new(alloc);
     let mut buffer = [0u8; 8192];

@@ -1,4 +1,4 @@
-ghost use Rattle.std.specs.Prelude.{◌≡◌, ◌⊎◌, ◌+◌, ◌≤◌, ℕ, List, Some, IsTrue, ⊤};
+ghost use Rattle.std.specs.Prelude.{◌≡◌, ◌⊎◌, ◌+◌, ℕ, List, [], Some, IsTrue, ⊤};
 ghost use Rattle.std.specs.Io.KnownBytes.{Appends};
 ghost use Rattle.std.specs.List.{concat};
 ghost use Rattle.broker.specs.Kept.{IsHonestStore};
@@ -7,7 +7,7 @@ ghost use Rattle.hub.specs.Runs.{bytes_of};
 ghost use Rattle.hub.specs.World.{World};
 ghost use Rattle.replay.specs.Exits.{EndsBy, EndsByRead, HasEqualWords};
 ghost use Rattle.replay.specs.Lines.{lines_of, told_in};
-ghost use Rattle.replay.specs.Replays.{IsUnfaulted, Ran, Replayed, Replays, Stopped, StoppedFrom};
+ghost use Rattle.replay.specs.Replays.{IsUnfaulted, Ran, Replayed, Replays, Stopped, StoppedRun};
 ghost use Rattle.replay.specs.Replays.{exit_of, told};
 ghost use Rattle.replay.specs.declared.replaying.Exit.TheVariants.{Faulted};
 
@@ -51,17 +51,19 @@ pub fn replay<R: Source, W: Sink>(alloc: Global, reader: &mut R, writer: &mut W)
     ensures replays { (input : List ℕ) → R.left reader.old ≡ Some input → IsUnfaulted result
         → Replays (told_in (lines_of input)) (W.written writer.old) (W.written writer.new) result }
 
-    // After a fault, but one of writing, what was written is the whole replies to some number of the
-    // first events.
+    // After a fault, but one of writing, what was written is the whole replies to some number of the first events; none
+    // if the store could not be started, or a read failed.
     ensures stopped { (input : List ℕ) → R.left reader.old ≡ Some input
         → Stopped (told_in (lines_of input)) (W.written writer.old) (W.written writer.new) result }
+    ensures nothing { (result ≡ Faulted 4) ⊎ (result ≡ Faulted 5)
+        → Appends (W.written writer.old) (W.written writer.new) [] }
 
     // Memory ran out, or the database in memory failed. Fault 4 comes only if the start's words 1 and 2 are equal, a
     // fault of reading only if the source failed, or after 4,294,967,296 pulls, and one of writing only if the sink
     // failed.
     ensures ends { EndsByRead
         ((input : List ℕ) → R.left reader.old ≡ Some input → HasEqualWords (told_in (lines_of input)))
-        (IsTrue (R.has_failed reader.new) ⊎ (R.pulls reader.old + 4294967296 ≤ R.pulls reader.new))
+        (IsTrue (R.has_failed reader.new) ⊎ (R.pulls reader.new ≡ R.pulls reader.old + 4294967296))
         (W.has_failed writer.new) result }
 {
     match read_to_end(alloc, reader) {
@@ -79,6 +81,8 @@ fn replay_input<W: Sink>(alloc: Global, input: &[u8], writer: &mut W) -> Exit
         (W.written writer.new) result }
     ensures stopped { Stopped (told_in (lines_of input.now)) (W.written writer.old)
         (W.written writer.new) result }
+    ensures nothing { (result ≡ Faulted 4) ⊎ (result ≡ Faulted 5)
+        → Appends (W.written writer.old) (W.written writer.new) [] }
 {
     match read_script(alloc, input) {
         Ok(Some(script)) => run_in_memory(alloc, &script, writer),
@@ -96,6 +100,8 @@ fn run_in_memory<W: Sink>(alloc: Global, script: &Script, writer: &mut W) -> Exi
         (W.written writer.new) }
     ensures stopped { Stopped (Some (told script.now)) (W.written writer.old)
         (W.written writer.new) result }
+    ensures nothing { (result ≡ Faulted 4) ⊎ (result ≡ Faulted 5)
+        → Appends (W.written writer.old) (W.written writer.new) [] }
 {
     let mut store = match SqlStore::in_memory(alloc) {
         Ok(store) => store,
@@ -108,8 +114,8 @@ fn run_in_memory<W: Sink>(alloc: Global, script: &Script, writer: &mut W) -> Exi
 }
 
 /// Feeds the events of a script to a broker, and writes the bytes of their replies. A fault goes before a bad line;
-/// unless a write failed, the whole replies to some number of the first events are written then, and nothing else. What
-/// the script says of a start is not looked at.
+/// unless a write failed, the whole replies to the events before the one with the fault are written then, and nothing
+/// else. What the script says of a start is not looked at.
 pub fn run_script<S: Store, W: Sink>(
     alloc: Global,
     hub: &mut Hub<S>,
@@ -123,8 +129,11 @@ pub fn run_script<S: Store, W: Sink>(
     ensures ran { IsHonestStore (hub_store S.seen hub.new) → (w : World) → HubRepresents S.seen hub.old w
         → IsUnfaulted result
         → Ran w script.now.events.items (W.written writer.old) (W.written writer.new) }
-    ensures stopped { IsHonestStore (hub_store S.seen hub.new) → (w : World) → HubRepresents S.seen hub.old w
-        → StoppedFrom w script.now.events.items (W.written writer.old) (W.written writer.new) result }
+
+    // After a fault, but one of writing, what was written is the replies to the events before the one at which the run
+    // stopped; or nothing, if there was no room for the replies.
+    ensures stopped { StoppedRun S.seen script.now.events.items hub.old hub.new (W.written writer.old)
+        (W.written writer.new) result }
 {
     match run(alloc, hub, script.events.as_slice()) {
         Ok(replies) => finish(writer, replies.as_slice(), script.exit()),

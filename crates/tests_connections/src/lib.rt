@@ -9,4 +9,6 @@ mod rows;
 #[cfg(test)]
 mod served;
 #[cfg(test)]
+mod stopping;
+#[cfg(test)]
 mod streams;

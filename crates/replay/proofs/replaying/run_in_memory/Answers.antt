@@ -4,8 +4,9 @@ use Rattle.broker_types.specs.First.{first_broker}
 use Rattle.broker_sql.specs.HonestLaws.{always_honest}
 use Rattle.replay.specs.Exits.{EndsBy, HasEqualWords}
 use Rattle.replay.specs.Replays.{started, told}
-use Rattle.replay.proofs.ExitLemmas.{ends_by_start, ends_weaker}
-use Rattle.replay.proofs.StoppedLemmas.{stopped_none}
+use Rattle.replay.proofs.ExitLemmas.{ends_by_start, ends_weaker, no_early_end}
+use Rattle.replay.proofs.StoppedLemmas.{stopped_from, stopped_none}
+use Rattle.replay.proofs.WritingLemmas.{Appends-none}
 use Rattle.replay.proofs.replaying.run_in_memory.Goals as goal
 
 pub returns-in-Err-clause-stopped : goal.returns-in-Err-clause-stopped
@@ -45,5 +46,23 @@ pub returns-clause-stopped : goal.returns-clause-stopped
 returns-clause-stopped g c =
     let start = c.args.script.now.start in
     let b = first_broker start.moment (slice_index start.words.0 1) (slice_index start.words.0 2) in
-    c.run_script.ensures.stopped (always_honest (λ _. refl) c.run_script.new.hub.store) (started start)
-    (c.new.ensures.represents b (c.in_default.ensures.told (always_honest (λ _. refl) c.start.new.self)))
+    let honest = always_honest (λ _. refl) c.run_script.new.hub.store in
+    let represents = c.new.ensures.represents b (c.in_default.ensures.told (always_honest (λ _. refl) c.start.new.self)) in
+    stopped_from _ (started start) c.args.script.now.events.items c.new.result c.run_script.new.hub (g.W.Sink.written c.args.writer.now)
+    (g.W.Sink.written c.run_script.new.writer) c.run_script.result honest represents c.run_script.ensures.stopped
+
+-- ---- faults before the first event
+
+pub returns-in-Err-clause-nothing : goal.returns-in-Err-clause-nothing
+returns-in-Err-clause-nothing g c = λ early. Appends-none (g.W.Sink.written c.args.writer.now)
+
+pub returns-in-Err-start-clause-nothing : goal.returns-in-Err-start-clause-nothing
+returns-in-Err-start-clause-nothing g c = λ early. Appends-none (g.W.Sink.written c.args.writer.now)
+
+pub returns-clause-nothing : goal.returns-clause-nothing
+returns-clause-nothing g c = λ early.
+    let start = c.args.script.now.start in
+    let b = first_broker start.moment (slice_index start.words.0 1) (slice_index start.words.0 2) in
+    let ends = c.run_script.ensures.ends (always_honest (λ _. refl) c.run_script.new.hub.store) (started start)
+    (c.new.ensures.represents b (c.in_default.ensures.told (always_honest (λ _. refl) c.start.new.self))) in
+    absurd (no_early_end _ (g.W.Sink.has_failed c.run_script.new.writer) c.run_script.result ends early)

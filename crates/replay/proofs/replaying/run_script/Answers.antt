@@ -1,13 +1,14 @@
-use Rattle.std.proofs.Common.{◌≡◌, ◌⊎◌, inl, inr, List, ℕ, Vec, Global, take, subst}
+use Rattle.std.proofs.Common.{◌≡◌, ◌⊎◌, inl, inr, List, ℕ, Vec, Global, refl, subst}
 use Rattle.std.specs.Io.KnownBytes.{Appends}
 use Rattle.std.specs.List.{concat}
+use Rattle.broker_types.specs.Fault.{fault_number}
 use Rattle.hub.specs.World.{Run}
 use Rattle.hub.specs.Runs.{bytes_of}
 use Rattle.hub.specs.declared.event.Event.{Event}
-use Rattle.replay.specs.Replays.{IsUnfaulted}
+use Rattle.replay.specs.Replays.{IsUnfaulted, StopsRun}
 use Rattle.replay.specs.declared.replaying.Exit.{Exit}
 use Rattle.replay.specs.declared.replaying.Exit.TheVariants.{Faulted}
-use Rattle.replay.proofs.StoppedLemmas.{stopped_of, stopped_at}
+use Rattle.replay.proofs.StoppedLemmas.{stopped_of}
 use Rattle.replay.proofs.replaying.run_script.Goals as goal
 
 -- where nothing failed the replies were written
@@ -29,17 +30,23 @@ returns-in-Ok-clause-ran g c = λ honest w is unfaulted.
     }
 
 pub returns-in-Err-clause-stopped : goal.returns-in-Err-clause-stopped
-returns-in-Err-clause-stopped g c = λ honest w is.
+returns-in-Err-clause-stopped g c =
+    let seen = g.S.Store.seen in
+    let before = c.args.hub.now in
+    let after = c.run.new.hub in
     let old = g.W.Sink.written c.args.writer.now in
     let new = g.W.Sink.written c.finish-in-Err.new.writer in
-    let place = c.in-Err.field-0-0 in
-    let replies = bytes_of c.in-Err.replies.items in
-    let run = c.in-Err.ensures.before honest w is in
-    stopped_of w c.args.script.now.events.items old new c.finish-in-Err.result c.from.result _ _ c.finish-in-Err.ensures
-    (λ written. stopped_at w c.args.script.now.events.items old new c.from.result place
+    let number = fault_number c.in-Err.fault in
+    stopped_of seen c.args.script.now.events.items before after old new c.finish-in-Err.result c.from.result number _ _
+    c.finish-in-Err.ensures c.from.ensures
+    (λ written. subst (λ (events : List Event). StopsRun seen events before after old new number) c.as_slice.ensures.value
     (record {
-      replies = replies;
-      after = run.0;
-      run = subst (λ (events : List Event). Run w (take place events) replies run.0) c.as_slice.ensures.value run.1;
+      place = c.in-Err.field-0-0;
+      replies = c.in-Err.replies.items;
+      fault = c.in-Err.fault;
+      number_is = refl;
       written = subst (λ (rs : List (Vec ℕ Global)). Appends old new (concat (bytes_of rs))) c.as_slice-in-Err.ensures.value written;
+      run = c.in-Err.ensures.before;
+      stopped = c.in-Err.ensures.stopped;
+      turns = c.in-Err.ensures.connections;
     }))
