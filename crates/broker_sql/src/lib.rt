@@ -8,6 +8,3 @@ mod sql_store;
 
 pub use laws::{memory_returns_what_was_written, what_was_committed_is_found};
 pub use sql_store::SqlStore;
-
-#[cfg(test)]
-mod tests;

@@ -17,6 +17,3 @@ pub use preparing::prepare;
 pub use serving::serve;
 pub use starting::{serve_file, serve_in_memory};
 pub use system_clock::SystemClock;
-
-#[cfg(test)]
-mod tests;

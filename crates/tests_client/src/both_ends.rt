@@ -1,10 +1,11 @@
 //! The request of a command line is sent over the loopback address and served, and its reply is read.
 
+use crate::standing::{Fixed, Same};
 use api_client::{command_of, reply_of, request_of};
 use broker::ListStore;
 use broker_types::{Bytes, Fault, Moment, Words};
 use endpoints::Reading;
-use hub::{Clock, Hub, WordSource};
+use hub::Hub;
 use server::serve;
 use std::alloc::{AllocError, Global};
 use std::io::Write;
@@ -16,26 +17,6 @@ const SETTINGS: &str =
     "{\"auth\":null,\"data\":{\"cas_required\":false,\"delete_version_after\":\"0s\",\"max_versions\":0},\
     \"lease_duration\":0,\"lease_id\":\"\",\"renewable\":false,\
     \"request_id\":\"00000000-0000-0000-0000-000000000020\",\"warnings\":null,\"wrap_info\":null}\n";
-
-/// A clock that stands still.
-#[derive(Drop)]
-struct Fixed(Moment);
-
-impl Clock for Fixed {
-    fn now(&mut self) -> Moment {
-        self.0
-    }
-}
-
-/// The same words for each event.
-#[derive(Drop)]
-struct Same(Words);
-
-impl WordSource for Same {
-    fn words(&mut self) -> Words {
-        self.0
-    }
-}
 
 /// The words of a command line. The first is the name of the program.
 fn words(alloc: Global, line: &[&str]) -> Result<Vec<String>, AllocError> {

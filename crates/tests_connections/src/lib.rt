@@ -11,4 +11,6 @@ mod served;
 #[cfg(test)]
 mod stopping;
 #[cfg(test)]
+mod stores;
+#[cfg(test)]
 mod streams;

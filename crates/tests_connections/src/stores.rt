@@ -1,5 +1,7 @@
-use crate::sql_store::SqlStore;
+//! Stores in a database in memory: how they are started, opened and made ready.
+
 use broker::Store;
+use broker_sql::SqlStore;
 use broker_types::{
     Ask, BodyBytes, Bytes, CowBytes, CowText, Fault, Moment, Path, Seconds, Status, TextBuf, Verb,
     Words, WrapTtl,
@@ -7,6 +9,7 @@ use broker_types::{
 use ram_disk::RamFile;
 use records::{Kind, RecordsTx, Row};
 use records_sql::SqlRecords;
+use server::prepare;
 use sqlite::FileStore;
 use std::alloc::Global;
 use std::borrow::{CowSlice, CowStr};
@@ -86,5 +89,22 @@ fn refuses_rows_without_a_clock(alloc: Global) -> Result<bool, Fault> {
 #[test]
 fn rows_without_a_clock_are_refused(rt: HostRuntime) -> Result<(), Fail> {
     assert!(rt; refuses_rows_without_a_clock(rt.alloc())?);
+    Ok(())
+}
+
+/// Whether records in memory become the first broker, whose root token is told, and are opened from then on: by the same
+/// words, and by equal ones, which cannot start a broker.
+fn prepares_once(alloc: Global) -> Result<bool, Fault> {
+    let words = Words([0, 1, 2, 3, 4, 5, 6, 7]);
+    let (store, told) = prepare(alloc, SqlRecords::in_memory(alloc)?, moment()?, &words)?;
+    let (store, again) = prepare(alloc, store.into_records(), moment()?, &words)?;
+    let (_, equal) = prepare(alloc, store.into_records(), moment()?, &Words([7; 8]))?;
+    let root = told.is_some_and(|token| token.as_str() == ROOT);
+    Ok(root && again.is_none() && equal.is_none())
+}
+
+#[test]
+fn a_broker_is_started_once(rt: HostRuntime) -> Result<(), Fail> {
+    assert!(rt; prepares_once(rt.alloc())?);
     Ok(())
 }

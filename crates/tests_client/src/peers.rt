@@ -1,17 +1,14 @@
-//! One process that is both ends of its connections.
+//! One process that is both ends of its connections, and what the system gives to a server.
 
-use crate::waiting::{Wait, patience};
-use crate::{SystemClock, prepare, seeded, serve};
+use crate::standing::{Fixed, Same};
 use broker::ListStore;
-use broker_types::{Fault, Moment, Words};
+use broker_types::{Moment, Words};
 use hub::{Clock, Hub, WordSource};
-use records_sql::SqlRecords;
-use std::alloc::Global;
+use server::{SystemClock, seeded, serve};
 use std::io;
 use std::io::Write;
 use std::net::{Shutdown, TcpListener, TcpStream};
 use std::test::Fail;
-use std::time::Duration;
 
 const WRITE: &str = "PUT /v1/cubbyhole/a HTTP/1.1\r\nHost: b\r\n\
     X-Vault-Token: hvs.00000000-0000-0000-0000-000000000001\r\n\
@@ -31,26 +28,6 @@ const FOUND: &str = "HTTP/1.1 200 OK\r\n\
     Content-Length: 167\r\n\r\n\
     {\"auth\":null,\"data\":{\"k\":\"v\"},\"lease_duration\":0,\"lease_id\":\"\",\"renewable\":false,\
     \"request_id\":\"00000000-0000-0000-0000-000000000020\",\"warnings\":null,\"wrap_info\":null}\n";
-
-/// A clock that stands still.
-#[derive(Drop)]
-struct Fixed(Moment);
-
-impl Clock for Fixed {
-    fn now(&mut self) -> Moment {
-        self.0
-    }
-}
-
-/// The same words for each event.
-#[derive(Drop)]
-struct Same(Words);
-
-impl WordSource for Same {
-    fn words(&mut self) -> Words {
-        self.0
-    }
-}
 
 /// The first peer stays connected without a word; the second is served all the same.
 #[test]
@@ -83,24 +60,6 @@ fn two_peers_over_the_loopback(rt: HostRuntime) -> Result<(), Fail> {
     Ok(())
 }
 
-/// Computes `patience`.
-#[test]
-fn how_long_a_peer_is_waited_for(rt: HostRuntime) {
-    let pause = Some(Duration::from_millis(250));
-    let silence = Some(Duration::from_secs(5));
-    assert_eq!(rt; patience(Wait::NextRequest, Duration::from_secs(90)), pause);
-    assert_eq!(rt; patience(Wait::Progress, Duration::from_secs(0)), silence);
-    assert_eq!(rt; patience(Wait::Progress, Duration::from_secs(15)), silence);
-    let left = Some(Duration::from_millis(1));
-    assert_eq!(rt;
-        patience(Wait::Progress, Duration::from_millis(19_999)),
-        left
-    );
-    assert_eq!(rt; patience(Wait::Progress, Duration::from_secs(20)), None);
-    assert_eq!(rt; patience(Wait::Farewell, Duration::from_millis(249)), left);
-    assert_eq!(rt; patience(Wait::Farewell, Duration::from_millis(250)), None);
-}
-
 #[test]
 fn words_differ(rt: HostRuntime) -> Result<(), Fail> {
     let mut words = seeded(&rt)?;
@@ -108,25 +67,5 @@ fn words_differ(rt: HostRuntime) -> Result<(), Fail> {
     assert!(rt; first != words.words());
     assert!(rt; first != seeded(&rt)?.words());
     assert!(rt; SystemClock::new(&rt).now().seconds() > 1_700_000_000);
-    Ok(())
-}
-
-/// Whether records in memory become the first broker, whose root token is told, and are opened from then on: by the same
-/// words, and by equal ones, which cannot start a broker.
-fn prepares_once(alloc: Global) -> Result<bool, Fault> {
-    let moment = Moment::new(1_000).ok_or(Fault::Damaged)?;
-    let words = Words([0, 1, 2, 3, 4, 5, 6, 7]);
-    let (store, told) = prepare(alloc, SqlRecords::in_memory(alloc)?, moment, &words)?;
-    let (store, again) = prepare(alloc, store.into_records(), moment, &words)?;
-    let (_, equal) = prepare(alloc, store.into_records(), moment, &Words([7; 8]))?;
-    let root = told.is_some_and(|token| {
-        token.as_str() == "hvs.00000000-0000-0000-0000-000000000001"
-    });
-    Ok(root && again.is_none() && equal.is_none())
-}
-
-#[test]
-fn a_broker_is_started_once(rt: HostRuntime) -> Result<(), Fail> {
-    assert!(rt; prepares_once(rt.alloc())?);
     Ok(())
 }
