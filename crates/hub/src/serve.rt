@@ -108,7 +108,7 @@ impl From<Fault> for ConnectionFault {
 /// the storage returns what was written. After a fault the same holds of the events before it.
 ///
 /// **Each event has its own moment and its own words**: for each the clock is asked once and words are drawn once, in
-/// the order of the events, and not otherwise.
+/// the order of the events, and not otherwise. An event that had a fault is one of them.
 pub fn serve_connection<S: Store, R: Source, W: Sink, C: Clock, D: WordSource>(
     hub: &mut Hub<S>,
     conn: u64,

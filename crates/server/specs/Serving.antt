@@ -49,7 +49,7 @@ abbrev pub asked_by : List Served → History
 asked_by [] = []
 asked_by (s ∷ later) = s.history ++ asked_by later
 
--- all events on connections, one after another
+-- all events of connections, one after another, with those that had a fault
 abbrev pub fed_to : List Served → List Event
 fed_to [] = []
 fed_to (s ∷ later) = (s.exchange.events ++ s.last) ++ fed_to later
