@@ -1,4 +1,4 @@
--- What an open finds of a store, wherever the program stops (this project's definition).
+-- What an open finds of a store, if the program stops between requests (this project's definition).
 use Rattle.std.specs.Prelude.{◌≡◌, IsTrue}
 use Rattle.sqlite_trees.specs.Tree.{Trees}
 use Rattle.sqlite_trees.specs.declared.store.Store as store
