@@ -57,8 +57,9 @@ fn the_replies_before_a_fault_are_written(rt: HostRuntime) -> Result<(), Fail> {
     let Some(script) = read_script(alloc, LINES.as_bytes())? else {
         return Err(Fail::from("a bad line"));
     };
+    let start = script.start;
     let mut store = ListStore::new(alloc);
-    let token = store.start(script.start.moment, &script.start.words)?;
+    let token = store.start(start.moment, &start.words)?;
     drop(token);
     let mut hub = Hub::new(
         alloc,
