@@ -1,7 +1,7 @@
 #!/bin/bash
 # Starts `brokerd serve` and asks it as its users do: by curl, by `client` if it is there, by Python's hvac and by
 # Ansible if they are installed, and on one connection 10,000 times; then by wrong command lines, over a file that is
-# opened again, by peers that are idle or slow, and on 100,000 connections. It takes some 70 seconds, and 40 more with
+# opened again, by peers that are idle or slow, and on 100,000 connections. It takes some 45 seconds, and 40 more with
 # Ansible. BROKERD and CLIENT name other programs. The last line is 'N passed, M failed'; the status is 0 if nothing
 # failed.
 set -u
