@@ -1,5 +1,5 @@
 -- What the hub keeps of a connection tells whether a request waits on it.
-use Rattle.std.proofs.Common.{◌≡◌, ◌∙◌, ◌⊎◌, inl, inr, ℕ, true, false, List, [], Option, Some, None, unwrap_or, refl, sym, subst}
+use Rattle.std.proofs.Common.{◌≡◌, ◌∙◌, ◌⊎◌, inl, inr, ℕ, true, List, [], Option, Some, None, unwrap_or, refl, sym, subst}
 use Rattle.std.proofs.lemmas.Bool.{false≢true}
 use Rattle.http_layer.specs.Front.{IsFront, need, unended}
 use Rattle.http_layer.specs.HeadEndLaws.{HasNoHeadEnd-nil}

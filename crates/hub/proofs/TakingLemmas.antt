@@ -10,10 +10,10 @@ use Rattle.endpoints.specs.Now.{PullsNow}
 use Rattle.records.specs.Transaction.{Rows}
 use Rattle.hub.specs.AnyRows.{FaultsAt}
 use Rattle.hub.specs.Listed.{IsListedReply}
-use Rattle.hub.specs.Representing.{ConnectionsRepresent, HubRepresents, hub_store}
+use Rattle.hub.specs.Representing.{ConnectionsRepresent, hub_store}
 use Rattle.hub.specs.Serving.{Exchange, IsEventOf, longest_piece}
 use Rattle.hub.specs.Turning.{Passes, TakesTurn, TurnStops}
-use Rattle.hub.specs.World.{Connections, World}
+use Rattle.hub.specs.World.{Connections}
 use Rattle.hub.specs.declared.event.Event.{Event}
 use Rattle.hub.specs.declared.hub.Hub.{Hub}
 use Rattle.hub.specs.declared.serve.ConnectionFault.{ConnectionFault}

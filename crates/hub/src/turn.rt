@@ -1,13 +1,20 @@
-ghost use Rattle.std.specs.Prelude.{◌≡◌, ◌≤◌, ◌⊎◌, [], length, MatchResult, IsTrue};
-ghost use Rattle.std.specs.Io.KnownBytes.{Appends, Consumes};
+ghost use Rattle.std.specs.Prelude.{◌≡◌, ◌≢◌, ◌≤◌, ◌⊎◌, [], length, Ok, Err, IfErr, IfOk, OnErr, MatchResult};
+ghost use Rattle.std.specs.Prelude.{IsTrue};
+ghost use Rattle.std.specs.Io.KnownBytes.{Appends, Consumes, IsAtEnd};
+ghost use Rattle.broker.specs.Kept.{IsHonestStore};
+ghost use Rattle.hub.specs.Feeding.{IsLater};
 ghost use Rattle.hub.specs.Links.{number_of, unsent};
-ghost use Rattle.hub.specs.Serving.{longest_piece};
+ghost use Rattle.hub.specs.Representing.{ConnectionsRepresent, HubRepresents, hub_store};
+ghost use Rattle.hub.specs.Serving.{HasEnded, IsAllowed, IsAnswered, IsGone, LeavesOthers, longest_piece};
 ghost use Rattle.hub.specs.Turning.{Passes, TakesTurn, TurnStops};
+ghost use Rattle.hub.specs.World.{Connections, World};
+ghost use Rattle.hub.specs.declared.serve.ConnectionFault.TheVariants.{Broker, Read, Write};
 
 use crate::hub::Hub;
 use crate::link::Link;
 use crate::serve::{Clock, ConnectionFault, WordSource};
 use broker::Store;
+use broker_types::Fault;
 use endpoints::{Failed, NowSink, NowSource};
 
 /// How many bytes are read at once at most.
@@ -24,7 +31,7 @@ pub enum Turn {
     NeedsBytes,
     /// There is no room to write now.
     NeedsRoom,
-    /// The input has ended.
+    /// The input has ended, or the connection is closed.
     Ended,
 }
 
@@ -51,6 +58,33 @@ pub fn take_turn<S: Store, R: NowSource, W: NowSink, C: Clock, D: WordSource>(
         (Passes (Appends (W.written writer.old) (W.written writer.new)) (unsent link.old) (unsent link.new))
         fault hub.old hub.new) }
     ensures same { number_of link.new ≡ number_of link.old }
+
+    // Whatever the rows are, no other connection changes.
+    ensures others { (all : Connections) → ConnectionsRepresent hub.old all
+        → LeavesOthers (number_of link.old) all hub.new }
+
+    // All was sent and no request waits for its reply where bytes are needed; at the end, the connection is closed, or
+    // the input has ended and the next request needs more bytes. After a fault the connection is closed or not seen.
+    ensures needs { result ≡ Ok Turn.NeedsBytes → (unsent link.new ≡ [])
+        × ((all : Connections) → ConnectionsRepresent hub.new all → IsAnswered all (number_of link.new)) }
+    ensures ended { result ≡ Ok Turn.Ended → (unsent link.new ≡ [])
+        × ((all : Connections) → ConnectionsRepresent hub.new all
+        → HasEnded (R.left reader.new) all (number_of link.new)) }
+    ensures gone { OnErr result ((all : Connections) → ConnectionsRepresent hub.new all
+        → IsGone all (number_of link.new)) }
+
+    // On a broker's rows its faults are of memory or storage alone. A fault of reading comes only if the source failed,
+    // one of writing only if the sink failed, and one of storage only if the store failed.
+    ensures wants { IsHonestStore (hub_store S.seen hub.new) → (w : World) → HubRepresents S.seen hub.old w
+        → IfErr result IsAllowed }
+    ensures read { result ≡ Err Read → IsTrue (R.has_failed reader.new) }
+    ensures write { result ≡ Err Write → IsTrue (W.has_failed writer.new) }
+    ensures storage { result ≡ Err (Broker Fault.Storage) → IsTrue (hub_store S.seen hub.new).has_failed }
+    ensures stays_open { IsHonestStore (hub_store S.seen hub.new) → MatchResult result
+        (λ _. (hub_store S.seen hub.new).is_open ≡ (hub_store S.seen hub.old).is_open)
+        (λ fault. fault ≢ Broker Fault.Storage
+        → (hub_store S.seen hub.new).is_open ≡ (hub_store S.seen hub.old).is_open) }
+    ensures later { IsLater (hub_store S.seen hub.old) (hub_store S.seen hub.new) }
 {
     if link.is_sending() {
         return match send_rest(link, writer) {
@@ -61,6 +95,9 @@ pub fn take_turn<S: Store, R: NowSource, W: NowSink, C: Clock, D: WordSource>(
             }
         };
     }
+    if hub.is_closed(link.conn()) {
+        return Ok(Turn::Ended);
+    }
     if hub.has_request(link.conn()) {
         return feed_piece(hub, link, &[], writer, clock, words);
     }
@@ -69,7 +106,8 @@ pub fn take_turn<S: Store, R: NowSource, W: NowSink, C: Clock, D: WordSource>(
 
 /// Sends as much as there is room for of what was not sent.
 fn send_rest<W: NowSink>(link: &mut Link, writer: &mut W) -> Result<Turn, Failed>
-    ensures sent { Passes (Appends (W.written writer.old) (W.written writer.new)) (unsent link.old) (unsent link.new) [] }
+    ensures sent { Passes (Appends (W.written writer.old) (W.written writer.new))
+        (unsent link.old) (unsent link.new) [] }
     ensures same { number_of link.new ≡ number_of link.old }
     ensures failed { MatchResult result (λ turn. (turn ≡ Turn.WentOn) ⊎ (turn ≡ Turn.NeedsRoom))
         (λ _. IsTrue (W.has_failed writer.new)) }
@@ -103,6 +141,21 @@ fn feed_piece<S: Store, W: NowSink, C: Clock, D: WordSource>(
         (Passes (Appends (W.written writer.old) (W.written writer.new)) (unsent link.old) (unsent link.new))
         fault hub.old hub.new) }
     ensures same { number_of link.new ≡ number_of link.old }
+    ensures turns { IfOk result (λ turn. (turn ≡ Turn.WentOn) ⊎ (turn ≡ Turn.Answered)) }
+    ensures others { (all : Connections) → ConnectionsRepresent hub.old all
+        → LeavesOthers (number_of link.old) all hub.new }
+    ensures gone { OnErr result ((all : Connections) → ConnectionsRepresent hub.new all
+        → IsGone all (number_of link.new)) }
+    ensures wants { IsHonestStore (hub_store S.seen hub.new) → (w : World) → HubRepresents S.seen hub.old w
+        → IfErr result IsAllowed }
+    ensures read { result ≢ Err Read }
+    ensures write { result ≡ Err Write → IsTrue (W.has_failed writer.new) }
+    ensures storage { result ≡ Err (Broker Fault.Storage) → IsTrue (hub_store S.seen hub.new).has_failed }
+    ensures stays_open { IsHonestStore (hub_store S.seen hub.new) → MatchResult result
+        (λ _. (hub_store S.seen hub.new).is_open ≡ (hub_store S.seen hub.old).is_open)
+        (λ fault. fault ≢ Broker Fault.Storage
+        → (hub_store S.seen hub.new).is_open ≡ (hub_store S.seen hub.old).is_open) }
+    ensures later { IsLater (hub_store S.seen hub.old) (hub_store S.seen hub.new) }
 {
     let moment = clock.now();
     let drawn = words.words();
@@ -139,6 +192,23 @@ fn read_piece<S: Store, R: NowSource, W: NowSink, C: Clock, D: WordSource>(
         (Passes (Appends (W.written writer.old) (W.written writer.new)) (unsent link.old) (unsent link.new))
         fault hub.old hub.new) }
     ensures same { number_of link.new ≡ number_of link.old }
+    ensures others { (all : Connections) → ConnectionsRepresent hub.old all
+        → LeavesOthers (number_of link.old) all hub.new }
+    ensures needs { result ≡ Ok Turn.NeedsBytes → (unsent link.new ≡ []) × (hub.new ≡ hub.old) }
+    ensures ended { result ≡ Ok Turn.Ended → (unsent link.new ≡ []) × (hub.new ≡ hub.old)
+        × IsAtEnd (R.left reader.new) }
+    ensures gone { OnErr result ((all : Connections) → ConnectionsRepresent hub.new all
+        → IsGone all (number_of link.new)) }
+    ensures wants { IsHonestStore (hub_store S.seen hub.new) → (w : World) → HubRepresents S.seen hub.old w
+        → IfErr result IsAllowed }
+    ensures read { result ≡ Err Read → IsTrue (R.has_failed reader.new) }
+    ensures write { result ≡ Err Write → IsTrue (W.has_failed writer.new) }
+    ensures storage { result ≡ Err (Broker Fault.Storage) → IsTrue (hub_store S.seen hub.new).has_failed }
+    ensures stays_open { IsHonestStore (hub_store S.seen hub.new) → MatchResult result
+        (λ _. (hub_store S.seen hub.new).is_open ≡ (hub_store S.seen hub.old).is_open)
+        (λ fault. fault ≢ Broker Fault.Storage
+        → (hub_store S.seen hub.new).is_open ≡ (hub_store S.seen hub.old).is_open) }
+    ensures later { IsLater (hub_store S.seen hub.old) (hub_store S.seen hub.new) }
 {
     let mut buffer = [0; PIECE];
     match reader.pull_now(&mut buffer) {
