@@ -12,3 +12,5 @@ mod served;
 mod stopping;
 #[cfg(test)]
 mod streams;
+#[cfg(test)]
+mod turning;
