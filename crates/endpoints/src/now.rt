@@ -1,4 +1,5 @@
-ghost use Rattle.std.specs.Prelude.{◌≡◌, ◌||◌, ◌≤◌, ℕ, Bool, List, Option, length, IfOk, IfSome, MatchResult, is_err, false};
+ghost use Rattle.std.specs.Prelude.{◌≡◌, ◌||◌, ◌≤◌, ℕ, Bool, false, List, Option, length, IfOk, IfSome, MatchResult};
+ghost use Rattle.std.specs.Prelude.{is_err};
 ghost use Rattle.std.specs.Io.KnownBytes.{Keeps, WriteAppends};
 ghost use Rattle.endpoints.specs.Now.{PullsNow};
 

@@ -37,7 +37,7 @@ impl io::Write for Stumbling {
     }
 }
 
-/// A reader or a writer that would wait at every other call, the first one among them, and else takes two bytes at most.
+/// A reader or a writer that would wait at every other call, the first one among them. Others take two bytes at most.
 #[derive(Drop)]
 struct Stuttering<T> {
     inner: T,
