@@ -7,9 +7,11 @@ pub mod HubLemmas
 pub mod KnownLemmas
 pub mod ListedLemmas
 pub mod NumberLemmas
+pub mod RequestLemmas
 pub mod RunHistories
 pub mod RunLemmas
 pub mod ServeLemmas
 pub mod ServingLemmas
+pub mod TakingLemmas
 pub mod TurnLemmas
 pub mod WaitingLemmas

@@ -42,7 +42,7 @@ RunConnections-append all (e ∷ es) fs (r ∷ rs) ss mid after (v, first, run) 
 
 -- ---- exchanges
 
-abbrev exchange_none : (conn : ℕ) → Exchange conn
+abbrev pub exchange_none : (conn : ℕ) → Exchange conn
 exchange_none conn = record { events = []; replies = []; of_connection = All-nil (IsEventOf conn); listed = All-nil IsListedReply }
 
 abbrev exchange_one : (conn : ℕ) (e : Event) (bytes : List ℕ) → IsEventOf conn e → IsListedReply bytes → Exchange conn
@@ -223,7 +223,7 @@ pub record Fed {S : Type 0} (seen : S → Kept) (conn : ℕ) (piece : List ℕ) 
       → (after : Connections) × ConnectionsRepresent new after × NextConnections all conn piece m bytes after
   pub listed : IsListedReply bytes
 
-abbrev exchange_fed : {S : Type 0} (seen : S → Kept) (conn : ℕ) (piece : List ℕ) (m : ℕ) (ws : Words) (bytes : List ℕ) (old new : Hub S)
+abbrev pub exchange_fed : {S : Type 0} (seen : S → Kept) (conn : ℕ) (piece : List ℕ) (m : ℕ) (ws : Words) (bytes : List ℕ) (old new : Hub S)
     → Fed seen conn piece m ws bytes old new → Exchange conn
 exchange_fed seen conn piece m ws bytes old new f =
     exchange_one conn (event_of conn piece m ws) bytes (refl, f.short) f.listed

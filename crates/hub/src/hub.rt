@@ -1,5 +1,5 @@
 use crate::entry::Entry;
-use crate::table::{close, empty, is_closed, next_number, open, settle};
+use crate::table::{close, empty, has_request, is_closed, next_number, open, settle};
 use broker::Store;
 use broker_types::{Fault, Moment, Words};
 use std::alloc::Global;
@@ -27,7 +27,7 @@ impl<S: Store> Hub<S> {
     ghost use Rattle.hub.specs.Pending.{closed_at};
     ghost use Rattle.hub.specs.Representing.{HubRepresents, ConnectionsRepresent, hub_connections, hub_store};
     ghost use Rattle.hub.specs.Runs.{AnswersOne};
-    ghost use Rattle.hub.specs.Serving.{LeavesClosed};
+    ghost use Rattle.hub.specs.Serving.{IsAnswered, LeavesClosed};
     ghost use Rattle.hub.specs.World.{World, Connections, history_at, new_world, no_connections};
     ghost use Rattle.hub.specs.declared.connection.Connection.{Connection as Seen};
     ghost use Rattle.hub.specs.declared.entry.Entry.TheVariants.{One};
@@ -72,6 +72,16 @@ impl<S: Store> Hub<S> {
             → result ≡ (history_at all conn).closed }
     {
         is_closed(&self.connections, conn)
+    }
+
+    /// Whether a request waits on the connection for its reply, so that an empty piece gives one. It takes no memory.
+    pub fn has_request(&self, conn: u64) -> bool
+        ensures answered { result ≡ false → (all : Connections) → ConnectionsRepresent self.now all
+            → IsAnswered all conn }
+        ensures waits { (all : Connections) → ConnectionsRepresent self.now all → IsAnswered all conn
+            → result ≡ false }
+    {
+        has_request(&self.connections, conn)
     }
 
     /// Closes a connection whose peer is gone, if it was seen, and drops the bytes that wait on it: the hub

@@ -7,13 +7,17 @@ mod entry;
 mod event;
 mod hub;
 mod laws;
+mod link;
 mod running;
 mod serve;
 mod serving;
 mod table;
+mod turn;
 
 pub use event::Event;
 pub use hub::Hub;
 pub use laws::{asking_laws, run_laws};
+pub use link::Link;
 pub use running::run;
 pub use serve::{Clock, ConnectionFault, WordSource, serve_connection};
+pub use turn::{Turn, take_turn};

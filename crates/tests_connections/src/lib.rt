@@ -14,3 +14,5 @@ mod stopping;
 mod stores;
 #[cfg(test)]
 mod streams;
+#[cfg(test)]
+mod turning;

@@ -10,20 +10,20 @@ use std::io;
 use std::io::Read;
 use std::test::Fail;
 
-const WRITE: &str = "PUT /v1/cubbyhole/a HTTP/1.1\r\nHost: b\r\n\
+pub(crate) const WRITE: &str = "PUT /v1/cubbyhole/a HTTP/1.1\r\nHost: b\r\n\
     X-Vault-Token: hvs.00000000-0000-0000-0000-000000000001\r\n\
     Content-Length: 9\r\n\r\n{\"k\":\"v\"}";
 
-const READ: &str = "GET /v1/cubbyhole/a HTTP/1.1\r\nHost: b\r\n\
+pub(crate) const READ: &str = "GET /v1/cubbyhole/a HTTP/1.1\r\nHost: b\r\n\
     X-Vault-Token: hvs.00000000-0000-0000-0000-000000000001\r\n\r\n";
 
-const CLOSING: &str = "GET /b HTTP/1.1\r\nHost: b\r\nConnection: close\r\n\r\n";
+pub(crate) const CLOSING: &str = "GET /b HTTP/1.1\r\nHost: b\r\nConnection: close\r\n\r\n";
 
-const WRITTEN: &str = "HTTP/1.1 204 No Content\r\n\
+pub(crate) const WRITTEN: &str = "HTTP/1.1 204 No Content\r\n\
     Date: Tue, 14 Nov 2023 22:13:20 GMT\r\n\
     Cache-Control: no-store\r\n\r\n";
 
-const FOUND: &str = "HTTP/1.1 200 OK\r\n\
+pub(crate) const FOUND: &str = "HTTP/1.1 200 OK\r\n\
     Date: Tue, 14 Nov 2023 22:13:20 GMT\r\n\
     Cache-Control: no-store\r\n\
     Content-Type: application/json\r\n\
@@ -71,7 +71,7 @@ const DENIED: &str = "HTTP/1.1 403 Forbidden\r\n\
 
 /// A clock that stands still.
 #[derive(Drop)]
-struct Fixed(Moment);
+pub(crate) struct Fixed(pub(crate) Moment);
 
 impl Clock for Fixed {
     fn now(&mut self) -> Moment {
@@ -93,8 +93,8 @@ impl Clock for Ticking {
 
 /// Eight words one after the other, each event's 16 above those of the event before.
 #[derive(Drop)]
-struct Counting {
-    next: u128,
+pub(crate) struct Counting {
+    pub(crate) next: u128,
 }
 
 impl WordSource for Counting {
@@ -125,7 +125,7 @@ impl io::Write for Broken {
     }
 }
 
-fn moment() -> Result<Moment, Fail> {
+pub(crate) fn moment() -> Result<Moment, Fail> {
     Ok(Moment::new(1_700_000_000).ok_or("the moment is in range")?)
 }
 

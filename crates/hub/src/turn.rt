@@ -1,0 +1,225 @@
+ghost use Rattle.std.specs.Prelude.{◌≡◌, ◌≢◌, ◌≤◌, ◌⊎◌, [], length, Ok, Err, IfErr, IfOk, OnErr, MatchResult};
+ghost use Rattle.std.specs.Prelude.{IsTrue};
+ghost use Rattle.std.specs.Io.KnownBytes.{Appends, Consumes, IsAtEnd};
+ghost use Rattle.broker.specs.Kept.{IsHonestStore};
+ghost use Rattle.hub.specs.Feeding.{IsLater};
+ghost use Rattle.hub.specs.Links.{number_of, unsent};
+ghost use Rattle.hub.specs.Representing.{ConnectionsRepresent, HubRepresents, hub_store};
+ghost use Rattle.hub.specs.Serving.{HasEnded, IsAllowed, IsAnswered, IsGone, LeavesOthers, longest_piece};
+ghost use Rattle.hub.specs.Supplies.{Supplies};
+ghost use Rattle.hub.specs.Turning.{Passes, TakesTurn, TurnStops};
+ghost use Rattle.hub.specs.World.{Connections, World};
+ghost use Rattle.hub.specs.declared.serve.ConnectionFault.TheVariants.{Broker, Read, Write};
+
+use crate::hub::Hub;
+use crate::link::Link;
+use crate::serve::{Clock, ConnectionFault, WordSource};
+use broker::Store;
+use broker_types::Fault;
+use endpoints::{Failed, NowSink, NowSource};
+
+/// How many bytes are read at once at most.
+const PIECE: usize = 8_192;
+
+/// How a turn ended.
+#[derive(Clone, Copy, Debug, PartialEq, Eq)]
+pub enum Turn {
+    /// Something was read or sent. Another turn may do more at once.
+    WentOn,
+    /// A request was answered. Its reply was sent, or a part of it waits.
+    Answered,
+    /// No byte is there to be read now.
+    NeedsBytes,
+    /// There is no room to write now.
+    NeedsRoom,
+    /// The input has ended, or the connection is closed.
+    Ended,
+}
+
+/// Takes one turn on a connection whose ends do not wait: it sends what was not sent of the last reply; or, if all was
+/// sent, it feeds one event, a piece of at most 8,192 bytes or an empty one if a request waits already, and sends what
+/// there is room for of the reply. After a fault the connection is closed, or still not seen.
+///
+/// **The peer receives exactly the reply bytes of the broker, however they are cut**: the bytes that were not sent
+/// before, and then the reply, are what was sent, and then the bytes that are not sent now; also after a fault. What
+/// was read is the piece of the event. For the event the clock is asked once and words are drawn once; without an event
+/// neither is.
+pub fn take_turn<S: Store, R: NowSource, W: NowSink, C: Clock, D: WordSource>(
+    hub: &mut Hub<S>,
+    link: &mut Link,
+    reader: &mut R,
+    writer: &mut W,
+    clock: &mut C,
+    words: &mut D,
+) -> Result<Turn, ConnectionFault>
+    ensures took { MatchResult result
+        (λ _. TakesTurn S.seen (number_of link.old) (Consumes (R.left reader.old) (R.left reader.new))
+        (Passes (Appends (W.written writer.old) (W.written writer.new)) (unsent link.old) (unsent link.new))
+        (Supplies C.may_tell clock.old clock.new D.may_give words.old words.new) hub.old hub.new)
+        (λ fault. TurnStops S.seen (number_of link.old) (Consumes (R.left reader.old) (R.left reader.new))
+        (Passes (Appends (W.written writer.old) (W.written writer.new)) (unsent link.old) (unsent link.new))
+        (Supplies C.may_tell clock.old clock.new D.may_give words.old words.new) fault hub.old hub.new) }
+    ensures same { number_of link.new ≡ number_of link.old }
+
+    // Whatever the rows are, no other connection changes.
+    ensures others { (all : Connections) → ConnectionsRepresent hub.old all
+        → LeavesOthers (number_of link.old) all hub.new }
+
+    // All was sent and no request waits for its reply where bytes are needed; at the end, the connection is closed, or
+    // the input has ended and the next request needs more bytes. After a fault the connection is closed or not seen.
+    ensures needs { result ≡ Ok Turn.NeedsBytes → (unsent link.new ≡ [])
+        × ((all : Connections) → ConnectionsRepresent hub.new all → IsAnswered all (number_of link.new)) }
+    ensures ended { result ≡ Ok Turn.Ended → (unsent link.new ≡ [])
+        × ((all : Connections) → ConnectionsRepresent hub.new all
+        → HasEnded (R.left reader.new) all (number_of link.new)) }
+    ensures gone { OnErr result ((all : Connections) → ConnectionsRepresent hub.new all
+        → IsGone all (number_of link.new)) }
+
+    // On a broker's rows its faults are of memory or storage alone. A fault of reading comes only if the source failed,
+    // one of writing only if the sink failed, and one of storage only if the store failed.
+    ensures wants { IsHonestStore (hub_store S.seen hub.new) → (w : World) → HubRepresents S.seen hub.old w
+        → IfErr result IsAllowed }
+    ensures read { result ≡ Err Read → IsTrue (R.has_failed reader.new) }
+    ensures write { result ≡ Err Write → IsTrue (W.has_failed writer.new) }
+    ensures storage { result ≡ Err (Broker Fault.Storage) → IsTrue (hub_store S.seen hub.new).has_failed }
+    ensures stays_open { IsHonestStore (hub_store S.seen hub.new) → MatchResult result
+        (λ _. (hub_store S.seen hub.new).is_open ≡ (hub_store S.seen hub.old).is_open)
+        (λ fault. fault ≢ Broker Fault.Storage
+        → (hub_store S.seen hub.new).is_open ≡ (hub_store S.seen hub.old).is_open) }
+    ensures later { IsLater (hub_store S.seen hub.old) (hub_store S.seen hub.new) }
+{
+    if link.is_sending() {
+        return match send_rest(link, writer) {
+            Ok(turn) => Ok(turn),
+            Err(Failed) => {
+                hub.close(link.conn());
+                Err(ConnectionFault::Write)
+            }
+        };
+    }
+    if hub.is_closed(link.conn()) {
+        return Ok(Turn::Ended);
+    }
+    if hub.has_request(link.conn()) {
+        return feed_piece(hub, link, &[], writer, clock, words);
+    }
+    read_piece(hub, link, reader, writer, clock, words)
+}
+
+/// Sends as much as there is room for of what was not sent.
+fn send_rest<W: NowSink>(link: &mut Link, writer: &mut W) -> Result<Turn, Failed>
+    ensures sent { Passes (Appends (W.written writer.old) (W.written writer.new))
+        (unsent link.old) (unsent link.new) [] }
+    ensures same { number_of link.new ≡ number_of link.old }
+    ensures failed { MatchResult result (λ turn. (turn ≡ Turn.WentOn) ⊎ (turn ≡ Turn.NeedsRoom))
+        (λ _. IsTrue (W.has_failed writer.new)) }
+{
+    match writer.push_now(link.unsent()) {
+        Ok(0) => Ok(Turn::NeedsRoom),
+        Ok(count) => {
+            link.advance(count);
+            Ok(Turn::WentOn)
+        }
+        Err(Failed) => Err(Failed),
+    }
+}
+
+/// Feeds the piece, and sends as much of the reply as there is room for.
+fn feed_piece<S: Store, W: NowSink, C: Clock, D: WordSource>(
+    hub: &mut Hub<S>,
+    link: &mut Link,
+    piece: &[u8],
+    writer: &mut W,
+    clock: &mut C,
+    words: &mut D,
+) -> Result<Turn, ConnectionFault>
+    requires done { unsent link.old ≡ [] }
+    requires short { length piece.now ≤ longest_piece }
+    ensures took { MatchResult result
+        (λ _. TakesTurn S.seen (number_of link.old) (λ read. read ≡ piece.now)
+        (Passes (Appends (W.written writer.old) (W.written writer.new)) (unsent link.old) (unsent link.new))
+        (Supplies C.may_tell clock.old clock.new D.may_give words.old words.new) hub.old hub.new)
+        (λ fault. TurnStops S.seen (number_of link.old) (λ read. read ≡ piece.now)
+        (Passes (Appends (W.written writer.old) (W.written writer.new)) (unsent link.old) (unsent link.new))
+        (Supplies C.may_tell clock.old clock.new D.may_give words.old words.new) fault hub.old hub.new) }
+    ensures same { number_of link.new ≡ number_of link.old }
+    ensures turns { IfOk result (λ turn. (turn ≡ Turn.WentOn) ⊎ (turn ≡ Turn.Answered)) }
+    ensures others { (all : Connections) → ConnectionsRepresent hub.old all
+        → LeavesOthers (number_of link.old) all hub.new }
+    ensures gone { OnErr result ((all : Connections) → ConnectionsRepresent hub.new all
+        → IsGone all (number_of link.new)) }
+    ensures wants { IsHonestStore (hub_store S.seen hub.new) → (w : World) → HubRepresents S.seen hub.old w
+        → IfErr result IsAllowed }
+    ensures read { result ≢ Err Read }
+    ensures write { result ≡ Err Write → IsTrue (W.has_failed writer.new) }
+    ensures storage { result ≡ Err (Broker Fault.Storage) → IsTrue (hub_store S.seen hub.new).has_failed }
+    ensures stays_open { IsHonestStore (hub_store S.seen hub.new) → MatchResult result
+        (λ _. (hub_store S.seen hub.new).is_open ≡ (hub_store S.seen hub.old).is_open)
+        (λ fault. fault ≢ Broker Fault.Storage
+        → (hub_store S.seen hub.new).is_open ≡ (hub_store S.seen hub.old).is_open) }
+    ensures later { IsLater (hub_store S.seen hub.old) (hub_store S.seen hub.new) }
+{
+    let moment = clock.now();
+    let drawn = words.words();
+    let conn = link.conn();
+    let reply = hub.feed(conn, piece, moment, &drawn)?;
+    link.set_reply(reply);
+    if !link.is_sending() {
+        return Ok(Turn::WentOn);
+    }
+    match send_rest(link, writer) {
+        Ok(_) => Ok(Turn::Answered),
+        Err(Failed) => {
+            hub.close(conn);
+            Err(ConnectionFault::Write)
+        }
+    }
+}
+
+/// Reads one piece, and feeds it.
+fn read_piece<S: Store, R: NowSource, W: NowSink, C: Clock, D: WordSource>(
+    hub: &mut Hub<S>,
+    link: &mut Link,
+    reader: &mut R,
+    writer: &mut W,
+    clock: &mut C,
+    words: &mut D,
+) -> Result<Turn, ConnectionFault>
+    requires done { unsent link.old ≡ [] }
+    ensures took { MatchResult result
+        (λ _. TakesTurn S.seen (number_of link.old) (Consumes (R.left reader.old) (R.left reader.new))
+        (Passes (Appends (W.written writer.old) (W.written writer.new)) (unsent link.old) (unsent link.new))
+        (Supplies C.may_tell clock.old clock.new D.may_give words.old words.new) hub.old hub.new)
+        (λ fault. TurnStops S.seen (number_of link.old) (Consumes (R.left reader.old) (R.left reader.new))
+        (Passes (Appends (W.written writer.old) (W.written writer.new)) (unsent link.old) (unsent link.new))
+        (Supplies C.may_tell clock.old clock.new D.may_give words.old words.new) fault hub.old hub.new) }
+    ensures same { number_of link.new ≡ number_of link.old }
+    ensures others { (all : Connections) → ConnectionsRepresent hub.old all
+        → LeavesOthers (number_of link.old) all hub.new }
+    ensures needs { result ≡ Ok Turn.NeedsBytes → (unsent link.new ≡ []) × (hub.new ≡ hub.old) }
+    ensures ended { result ≡ Ok Turn.Ended → (unsent link.new ≡ []) × (hub.new ≡ hub.old)
+        × IsAtEnd (R.left reader.new) }
+    ensures gone { OnErr result ((all : Connections) → ConnectionsRepresent hub.new all
+        → IsGone all (number_of link.new)) }
+    ensures wants { IsHonestStore (hub_store S.seen hub.new) → (w : World) → HubRepresents S.seen hub.old w
+        → IfErr result IsAllowed }
+    ensures read { result ≡ Err Read → IsTrue (R.has_failed reader.new) }
+    ensures write { result ≡ Err Write → IsTrue (W.has_failed writer.new) }
+    ensures storage { result ≡ Err (Broker Fault.Storage) → IsTrue (hub_store S.seen hub.new).has_failed }
+    ensures stays_open { IsHonestStore (hub_store S.seen hub.new) → MatchResult result
+        (λ _. (hub_store S.seen hub.new).is_open ≡ (hub_store S.seen hub.old).is_open)
+        (λ fault. fault ≢ Broker Fault.Storage
+        → (hub_store S.seen hub.new).is_open ≡ (hub_store S.seen hub.old).is_open) }
+    ensures later { IsLater (hub_store S.seen hub.old) (hub_store S.seen hub.new) }
+{
+    let mut buffer = [0; PIECE];
+    match reader.pull_now(&mut buffer) {
+        Ok(Some(0)) => Ok(Turn::Ended),
+        Ok(Some(count)) => feed_piece(hub, link, &buffer[..count], writer, clock, words),
+        Ok(None) => Ok(Turn::NeedsBytes),
+        Err(Failed) => {
+            hub.close(link.conn());
+            Err(ConnectionFault::Read)
+        }
+    }
+}

@@ -1,0 +1,167 @@
+//! Turns on connections whose ends do not wait: ones in memory that would wait at every other call, or that fail.
+
+use crate::served::{CLOSING, Counting, FOUND, Fixed, READ, WRITE, WRITTEN, moment};
+use crate::streams::{NOT_FOUND, NOT_FOUND_CLOSING, started};
+use endpoints::{NowReading, NowWriting};
+use hub::{ConnectionFault, Link, Turn, take_turn};
+use std::io;
+use std::test::Fail;
+
+/// A reader or a writer that would wait at every other call, the first one among them. A write takes 128 bytes at most.
+#[derive(Drop)]
+struct Stuttering<T> {
+    inner: T,
+    waits: bool,
+}
+
+impl<T> Stuttering<T> {
+    fn may_go_on(&mut self) -> io::Result<()> {
+        self.waits = !self.waits;
+        if self.waits {
+            return Err(io::Error::from(io::ErrorKind::WouldBlock));
+        }
+        Ok(())
+    }
+}
+
+impl<R: io::Read> io::Read for Stuttering<R> {
+    fn read(&mut self, buffer: &mut [u8]) -> io::Result<usize> {
+        self.may_go_on()?;
+        self.inner.read(buffer)
+    }
+}
+
+impl<W: io::Write> io::Write for Stuttering<W> {
+    fn write(&mut self, bytes: &[u8]) -> io::Result<usize> {
+        self.may_go_on()?;
+        self.inner.write(&bytes[..bytes.len().min(128)])
+    }
+
+    fn flush(&mut self) -> io::Result<()> {
+        Ok(())
+    }
+}
+
+/// A writer that takes ten bytes, and then fails.
+#[derive(Drop)]
+struct Breaking {
+    is_broken: bool,
+}
+
+impl io::Write for Breaking {
+    fn write(&mut self, bytes: &[u8]) -> io::Result<usize> {
+        if self.is_broken {
+            return Err(io::Error::from(io::ErrorKind::BrokenPipe));
+        }
+        self.is_broken = true;
+        Ok(bytes.len().min(10))
+    }
+
+    fn flush(&mut self) -> io::Result<()> {
+        Ok(())
+    }
+}
+
+/// Computes `Passes`, `TakesTurn`.
+#[test]
+fn replies_are_sent_part_by_part(rt: HostRuntime) -> Result<(), Fail> {
+    let alloc = rt.alloc();
+    let mut hub = started(alloc, moment()?)?;
+    let mut link = Link::new(alloc, 7);
+    let input = format!(in alloc; "{WRITE}{READ}")?;
+    let mut output = Vec::new(alloc);
+    let mut reader = NowReading::new(Stuttering {
+        inner: input.as_bytes(),
+        waits: false,
+    });
+    let mut writer = NowWriting::new(Stuttering {
+        inner: &mut output,
+        waits: false,
+    });
+    let mut words = Counting { next: 16 };
+    let mut clock = Fixed(moment()?);
+    let wanted = [
+        Turn::NeedsBytes,
+        Turn::Answered,
+        Turn::WentOn,
+        Turn::Answered,
+        Turn::WentOn,
+        Turn::NeedsRoom,
+        Turn::WentOn,
+        Turn::NeedsRoom,
+        Turn::WentOn,
+        Turn::NeedsBytes,
+        Turn::Ended,
+    ];
+    for turn in wanted {
+        let taken = take_turn(
+            &mut hub,
+            &mut link,
+            &mut reader,
+            &mut writer,
+            &mut clock,
+            &mut words,
+        );
+        assert_eq!(rt; taken, Ok(turn));
+    }
+    drop(writer);
+    let wanted = format!(in alloc; "{WRITTEN}{FOUND}")?;
+    assert_eq!(rt; output.as_slice(), wanted.as_bytes());
+    assert!(rt; !hub.has_request(7));
+    Ok(())
+}
+
+/// Computes `Passes`, `TurnStops`.
+#[test]
+fn after_a_failed_write_the_rest_is_not_sent(rt: HostRuntime) -> Result<(), Fail> {
+    let alloc = rt.alloc();
+    let mut hub = started(alloc, moment()?)?;
+    let mut link = Link::new(alloc, 1);
+    let mut reader = NowReading::new(READ.as_bytes());
+    let mut writer = NowWriting::new(Breaking { is_broken: false });
+    let mut words = Counting { next: 16 };
+    let mut clock = Fixed(moment()?);
+    for turn in [Ok(Turn::Answered), Err(ConnectionFault::Write)] {
+        let taken = take_turn(
+            &mut hub,
+            &mut link,
+            &mut reader,
+            &mut writer,
+            &mut clock,
+            &mut words,
+        );
+        assert_eq!(rt; taken, turn);
+    }
+    assert_eq!(rt; link.unsent(), &NOT_FOUND.as_bytes()[10..]);
+    assert!(rt; hub.is_closed(1));
+    Ok(())
+}
+
+/// Computes `HasNoRequest`.
+#[test]
+fn nothing_is_read_after_a_close(rt: HostRuntime) -> Result<(), Fail> {
+    let alloc = rt.alloc();
+    let mut hub = started(alloc, moment()?)?;
+    let mut link = Link::new(alloc, 1);
+    let mut output = Vec::new(alloc);
+    let mut reader = NowReading::new(CLOSING.as_bytes());
+    let mut writer = NowWriting::new(&mut output);
+    let mut words = Counting { next: 16 };
+    let mut clock = Fixed(moment()?);
+    assert!(rt; !hub.has_request(1));
+    for turn in [Turn::Answered, Turn::Ended, Turn::Ended] {
+        let taken = take_turn(
+            &mut hub,
+            &mut link,
+            &mut reader,
+            &mut writer,
+            &mut clock,
+            &mut words,
+        );
+        assert_eq!(rt; taken, Ok(turn));
+        assert!(rt; hub.is_closed(1) && !hub.has_request(1));
+    }
+    drop(writer);
+    assert_eq!(rt; output.as_slice(), NOT_FOUND_CLOSING.as_bytes());
+    Ok(())
+}
