@@ -186,7 +186,7 @@ ask_by_environment() {
     url=http://127.0.0.1:1 client_says "the server of the environment" 1 err 'fault 5' read secret/data/input
     client_says "the option for the token" 1 out 'permission denied' --token=hvs.none read secret/data/input
     token=hvs.none client_says "the token of the environment" 1 out 'permission denied' read secret/data/input
-    token= client_says "an empty token" 1 out 'missing client token' read secret/data/input
+    token= client_says "an empty token" 1 out 'permission denied' read secret/data/input
     url='' client_says "no server" 2 err '--addr <ADDR>' read secret/data/input
     url=https://127.0.0.1:$port client_says "TLS" 2 err 'has no TLS' read secret/data/input
     for bad in 127.0.0.1:8200 http://127.0.0.1 http://:8200 http://127.0.0.1:8200/v1 http://127.0.0.1:99999; do
