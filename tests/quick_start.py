@@ -33,7 +33,8 @@ def steps():
     section = re.search(r"^## Run it\n(.*?)^## ", text, re.MULTILINE | re.DOTALL)[1]
     found = []
     for line in section.splitlines():
-        if line.startswith("    ") and line.strip().startswith(COMMANDS):
+        is_command = line.startswith("    ") and line.strip().startswith(COMMANDS)
+        if is_command and not line.split()[0].endswith(":"):
             found.append((line.strip(), []))
         elif line.startswith("    {") or line.startswith("    root token: "):
             found[-1][1].append(line.strip())
