@@ -186,6 +186,9 @@ ask_by_environment() {
     url=http://127.0.0.1:1 client_says "the server of the environment" 1 err 'fault 5' read secret/data/input
     client_says "the option for the token" 1 out 'permission denied' --token=hvs.none read secret/data/input
     token=hvs.none client_says "the token of the environment" 1 out 'permission denied' read secret/data/input
+    token=-abc client_says "a token that begins as an option does" 1 out 'permission denied' read secret/data/input
+    token=hvs.none client_says "both options" 0 out '"from"' \
+        --addr "127.0.0.1:$port" --token "$token" read secret/data/input
     token= client_says "an empty token" 1 out 'permission denied' read secret/data/input
     url='' client_says "no server" 2 err '--addr <ADDR>' read secret/data/input
     url=https://127.0.0.1:$port client_says "TLS" 2 err 'has no TLS' read secret/data/input
@@ -199,6 +202,8 @@ ask_by_environment() {
     client_says "a body that is too long" 2 err 'longer than 1048576 bytes' write secret/data/input - < "$found/long"
     printf '\377' > "$found/bytes"
     client_says "a body that is no text" 2 err 'not UTF-8' write secret/data/input - < "$found/bytes"
+    echo --help > "$found/bytes"
+    client_says "a body that is an option" 2 err 'begins with -' write secret/data/input - < "$found/bytes"
     client_says "a path of -" 1 out '"errors"' read - < "$found/body.json"
 }
 

@@ -30,20 +30,19 @@ impl From<AllocError> for Incomplete {
 }
 
 /// Completes the words: the server is that of `VAULT_ADDR` and the client token that of `VAULT_TOKEN` where the options
-/// for them are absent (Vault's documentation, "Vault commands", "Environment variables"), and a BODY of `-` is the text
-/// of standard input. It fails if `VAULT_ADDR` is not `http://HOST:PORT`, if one of the variables or the text is not
-/// UTF-8, or if the text is longer than a body can be.
+/// for them are absent (Vault's documentation, "Vault commands", "Environment variables"), and a BODY of `-` is the
+/// text of standard input. It fails if `VAULT_ADDR` is not `http://HOST:PORT`, if one of the variables or the text is
+/// not UTF-8, or if the text is longer than a body can be, or begins with `-`.
 pub(crate) fn complete(rt: &HostRuntime, words: &mut Vec<String>) -> Result<(), Incomplete> {
     if !is_given(words.as_slice(), "--token")
         && let Some(token) = variable(rt, "VAULT_TOKEN", "VAULT_TOKEN is not UTF-8")?
     {
-        put_option(rt.alloc(), words, "--token", token)?;
+        put_option(rt.alloc(), words, "--token=", token.as_str())?;
     }
     if !is_given(words.as_slice(), "--addr")
         && let Some(url) = variable(rt, "VAULT_ADDR", "VAULT_ADDR is not UTF-8")?
     {
-        let address = String::from_str(rt.alloc(), address_of(url.as_str())?)?;
-        put_option(rt.alloc(), words, "--addr", address)?;
+        put_option(rt.alloc(), words, "--addr=", address_of(url.as_str())?)?;
     }
     if asks_for_input(rt.alloc(), words.as_slice())
         && let Some(place) = words.iter().rposition(|word| word.as_str() == "-")
@@ -94,18 +93,16 @@ fn variable(
     }
 }
 
-/// Puts an option with its value before all others.
+/// Puts an option with its value before all others, in one word, so that the value is not read as an option.
 fn put_option(
     alloc: Global,
     words: &mut Vec<String>,
     option: &str,
-    value: String,
+    value: &str,
 ) -> Result<(), Incomplete> {
-    let option = String::from_str(alloc, option)?;
-    if words.is_empty() {
-        return Ok(());
-    }
-    if words.insert(1, value).is_err() || words.insert(1, option).is_err() {
+    let mut word = String::from_str(alloc, option)?;
+    word.push_str(value)?;
+    if !words.is_empty() && words.insert(1, word).is_err() {
         return Err(Incomplete::Memory);
     }
     Ok(())
@@ -151,6 +148,9 @@ fn text_of<I: Read + Drop>(alloc: Global, input: I) -> Result<String, Incomplete
     }
     if bytes.len() > LONGEST_BODY {
         return Err(Incomplete::Mistake("BODY on standard input is longer than 1048576 bytes"));
+    }
+    if bytes.as_slice().starts_with(b"-".as_slice()) {
+        return Err(Incomplete::Mistake("BODY on standard input begins with -, and is no JSON"));
     }
     match String::from_utf8(bytes) {
         Ok(text) => Ok(text),
