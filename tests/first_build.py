@@ -81,6 +81,27 @@ def builds_and_runs(checkout):
     yield "no build for a source that is not below", checkout.run("tiny") == (0, "tiny \n", "")
 
 
+def builds_again(checkout):
+    """A source that was changed, also while the program was built, is built; and of two that ask for it one builds."""
+    source = checkout.top / "crates/below/src/main.rt"
+    ran = checkout.start("tiny")
+    while not checkout.begun.is_file():
+        time.sleep(0.05)
+    time.sleep(0.2)
+    source.write_text("// changed meanwhile\n")
+    yield "the first build", ran.communicate(timeout=60)[0] == "tiny \n"
+    status, output, told = checkout.run("tiny")
+    yield "a source that was changed meanwhile", (status, output) == (0, "tiny \n") and "proves and builds" in told
+    yield "no third build", checkout.run("tiny") == (0, "tiny \n", "")
+    time.sleep(0.1)
+    source.write_text("// changed again\n")
+    both = [checkout.start("tiny"), checkout.start("tiny")]
+    said = [it.communicate(timeout=60) for it in both]
+    yield "two at once", [output for output, _ in said] == ["tiny \n"] * 2
+    yield "one builds", sum("proves and builds" in told for _, told in said) == 1
+    yield "the other waits", sum("another process is building it" in told for _, told in said) == 1
+
+
 def fails(checkout):
     """After an error it shows the end of the log and says where the log is."""
     checkout.fails.touch()
@@ -116,7 +137,7 @@ def lacks_the_toolchain(checkout):
 
 def main():
     passed, failed = 0, 0
-    for case, seconds in ((builds_and_runs, 20), (fails, 1), (stops, 5), (lacks_the_toolchain, 1)):
+    for case, seconds in ((builds_and_runs, 20), (builds_again, 2), (fails, 1), (stops, 5), (lacks_the_toolchain, 1)):
         with tempfile.TemporaryDirectory() as room:
             for name, well in case(Checkout(Path(room), seconds)):
                 passed, failed = passed + well, failed + (not well)
