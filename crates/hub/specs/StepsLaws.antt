@@ -25,6 +25,7 @@ use Rattle.hub.specs.declared.event.Event.{Event}
 use Rattle.hub.specs.declared.hub.Hub.{Hub}
 use Rattle.hub.specs.declared.serve.ConnectionFault.{ConnectionFault}
 use Rattle.hub.specs.declared.serve.ConnectionFault.TheVariants.{Broker, Read, Write}
+use Rattle.hub.specs.declared.turn.Turn.{Turn}
 
 -- ---- from a world
 
@@ -386,11 +387,11 @@ steps_stopping seen conn P T X fault old new later s =
     }
 
 -- a turn, as steps
-pub steps_turned : {A S : Type 0} (seen : S → Kept) (conn : ℕ) (P T : List ℕ → Type 0) (X : List Event → Type 0)
-    (old new : Hub S) (r : Result A ConnectionFault) → IsLater (hub_store seen old) (hub_store seen new)
-    → MatchResult r (λ _. TakesTurn seen conn P T X old new) (λ fault. TurnStops seen conn P T X fault old new)
+pub steps_turned : {S : Type 0} (seen : S → Kept) (conn : ℕ) (P T : List ℕ → Type 0) (X : List Event → Type 0)
+    (old new : Hub S) (r : Result Turn ConnectionFault) → IsLater (hub_store seen old) (hub_store seen new)
+    → MatchResult r (λ turn. TakesTurn seen turn conn P T X old new) (λ fault. TurnStops seen conn P T X fault old new)
     → (steps : List Step) × StepsBetween seen X steps old new
-steps_turned seen conn P T X old new (Ok a) later t = (
+steps_turned seen conn P T X old new (Ok turn) later t = (
   answers_of t.on.exchange.events t.on.exchange.replies,
   steps_proceeding seen conn P T X old new later t.on,
 )
