@@ -125,10 +125,10 @@ one_more : (s : Step) (ss ts : List Step) → before_fault (s ∷ ss) ≡ s ∷ 
     → FaultIsFirst ss ts ⊎ FaultIsLater ss ts → FaultIsFirst (s ∷ ss) ts ⊎ FaultIsLater (s ∷ ss) ts
 one_more s ss ts one all known (inl first) = inl (all ∙ ap (λ (l : List Step). s ∷ l) first ∙ sym one)
 one_more s ss ts one all known (inr later) =
-    inr (λ store. known store (later.0 store), all ∙ ap (λ (l : List Step). s ∷ l) later.1)
+    inr ((λ store. known store (later.0 store)), all ∙ ap (λ (l : List Step). s ∷ l) later.1)
 
 first_fault : (ss ts : List Step) → FaultIsFirst ss ts ⊎ FaultIsLater ss ts
-first_fault [] ts = inr (λ store. tt, refl)
+first_fault [] ts = inr ((λ store. tt), refl)
 first_fault (answered e bytes ∷ ss) ts =
     one_more (answered e bytes) ss ts refl refl (λ store known. known) (first_fault ss ts)
 first_fault (faulted e ∷ ss) ts = inl refl

@@ -63,8 +63,8 @@ impl io::Write for Breaking {
     }
 }
 
-/// A writer that keeps what it takes. If it breaks, it takes ten bytes, fails at the second write, and takes the bytes of
-/// any other.
+/// A writer that keeps what it takes. If it breaks, it takes ten bytes, fails at the second write, and takes all bytes
+/// again after that.
 #[derive(Drop)]
 struct Keeping<'o> {
     output: &'o mut Vec<u8>,
