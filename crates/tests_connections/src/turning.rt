@@ -1,5 +1,8 @@
 //! Turns on connections whose ends do not wait: ones in memory that would wait at every other call, or that fail.
 
+ghost use Rattle.std.specs.Prelude.{◌≡◌};
+ghost use Rattle.hub.specs.Links.{number_of};
+
 use crate::served::{CLOSING, Counting, FOUND, Fixed, READ, WRITE, WRITTEN, moment};
 use crate::streams::{NOT_FOUND, NOT_FOUND_CLOSING, started};
 use endpoints::{NowReading, NowWriting};
@@ -96,7 +99,9 @@ fn line<'s>(
     input: &'s str,
     output: &'s mut Vec<u8>,
     breaks: bool,
-) -> Line<NowReading<&'s [u8]>, NowWriting<Keeping<'s>>> {
+) -> Line<NowReading<&'s [u8]>, NowWriting<Keeping<'s>>>
+    ensures { number_of result.link ≡ conn }
+{
     let writer = Keeping {
         output,
         breaks,
