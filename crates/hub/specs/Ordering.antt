@@ -1,6 +1,7 @@
 -- Turns on many lines, in any order: what each line read and sent of one list of steps over all of them (this project's
 -- definition).
-use Rattle.std.specs.Prelude.{◌≡◌, ◌≢◌, ◌<◌, ℕ, List, [], ◌∷◌, ◌++◌, Option, None, Some, ⊤, filter, length, nat_eq}
+use Rattle.std.specs.Prelude.{◌≡◌, ◌≢◌, ◌<◌, ℕ, Bool, List, [], ◌∷◌, ◌++◌, Option, None, Some, ⊤, IsTrue, filter, length}
+use Rattle.std.specs.Prelude.{nat_eq}
 use Rattle.std.specs.List.{All, concat, flat_map, slice_index_or}
 use Rattle.std.specs.Io.KnownBytes.{Appends, Consumes}
 use Rattle.broker.specs.Kept.{Kept}
@@ -51,27 +52,36 @@ EndsBy None own = All IsAnswer own
 EndsBy (Some fault) own =
     (earlier : List Step) × (end : Step) × All IsAnswer earlier × IsEndBy fault end × (own ≡ earlier ++ end ∷ [])
 
+-- a fault of reading comes only if the source failed, and one of writing only if the sink failed
+abbrev pub IsCaused : Option ConnectionFault → Bool → Bool → Type 0
+IsCaused None has_read_failed has_write_failed = ⊤
+IsCaused (Some (Broker fault)) has_read_failed has_write_failed = ⊤
+IsCaused (Some Read) has_read_failed has_write_failed = IsTrue has_read_failed
+IsCaused (Some Write) has_read_failed has_write_failed = IsTrue has_write_failed
+
 -- ---- one line
 
 -- A line was served by its own steps. It has the number that it had. What it read are the pieces of their events; and
 -- what was not sent before, and then the replies, are what it sent, and then what is not sent now. They end by its
--- fault. A line that had one before has no steps, and is as it was.
-pub record IsServedLine {R W : Type 0} (left : R → Option (List ℕ)) (written : W → Option (List ℕ)) (own : List Step)
-    (old new : Line R W) : Type 0 where
+-- fault, which has its cause. A line that had a fault before has no steps, and is as it was.
+pub record IsServedLine {R W : Type 0} (left : R → Option (List ℕ)) (written : W → Option (List ℕ))
+    (read_failed : R → Bool) (write_failed : W → Bool) (own : List Step) (old new : Line R W) : Type 0 where
   pub same : number_of new.link ≡ number_of old.link
   pub reads : Consumes (left old.reader) (left new.reader) (pieces_in (fed_in own))
   pub sends : Passes (Appends (written old.writer) (written new.writer)) (unsent old.link) (unsent new.link)
       (replies_in own)
   pub ends : old.fault ≡ None → EndsBy new.fault own
+  pub caused : old.fault ≡ None → IsCaused new.fault (read_failed new.reader) (write_failed new.writer)
   pub stays : (fault : ConnectionFault) → old.fault ≡ Some fault → (own ≡ []) × (new ≡ old)
 
 -- one turn on a line
 pub record TurnsLine {S R W : Type 0} (seen : S → Kept) (left : R → Option (List ℕ)) (written : W → Option (List ℕ))
-    (Draws : List Event → Type 0) (before after : Line R W) (old new : Hub S) : Type 0 where
+    (read_failed : R → Bool) (write_failed : W → Bool) (Draws : List Event → Type 0) (before after : Line R W)
+    (old new : Hub S) : Type 0 where
   pub steps : List Step
   pub on : StepsBetween seen Draws steps old new
   pub own : All (IsStepOf (number_of before.link)) steps
-  pub served : IsServedLine left written steps before after
+  pub served : IsServedLine left written read_failed write_failed steps before after
   pub others : (all : Connections) → ConnectionsRepresent old all → LeavesOthers (number_of before.link) all new
 
 -- ---- many lines
@@ -98,11 +108,12 @@ pub record LeavesOther {S R W : Type 0} (lines : List (Line R W)) (all : Connect
 -- There is one list of steps over all lines, and each line was served by its own. No other connection has a step, and
 -- none changes.
 pub record ServesLines {S R W : Type 0} (seen : S → Kept) (left : R → Option (List ℕ)) (written : W → Option (List ℕ))
-    (Draws : List Event → Type 0) (before after : List (Line R W)) (old new : Hub S) : Type 0 where
+    (read_failed : R → Bool) (write_failed : W → Bool) (Draws : List Event → Type 0) (before after : List (Line R W))
+    (old new : Hub S) : Type 0 where
   pub steps : List Step
   pub on : StepsBetween seen Draws steps old new
   pub each : (k : ℕ) (d : Line R W) → k < length before
-      → IsServedLine left written (steps_of (number_at before k d) steps) (slice_index_or before k d)
-      (slice_index_or after k d)
+      → IsServedLine left written read_failed write_failed (steps_of (number_at before k d) steps)
+      (slice_index_or before k d) (slice_index_or after k d)
   pub none : (conn : ℕ) → IsOther before conn → steps_of conn steps ≡ []
   pub others : (all : Connections) → ConnectionsRepresent old all → LeavesOther before all new

@@ -274,9 +274,9 @@ stop_taken w conn fault last left unanswered closes =
     stop_by (λ (l : List Event). TakesSteps w (stop_of conn l) (None ∷ []) after) conn fault last unanswered
     (after, (left, refl, closes, refl), refl)
     (λ e of. (
-    after,
-    (left, refl, subst (λ (k : ℕ). LeavesClosed w.connections k left) (sym of.0) closes, refl),
-    refl,
+      after,
+      (left, refl, subst (λ (k : ℕ). LeavesClosed w.connections k left) (sym of.0) closes, refl),
+      refl,
     ))
 
 known_stop : (conn : ℕ) (fault : ConnectionFault) (last : List Event) (es : List Event) (rs : List (List ℕ))

@@ -59,7 +59,7 @@ impl<R: NowSource, W: NowSink> Line<R, W> {
         clock: &mut C,
         words: &mut D,
     )
-        ensures { TurnsLine S.seen R.left W.written
+        ensures { TurnsLine S.seen R.left W.written R.has_failed W.has_failed
             (Supplies C.may_tell clock.old clock.new D.may_give words.old words.new)
             self.old self.new hub.old hub.new }
     {
@@ -88,8 +88,9 @@ impl<R: NowSource, W: NowSink> Line<R, W> {
 ///
 /// **Each peer receives exactly the reply bytes of the broker to its own events**, also after faults: what a line read
 /// is the pieces of its events; and what was not sent before, followed by the replies to them, is what was sent,
-/// followed by what is not sent now. So a new line to which any number of turns was given has sent the replies to its
-/// events, but for what waits.
+/// followed by what is not sent now. So all that a new line has sent, after any number of turns, followed by what is not
+/// sent, is the replies to its events. A line's fault is of reading only if its source failed, and of writing only if
+/// its sink failed.
 pub fn serve_order<S: Store, R: NowSource, W: NowSink, C: Clock, D: WordSource>(
     hub: &mut Hub<S>,
     lines: &mut [Line<R, W>],
@@ -98,7 +99,7 @@ pub fn serve_order<S: Store, R: NowSource, W: NowSink, C: Clock, D: WordSource>(
     words: &mut D,
 )
     requires { HaveNumbers lines.old }
-    ensures { ServesLines S.seen R.left W.written
+    ensures { ServesLines S.seen R.left W.written R.has_failed W.has_failed
         (Supplies C.may_tell clock.old clock.new D.may_give words.old words.new)
         lines.old lines.new hub.old hub.new }
 {
@@ -116,7 +117,7 @@ fn turn_at<S: Store, R: NowSource, W: NowSink, C: Clock, D: WordSource>(
     words: &mut D,
 )
     requires { HaveNumbers lines.old }
-    ensures { ServesLines S.seen R.left W.written
+    ensures { ServesLines S.seen R.left W.written R.has_failed W.has_failed
         (Supplies C.may_tell clock.old clock.new D.may_give words.old words.new)
         lines.old lines.new hub.old hub.new }
 {

@@ -229,12 +229,22 @@ fn lines_are_served_in_the_order_of_their_turns(rt: HostRuntime) -> Result<(), F
     let mut third = Vec::new(alloc);
     let mut lines = Vec::with_capacity(alloc, 3)?;
     lines.push(line(alloc, 4, READ, &mut first, true)).unwrap();
-    lines.push(line(alloc, 9, CLOSING, &mut second, false)).unwrap();
-    lines.push(line(alloc, 2, WRITE, &mut third, false)).unwrap();
+    lines
+        .push(line(alloc, 9, CLOSING, &mut second, false))
+        .unwrap();
+    lines
+        .push(line(alloc, 2, WRITE, &mut third, false))
+        .unwrap();
     let mut words = Counting { next: 16 };
     let mut clock = Fixed(moment()?);
     let order = [2, 0, 1, 3, 0, 0, 2, 0];
-    serve_order(&mut hub, lines.as_mut_slice(), &order, &mut clock, &mut words);
+    serve_order(
+        &mut hub,
+        lines.as_mut_slice(),
+        &order,
+        &mut clock,
+        &mut words,
+    );
     assert_eq!(rt; lines[0].fault(), Some(ConnectionFault::Write));
     assert!(rt; lines[1].fault().is_none() && lines[2].fault().is_none());
     assert!(rt; hub.is_closed(4) && hub.is_closed(9) && !hub.is_closed(2));
