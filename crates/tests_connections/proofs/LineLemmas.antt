@@ -1,5 +1,5 @@
 -- Three lines whose numbers differ.
-use Rattle.std.proofs.Common.{◌≡◌, ◌≢◌, ◌∙◌, ◌<◌, ℕ, zero, suc, Bool, List, [], ◌∷◌, ◌++◌, Result, Ok, is_ok, length, get_or, if◌then◌else◌, refl, sym, ap, subst, arith}
+use Rattle.std.proofs.Common.{◌≡◌, ◌≢◌, ◌∙◌, ◌<◌, ℕ, zero, suc, List, [], ◌∷◌, ◌++◌, Result, Ok, is_ok, length, if◌then◌else◌, refl, sym, ap, arith}
 use Rattle.hub.specs.Links.{number_of}
 use Rattle.hub.specs.Ordering.{HaveNumbers, number_at}
 use Rattle.hub.specs.declared.order.Line.{Line}

@@ -1,4 +1,4 @@
-use Rattle.std.proofs.Common.{◌≡◌, ◌∙◌, List, [], ◌∷◌, ◌++◌, refl, sym, ap, subst, arith}
+use Rattle.std.proofs.Common.{◌∙◌, [], ◌∷◌, ◌++◌, sym, ap, subst, arith}
 use Rattle.hub.specs.Ordering.{HaveNumbers}
 use Rattle.tests_connections.proofs.LineLemmas.{pushed, three_numbers}
 use Rattle.tests_connections.proofs.turning.lines_are_served_in_the_order_of_their_turns.Goals as goal
