@@ -1,0 +1,174 @@
+use crate::accepting::{Accepting, LISTENER};
+use crate::links::Links;
+use crate::waiting::TICK;
+use broker::Store;
+use broker_types::Fault;
+use hub::{Hub, WordSource};
+use mio::net::TcpListener;
+use mio::{Events, Poll};
+use std::alloc::AllocGlobal;
+use std::net::Net;
+use std::time::{Clock, Duration, Instant};
+use std::{io, net, thread};
+
+/// How many events one look at the system gives at most.
+const EVENTS: usize = 256;
+
+/// How many turns each connection gets between two looks at the system.
+const PASSES: u32 = 4;
+
+/// An address that is listened on, the connections that are open, and what the system tells of them.
+#[derive(Drop)]
+pub struct Listening {
+    poll: Poll,
+    events: Events,
+    accepting: Accepting,
+    links: Links,
+    start: Instant,
+    /// When the system was looked at last, in milliseconds since the start.
+    now: u64,
+    /// When the limits are to be looked at.
+    look_at: u64,
+}
+
+impl Listening {
+    /// From this listener so many connections are to be served, or as many as come, at most so many at once. None is
+    /// accepted yet. It fails if memory runs out (`OutOfMemory`), or a call of the system fails.
+    pub fn new<R>(
+        rt: &R,
+        listener: net::TcpListener,
+        connections: Option<u32>,
+        at_once: u32,
+    ) -> io::Result<Listening>
+    where
+        R: AllocGlobal + Clock + Net,
+    {
+        listener.set_nonblocking(true)?;
+        let poll = Poll::new(rt)?;
+        let at_once = at_once as usize;
+        // Without an end there are more than a program can ever accept.
+        let accepting = Accepting::new(
+            poll.registry(),
+            TcpListener::from_std(listener),
+            connections.map_or(u64::MAX, u64::from),
+            at_once,
+        )?;
+        Ok(Listening {
+            poll,
+            events: Events::with_capacity(rt.alloc(), EVENTS)?,
+            accepting,
+            links: Links::new(rt.alloc(), at_once)?,
+            start: Instant::now(rt)?,
+            now: 0,
+            look_at: TICK,
+        })
+    }
+
+    /// Connections are accepted under numbers from this one on. If it is none, no connection is.
+    pub(crate) fn begin(&mut self, first: Option<u64>) {
+        self.accepting.begin(first);
+    }
+
+    /// Whether all is done: no more connections are accepted, and none is open.
+    pub(crate) fn is_done(&self) -> bool {
+        self.accepting.is_shut() && self.links.len() == 0
+    }
+
+    /// One round: waits until something can be done, accepts those that wait, takes some turns of each connection that
+    /// can go on, and closes those whose time is over.
+    pub(crate) fn round<S: Store, C: hub::Clock, D: WordSource, R: Clock>(
+        &mut self,
+        rt: &R,
+        hub: &mut Hub<S>,
+        clock: &mut C,
+        words: &mut D,
+    ) -> Result<(), Fault> {
+        self.await_events(rt);
+        self.make_room(hub);
+        self.accepting
+            .accept(self.poll.registry(), &mut self.links, self.now);
+        self.take_turns(hub, clock, words)?;
+        self.look(hub);
+        Ok(())
+    }
+
+    /// Tries once, on each connection, to send what was not sent of its last reply.
+    pub(crate) fn send_rests(&self) {
+        self.links.send_rests();
+    }
+
+    // ---- the parts of a round
+
+    /// Waits for events, unless something can be done at once, and takes them down.
+    fn await_events<R: Clock>(&mut self, rt: &R) {
+        let longest = self.longest_wait();
+        if self.poll.poll(&mut self.events, longest).is_err() {
+            thread::sleep(rt, Duration::from_millis(TICK));
+        }
+        self.now = milliseconds(self.start.elapsed(rt), self.now);
+        mark_all(&self.events, &mut self.accepting, &mut self.links);
+    }
+
+    /// How long to wait for events at most. Without a limit to look at it is as long as it takes.
+    fn longest_wait(&self) -> Option<Duration> {
+        let len = self.links.len();
+        if self.links.is_ready() || self.accepting.is_open(self.now, len) {
+            return Some(Duration::from_millis(0));
+        }
+        if len == 0 && self.accepting.is_quiet() {
+            return None;
+        }
+        Some(Duration::from_millis(TICK))
+    }
+
+    /// Closes the connection that has been idle longest, if somebody waits for its place. One leaves for each that waits,
+    /// and no more: a client that keeps many connections open in good faith keeps the others, where closing all that are
+    /// idle would have it connect again with each, though one place was wanted.
+    fn make_room<S: Store>(&mut self, hub: &mut Hub<S>) {
+        if self.accepting.wants_room(self.now, self.links.len()) {
+            let was_made = self.links.make_room(hub, self.now);
+            self.accepting.note_room(was_made, self.now);
+        }
+    }
+
+    /// Some turns of each connection that can go on.
+    fn take_turns<S: Store, C: hub::Clock, D: WordSource>(
+        &mut self,
+        hub: &mut Hub<S>,
+        clock: &mut C,
+        words: &mut D,
+    ) -> Result<(), Fault> {
+        for _ in 0..PASSES {
+            self.links.turns(hub, clock, words, self.now)?;
+        }
+        Ok(())
+    }
+
+    /// Closes the connections whose time is over, if it is time to look. Once no more are accepted, those that are idle
+    /// are not waited for longer than where their places are wanted.
+    fn look<S: Store>(&mut self, hub: &mut Hub<S>) {
+        if self.now >= self.look_at {
+            self.look_at = self.now.saturating_add(TICK);
+            self.links.look(hub, self.now, self.accepting.is_shut());
+        }
+    }
+}
+
+/// Takes down all that was reported.
+fn mark_all(events: &Events, accepting: &mut Accepting, links: &mut Links) {
+    for event in events {
+        if event.token() == LISTENER {
+            accepting.mark();
+        } else {
+            links.mark(event.token().0 as u64, event);
+        }
+    }
+}
+
+/// The age in milliseconds; the last one if it cannot be told.
+fn milliseconds(age: io::Result<Duration>, last: u64) -> u64 {
+    match age {
+        Ok(age) => u64::try_from(age.as_millis()).unwrap_or(u64::MAX),
+        Err(_) => last,
+    }
+}
