@@ -93,10 +93,10 @@ fn places(found: &ArgMatches<'_>) -> Option<u32>
     ensures some { IfSome result (IsPlaces (rows_of (found_of found.now))) }
     ensures none { (result ≡ None) → LacksPlaces (rows_of (found_of found.now)) }
 {
-    match found.try_get_one::<u32>("at-once") {
-        Ok(given) => Some(given.unwrap_or(AT_ONCE)),
-        Err(_) => None,
-    }
+    let Ok(given) = found.try_get_one::<u32>("at-once") else {
+        return None;
+    };
+    Some(given.unwrap_or(AT_ONCE))
 }
 
 /// The parser of the command line.

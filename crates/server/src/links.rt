@@ -1,3 +1,6 @@
+ghost use Rattle.hub.specs.Supplies.{Supplies};
+ghost use Rattle.server.specs.Serving.{ClosesSome, LeavesServed};
+
 use crate::peer::{Peer, Stay};
 use broker::Store;
 use broker_types::Fault;
@@ -76,7 +79,10 @@ impl Links {
         clock: &mut C,
         words: &mut D,
         now: u64,
-    ) -> Result<(), Fault> {
+    ) -> Result<(), Fault>
+        ensures { LeavesServed S.seen
+            (Supplies C.may_tell clock.old clock.new D.may_give words.old words.new) result hub.old hub.new }
+    {
         for _ in 0..self.ready.len() {
             let Some(conn) = self.ready.pop_front() else {
                 return Ok(());
@@ -94,7 +100,10 @@ impl Links {
         clock: &mut C,
         words: &mut D,
         now: u64,
-    ) -> Result<(), Fault> {
+    ) -> Result<(), Fault>
+        ensures { LeavesServed S.seen
+            (Supplies C.may_tell clock.old clock.new D.may_give words.old words.new) result hub.old hub.new }
+    {
         let Some(peer) = self.peers.get_mut(&conn) else {
             return Ok(());
         };
@@ -114,7 +123,9 @@ impl Links {
     }
 
     /// Closes those whose time is over.
-    pub(crate) fn look<S: Store>(&mut self, hub: &mut Hub<S>, now: u64, is_pressed: bool) {
+    pub(crate) fn look<S: Store>(&mut self, hub: &mut Hub<S>, now: u64, is_pressed: bool)
+        ensures { ClosesSome S.seen hub.old hub.new }
+    {
         self.over.clear();
         for (conn, peer) in &self.peers {
             if peer.is_over(now, is_pressed) {
@@ -131,7 +142,9 @@ impl Links {
 
     /// Closes the one that has been idle longest, if any is idle for longer than a peer may be whose place is wanted.
     /// Whether one was closed.
-    pub(crate) fn make_room<S: Store>(&mut self, hub: &mut Hub<S>, now: u64) -> bool {
+    pub(crate) fn make_room<S: Store>(&mut self, hub: &mut Hub<S>, now: u64) -> bool
+        ensures { ClosesSome S.seen hub.old hub.new }
+    {
         let Some(conn) = self.longest_idle(now) else {
             return false;
         };
@@ -156,7 +169,9 @@ impl Links {
     }
 
     /// Closes a connection, and drops what waits on it.
-    fn close<S: Store>(&mut self, hub: &mut Hub<S>, conn: u64) {
+    fn close<S: Store>(&mut self, hub: &mut Hub<S>, conn: u64)
+        ensures { ClosesSome S.seen hub.old hub.new }
+    {
         hub.close(conn);
         self.peers.remove(&conn);
     }

@@ -1,3 +1,6 @@
+ghost use Rattle.hub.specs.Supplies.{Supplies};
+ghost use Rattle.server.specs.Serving.{ClosesSome, LeavesServed};
+
 use crate::accepting::{Accepting, LISTENER};
 use crate::links::Links;
 use crate::waiting::TICK;
@@ -82,7 +85,10 @@ impl Listening {
         hub: &mut Hub<S>,
         clock: &mut C,
         words: &mut D,
-    ) -> Result<(), Fault> {
+    ) -> Result<(), Fault>
+        ensures { LeavesServed S.seen
+            (Supplies C.may_tell clock.old clock.new D.may_give words.old words.new) result hub.old hub.new }
+    {
         self.await_events(rt);
         self.make_room(hub);
         self.accepting
@@ -124,7 +130,9 @@ impl Listening {
     /// Closes the connection that has been idle longest, if somebody waits for its place. One leaves for each that waits,
     /// and no more: a client that keeps many connections open in good faith keeps the others, where closing all that are
     /// idle would have it connect again with each, though one place was wanted.
-    fn make_room<S: Store>(&mut self, hub: &mut Hub<S>) {
+    fn make_room<S: Store>(&mut self, hub: &mut Hub<S>)
+        ensures { ClosesSome S.seen hub.old hub.new }
+    {
         if self.accepting.wants_room(self.now, self.links.len()) {
             let was_made = self.links.make_room(hub, self.now);
             self.accepting.note_room(was_made, self.now);
@@ -137,7 +145,10 @@ impl Listening {
         hub: &mut Hub<S>,
         clock: &mut C,
         words: &mut D,
-    ) -> Result<(), Fault> {
+    ) -> Result<(), Fault>
+        ensures { LeavesServed S.seen
+            (Supplies C.may_tell clock.old clock.new D.may_give words.old words.new) result hub.old hub.new }
+    {
         for _ in 0..PASSES {
             self.links.turns(hub, clock, words, self.now)?;
         }
@@ -146,7 +157,9 @@ impl Listening {
 
     /// Closes the connections whose time is over, if it is time to look. Once no more are accepted, those that are idle
     /// are not waited for longer than where their places are wanted.
-    fn look<S: Store>(&mut self, hub: &mut Hub<S>) {
+    fn look<S: Store>(&mut self, hub: &mut Hub<S>)
+        ensures { ClosesSome S.seen hub.old hub.new }
+    {
         if self.now >= self.look_at {
             self.look_at = self.now.saturating_add(TICK);
             self.links.look(hub, self.now, self.accepting.is_shut());

@@ -1,3 +1,9 @@
+ghost use Rattle.std.specs.Prelude.{◌≡◌, ◌≢◌, true, MatchResult};
+ghost use Rattle.broker_types.specs.declared.fault.Fault.TheVariants.{Memory};
+ghost use Rattle.hub.specs.Supplies.{Supplies};
+ghost use Rattle.hub.specs.declared.serve.ConnectionFault.TheVariants.{Broker};
+ghost use Rattle.server.specs.Serving.{LeavesServed, is_skipped};
+
 use crate::waiting::{Wait, is_over};
 use broker::Store;
 use broker_types::Fault;
@@ -81,7 +87,10 @@ impl Peer {
         clock: &mut C,
         words: &mut D,
         now: u64,
-    ) -> Result<Stay, Fault> {
+    ) -> Result<Stay, Fault>
+        ensures { LeavesServed S.seen
+            (Supplies C.may_tell clock.old clock.new D.may_give words.old words.new) result hub.old hub.new }
+    {
         self.is_queued = false;
         if self.wait == Wait::Farewell {
             return Ok(self.drain());
@@ -213,7 +222,9 @@ impl Peer {
 }
 
 /// What a fault leaves of its connection, or the fault if it ends the whole.
-fn unskipped(fault: ConnectionFault) -> Result<Stay, Fault> {
+fn unskipped(fault: ConnectionFault) -> Result<Stay, Fault>
+    ensures { MatchResult result (λ _. is_skipped fault ≡ true) (λ left. (fault ≡ Broker left) × (left ≢ Memory)) }
+{
     match fault {
         ConnectionFault::Broker(fault) if fault != Fault::Memory => Err(fault),
         _ => Ok(Stay::Gone),

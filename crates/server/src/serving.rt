@@ -1,3 +1,6 @@
+ghost use Rattle.hub.specs.Supplies.{Supplies};
+ghost use Rattle.server.specs.Serving.{LeavesServed, ServesLawfully};
+
 use crate::laws::all_that_is_asked_keeps_the_laws;
 use crate::listening::Listening;
 use broker::Store;
@@ -19,7 +22,16 @@ pub fn serve<S: Store, C: hub::Clock, D: WordSource, R: Clock>(
     listening: Listening,
     clock: &mut C,
     words: &mut D,
-) -> Result<(), Fault> {
+) -> Result<(), Fault>
+    ensures served { LeavesServed S.seen
+        (Supplies C.may_tell clock.old clock.new D.may_give words.old words.new) result hub.old hub.new }
+
+    // All that was asked, over all the connections, keeps the laws over every run: no identifier is given out twice; a
+    // response is handed out once, and is the reply that was kept; what was revoked, or ended in another way, does not
+    // come back.
+    ensures lawful { ServesLawfully S.seen
+        (Supplies C.may_tell clock.old clock.new D.may_give words.old words.new) hub.old hub.new }
+{
     all_that_is_asked_keeps_the_laws();
     let mut listening = listening;
     listening.begin(hub.open_conn());
@@ -37,7 +49,10 @@ fn serve_rounds<S: Store, C: hub::Clock, D: WordSource, R: Clock>(
     listening: &mut Listening,
     clock: &mut C,
     words: &mut D,
-) -> Result<(), Fault> {
+) -> Result<(), Fault>
+    ensures { LeavesServed S.seen
+        (Supplies C.may_tell clock.old clock.new D.may_give words.old words.new) result hub.old hub.new }
+{
     for _ in 0..u64::MAX {
         if listening.is_done() {
             return Ok(());

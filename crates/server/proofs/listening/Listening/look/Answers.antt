@@ -1,0 +1,5 @@
+use Rattle.server.proofs.ServingLemmas.{closes_none}
+use Rattle.server.proofs.listening.Listening.look.Goals as goal
+
+pub returns : goal.returns
+returns g c = closes_none g.S.Store.seen c.args.hub.now
