@@ -1,4 +1,7 @@
+ghost use Rattle.hub.specs.Representing.{ConnectionsRepresent};
+ghost use Rattle.hub.specs.Serving.{LeavesClosed};
 ghost use Rattle.hub.specs.Supplies.{Supplies};
+ghost use Rattle.hub.specs.World.{Connections};
 ghost use Rattle.server.specs.Serving.{ClosesSome, LeavesServed};
 
 use crate::peer::{Peer, Stay};
@@ -170,7 +173,9 @@ impl Links {
 
     /// Closes a connection, and drops what waits on it.
     fn close<S: Store>(&mut self, hub: &mut Hub<S>, conn: u64)
-        ensures { ClosesSome S.seen hub.old hub.new }
+        ensures steps { ClosesSome S.seen hub.old hub.new }
+        ensures closed { (all : Connections) → ConnectionsRepresent hub.old all
+            → (after : Connections) × ConnectionsRepresent hub.new after × LeavesClosed all conn after }
     {
         hub.close(conn);
         self.peers.remove(&conn);

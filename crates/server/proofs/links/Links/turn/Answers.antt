@@ -14,7 +14,7 @@ returns-in_Waits g c = leaves_ok g.S.Store.seen _ _ tt c.args.hub.now c.turn.new
 
 pub returns-in_Gone : goal.returns-in_Gone
 returns-in_Gone g c =
-    leaves_closing g.S.Store.seen _ _ tt c.args.hub.now c.turn.new.hub c.close.new.hub c.turn.ensures c.close.ensures
+    leaves_closing g.S.Store.seen _ _ tt c.args.hub.now c.turn.new.hub c.close.new.hub c.turn.ensures c.close.ensures.steps
 
 pub returns-in_Err : goal.returns-in_Err
 returns-in_Err g c = leaves_err g.S.Store.seen _ _ c.args.hub.now c.turn.new.hub c.turn.ensures
