@@ -1,20 +1,23 @@
 -- What one turn or closing leaves, and then others.
-use Rattle.std.proofs.Common.{◌≡◌, ◌≢◌, ◌∙◌, ℕ, List, [], ◌++◌, Result, Ok, Err, IsTrue, IfErr, MatchResult, Bool, true, false, ap, ap₂, sym, subst, refl, append-nil, arith}
+use Rattle.std.proofs.Common.{◌≡◌, ◌≢◌, ◌<◌, ◌≤◌, ◌∙◌, ◌⊎◌, inl, inr, ⊎_elim, ℕ, Option, Some, None, List, [], ◌++◌, Result, Ok, Err, IsTrue, IfErr, MatchResult, Bool, true, false, ap, ap₂, sym, subst, refl, append-nil, arith}
+use Rattle.std.proofs.lemmas.Bool.{cases_lt}
+use Rattle.std.proofs.lemmas.Map.{update_apart}
 use Rattle.broker_types.specs.declared.fault.Fault.{Fault}
 use Rattle.broker_types.specs.declared.fault.Fault.TheVariants.{Memory, Storage, Damaged, BadStart}
 use Rattle.broker.specs.Kept.{Kept, IsHonestStore}
 use Rattle.hub.specs.Feeding.{IsLater}
-use Rattle.hub.specs.Representing.{HubRepresents, hub_store}
-use Rattle.hub.specs.Serving.{IsAllowed, LeavesClosed}
+use Rattle.hub.specs.Numbers.{IsNext}
+use Rattle.hub.specs.Representing.{ConnectionsRepresent, HubRepresents, hub_store}
+use Rattle.hub.specs.Serving.{IsAllowed, LeavesClosed, LeavesOthers}
 use Rattle.hub.specs.StepsLaws.{known_open, steps_close, steps_none, steps_on, steps_turned}
 use Rattle.hub.specs.Turning.{TakesTurn, TurnStops}
-use Rattle.hub.specs.World.{Connections, World}
+use Rattle.hub.specs.World.{Connections, History, World, history_at}
 use Rattle.hub.specs.declared.event.Event.{Event}
 use Rattle.hub.specs.declared.hub.Hub.{Hub}
 use Rattle.hub.specs.declared.serve.ConnectionFault.{ConnectionFault}
 use Rattle.hub.specs.declared.serve.ConnectionFault.TheVariants.{Broker, Read, Write}
 use Rattle.server.specs.Laws.{AllKeepLaws}
-use Rattle.server.specs.Serving.{ClosesSome, LeavesServed, ServesLawfully, is_skipped}
+use Rattle.server.specs.Serving.{ClosesSome, LeavesBelow, LeavesSeen, LeavesServed, ServesLawfully, is_skipped}
 
 -- ---- nothing is done
 
@@ -210,3 +213,48 @@ pub closes_one : {S : Type 0} (seen : S → Kept) (conn : ℕ) (old new : Hub S)
     → hub_store seen new ≡ hub_store seen old → ClosesSome seen old new
 closes_one seen conn old new worlds same =
     record { between = steps_close seen conn (λ events. events ≡ []) old new refl worlds same; same = same }
+
+-- ---- which connections are left
+
+pub below_all : {S : Type 0} (first : ℕ) (all : Connections) (hub : Hub S) → ConnectionsRepresent hub all → LeavesBelow first all hub
+below_all first all hub represents = record { after = all; represents = represents; below = λ k lt. refl }
+
+pub below_on : {S : Type 0} (first : ℕ) (all : Connections) (mid new : Hub S) → LeavesBelow first all mid
+    → ((each : Connections) → ConnectionsRepresent mid each → LeavesBelow first each new) → LeavesBelow first all new
+below_on first all mid new one next =
+    let other = next one.after one.represents in
+    record { after = other.after; represents = other.represents; below = λ k lt. other.below k lt ∙ one.below k lt }
+
+-- no other connection than this one changed
+pub below_others : {S : Type 0} (first conn : ℕ) (all : Connections) (new : Hub S) → first ≤ conn → LeavesOthers conn all new
+    → LeavesBelow first all new
+below_others first conn all new le left = record {
+  after = left.after;
+  represents = left.represents;
+  below = λ k lt. left.others k (omega (arith, le, lt));
+}
+
+-- this one was closed, or is still not seen
+pub below_closed : {S : Type 0} (first conn : ℕ) (all : Connections) (new : Hub S) → first ≤ conn
+    → (after : Connections) × ConnectionsRepresent new after × LeavesClosed all conn after → LeavesBelow first all new
+below_closed first conn all new le (after, represents, left) = record {
+  after = after;
+  represents = represents;
+  below = λ k lt. at k (omega (arith, le, lt)) left;
+}
+  where
+    at : (k : ℕ) → k ≢ conn → LeavesClosed all conn after → after k ≡ all k
+    at k ne (inl is) = ap (λ (x : Connections). x k) is ∙ update_apart all conn (Some (record (history_at all conn) { closed = true })) k ne
+    at k ne (inr same) = ap (λ (x : Connections). x k) same.1
+
+-- no number from the first on was seen before
+pub seen_below : {S : Type 0} (first : ℕ) (all : Connections) (new : Hub S) → IsNext all first → LeavesBelow first all new
+    → LeavesSeen all new
+seen_below first all new next left = record {
+  after = left.after;
+  represents = left.represents;
+  seen = λ k seen. ⊎_elim (λ lt. left.below k lt) (λ le. absurd (seen (next.unseen k le))) (cases_lt k first);
+}
+
+pub seen_all : {S : Type 0} (all : Connections) (hub : Hub S) → ConnectionsRepresent hub all → LeavesSeen all hub
+seen_all all hub represents = record { after = all; represents = represents; seen = λ k seen. refl }

@@ -1,11 +1,11 @@
 -- What serving connections leaves of the hub, and which faults end it (this project's definition).
-use Rattle.std.specs.Prelude.{◌≡◌, ◌≢◌, ℕ, Bool, true, false, List, [], Result, Err, IsTrue, IfErr, MatchResult}
+use Rattle.std.specs.Prelude.{◌≡◌, ◌≢◌, ◌<◌, ℕ, Bool, true, false, List, [], Result, Err, IsTrue, IfErr, MatchResult, None}
 use Rattle.broker_types.specs.declared.fault.Fault.{Fault}
 use Rattle.broker_types.specs.declared.fault.Fault.TheVariants.{Memory, Storage, Damaged, BadStart}
 use Rattle.broker.specs.Kept.{Kept, IsHonestStore}
-use Rattle.hub.specs.Representing.{HubRepresents, hub_store}
+use Rattle.hub.specs.Representing.{ConnectionsRepresent, HubRepresents, hub_store}
 use Rattle.hub.specs.Steps.{AreKnown, StepsBetween, StepsFrom, StepsTaken, before_fault}
-use Rattle.hub.specs.World.{World}
+use Rattle.hub.specs.World.{Connections, World}
 use Rattle.hub.specs.declared.event.Event.{Event}
 use Rattle.hub.specs.declared.hub.Hub.{Hub}
 use Rattle.hub.specs.declared.serve.ConnectionFault.{ConnectionFault}
@@ -51,3 +51,17 @@ pub record ServesLawfully {S : Type 0} (seen : S → Kept) (Draws : List Event �
       → HubRepresents seen old w → (from : StepsFrom seen w between.steps new) × KeepsLaws w.broker from.history
   pub before : IsHonestStore (hub_store seen new) → (w : World) → HubRepresents seen old w
       → (taken : StepsTaken w (before_fault between.steps)) × KeepsLaws w.broker taken.history
+
+-- ---- which connections are left
+
+-- no connection below this number changes
+pub record LeavesBelow {S : Type 0} (first : ℕ) (all : Connections) (new : Hub S) : Type 0 where
+  pub after : Connections
+  pub represents : ConnectionsRepresent new after
+  pub below : (k : ℕ) → k < first → after k ≡ all k
+
+-- no connection that was seen changes
+pub record LeavesSeen {S : Type 0} (all : Connections) (new : Hub S) : Type 0 where
+  pub after : Connections
+  pub represents : ConnectionsRepresent new after
+  pub seen : (k : ℕ) → all k ≢ None → after k ≡ all k

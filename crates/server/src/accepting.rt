@@ -54,9 +54,9 @@ impl Accepting {
         })
     }
 
-    /// The number of the first connection. If there is none, no connection is accepted.
-    pub(crate) fn begin(&mut self, first: Option<u64>) {
-        self.next = first.unwrap_or(u64::MAX);
+    /// The number of the first connection.
+    pub(crate) fn begin(&mut self, first: u64) {
+        self.next = first;
         self.shut_if_done();
     }
 

@@ -1,8 +1,9 @@
+ghost use Rattle.std.specs.Prelude.{◌≤◌};
 ghost use Rattle.hub.specs.Representing.{ConnectionsRepresent};
 ghost use Rattle.hub.specs.Serving.{LeavesClosed};
 ghost use Rattle.hub.specs.Supplies.{Supplies};
 ghost use Rattle.hub.specs.World.{Connections};
-ghost use Rattle.server.specs.Serving.{ClosesSome, LeavesServed};
+ghost use Rattle.server.specs.Serving.{ClosesSome, LeavesBelow, LeavesServed};
 
 use crate::peer::{Peer, Stay};
 use broker::Store;
@@ -79,18 +80,20 @@ impl Links {
     pub(crate) fn turns<S: Store, C: Clock, D: WordSource>(
         &mut self,
         hub: &mut Hub<S>,
+        first: u64,
         clock: &mut C,
         words: &mut D,
         now: u64,
     ) -> Result<(), Fault>
-        ensures { LeavesServed S.seen
+        ensures served { LeavesServed S.seen
             (Supplies C.may_tell clock.old clock.new D.may_give words.old words.new) result hub.old hub.new }
+        ensures below { (all : Connections) → ConnectionsRepresent hub.old all → LeavesBelow first all hub.new }
     {
         for _ in 0..self.ready.len() {
             let Some(conn) = self.ready.pop_front() else {
                 return Ok(());
             };
-            self.turn(hub, conn, clock, words, now)?;
+            self.turn(hub, first, conn, clock, words, now)?;
         }
         Ok(())
     }
@@ -99,18 +102,20 @@ impl Links {
     fn turn<S: Store, C: Clock, D: WordSource>(
         &mut self,
         hub: &mut Hub<S>,
+        first: u64,
         conn: u64,
         clock: &mut C,
         words: &mut D,
         now: u64,
     ) -> Result<(), Fault>
-        ensures { LeavesServed S.seen
+        ensures served { LeavesServed S.seen
             (Supplies C.may_tell clock.old clock.new D.may_give words.old words.new) result hub.old hub.new }
+        ensures below { (all : Connections) → ConnectionsRepresent hub.old all → LeavesBelow first all hub.new }
     {
         let Some(peer) = self.peers.get_mut(&conn) else {
             return Ok(());
         };
-        match peer.turn(hub, clock, words, now) {
+        match peer.turn(hub, first, clock, words, now) {
             Ok(Stay::Ready) => {
                 peer.enters_queue();
                 let _ = self.ready.push_back(conn);
@@ -118,7 +123,7 @@ impl Links {
             }
             Ok(Stay::Waits) => Ok(()),
             Ok(Stay::Gone) => {
-                self.close(hub, conn);
+                self.close(hub, first, conn);
                 Ok(())
             }
             Err(fault) => Err(fault),
@@ -126,8 +131,15 @@ impl Links {
     }
 
     /// Closes those whose time is over.
-    pub(crate) fn look<S: Store>(&mut self, hub: &mut Hub<S>, now: u64, is_pressed: bool)
-        ensures { ClosesSome S.seen hub.old hub.new }
+    pub(crate) fn look<S: Store>(
+        &mut self,
+        hub: &mut Hub<S>,
+        first: u64,
+        now: u64,
+        is_pressed: bool,
+    )
+        ensures steps { ClosesSome S.seen hub.old hub.new }
+        ensures below { (all : Connections) → ConnectionsRepresent hub.old all → LeavesBelow first all hub.new }
     {
         self.over.clear();
         for (conn, peer) in &self.peers {
@@ -139,19 +151,20 @@ impl Links {
             let Some(conn) = self.over.pop() else {
                 return;
             };
-            self.close(hub, conn);
+            self.close(hub, first, conn);
         }
     }
 
     /// Closes the one that has been idle longest, if any is idle for longer than a peer may be whose place is wanted.
     /// Whether one was closed.
-    pub(crate) fn make_room<S: Store>(&mut self, hub: &mut Hub<S>, now: u64) -> bool
-        ensures { ClosesSome S.seen hub.old hub.new }
+    pub(crate) fn make_room<S: Store>(&mut self, hub: &mut Hub<S>, first: u64, now: u64) -> bool
+        ensures steps { ClosesSome S.seen hub.old hub.new }
+        ensures below { (all : Connections) → ConnectionsRepresent hub.old all → LeavesBelow first all hub.new }
     {
         let Some(conn) = self.longest_idle(now) else {
             return false;
         };
-        self.close(hub, conn);
+        self.close(hub, first, conn);
         true
     }
 
@@ -172,12 +185,15 @@ impl Links {
     }
 
     /// Closes a connection, and drops what waits on it.
-    fn close<S: Store>(&mut self, hub: &mut Hub<S>, conn: u64)
+    fn close<S: Store>(&mut self, hub: &mut Hub<S>, first: u64, conn: u64)
         ensures steps { ClosesSome S.seen hub.old hub.new }
-        ensures closed { (all : Connections) → ConnectionsRepresent hub.old all
+        ensures below { (all : Connections) → ConnectionsRepresent hub.old all → LeavesBelow first all hub.new }
+        ensures closed { first ≤ conn → (all : Connections) → ConnectionsRepresent hub.old all
             → (after : Connections) × ConnectionsRepresent hub.new after × LeavesClosed all conn after }
     {
-        hub.close(conn);
+        if conn >= first {
+            hub.close(conn);
+        }
         self.peers.remove(&conn);
     }
 

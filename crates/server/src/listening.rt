@@ -1,5 +1,7 @@
+ghost use Rattle.hub.specs.Representing.{ConnectionsRepresent};
 ghost use Rattle.hub.specs.Supplies.{Supplies};
-ghost use Rattle.server.specs.Serving.{ClosesSome, LeavesServed};
+ghost use Rattle.hub.specs.World.{Connections};
+ghost use Rattle.server.specs.Serving.{ClosesSome, LeavesBelow, LeavesServed};
 
 use crate::accepting::{Accepting, LISTENER};
 use crate::links::Links;
@@ -67,8 +69,8 @@ impl Listening {
         })
     }
 
-    /// Connections are accepted under numbers from this one on. If it is none, no connection is.
-    pub(crate) fn begin(&mut self, first: Option<u64>) {
+    /// Connections are accepted under numbers from this one on.
+    pub(crate) fn begin(&mut self, first: u64) {
         self.accepting.begin(first);
     }
 
@@ -78,23 +80,25 @@ impl Listening {
     }
 
     /// One round: waits until something can be done, accepts those that wait, takes some turns of each connection that
-    /// can go on, and closes those whose time is over.
+    /// can go on, and closes those whose time is over. No connection below the first number is touched.
     pub(crate) fn round<S: Store, C: hub::Clock, D: WordSource, R: Clock>(
         &mut self,
         rt: &R,
         hub: &mut Hub<S>,
+        first: u64,
         clock: &mut C,
         words: &mut D,
     ) -> Result<(), Fault>
-        ensures { LeavesServed S.seen
+        ensures served { LeavesServed S.seen
             (Supplies C.may_tell clock.old clock.new D.may_give words.old words.new) result hub.old hub.new }
+        ensures below { (all : Connections) → ConnectionsRepresent hub.old all → LeavesBelow first all hub.new }
     {
         self.await_events(rt);
-        self.make_room(hub);
+        self.make_room(hub, first);
         self.accepting
             .accept(self.poll.registry(), &mut self.links, self.now);
-        self.take_turns(hub, clock, words)?;
-        self.look(hub);
+        self.take_turns(hub, first, clock, words)?;
+        self.look(hub, first);
         Ok(())
     }
 
@@ -130,11 +134,12 @@ impl Listening {
     /// Closes the connection that has been idle longest, if somebody waits for its place. One leaves for each that waits,
     /// and no more: a client that keeps many connections open in good faith keeps the others, where closing all that are
     /// idle would have it connect again with each, though one place was wanted.
-    fn make_room<S: Store>(&mut self, hub: &mut Hub<S>)
-        ensures { ClosesSome S.seen hub.old hub.new }
+    fn make_room<S: Store>(&mut self, hub: &mut Hub<S>, first: u64)
+        ensures steps { ClosesSome S.seen hub.old hub.new }
+        ensures below { (all : Connections) → ConnectionsRepresent hub.old all → LeavesBelow first all hub.new }
     {
         if self.accepting.wants_room(self.now, self.links.len()) {
-            let was_made = self.links.make_room(hub, self.now);
+            let was_made = self.links.make_room(hub, first, self.now);
             self.accepting.note_room(was_made, self.now);
         }
     }
@@ -143,26 +148,30 @@ impl Listening {
     fn take_turns<S: Store, C: hub::Clock, D: WordSource>(
         &mut self,
         hub: &mut Hub<S>,
+        first: u64,
         clock: &mut C,
         words: &mut D,
     ) -> Result<(), Fault>
-        ensures { LeavesServed S.seen
+        ensures served { LeavesServed S.seen
             (Supplies C.may_tell clock.old clock.new D.may_give words.old words.new) result hub.old hub.new }
+        ensures below { (all : Connections) → ConnectionsRepresent hub.old all → LeavesBelow first all hub.new }
     {
         for _ in 0..PASSES {
-            self.links.turns(hub, clock, words, self.now)?;
+            self.links.turns(hub, first, clock, words, self.now)?;
         }
         Ok(())
     }
 
     /// Closes the connections whose time is over, if it is time to look. Once no more are accepted, those that are idle
     /// are not waited for longer than where their places are wanted.
-    fn look<S: Store>(&mut self, hub: &mut Hub<S>)
-        ensures { ClosesSome S.seen hub.old hub.new }
+    fn look<S: Store>(&mut self, hub: &mut Hub<S>, first: u64)
+        ensures steps { ClosesSome S.seen hub.old hub.new }
+        ensures below { (all : Connections) → ConnectionsRepresent hub.old all → LeavesBelow first all hub.new }
     {
         if self.now >= self.look_at {
             self.look_at = self.now.saturating_add(TICK);
-            self.links.look(hub, self.now, self.accepting.is_shut());
+            self.links
+                .look(hub, first, self.now, self.accepting.is_shut());
         }
     }
 }

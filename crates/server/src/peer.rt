@@ -1,8 +1,10 @@
 ghost use Rattle.std.specs.Prelude.{◌≡◌, ◌≢◌, true, MatchResult};
 ghost use Rattle.broker_types.specs.declared.fault.Fault.TheVariants.{Memory};
+ghost use Rattle.hub.specs.Representing.{ConnectionsRepresent};
 ghost use Rattle.hub.specs.Supplies.{Supplies};
+ghost use Rattle.hub.specs.World.{Connections};
 ghost use Rattle.hub.specs.declared.serve.ConnectionFault.TheVariants.{Broker};
-ghost use Rattle.server.specs.Serving.{LeavesServed, is_skipped};
+ghost use Rattle.server.specs.Serving.{LeavesBelow, LeavesServed, is_skipped};
 
 use crate::waiting::{Wait, is_over};
 use broker::Store;
@@ -80,20 +82,27 @@ impl Peer {
 
     // ---- one turn
 
-    /// One turn. A fault that does not end the whole ends this connection.
+    /// One turn. A fault that does not end the whole ends this connection. No connection below the first number is
+    /// touched.
     pub(crate) fn turn<S: Store, C: Clock, D: WordSource>(
         &mut self,
         hub: &mut Hub<S>,
+        first: u64,
         clock: &mut C,
         words: &mut D,
         now: u64,
     ) -> Result<Stay, Fault>
-        ensures { LeavesServed S.seen
+        ensures served { LeavesServed S.seen
             (Supplies C.may_tell clock.old clock.new D.may_give words.old words.new) result hub.old hub.new }
+        ensures below { (all : Connections) → ConnectionsRepresent hub.old all → LeavesBelow first all hub.new }
     {
         self.is_queued = false;
         if self.wait == Wait::Farewell {
             return Ok(self.drain());
+        }
+        // Numbers are given from the first on. The contract rests on this line, and not on who gave this one.
+        if self.link.conn() < first {
+            return Ok(Stay::Gone);
         }
         let mut reader = NowReading::new(&self.stream);
         let mut writer = NowWriting::new(&self.stream);

@@ -1,5 +1,7 @@
+ghost use Rattle.hub.specs.Representing.{ConnectionsRepresent};
 ghost use Rattle.hub.specs.Supplies.{Supplies};
-ghost use Rattle.server.specs.Serving.{LeavesServed, ServesLawfully};
+ghost use Rattle.hub.specs.World.{Connections};
+ghost use Rattle.server.specs.Serving.{LeavesBelow, LeavesSeen, LeavesServed, ServesLawfully};
 
 use crate::laws::all_that_is_asked_keeps_the_laws;
 use crate::listening::Listening;
@@ -26,6 +28,9 @@ pub fn serve<S: Store, C: hub::Clock, D: WordSource, R: Clock>(
     ensures served { LeavesServed S.seen
         (Supplies C.may_tell clock.old clock.new D.may_give words.old words.new) result hub.old hub.new }
 
+    // Whatever the rows are, no connection that was seen before changes.
+    ensures others { (all : Connections) → ConnectionsRepresent hub.old all → LeavesSeen all hub.new }
+
     // All that was asked, over all the connections, keeps the laws over every run: no identifier is given out twice; a
     // response is handed out once, and is the reply that was kept; what was revoked, or ended in another way, does not
     // come back.
@@ -34,30 +39,35 @@ pub fn serve<S: Store, C: hub::Clock, D: WordSource, R: Clock>(
 {
     all_that_is_asked_keeps_the_laws();
     let mut listening = listening;
-    listening.begin(hub.open_conn());
-    let served = serve_rounds(rt, hub, &mut listening, clock, words);
+    let Some(first) = hub.open_conn() else {
+        return Ok(());
+    };
+    listening.begin(first);
+    let served = serve_rounds(rt, hub, first, &mut listening, clock, words);
     if served.is_err() {
         listening.send_rests();
     }
     served
 }
 
-/// Serves in rounds, until all is done.
+/// Serves in rounds, until all is done, under numbers from the first on.
 fn serve_rounds<S: Store, C: hub::Clock, D: WordSource, R: Clock>(
     rt: &R,
     hub: &mut Hub<S>,
+    first: u64,
     listening: &mut Listening,
     clock: &mut C,
     words: &mut D,
 ) -> Result<(), Fault>
-    ensures { LeavesServed S.seen
+    ensures served { LeavesServed S.seen
         (Supplies C.may_tell clock.old clock.new D.may_give words.old words.new) result hub.old hub.new }
+    ensures below { (all : Connections) → ConnectionsRepresent hub.old all → LeavesBelow first all hub.new }
 {
     for _ in 0..u64::MAX {
         if listening.is_done() {
             return Ok(());
         }
-        listening.round(rt, hub, clock, words)?;
+        listening.round(rt, hub, first, clock, words)?;
     }
     Ok(())
 }
