@@ -121,7 +121,10 @@ impl Accepting {
                 links.add(registry, stream, self.next, now);
                 self.next = self.next.saturating_add(1);
             }
-            Err(error) if error.kind() == ErrorKind::WouldBlock => self.may_wait = false,
+            Err(error) if error.kind() == ErrorKind::WouldBlock => {
+                self.is_scarce = false;
+                self.may_wait = false;
+            }
             Err(error) if error.kind() == ErrorKind::Interrupted => {}
             Err(error) => {
                 self.retry_at = now.saturating_add(PAUSE);

@@ -16,11 +16,11 @@ use std::net::Net;
 use std::time::{Clock, Duration, Instant};
 use std::{io, net, thread};
 
-/// How many events one look at the system gives at most.
-const EVENTS: usize = 256;
-
 /// How many turns each connection gets between two looks at the system.
 const PASSES: u32 = 4;
+
+/// How much time one round counts for at most, in milliseconds: a wait of `TICK`, and some for what is done then.
+const LONGEST_ROUND: u64 = 100;
 
 /// An address that is listened on, the connections that are open, and what the system tells of them.
 #[derive(Drop)]
@@ -30,15 +30,18 @@ pub struct Listening {
     accepting: Accepting,
     links: Links,
     start: Instant,
-    /// When the system was looked at last, in milliseconds since the start.
+    /// How long ago the start was when the clock was read last, in milliseconds.
+    age: u64,
+    /// The time by which limits are counted, in milliseconds. It stands still while one request takes long, so that no
+    /// peer's time runs out while it waits for the program.
     now: u64,
     /// When the limits are to be looked at.
     look_at: u64,
 }
 
 impl Listening {
-    /// From this listener so many connections are to be served, or as many as come, at most so many at once. None is
-    /// accepted yet. It fails if memory runs out (`OutOfMemory`), or a call of the system fails.
+    /// From this listener so many connections are to be served, or as many as come, and at most `at_once` of them at once,
+    /// which is at least 1. None is accepted yet. It fails if memory runs out (`OutOfMemory`), or a call of the system fails.
     pub fn new<R>(
         rt: &R,
         listener: net::TcpListener,
@@ -50,7 +53,7 @@ impl Listening {
     {
         listener.set_nonblocking(true)?;
         let poll = Poll::new(rt)?;
-        let at_once = at_once as usize;
+        let at_once = at_once.max(1) as usize;
         // Without an end there are more than a program can ever accept.
         let accepting = Accepting::new(
             poll.registry(),
@@ -60,10 +63,12 @@ impl Listening {
         )?;
         Ok(Listening {
             poll,
-            events: Events::with_capacity(rt.alloc(), EVENTS)?,
+            // One for each connection, and one for the listener: a round knows all that can be done.
+            events: Events::with_capacity(rt.alloc(), at_once.saturating_add(1))?,
             accepting,
             links: Links::new(rt.alloc(), at_once)?,
             start: Instant::now(rt)?,
+            age: 0,
             now: 0,
             look_at: TICK,
         })
@@ -115,8 +120,16 @@ impl Listening {
         if self.poll.poll(&mut self.events, longest).is_err() {
             thread::sleep(rt, Duration::from_millis(TICK));
         }
-        self.now = milliseconds(self.start.elapsed(rt), self.now);
+        self.count_time(rt);
         mark_all(&self.events, &mut self.accepting, &mut self.links);
+    }
+
+    /// Counts the time since the last round, as far as a round counts.
+    fn count_time<R: Clock>(&mut self, rt: &R) {
+        let age = milliseconds(self.start.elapsed(rt), self.age);
+        let passed = age.saturating_sub(self.age).min(LONGEST_ROUND);
+        self.now = self.now.saturating_add(passed);
+        self.age = age;
     }
 
     /// How long to wait for events at most. Without a limit to look at it is as long as it takes.
