@@ -66,7 +66,7 @@ exchange_on conn p q =
       listed = All-append IsListedReply p.replies q.replies p.listed q.listed;
     }
 
-pieces_on : (es fs : List Event) → pieces_in (es ++ fs) ≡ pieces_in es ++ pieces_in fs
+pub pieces_on : (es fs : List Event) → pieces_in (es ++ fs) ≡ pieces_in es ++ pieces_in fs
 pieces_on es fs = ap concat (map-append (λ (e : Event). e.piece) es fs)
     ∙ concat-append (map (λ (e : Event). e.piece) es) (map (λ (e : Event). e.piece) fs)
 

@@ -109,11 +109,12 @@ AreKnown (answered e bytes ∷ later) store = AreKnown later store
 AreKnown (faulted e ∷ later) store = IsTrue store.is_open
 AreKnown (closed conn ∷ later) store = AreKnown later store
 
--- There is one list of steps over all connections; the moments and words of their events are what was drawn. From each
--- world that the hub represented they were taken, where it is known what they left, and it represents the world after
--- them, as long as the storage returned what was written. So were those before a fault, whether that is known or not.
-pub record StepsBetween {S : Type 0} (seen : S → Kept) (Draws : List Event → Type 0) (old new : Hub S) : Type 0 where
-  pub steps : List Step
+-- One list of steps over all connections, between two states of a hub: the moments and words of their events are what
+-- was drawn. From each world that the hub represented they were taken, and it represents the world after them, as long
+-- as the storage returned what was written, and it is known what they left. So were those before a fault, whether that
+-- is known or not.
+pub record StepsBetween {S : Type 0} (seen : S → Kept) (Draws : List Event → Type 0) (steps : List Step)
+    (old new : Hub S) : Type 0 where
   pub each : All IsStep steps
   pub draws : Draws (fed_in steps)
   pub before : IsHonestStore (hub_store seen new) → (w : World) → HubRepresents seen old w

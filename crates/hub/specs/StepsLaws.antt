@@ -15,7 +15,7 @@ use Rattle.hub.specs.HistoriesLaws.{asked_on, left_after, left_on, run_left}
 use Rattle.hub.specs.Listed.{IsListedReply}
 use Rattle.hub.specs.Representing.{HubRepresents, hub_store}
 use Rattle.hub.specs.Runs.{Answers}
-use Rattle.hub.specs.Serving.{IsEventOf, IsKnown, IsUnanswered, LeavesClosed, Proceeds, RunsUntil, Stops}
+use Rattle.hub.specs.Serving.{Exchange, IsEventOf, IsKnown, IsUnanswered, LeavesClosed, Proceeds, RunsUntil, Stops}
 use Rattle.hub.specs.Steps.{AreKnown, IsStep, IsStepOf, Step, StepsBetween, StepsFrom, StepsTaken, TakesStep}
 use Rattle.hub.specs.Steps.{TakesSteps}
 use Rattle.hub.specs.Steps.{answered, answers_of, before_fault, closed, conn_of, faulted, fed_by, fed_in, stop_of}
@@ -25,6 +25,7 @@ use Rattle.hub.specs.declared.event.Event.{Event}
 use Rattle.hub.specs.declared.hub.Hub.{Hub}
 use Rattle.hub.specs.declared.serve.ConnectionFault.{ConnectionFault}
 use Rattle.hub.specs.declared.serve.ConnectionFault.TheVariants.{Broker, Read, Write}
+use Rattle.hub.specs.declared.turn.Turn.{Turn}
 
 -- ---- from a world
 
@@ -124,10 +125,10 @@ one_more : (s : Step) (ss ts : List Step) → before_fault (s ∷ ss) ≡ s ∷ 
     → FaultIsFirst ss ts ⊎ FaultIsLater ss ts → FaultIsFirst (s ∷ ss) ts ⊎ FaultIsLater (s ∷ ss) ts
 one_more s ss ts one all known (inl first) = inl (all ∙ ap (λ (l : List Step). s ∷ l) first ∙ sym one)
 one_more s ss ts one all known (inr later) =
-    inr (λ store. known store (later.0 store), all ∙ ap (λ (l : List Step). s ∷ l) later.1)
+    inr ((λ store. known store (later.0 store)), all ∙ ap (λ (l : List Step). s ∷ l) later.1)
 
 first_fault : (ss ts : List Step) → FaultIsFirst ss ts ⊎ FaultIsLater ss ts
-first_fault [] ts = inr (λ store. tt, refl)
+first_fault [] ts = inr ((λ store. tt), refl)
 first_fault (answered e bytes ∷ ss) ts =
     one_more (answered e bytes) ss ts refl refl (λ store known. known) (first_fault ss ts)
 first_fault (faulted e ∷ ss) ts = inl refl
@@ -137,10 +138,9 @@ first_fault (closed conn ∷ ss) ts = one_more (closed conn) ss ts refl refl (λ
 
 -- nothing was done
 pub steps_none : {S : Type 0} (seen : S → Kept) (X : List Event → Type 0) (hub : Hub S) → X []
-    → StepsBetween seen X hub hub
+    → StepsBetween seen X [] hub hub
 steps_none seen X hub x =
     record {
-      steps = [];
       each = All-nil IsStep;
       draws = x;
       before = λ honest w represents. record { after = w; history = []; taken = refl; asked = tt };
@@ -148,45 +148,39 @@ steps_none seen X hub x =
       later = record { mismatches = omega arith; closes = λ open_. open_ };
     }
 
+before_on : {S : Type 0} (seen : S → Kept) (w : World) (ss ts : List Step) (mid : Hub S)
+    → FaultIsFirst ss ts ⊎ FaultIsLater ss ts → StepsTaken w (before_fault ss)
+    → (AreKnown ss (hub_store seen mid) → StepsFrom seen w ss mid)
+    → ((v : World) → HubRepresents seen mid v → StepsTaken v (before_fault ts))
+    → StepsTaken w (before_fault (ss ++ ts))
+before_on seen w ss ts mid (inl first) earlier from next = subst (StepsTaken w) (sym first) earlier
+before_on seen w ss ts mid (inr later) earlier from next =
+    let a = from (later.0 (hub_store seen mid)) in
+    subst (StepsTaken w) (sym later.1) (taken_on seen w ss (before_fault ts) mid a (next a.after a.represents))
+
 -- steps, and others after them: what was drawn for the first events, and then for the others, is drawn for all
-pub steps_on : {S : Type 0} (seen : S → Kept) (X Y Z : List Event → Type 0) (old mid new : Hub S)
-    → ((es fs : List Event) → X es → Y fs → Z (es ++ fs))
-    → StepsBetween seen X old mid → StepsBetween seen Y mid new → StepsBetween seen Z old new
-steps_on seen X Y Z old mid new joins p q =
+pub steps_on : {S : Type 0} (seen : S → Kept) (X Y Z : List Event → Type 0) (ss ts : List Step) (old mid new : Hub S)
+    → ((es fs : List Event) → X es → Y fs → Z (es ++ fs)) → StepsBetween seen X ss old mid
+    → StepsBetween seen Y ts mid new → StepsBetween seen Z (ss ++ ts) old new
+steps_on seen X Y Z ss ts old mid new joins p q =
     let honest_before : IsHonestStore (hub_store seen new) → IsHonestStore (hub_store seen mid) =
     λ honest. omega (arith, q.later.mismatches, honest) in
-    let from : IsHonestStore (hub_store seen new) → AreKnown p.steps (hub_store seen mid) → (w : World)
-        → HubRepresents seen old w → StepsFrom seen w p.steps mid =
-    λ honest known w represents. p.worlds (honest_before honest) known w represents in
     record {
-      steps = p.steps ++ q.steps;
-      each = All-append IsStep p.steps q.steps p.each q.each;
-      draws = subst Z (sym (flat_map-append fed_by p.steps q.steps))
-          (joins (fed_in p.steps) (fed_in q.steps) p.draws q.draws);
+      each = All-append IsStep ss ts p.each q.each;
+      draws = subst Z (sym (flat_map-append fed_by ss ts)) (joins (fed_in ss) (fed_in ts) p.draws q.draws);
       before = λ honest w represents.
-          before_on (first_fault p.steps q.steps) w (p.before (honest_before honest) w represents)
-          (λ known. from honest known w represents) (λ v there. q.before honest v there);
+          before_on seen w ss ts mid (first_fault ss ts) (p.before (honest_before honest) w represents)
+          (λ known. p.worlds (honest_before honest) known w represents) (q.before honest);
       worlds = λ honest known w represents.
-          let a = from honest
-              (known_first (hub_store seen mid) (hub_store seen new) p.steps q.steps q.later known) w represents in
-          StepsFrom-append seen w p.steps q.steps mid new a
-          (q.worlds honest (known_second (hub_store seen new) p.steps q.steps known) a.after a.represents);
+          let earlier = known_first (hub_store seen mid) (hub_store seen new) ss ts q.later known in
+          let a = p.worlds (honest_before honest) earlier w represents in
+          StepsFrom-append seen w ss ts mid new a
+          (q.worlds honest (known_second (hub_store seen new) ss ts known) a.after a.represents);
       later = record {
         mismatches = omega (arith, p.later.mismatches, q.later.mismatches);
         closes = λ open_. p.later.closes (q.later.closes open_);
       };
     }
-  where
-    before_on : FaultIsFirst p.steps q.steps ⊎ FaultIsLater p.steps q.steps → (w : World)
-        → StepsTaken w (before_fault p.steps)
-        → (AreKnown p.steps (hub_store seen mid) → StepsFrom seen w p.steps mid)
-        → ((v : World) → HubRepresents seen mid v → StepsTaken v (before_fault q.steps))
-        → StepsTaken w (before_fault (p.steps ++ q.steps))
-    before_on (inl first) w earlier from next = subst (StepsTaken w) (sym first) earlier
-    before_on (inr later) w earlier from next =
-        let a = from (later.0 (hub_store seen mid)) in
-        subst (StepsTaken w) (sym later.1)
-        (taken_on seen w p.steps (before_fault q.steps) mid a (next a.after a.represents))
 
 -- ---- events
 
@@ -201,7 +195,8 @@ EventsAsked-steps w (e ∷ es) (r ∷ rs) [] after run = absurd run
 EventsAsked-steps w (e ∷ es) (r ∷ rs) (h ∷ hs) after (mid, one, run) =
     (mid, one, EventsAsked-steps mid es rs hs after run)
 
-fed_answers : (es : List Event) (rs : List (List ℕ)) → length rs ≡ length es → fed_in (answers_of es rs) ≡ es
+-- what was fed
+pub fed_answers : (es : List Event) (rs : List (List ℕ)) → length rs ≡ length es → fed_in (answers_of es rs) ≡ es
 fed_answers [] rs same = refl
 fed_answers (e ∷ es) [] same = absurd (omega (arith, same))
 fed_answers (e ∷ es) (r ∷ rs) same = ap (λ (l : List Event). e ∷ l) (fed_answers es rs (omega (arith, same)))
@@ -240,8 +235,7 @@ stop_by P conn (Broker fault) last (e, of, is) none one = subst P (sym is) (one 
 stop_by P conn Read last is none one = subst P (sym is) none
 stop_by P conn Write last is none one = subst P (sym is) none
 
--- it is one of the connection
-pub stop_each : (conn : ℕ) (fault : ConnectionFault) (last : List Event) → IsUnanswered conn fault last
+stop_each : (conn : ℕ) (fault : ConnectionFault) (last : List Event) → IsUnanswered conn fault last
     → All (IsStepOf conn) (stop_of conn last)
 stop_each conn fault last unanswered =
     stop_by (λ (l : List Event). All (IsStepOf conn) (stop_of conn l)) conn fault last unanswered
@@ -252,6 +246,25 @@ fed_stop : (conn : ℕ) (fault : ConnectionFault) (last : List Event) → IsUnan
     → fed_in (stop_of conn last) ≡ last
 fed_stop conn fault last unanswered =
     stop_by (λ (l : List Event). fed_in (stop_of conn l) ≡ l) conn fault last unanswered refl (λ e of. refl)
+
+-- what was fed up to a fault
+pub fed_stopped : (conn : ℕ) (fault : ConnectionFault) (last : List Event) (exchange : Exchange conn)
+    → IsUnanswered conn fault last
+    → fed_in (answers_of exchange.events exchange.replies ++ stop_of conn last) ≡ exchange.events ++ last
+fed_stopped conn fault last exchange unanswered =
+    let answers = answers_of exchange.events exchange.replies in
+    let fed = fed_answers exchange.events exchange.replies exchange.each in
+    flat_map-append fed_by answers (stop_of conn last) ∙ ap (λ (l : List Event). l ++ fed_in (stop_of conn last)) fed
+    ∙ ap (λ (l : List Event). exchange.events ++ l) (fed_stop conn fault last unanswered)
+
+-- and its steps are of the connection
+pub stops_each : (conn : ℕ) (fault : ConnectionFault) (last : List Event) (exchange : Exchange conn)
+    → IsUnanswered conn fault last
+    → All (IsStepOf conn) (answers_of exchange.events exchange.replies ++ stop_of conn last)
+stops_each conn fault last exchange unanswered =
+    All-append (IsStepOf conn) (answers_of exchange.events exchange.replies) (stop_of conn last)
+    (answers_each conn exchange.events exchange.replies exchange.of_connection exchange.listed)
+    (stop_each conn fault last unanswered)
 
 stop_taken : (w : World) (conn : ℕ) (fault : ConnectionFault) (last : List Event) (left : Connections)
     → IsUnanswered conn fault last → LeavesClosed w.connections conn left
@@ -307,15 +320,14 @@ answered_from seen w es rs hub a =
       represents = a.represents;
     }
 
--- the steps of a connection that was served
+-- a connection that was served, as steps
 pub steps_proceeding : {S : Type 0} (seen : S → Kept) (conn : ℕ) (P T : List ℕ → Type 0) (X : List Event → Type 0)
-    (old new : Hub S) → IsLater (hub_store seen old) (hub_store seen new) → Proceeds seen conn P T X old new
-    → StepsBetween seen X old new
+    (old new : Hub S) → IsLater (hub_store seen old) (hub_store seen new) → (p : Proceeds seen conn P T X old new)
+    → StepsBetween seen X (answers_of p.exchange.events p.exchange.replies) old new
 steps_proceeding seen conn P T X old new later p =
     let es = p.exchange.events in
     let rs = p.exchange.replies in
     record {
-      steps = answers_of es rs;
       each = All-weaker (IsStepOf conn) IsStep (step_of_any conn) (answers_of es rs)
           (answers_each conn es rs p.exchange.of_connection p.exchange.listed);
       draws = subst X (sym (fed_answers es rs p.exchange.each)) p.draws;
@@ -343,25 +355,20 @@ stopped_from seen w conn fault last es rs hub unanswered u =
       represents = u.represents;
     }
 
--- the steps of one that had a fault
+-- one that had a fault, as steps
 pub steps_stopping : {S : Type 0} (seen : S → Kept) (conn : ℕ) (P T : List ℕ → Type 0) (X : List Event → Type 0)
     (fault : ConnectionFault) (old new : Hub S) → IsLater (hub_store seen old) (hub_store seen new)
-    → Stops seen conn P T X fault old new → StepsBetween seen X old new
+    → (s : Stops seen conn P T X fault old new)
+    → StepsBetween seen X (answers_of s.exchange.events s.exchange.replies ++ stop_of conn s.last) old new
 steps_stopping seen conn P T X fault old new later s =
     let es = s.exchange.events in
     let rs = s.exchange.replies in
     let answers = answers_of es rs in
     let stop = stop_of conn s.last in
-    let of : All (IsStepOf conn) (answers ++ stop) =
-    All-append (IsStepOf conn) answers stop (answers_each conn es rs s.exchange.of_connection s.exchange.listed)
-    (stop_each conn fault s.last s.unanswered) in
-    let fed : fed_in (answers ++ stop) ≡ es ++ s.last =
-    flat_map-append fed_by answers stop ∙ ap (λ (l : List Event). l ++ fed_in stop) (fed_answers es rs s.exchange.each)
-    ∙ ap (λ (l : List Event). es ++ l) (fed_stop conn fault s.last s.unanswered) in
     record {
-      steps = answers ++ stop;
-      each = All-weaker (IsStepOf conn) IsStep (step_of_any conn) (answers ++ stop) of;
-      draws = subst X (sym fed) s.draws;
+      each = All-weaker (IsStepOf conn) IsStep (step_of_any conn) (answers ++ stop)
+          (stops_each conn fault s.last s.exchange s.unanswered);
+      draws = subst X (sym (fed_stopped conn fault s.last s.exchange s.unanswered)) s.draws;
       before = λ honest w represents.
           let b = s.before honest w represents in
           let earlier : StepsTaken w answers = record {
@@ -370,8 +377,7 @@ steps_stopping seen conn P T X fault old new later s =
             taken = EventsAsked-steps w es rs b.history b.after b.asks;
             asked = b.asked;
           } in
-          stop_before conn fault s.last es rs (hub_store seen new) w s.unanswered earlier
-          (λ known.
+          stop_before conn fault s.last es rs (hub_store seen new) w s.unanswered earlier (λ known.
           let a = stopped_from seen w conn fault s.last es rs new s.unanswered (s.answers honest known w represents) in
           record { after = a.after; history = a.history; taken = a.taken; asked = a.asked });
       worlds = λ honest known w represents.
@@ -380,32 +386,26 @@ steps_stopping seen conn P T X fault old new later s =
       later = later;
     }
 
--- the step of a turn that ended well, if it took one
-pub steps_turn : {S : Type 0} (seen : S → Kept) (conn : ℕ) (P T : List ℕ → Type 0) (X : List Event → Type 0)
-    (old new : Hub S) → IsLater (hub_store seen old) (hub_store seen new) → TakesTurn seen conn P T X old new
-    → StepsBetween seen X old new
-steps_turn seen conn P T X old new later t = steps_proceeding seen conn P T X old new later t.on
+-- a turn, as steps
+pub steps_turned : {S : Type 0} (seen : S → Kept) (conn : ℕ) (P T : List ℕ → Type 0) (X : List Event → Type 0)
+    (old new : Hub S) (r : Result Turn ConnectionFault) → IsLater (hub_store seen old) (hub_store seen new)
+    → MatchResult r (λ turn. TakesTurn seen turn conn P T X old new) (λ fault. TurnStops seen conn P T X fault old new)
+    → (steps : List Step) × StepsBetween seen X steps old new
+steps_turned seen conn P T X old new (Ok turn) later t = (
+  answers_of t.on.exchange.events t.on.exchange.replies,
+  steps_proceeding seen conn P T X old new later t.on,
+)
+steps_turned seen conn P T X old new (Err fault) later t = (
+  answers_of t.stops.exchange.events t.stops.exchange.replies ++ stop_of conn t.stops.last,
+  steps_stopping seen conn P T X fault old new later t.stops,
+)
 
--- the steps of a turn that had a fault
-pub steps_stop : {S : Type 0} (seen : S → Kept) (conn : ℕ) (P T : List ℕ → Type 0) (X : List Event → Type 0)
-    (fault : ConnectionFault) (old new : Hub S) → IsLater (hub_store seen old) (hub_store seen new)
-    → TurnStops seen conn P T X fault old new → StepsBetween seen X old new
-steps_stop seen conn P T X fault old new later t = steps_stopping seen conn P T X fault old new later t.stops
-
--- the steps of a turn
-pub steps_turned : {A S : Type 0} (seen : S → Kept) (conn : ℕ) (P T : List ℕ → Type 0) (X : List Event → Type 0)
-    (old new : Hub S) (r : Result A ConnectionFault) → IsLater (hub_store seen old) (hub_store seen new)
-    → MatchResult r (λ _. TakesTurn seen conn P T X old new) (λ fault. TurnStops seen conn P T X fault old new)
-    → StepsBetween seen X old new
-steps_turned seen conn P T X old new (Ok a) later t = steps_turn seen conn P T X old new later t
-steps_turned seen conn P T X old new (Err fault) later t = steps_stop seen conn P T X fault old new later t
-
--- the step of a closing
+-- a closing, as a step
 pub steps_close : {S : Type 0} (seen : S → Kept) (conn : ℕ) (X : List Event → Type 0) (old new : Hub S) → X []
     → ((w : World) → HubRepresents seen old w
     → (after : Connections) × LeavesClosed w.connections conn after
     × HubRepresents seen new (record w { connections = after }))
-    → hub_store seen new ≡ hub_store seen old → StepsBetween seen X old new
+    → hub_store seen new ≡ hub_store seen old → StepsBetween seen X (closed conn ∷ []) old new
 steps_close seen conn X old new x closes same =
     let from : (w : World) → HubRepresents seen old w → StepsFrom seen w (closed conn ∷ []) new =
     λ w represents.
@@ -419,7 +419,6 @@ steps_close seen conn X old new x closes same =
       represents = c.2;
     } in
     record {
-      steps = closed conn ∷ [];
       each = All-cons IsStep (closed conn) [] refl (All-nil IsStep);
       draws = x;
       before = λ honest w represents.

@@ -84,8 +84,8 @@ impl<S: Store> Hub<S> {
         has_request(&self.connections, conn)
     }
 
-    /// Whether bytes wait on the connection that are not answered, be they a whole request or the beginning of one. It
-    /// takes no memory.
+    /// Whether bytes of a request that is not whole yet, or of one that waits, lie on the connection. It takes no
+    /// memory.
     pub fn has_rest(&self, conn: u64) -> bool {
         has_rest(&self.connections, conn)
     }

@@ -106,14 +106,7 @@ impl Peer {
         }
         let mut reader = NowReading::new(&self.stream);
         let mut writer = NowWriting::new(&self.stream);
-        match take_turn(
-            hub,
-            &mut self.link,
-            &mut reader,
-            &mut writer,
-            clock,
-            words,
-        ) {
+        match take_turn(hub, &mut self.link, &mut reader, &mut writer, clock, words) {
             Ok(turn) => {
                 let is_emptied = reader.is_emptied() && self.is_certain(turn);
                 let is_full = writer.is_full();

@@ -113,12 +113,7 @@ where
 }
 
 /// Listens on the address.
-fn listen<R>(
-    rt: &R,
-    address: &str,
-    connections: Option<u32>,
-    at_once: u32,
-) -> io::Result<Listening>
+fn listen<R>(rt: &R, address: &str, connections: Option<u32>, at_once: u32) -> io::Result<Listening>
 where
     R: AllocGlobal + time::Clock + Net<Listener = TcpListener, Stream = TcpStream>,
 {
