@@ -15,7 +15,7 @@ use Rattle.hub.specs.Links.{number_of, unsent}
 use Rattle.hub.specs.Ordering.{EndsBy, HaveNumbers, IsAnswer, IsOther, IsServedLine, ServesLines, TurnsLine, number_at, replies_in, reply_by, steps_of}
 use Rattle.hub.specs.Representing.{ConnectionsRepresent, hub_store}
 use Rattle.hub.specs.Serving.{IsUnanswered, LeavesOthers, pieces_in}
-use Rattle.hub.specs.Steps.{IsStepOf, Step, StepsBetween, answered, answers_of, closed, conn_of, faulted, fed_by, fed_in, stop_of}
+use Rattle.hub.specs.Steps.{IsStepOf, Step, answered, answers_of, closed, conn_of, faulted, fed_by, fed_in, stop_of}
 use Rattle.hub.specs.StepsLaws.{answers_each, fed_answers, fed_stopped, steps_none, steps_on, steps_proceeding, steps_stopping, stops_each}
 use Rattle.hub.specs.Turning.{Passes, TakesTurn, TurnStops}
 use Rattle.hub.specs.World.{Connections}

@@ -18,7 +18,7 @@ use Rattle.hub.specs.Runs.{Answers}
 use Rattle.hub.specs.Serving.{Exchange, IsEventOf, IsKnown, IsUnanswered, LeavesClosed, Proceeds, RunsUntil, Stops}
 use Rattle.hub.specs.Steps.{AreKnown, IsStep, IsStepOf, Step, StepsBetween, StepsFrom, StepsTaken, TakesStep}
 use Rattle.hub.specs.Steps.{TakesSteps}
-use Rattle.hub.specs.Steps.{answered, answers_of, before_fault, closed, conn_of, faulted, fed_by, fed_in, stop_of}
+use Rattle.hub.specs.Steps.{answered, answers_of, before_fault, closed, faulted, fed_by, fed_in, stop_of}
 use Rattle.hub.specs.Turning.{TakesTurn, TurnStops}
 use Rattle.hub.specs.World.{Connections, World}
 use Rattle.hub.specs.declared.event.Event.{Event}
