@@ -1,5 +1,5 @@
 -- What one turn or closing leaves, and then others.
-use Rattle.std.proofs.Common.{◌≡◌, ◌≢◌, ◌<◌, ◌≤◌, ◌∙◌, ◌⊎◌, inl, inr, ⊎_elim, ℕ, Option, Some, None, List, [], ◌++◌, Result, Ok, Err, IsTrue, IfErr, MatchResult, Bool, true, false, ap, ap₂, sym, subst, refl, append-nil, arith}
+use Rattle.std.proofs.Common.{◌≡◌, ◌≢◌, ◌<◌, ◌≤◌, ◌∙◌, ◌⊎◌, inl, inr, ⊎_elim, ℕ, Option, Some, None, List, [], ◌∷◌, ◌++◌, Result, Ok, Err, IsTrue, IfErr, MatchResult, Bool, true, false, ap, ap₂, sym, subst, refl, append-nil, arith}
 use Rattle.std.proofs.lemmas.Bool.{cases_lt}
 use Rattle.std.proofs.lemmas.Map.{update_apart}
 use Rattle.broker_types.specs.declared.fault.Fault.{Fault}
@@ -9,6 +9,7 @@ use Rattle.hub.specs.Feeding.{IsLater}
 use Rattle.hub.specs.Numbers.{IsNext}
 use Rattle.hub.specs.Representing.{ConnectionsRepresent, HubRepresents, hub_store}
 use Rattle.hub.specs.Serving.{IsAllowed, LeavesClosed, LeavesOthers}
+use Rattle.hub.specs.Steps.{closed}
 use Rattle.hub.specs.StepsLaws.{known_open, steps_close, steps_none, steps_on, steps_turned}
 use Rattle.hub.specs.Turning.{TakesTurn, TurnStops}
 use Rattle.hub.specs.World.{Connections, History, World, history_at}
@@ -16,6 +17,7 @@ use Rattle.hub.specs.declared.event.Event.{Event}
 use Rattle.hub.specs.declared.hub.Hub.{Hub}
 use Rattle.hub.specs.declared.serve.ConnectionFault.{ConnectionFault}
 use Rattle.hub.specs.declared.serve.ConnectionFault.TheVariants.{Broker, Read, Write}
+use Rattle.hub.specs.declared.turn.Turn.{Turn}
 use Rattle.server.specs.Laws.{AllKeepLaws}
 use Rattle.server.specs.Serving.{ClosesSome, LeavesBelow, LeavesSeen, LeavesServed, ServesLawfully, is_skipped}
 
@@ -23,6 +25,7 @@ use Rattle.server.specs.Serving.{ClosesSome, LeavesBelow, LeavesSeen, LeavesServ
 
 pub leaves_none : {A S : Type 0} (seen : S → Kept) (X : List Event → Type 0) (a : A) (hub : Hub S) → X [] → LeavesServed seen X (Ok a) hub hub
 leaves_none seen X a hub x = record {
+  steps = [];
   between = steps_none seen X hub x;
   skipped = tt;
   storage = λ is. cc is;
@@ -31,12 +34,13 @@ leaves_none seen X a hub x = record {
 }
 
 pub closes_none : {S : Type 0} (seen : S → Kept) (hub : Hub S) → ClosesSome seen hub hub
-closes_none seen hub = record { between = steps_none seen _ hub refl; same = refl }
+closes_none seen hub = record { steps = []; between = steps_none seen _ hub refl; same = refl }
 
 -- the same, with another result
 pub leaves_ok : {A B S : Type 0} (seen : S → Kept) (X : List Event → Type 0) (a : A) (b : B) (old new : Hub S)
     → LeavesServed seen X (Ok a) old new → LeavesServed seen X (Ok b) old new
 leaves_ok seen X a b old new left = record {
+  steps = left.steps;
   between = left.between;
   skipped = tt;
   storage = λ is. cc is;
@@ -47,6 +51,7 @@ leaves_ok seen X a b old new left = record {
 pub leaves_err : {A B S : Type 0} (seen : S → Kept) (X : List Event → Type 0) (fault : Fault) (old new : Hub S)
     → LeavesServed {A = A} seen X (Err fault) old new → LeavesServed {A = B} seen X (Err fault) old new
 leaves_err seen X fault old new left = record {
+  steps = left.steps;
   between = left.between;
   skipped = left.skipped;
   storage = λ is. let same : fault ≡ Storage = cc is in left.storage (ap Err same);
@@ -74,14 +79,15 @@ pub leaves_on : {A B S : Type 0} (seen : S → Kept) (X Y Z : List Event → Typ
 leaves_on seen X Y Z a r old mid new joins first second =
     let before = honest_before (hub_store seen mid) (hub_store seen new) second.between.later in
     record {
-      between = steps_on seen X Y Z old mid new joins first.between second.between;
+      steps = first.steps ++ second.steps;
+      between = steps_on seen X Y Z first.steps second.steps old mid new joins first.between second.between;
       skipped = second.skipped;
       storage = second.storage;
       stays_open = λ honest. open_on r (hub_store seen new).is_open (hub_store seen mid).is_open (hub_store seen old).is_open
           (second.stays_open honest) (first.stays_open (before honest));
       wants = λ honest open_ w represents.
           let still = subst IsTrue (sym (first.stays_open (before honest))) open_ in
-          let one = first.between.worlds (before honest) (known_open (hub_store seen mid) first.between.steps still) w represents in
+          let one = first.between.worlds (before honest) (known_open (hub_store seen mid) first.steps still) w represents in
           second.wants honest still one.after one.represents;
     }
 
@@ -95,7 +101,8 @@ joins_none X es fs x none = subst X (sym (ap (λ (l : List Event). es ++ l) none
 pub closes_on : {S : Type 0} (seen : S → Kept) (old mid new : Hub S) → ClosesSome seen old mid → ClosesSome seen mid new
     → ClosesSome seen old new
 closes_on seen old mid new first second = record {
-  between = steps_on seen (λ events. events ≡ []) (λ events. events ≡ []) (λ events. events ≡ []) old mid new
+  steps = first.steps ++ second.steps;
+  between = steps_on seen (λ events. events ≡ []) (λ events. events ≡ []) (λ events. events ≡ []) first.steps second.steps old mid new
       (none_joins (λ events. events ≡ [])) first.between second.between;
   same = second.same ∙ first.same;
 }
@@ -104,6 +111,7 @@ closes_on seen old mid new first second = record {
 pub leaves_closes : {A S : Type 0} (seen : S → Kept) (a : A) (old new : Hub S) → ClosesSome seen old new
     → LeavesServed seen (λ events. events ≡ []) (Ok a) old new
 leaves_closes seen a old new closes = record {
+  steps = closes.steps;
   between = closes.between;
   skipped = tt;
   storage = λ is. cc is;
@@ -127,6 +135,7 @@ closing_leaves seen X r old mid new closes second =
 pub lawful : {A S : Type 0} (seen : S → Kept) (X : List Event → Type 0) (r : Result A Fault) (old new : Hub S)
     → LeavesServed seen X r old new → AllKeepLaws → ServesLawfully seen X old new
 lawful seen X r old new served laws = record {
+  steps = served.steps;
   between = served.between;
   all = λ honest known w represents.
       let from = served.between.worlds honest known w represents in (from, laws w.broker from.history from.asked);
@@ -187,9 +196,9 @@ unwanted (Err end) (Err fault) is want =
     let e : end ≡ Broker fault = cc is.0 in
     allowed fault (subst IsAllowed e want) is.1
 
-pub leaves_turn : {A B S : Type 0} (seen : S → Kept) (conn : ℕ) (Reads Writes : List ℕ → Type 0) (Draws : List Event → Type 0)
-    (end : Result A ConnectionFault) (r : Result B Fault) (old new : Hub S) → IsUnskipped end r
-    → MatchResult end (λ _. TakesTurn seen conn Reads Writes Draws old new)
+pub leaves_turn : {B S : Type 0} (seen : S → Kept) (conn : ℕ) (Reads Writes : List ℕ → Type 0) (Draws : List Event → Type 0)
+    (end : Result Turn ConnectionFault) (r : Result B Fault) (old new : Hub S) → IsUnskipped end r
+    → MatchResult end (λ turn. TakesTurn seen turn conn Reads Writes Draws old new)
     (λ fault. TurnStops seen conn Reads Writes Draws fault old new)
     → (IsHonestStore (hub_store seen new) → (w : World) → HubRepresents seen old w → IfErr end IsAllowed)
     → (end ≡ Err (Broker Storage) → IsTrue (hub_store seen new).has_failed)
@@ -197,13 +206,16 @@ pub leaves_turn : {A B S : Type 0} (seen : S → Kept) (conn : ℕ) (Reads Write
     (λ _. (hub_store seen new).is_open ≡ (hub_store seen old).is_open)
     (λ fault. fault ≢ Broker Storage → (hub_store seen new).is_open ≡ (hub_store seen old).is_open))
     → IsLater (hub_store seen old) (hub_store seen new) → LeavesServed seen Draws r old new
-leaves_turn seen conn Reads Writes Draws end r old new is took wants storage stays later = record {
-  between = steps_turned seen conn Reads Writes Draws old new end later took;
-  skipped = skipped_by end r is;
-  storage = λ e. storage (storage_by end r is e);
-  stays_open = λ honest. open_by end r (hub_store seen new).is_open (hub_store seen old).is_open is (stays honest);
-  wants = λ honest open_ w represents. unwanted end r is (wants honest w represents);
-}
+leaves_turn seen conn Reads Writes Draws end r old new is took wants storage stays later =
+    let turned = steps_turned seen conn Reads Writes Draws old new end later took in
+    record {
+      steps = turned.0;
+      between = turned.1;
+      skipped = skipped_by end r is;
+      storage = λ e. storage (storage_by end r is e);
+      stays_open = λ honest. open_by end r (hub_store seen new).is_open (hub_store seen old).is_open is (stays honest);
+      wants = λ honest open_ w represents. unwanted end r is (wants honest w represents);
+    }
 
 -- ---- one closing
 
@@ -212,7 +224,11 @@ pub closes_one : {S : Type 0} (seen : S → Kept) (conn : ℕ) (old new : Hub S)
     × HubRepresents seen new (record w { connections = after }))
     → hub_store seen new ≡ hub_store seen old → ClosesSome seen old new
 closes_one seen conn old new worlds same =
-    record { between = steps_close seen conn (λ events. events ≡ []) old new refl worlds same; same = same }
+    record {
+      steps = closed conn ∷ [];
+      between = steps_close seen conn (λ events. events ≡ []) old new refl worlds same;
+      same = same;
+    }
 
 -- ---- which connections are left
 

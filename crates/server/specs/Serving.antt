@@ -4,7 +4,7 @@ use Rattle.broker_types.specs.declared.fault.Fault.{Fault}
 use Rattle.broker_types.specs.declared.fault.Fault.TheVariants.{Memory, Storage, Damaged, BadStart}
 use Rattle.broker.specs.Kept.{Kept, IsHonestStore}
 use Rattle.hub.specs.Representing.{ConnectionsRepresent, HubRepresents, hub_store}
-use Rattle.hub.specs.Steps.{AreKnown, StepsBetween, StepsFrom, StepsTaken, before_fault}
+use Rattle.hub.specs.Steps.{AreKnown, Step, StepsBetween, StepsFrom, StepsTaken, before_fault}
 use Rattle.hub.specs.World.{Connections, World}
 use Rattle.hub.specs.declared.event.Event.{Event}
 use Rattle.hub.specs.declared.hub.Hub.{Hub}
@@ -27,7 +27,8 @@ is_skipped Write = true
 -- ends it than a failure of the storage. The storage can still be asked, unless it failed.
 pub record LeavesServed {A S : Type 0} (seen : S → Kept) (Draws : List Event → Type 0) (r : Result A Fault)
     (old new : Hub S) : Type 0 where
-  pub between : StepsBetween seen Draws old new
+  pub steps : List Step
+  pub between : StepsBetween seen Draws steps old new
   pub skipped : IfErr r (λ fault. fault ≢ Memory)
   pub storage : r ≡ Err Storage → IsTrue (hub_store seen new).has_failed
   pub stays_open : IsHonestStore (hub_store seen new) → MatchResult r
@@ -38,7 +39,8 @@ pub record LeavesServed {A S : Type 0} (seen : S → Kept) (Draws : List Event �
 
 -- connections were closed, one after another; nothing was fed
 pub record ClosesSome {S : Type 0} (seen : S → Kept) (old new : Hub S) : Type 0 where
-  pub between : StepsBetween seen (λ events. events ≡ []) old new
+  pub steps : List Step
+  pub between : StepsBetween seen (λ events. events ≡ []) steps old new
   pub same : hub_store seen new ≡ hub_store seen old
 
 -- There is one list of steps over all connections, and from each world that the hub represented, what they asked keeps
@@ -46,11 +48,12 @@ pub record ClosesSome {S : Type 0} (seen : S → Kept) (old new : Hub S) : Type 
 -- whether that is known or not.
 pub record ServesLawfully {S : Type 0} (seen : S → Kept) (Draws : List Event → Type 0) (old new : Hub S)
     : Type 0 where
-  pub between : StepsBetween seen Draws old new
-  pub all : IsHonestStore (hub_store seen new) → AreKnown between.steps (hub_store seen new) → (w : World)
-      → HubRepresents seen old w → (from : StepsFrom seen w between.steps new) × KeepsLaws w.broker from.history
+  pub steps : List Step
+  pub between : StepsBetween seen Draws steps old new
+  pub all : IsHonestStore (hub_store seen new) → AreKnown steps (hub_store seen new) → (w : World)
+      → HubRepresents seen old w → (from : StepsFrom seen w steps new) × KeepsLaws w.broker from.history
   pub before : IsHonestStore (hub_store seen new) → (w : World) → HubRepresents seen old w
-      → (taken : StepsTaken w (before_fault between.steps)) × KeepsLaws w.broker taken.history
+      → (taken : StepsTaken w (before_fault steps)) × KeepsLaws w.broker taken.history
 
 -- ---- which connections are left
 

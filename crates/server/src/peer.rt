@@ -108,20 +108,24 @@ impl Peer {
         let mut writer = NowWriting::new(&self.stream);
         match take_turn(hub, &mut self.link, &mut reader, &mut writer, clock, words) {
             Ok(turn) => {
-                let is_emptied = reader.is_emptied() && self.is_certain(turn);
+                let is_emptied = reader.is_emptied();
                 let is_full = writer.is_full();
-                self.can_read &= !is_emptied;
-                self.can_write &= !is_full;
+                self.unmark(turn, is_emptied, is_full);
                 Ok(self.settle(hub, turn, now))
             }
             Err(fault) => unskipped(fault),
         }
     }
 
-    /// Whether a read that gave fewer bytes than there was room for has emptied the stream. A peer that sends no more is
-    /// read until the end is met, since no event comes for that.
-    fn is_certain(&self, turn: Turn) -> bool {
-        turn == Turn::NeedsBytes || !self.is_read_closed
+    /// Takes down that a call would have waited now, or that a read gave fewer bytes than there was room for, and so has
+    /// emptied the stream. A peer that sends no more is read until the end is met, since no event comes for that.
+    fn unmark(&mut self, turn: Turn, is_emptied: bool, is_full: bool) {
+        if is_emptied && (turn == Turn::NeedsBytes || !self.is_read_closed) {
+            self.can_read = false;
+        }
+        if is_full {
+            self.can_write = false;
+        }
     }
 
     /// What the turn left.
