@@ -1,5 +1,5 @@
 -- What one turn or closing leaves, and then others.
-use Rattle.std.proofs.Common.{◌≡◌, ◌≢◌, ◌<◌, ◌≤◌, ◌∙◌, ◌⊎◌, inl, inr, ⊎_elim, ℕ, Option, Some, None, List, [], ◌∷◌, ◌++◌, Result, Ok, Err, IsTrue, IfErr, MatchResult, Bool, true, false, ap, ap₂, sym, subst, refl, append-nil, arith}
+use Rattle.std.proofs.Common.{◌≡◌, ◌≢◌, ◌≤◌, ◌∙◌, inl, inr, ⊎_elim, ℕ, Some, List, [], ◌∷◌, ◌++◌, Result, Ok, Err, IsTrue, IfErr, MatchResult, Bool, true, false, ap, sym, subst, refl, append-nil, arith}
 use Rattle.std.proofs.lemmas.Bool.{cases_lt}
 use Rattle.std.proofs.lemmas.Map.{update_apart}
 use Rattle.broker_types.specs.declared.fault.Fault.{Fault}
@@ -12,11 +12,11 @@ use Rattle.hub.specs.Serving.{IsAllowed, LeavesClosed, LeavesOthers}
 use Rattle.hub.specs.Steps.{closed}
 use Rattle.hub.specs.StepsLaws.{known_open, steps_close, steps_none, steps_on, steps_turned}
 use Rattle.hub.specs.Turning.{TakesTurn, TurnStops}
-use Rattle.hub.specs.World.{Connections, History, World, history_at}
+use Rattle.hub.specs.World.{Connections, World, history_at}
 use Rattle.hub.specs.declared.event.Event.{Event}
 use Rattle.hub.specs.declared.hub.Hub.{Hub}
 use Rattle.hub.specs.declared.serve.ConnectionFault.{ConnectionFault}
-use Rattle.hub.specs.declared.serve.ConnectionFault.TheVariants.{Broker, Read, Write}
+use Rattle.hub.specs.declared.serve.ConnectionFault.TheVariants.{Broker}
 use Rattle.hub.specs.declared.turn.Turn.{Turn}
 use Rattle.server.specs.Laws.{AllKeepLaws}
 use Rattle.server.specs.Serving.{ClosesSome, LeavesBelow, LeavesSeen, LeavesServed, ServesLawfully, is_skipped}
@@ -35,29 +35,6 @@ leaves_none seen X a hub x = record {
 
 pub closes_none : {S : Type 0} (seen : S → Kept) (hub : Hub S) → ClosesSome seen hub hub
 closes_none seen hub = record { steps = []; between = steps_none seen _ hub refl; same = refl }
-
--- the same, with another result
-pub leaves_ok : {A B S : Type 0} (seen : S → Kept) (X : List Event → Type 0) (a : A) (b : B) (old new : Hub S)
-    → LeavesServed seen X (Ok a) old new → LeavesServed seen X (Ok b) old new
-leaves_ok seen X a b old new left = record {
-  steps = left.steps;
-  between = left.between;
-  skipped = tt;
-  storage = λ is. cc is;
-  stays_open = left.stays_open;
-  wants = left.wants;
-}
-
-pub leaves_err : {A B S : Type 0} (seen : S → Kept) (X : List Event → Type 0) (fault : Fault) (old new : Hub S)
-    → LeavesServed {A = A} seen X (Err fault) old new → LeavesServed {A = B} seen X (Err fault) old new
-leaves_err seen X fault old new left = record {
-  steps = left.steps;
-  between = left.between;
-  skipped = left.skipped;
-  storage = λ is. let same : fault ≡ Storage = cc is in left.storage (ap Err same);
-  stays_open = left.stays_open;
-  wants = left.wants;
-}
 
 -- ---- two after each other
 
@@ -129,7 +106,7 @@ leaves_closing seen X a b old mid new first closes =
 pub closing_leaves : {A S : Type 0} (seen : S → Kept) (X : List Event → Type 0) (r : Result A Fault) (old mid new : Hub S)
     → ClosesSome seen old mid → LeavesServed seen X r mid new → LeavesServed seen X r old new
 closing_leaves seen X r old mid new closes second =
-    leaves_on seen (λ events. events ≡ []) X X tt r old mid new (none_joins X) (leaves_closes seen tt old mid closes) second
+    leaves_on seen (λ events. events ≡ []) X X (tt {0}) r old mid new (none_joins X) (leaves_closes seen (tt {0}) old mid closes) second
 
 -- all that was asked keeps the laws
 pub lawful : {A S : Type 0} (seen : S → Kept) (X : List Event → Type 0) (r : Result A Fault) (old new : Hub S)
@@ -150,9 +127,9 @@ abbrev pub IsUnskipped : {A B : Type 0} → Result A ConnectionFault → Result 
 IsUnskipped end r = MatchResult r (λ _. IfErr end (λ fault. is_skipped fault ≡ true))
     (λ fault. (end ≡ Err (Broker fault)) × (fault ≢ Memory))
 
-pub unskipped_of : {A B : Type 0} (end : ConnectionFault) (r : Result B Fault)
+pub unskipped_of : {B : Type 0} (end : ConnectionFault) (r : Result B Fault)
     → MatchResult r (λ _. is_skipped end ≡ true) (λ fault. (end ≡ Broker fault) × (fault ≢ Memory))
-    → IsUnskipped {A = A} (Err end) r
+    → IsUnskipped {A = Turn} (Err end) r
 unskipped_of end (Ok b) is = is
 unskipped_of end (Err fault) is = (ap Err is.0, is.1)
 

@@ -184,17 +184,18 @@ impl Links {
         Some(longest?.0)
     }
 
-    /// Closes a connection, and drops what waits on it.
+    /// Closes a connection, and drops what waits on it. No connection below the first number is touched.
     fn close<S: Store>(&mut self, hub: &mut Hub<S>, first: u64, conn: u64)
         ensures steps { ClosesSome S.seen hub.old hub.new }
         ensures below { (all : Connections) → ConnectionsRepresent hub.old all → LeavesBelow first all hub.new }
         ensures closed { first ≤ conn → (all : Connections) → ConnectionsRepresent hub.old all
             → (after : Connections) × ConnectionsRepresent hub.new after × LeavesClosed all conn after }
     {
-        if conn >= first {
-            hub.close(conn);
-        }
         self.peers.remove(&conn);
+        if conn < first {
+            return;
+        }
+        hub.close(conn);
     }
 
     /// Tries once, on each connection, to send what was not sent of its last reply.

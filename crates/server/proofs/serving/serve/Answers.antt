@@ -1,3 +1,4 @@
+use Rattle.std.proofs.Common.{Ok}
 use Rattle.hub.specs.SuppliesLaws.{Supplies-nil}
 use Rattle.server.proofs.ServingLemmas.{lawful, leaves_none, seen_all, seen_below}
 use Rattle.server.proofs.serving.serve.Goals as goal
@@ -11,7 +12,16 @@ returns-in_default-clause-others g c = λ all each. seen_all all c.args.hub.now 
 
 pub returns-in_default-clause-lawful : goal.returns-in_default-clause-lawful
 returns-in_default-clause-lawful g c =
-    lawful g.S.Store.seen _ (Ok tt) c.args.hub.now c.args.hub.now
-    (leaves_none g.S.Store.seen _ tt c.args.hub.now
+    lawful g.S.Store.seen _ (Ok (tt {0})) c.args.hub.now c.args.hub.now
+    (leaves_none g.S.Store.seen _ (tt {0}) c.args.hub.now
     (Supplies-nil g.C.Clock.may_tell c.args.clock.now g.D.WordSource.may_give c.args.words.now))
     c.all_that_is_asked_keeps_the_laws.ensures
+
+pub returns-clause-others : goal.returns-clause-others
+returns-clause-others g c = λ all each.
+    seen_below c.in-Some.first all c.serve_rounds-served.new.hub (c.in-Some.ensures all each) (c.serve_rounds-served.ensures.below all each)
+
+pub returns-clause-lawful : goal.returns-clause-lawful
+returns-clause-lawful g c =
+    lawful g.S.Store.seen _ c.serve_rounds-served.result c.args.hub.now c.serve_rounds-served.new.hub
+    c.serve_rounds-served.ensures.served c.all_that_is_asked_keeps_the_laws.ensures
