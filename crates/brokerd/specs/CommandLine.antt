@@ -25,6 +25,15 @@ connections_rule =
       parser = Some (Signed (pos 1) (pos 4294967295));
     }
 
+-- `--at-once M`, from 1 to 10,000
+abbrev pub at_once_rule : Rule
+at_once_rule =
+    record (new_rule (codes "at-once")) {
+      long = Some (codes "at-once");
+      value_names = 1;
+      parser = Some (Signed (pos 1) (pos 10000));
+    }
+
 -- `--until-stopped`
 abbrev pub until_stopped_rule : Rule
 until_stopped_rule =
@@ -34,11 +43,13 @@ until_stopped_rule =
 abbrev pub replay_app : App
 replay_app = new_app (codes "replay")
 
--- `brokerd serve --listen ADDR [--db FILE] [--connections N] [--until-stopped]`
+-- `brokerd serve --listen ADDR [--db FILE] [--connections N] [--at-once M] [--until-stopped]`
 abbrev pub serve_app : App
 serve_app =
     with_rule
+    (with_rule
     (with_rule (with_rule (with_rule (new_app (codes "serve")) listen_rule) db_rule) connections_rule)
+    at_once_rule)
     until_stopped_rule
 
 -- `brokerd`, which has a version and requires a subcommand
@@ -57,10 +68,10 @@ abbrev pub IsNumber : Text → Type 0
 IsNumber text =
     IsNumeral 10 (without_leading_plus text) × (digits_value 10 (without_leading_plus text) < 2 ^ 32)
 
--- so many connections: the number that the text is, or 1,000 if there is none
-abbrev pub IsNumberOf : Option Text → ℕ → Type 0
-IsNumberOf None count = count ≡ 1000
-IsNumberOf (Some text) count = IsNumber text × (count ≡ digits_value 10 (without_leading_plus text))
+-- the number that the text is, or the usual one if there is none
+abbrev pub IsNumberOr : ℕ → Option Text → ℕ → Type 0
+IsNumberOr usual None count = count ≡ usual
+IsNumberOr usual (Some text) count = IsNumber text × (count ≡ digits_value 10 (without_leading_plus text))
 
 -- a flag is set; `clap` gives it the text "true" or "false"
 abbrev pub IsSet : Option Text → Type 0
@@ -69,12 +80,20 @@ IsSet text = (text ≢ None) × (text ≢ Some (codes "false"))
 abbrev pub IsNotSet : Option Text → Type 0
 IsNotSet text = text ≢ Some (codes "true")
 
--- how many connections to serve: without an end if that alone is asked for, else the number
+-- how many connections to serve: without an end if that alone is asked for, else the number, or 1,000
 abbrev pub IsCount : List Row → Option ℕ → Type 0
 IsCount rows None =
     IsSet (one_of (codes "until-stopped") rows) × (one_of (codes "connections") rows ≡ None)
 IsCount rows (Some count) =
-    IsNotSet (one_of (codes "until-stopped") rows) × IsNumberOf (one_of (codes "connections") rows) count
+    IsNotSet (one_of (codes "until-stopped") rows) × IsNumberOr 1000 (one_of (codes "connections") rows) count
+
+-- how many connections to serve at once: the number, or 256
+abbrev pub IsPlaces : List Row → ℕ → Type 0
+IsPlaces rows places = IsNumberOr 256 (one_of (codes "at-once") rows) places
+
+-- the text for that is no number, which `clap` does not let through
+abbrev pub LacksPlaces : List Row → Type 0
+LacksPlaces rows = (text : Text) × (one_of (codes "at-once") rows ≡ Some text) × (¬ IsNumber text)
 
 -- both a number of connections and no end are asked for, or a text for the connections is no number; `clap` does not
 -- let the second through
@@ -83,19 +102,20 @@ LacksCount rows =
     (text : Text) × (one_of (codes "connections") rows ≡ Some text)
     × (IsSet (one_of (codes "until-stopped") rows) ⊎ (¬ IsNumber text))
 
--- the values have no address, which `clap` does not let through, or no count
+-- the values have no address, which `clap` does not let through, or no count, or no places
 abbrev pub LacksValues : List Row → Type 0
-LacksValues rows = (first_of (codes "listen") rows ≡ None) ⊎ LacksCount rows
+LacksValues rows = (first_of (codes "listen") rows ≡ None) ⊎ (LacksCount rows ⊎ LacksPlaces rows)
 
 -- the command that a subcommand's name and the values of its matches mean; none if it is the name of another
 abbrev pub IsMeant : Text → List Row → Option Command → Type 0
 IsMeant name rows None = (name ≢ codes "replay") × (name ≡ codes "serve" → LacksValues rows)
 IsMeant name rows (Some Replay) = name ≡ codes "replay"
-IsMeant name rows (Some (Serve listen db connections)) =
+IsMeant name rows (Some (Serve listen db connections at_once)) =
     (name ≡ codes "serve")
     × (first_of (codes "listen") rows ≡ Some listen.now)
     × (option_map (λ path. path.now) db ≡ first_of (codes "db") rows)
     × IsCount rows connections
+    × IsPlaces rows at_once
 
 -- the command that the words of a line name, by the subcommand that they enter
 abbrev pub IsCommandOf : Option (Text × List Row) → Option Command → Type 0

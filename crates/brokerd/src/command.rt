@@ -1,8 +1,8 @@
 ghost use Rattle.std.specs.Prelude.{◌≡◌, IfOk, IfErr, IfSome, None, codes, false, map, string_bytes, true};
 ghost use Rattle.clap.specs.Words.{app_of, found_of, kind_of, rows_of, rule_of, subcommand_of, takes};
 ghost use Rattle.brokerd.specs.CommandLine.{program_app, replay_app, serve_app, listen_rule};
-ghost use Rattle.brokerd.specs.CommandLine.{connections_rule, db_rule, until_stopped_rule};
-ghost use Rattle.brokerd.specs.CommandLine.{IsMeant, IsCommandOf, IsCount, LacksCount};
+ghost use Rattle.brokerd.specs.CommandLine.{at_once_rule, connections_rule, db_rule, until_stopped_rule};
+ghost use Rattle.brokerd.specs.CommandLine.{IsMeant, IsCommandOf, IsCount, IsPlaces, LacksCount, LacksPlaces};
 
 use clap::error::{Error, ErrorKind};
 use clap::{Arg, ArgAction, ArgMatches};
@@ -12,17 +12,21 @@ use version::VERSION;
 /// How many connections are served if the command line does not say.
 const CONNECTIONS: u32 = 1_000;
 
+/// How many connections are served at once if the command line does not say.
+const AT_ONCE: u32 = 256;
+
 /// What the program is asked to do.
 #[derive(Clone, Copy, Debug, PartialEq, Eq)]
 pub(crate) enum Command<'a> {
     /// Run the lines of standard input, and write the replies to standard output.
     Replay,
-    /// Serve so many connections to an address, or serve without an end, from the broker of a file, or from one in
-    /// memory.
+    /// Serve so many connections to an address, or serve without an end, and at most so many at once, from the broker of
+    /// a file, or from one in memory.
     Serve {
         listen: &'a str,
         db: Option<&'a str>,
         connections: Option<u32>,
+        at_once: u32,
     },
 }
 
@@ -63,6 +67,7 @@ fn meant<'a>(name: &str, found: &ArgMatches<'a>) -> Option<Command<'a>>
         listen,
         db: found.get_str("db"),
         connections: count(found)?,
+        at_once: places(found)?,
     })
 }
 
@@ -81,6 +86,17 @@ fn count(found: &ArgMatches<'_>) -> Option<Option<u32>>
         Some(_) => None,
         None => Some(None),
     }
+}
+
+/// How many connections to serve at once. None if that is no number, which `clap` does not let through.
+fn places(found: &ArgMatches<'_>) -> Option<u32>
+    ensures some { IfSome result (IsPlaces (rows_of (found_of found.now))) }
+    ensures none { (result ≡ None) → LacksPlaces (rows_of (found_of found.now)) }
+{
+    let Ok(given) = found.try_get_one::<u32>("at-once") else {
+        return None;
+    };
+    Some(given.unwrap_or(AT_ONCE))
 }
 
 /// The parser of the command line.
@@ -111,6 +127,7 @@ fn serve<'a>(alloc: Global) -> Result<clap::Command<'a>, AllocError>
         .arg(listen(alloc))?
         .arg(db(alloc))?
         .arg(connections(alloc))?
+        .arg(at_once(alloc))?
         .arg(until_stopped(alloc))
 }
 
@@ -143,6 +160,17 @@ fn connections<'a>(alloc: Global) -> Arg<'a>
         .value_name("N")
         .help("How many connections to serve before the program ends; 1000 if not given")
         .value_parser(clap::value_parser!(u32).range(1..))
+}
+
+fn at_once<'a>(alloc: Global) -> Arg<'a>
+    ensures rule { rule_of result ≡ at_once_rule }
+    ensures local { result.global ≡ false }
+{
+    Arg::new(alloc, "at-once")
+        .long("at-once")
+        .value_name("M")
+        .help("How many connections to serve at once, up to 10000; 256 if not given")
+        .value_parser(clap::value_parser!(u32).range(1..=10_000))
 }
 
 fn until_stopped<'a>(alloc: Global) -> Arg<'a>

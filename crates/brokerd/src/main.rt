@@ -38,10 +38,11 @@ fn main(rt: HostRuntime) -> anyhow::Result<ExitCode> {
                     listen,
                     db,
                     connections,
+                    at_once,
                 },
             ),
         ) => {
-            let exit = serve(&rt, listen, db, connections);
+            let exit = serve(&rt, listen, db, connections, at_once);
             tell(&rt, exit)
         }
         Ok(None) => {
@@ -54,11 +55,18 @@ fn main(rt: HostRuntime) -> anyhow::Result<ExitCode> {
     }
 }
 
-/// Serves connections from the broker of a file, or else from one in memory: so many, or without an end.
-fn serve(rt: &HostRuntime, listen: &str, db: Option<&str>, connections: Option<u32>) -> Exit {
+/// Serves connections from the broker of a file, or else from one in memory: so many, or without an end, and at most
+/// `at_once` of them at once.
+fn serve(
+    rt: &HostRuntime,
+    listen: &str,
+    db: Option<&str>,
+    connections: Option<u32>,
+    at_once: u32,
+) -> Exit {
     let served = match db {
-        Some(path) => serve_file(rt, path, listen, connections),
-        None => serve_in_memory(rt, listen, connections),
+        Some(path) => serve_file(rt, path, listen, connections, at_once),
+        None => serve_in_memory(rt, listen, connections, at_once),
     };
     match served {
         Ok(()) => Exit::Done,

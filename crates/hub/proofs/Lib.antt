@@ -7,6 +7,7 @@ pub mod HubLemmas
 pub mod KnownLemmas
 pub mod ListedLemmas
 pub mod NumberLemmas
+pub mod OrderLemmas
 pub mod RequestLemmas
 pub mod RunHistories
 pub mod RunLemmas

@@ -1,7 +1,7 @@
 -- Serving a connection: events run one after another.
 use Rattle.std.proofs.Common.{◌≡◌, ◌≢◌, ◌∙◌, ◌⊎◌, inl, inr, ℕ, ◌+◌, ◌<◌, ◌≤◌, Bool, true, false, cond, List, [], ◌∷◌, ◌++◌, length, map, MatchBool, Option, Some, None}
 use Rattle.std.proofs.Common.{IsTrue, refl, sym, ap, subst, append_assoc, append-nil, arith}
-use Rattle.std.proofs.lemmas.List.{map-append}
+use Rattle.std.proofs.lemmas.List.{length-append, map-append}
 use Rattle.std.proofs.lemmas.List.Elements.{All-append, All-cons, All-nil}
 use Rattle.std.proofs.lemmas.List.Folds.{concat-append}
 use Rattle.std.proofs.lemmas.Map.{update_apart}
@@ -43,13 +43,14 @@ RunConnections-append all (e ∷ es) fs (r ∷ rs) ss mid after (v, first, run) 
 -- ---- exchanges
 
 abbrev pub exchange_none : (conn : ℕ) → Exchange conn
-exchange_none conn = record { events = []; replies = []; of_connection = All-nil (IsEventOf conn); listed = All-nil IsListedReply }
+exchange_none conn = record { events = []; replies = []; each = refl; of_connection = All-nil (IsEventOf conn); listed = All-nil IsListedReply }
 
 abbrev exchange_one : (conn : ℕ) (e : Event) (bytes : List ℕ) → IsEventOf conn e → IsListedReply bytes → Exchange conn
 exchange_one conn e bytes of listed =
     record {
       events = e ∷ [];
       replies = bytes ∷ [];
+      each = refl;
       of_connection = All-cons (IsEventOf conn) e [] of (All-nil (IsEventOf conn));
       listed = All-cons IsListedReply bytes [] listed (All-nil IsListedReply);
     }
@@ -59,11 +60,13 @@ exchange_on conn p q =
     record {
       events = p.events ++ q.events;
       replies = p.replies ++ q.replies;
+      each = length-append p.replies q.replies ∙ ap (λ (n : ℕ). n + length q.replies) p.each ∙ ap (λ (n : ℕ). length p.events + n) q.each
+          ∙ sym (length-append p.events q.events);
       of_connection = All-append (IsEventOf conn) p.events q.events p.of_connection q.of_connection;
       listed = All-append IsListedReply p.replies q.replies p.listed q.listed;
     }
 
-pieces_on : (es fs : List Event) → pieces_in (es ++ fs) ≡ pieces_in es ++ pieces_in fs
+pub pieces_on : (es fs : List Event) → pieces_in (es ++ fs) ≡ pieces_in es ++ pieces_in fs
 pieces_on es fs = ap concat (map-append (λ (e : Event). e.piece) es fs)
     ∙ concat-append (map (λ (e : Event). e.piece) es) (map (λ (e : Event). e.piece) fs)
 

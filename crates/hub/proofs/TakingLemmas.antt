@@ -1,5 +1,5 @@
 -- Turns made of what was read, fed and sent.
-use Rattle.std.proofs.Common.{◌≡◌, ◌∙◌, ◌<◌, ◌≤◌, ℕ, List, [], ◌∷◌, ◌++◌, length, Option, Some, None, Result, Ok, Err, MatchResult, IsTrue, refl, sym, ap, subst, take, append-nil, arith}
+use Rattle.std.proofs.Common.{◌≡◌, ◌∙◌, ◌⊎◌, inl, inr, ◌<◌, ◌≤◌, ℕ, List, [], ◌∷◌, ◌++◌, length, Option, Some, None, Result, Ok, Err, MatchResult, IsTrue, refl, sym, ap, subst, take, append-nil, arith}
 use Rattle.std.specs.Io.KnownBytes.{Appends, Consumes, IsAtEnd}
 use Rattle.broker_types.specs.declared.fault.Fault.{Fault}
 use Rattle.broker_types.specs.declared.words.Words.{Words}
@@ -10,12 +10,14 @@ use Rattle.records.specs.Transaction.{Rows}
 use Rattle.hub.specs.AnyRows.{FaultsAt}
 use Rattle.hub.specs.Representing.{ConnectionsRepresent, hub_store}
 use Rattle.hub.specs.Serving.{IsUnanswered, longest_piece}
-use Rattle.hub.specs.Turning.{Passes, TakesTurn, TurnStops}
+use Rattle.hub.specs.Turning.{Passes, Says, TakesTurn, TurnStops}
 use Rattle.hub.specs.World.{Connections}
 use Rattle.hub.specs.declared.event.Event.{Event}
 use Rattle.hub.specs.declared.hub.Hub.{Hub}
 use Rattle.hub.specs.declared.serve.ConnectionFault.{ConnectionFault}
 use Rattle.hub.specs.declared.serve.ConnectionFault.TheVariants.{Broker as OfBroker, Write}
+use Rattle.hub.specs.declared.turn.Turn.{Turn}
+use Rattle.hub.specs.declared.turn.Turn.TheVariants.{NeedsRoom, WentOn}
 use Rattle.hub.proofs.AnswersLemmas.{answers_none, answers_one}
 use Rattle.hub.proofs.KnownLemmas.{Appends-nil, Consumes-kept}
 use Rattle.hub.proofs.ServingLemmas.{Closes, Fed, closed_world, event_of, exchange_fed, exchange_none, leaves_closed}
@@ -37,9 +39,9 @@ passes_reply Sends before set after reply none same p = record {
 -- ---- turns
 
 -- no event
-pub turn_none : {S : Type 0} (seen : S → Kept) (conn : ℕ) (P T : List ℕ → Type 0) (X : List Event → Type 0) (hub : Hub S) → P [] → T [] → X []
-    → TakesTurn seen conn P T X hub hub
-turn_none seen conn P T X hub p t x = record {
+pub turn_none : {S : Type 0} (seen : S → Kept) (turn : Turn) (conn : ℕ) (P T : List ℕ → Type 0) (X : List Event → Type 0) (hub : Hub S)
+    → Says turn [] → P [] → T [] → X [] → TakesTurn seen turn conn P T X hub hub
+turn_none seen turn conn P T X hub said p t x = record {
   on = record {
     exchange = exchange_none conn;
     reads = p;
@@ -49,13 +51,19 @@ turn_none seen conn P T X hub p t x = record {
     turns = λ all represents. record { after = all; run = refl; represents = represents };
   };
   one = omega arith;
+  said = said;
 }
 
+-- what is said where nothing was fed
+pub said_sending : (turn : Turn) → (turn ≡ WentOn) ⊎ (turn ≡ NeedsRoom) → Says turn []
+said_sending turn (inl is) = subst (λ (t : Turn). Says t []) (sym is) (inl refl)
+said_sending turn (inr is) = subst (λ (t : Turn). Says t []) (sym is) refl
+
 -- an event that was answered
-pub turn_fed : {S : Type 0} (seen : S → Kept) (conn : ℕ) (piece : List ℕ) (m : ℕ) (ws : Words) (bytes : List ℕ) (T : List ℕ → Type 0)
-    (X : List Event → Type 0) (old new : Hub S) → Fed seen conn piece m ws bytes old new → T (bytes ++ []) → X (event_of conn piece m ws ∷ [])
-    → TakesTurn seen conn (λ read. read ≡ piece) T X old new
-turn_fed seen conn piece m ws bytes T X old new f t drawn =
+pub turn_fed : {S : Type 0} (seen : S → Kept) (turn : Turn) (conn : ℕ) (piece : List ℕ) (m : ℕ) (ws : Words) (bytes : List ℕ) (T : List ℕ → Type 0)
+    (X : List Event → Type 0) (old new : Hub S) → Says turn (bytes ∷ []) → Fed seen conn piece m ws bytes old new → T (bytes ++ [])
+    → X (event_of conn piece m ws ∷ []) → TakesTurn seen turn conn (λ read. read ≡ piece) T X old new
+turn_fed seen turn conn piece m ws bytes T X old new said f t drawn =
     let e : Event = event_of conn piece m ws in
     record {
       on = record {
@@ -67,6 +75,7 @@ turn_fed seen conn piece m ws bytes T X old new f t drawn =
         turns = λ all represents. let a = f.gives all represents in record { after = a.0; run = (a.0, a.2, refl); represents = a.1 };
       };
       one = omega arith;
+      said = said;
     }
 
 -- an event that was answered, and then a write that failed
@@ -174,11 +183,12 @@ stop_feeding seen conn piece m ws T X fault old new short t drawn kept faults =
 -- ---- what was read
 
 -- the piece is what was read
-pub turned_so : {A S : Type 0} (seen : S → Kept) (conn : ℕ) (piece : List ℕ) (Q T : List ℕ → Type 0) (X : List Event → Type 0) (old new : Hub S)
-    (r : Result A ConnectionFault) → Q piece
-    → MatchResult r (λ _. TakesTurn seen conn (λ read. read ≡ piece) T X old new) (λ fault. TurnStops seen conn (λ read. read ≡ piece) T X fault old new)
-    → MatchResult r (λ _. TakesTurn seen conn Q T X old new) (λ fault. TurnStops seen conn Q T X fault old new)
-turned_so seen conn piece Q T X old new (Ok a) q t = record {
+pub turned_so : {S : Type 0} (seen : S → Kept) (conn : ℕ) (piece : List ℕ) (Q T : List ℕ → Type 0) (X : List Event → Type 0) (old new : Hub S)
+    (r : Result Turn ConnectionFault) → Q piece
+    → MatchResult r (λ turn. TakesTurn seen turn conn (λ read. read ≡ piece) T X old new)
+    (λ fault. TurnStops seen conn (λ read. read ≡ piece) T X fault old new)
+    → MatchResult r (λ turn. TakesTurn seen turn conn Q T X old new) (λ fault. TurnStops seen conn Q T X fault old new)
+turned_so seen conn piece Q T X old new (Ok turn) q t = record {
   on = record {
     exchange = t.on.exchange;
     reads = subst Q (sym t.on.reads) q;
@@ -188,6 +198,7 @@ turned_so seen conn piece Q T X old new (Ok a) q t = record {
     turns = t.on.turns;
   };
   one = t.one;
+  said = t.said;
 }
 turned_so seen conn piece Q T X old new (Err fault) q t = record {
   stops = record {

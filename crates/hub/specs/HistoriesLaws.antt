@@ -10,7 +10,8 @@ use Rattle.hub.specs.declared.event.Event.{Event}
 
 -- ---- what the events of a run left
 
-left_after : (b : Broker) (asking : Option Asking) (hs : History)
+-- the broker after an event, and what was left then
+pub left_after : (b : Broker) (asking : Option Asking) (hs : History)
     → left_by (option_map_or (λ (a : Asking). a.outcome.next) asking b) hs ≡ left_by b (asking ∷ hs)
 left_after b None hs = refl
 left_after b (Some a) hs = refl

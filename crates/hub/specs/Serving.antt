@@ -45,10 +45,11 @@ IsAllowed Write = ⊤
 abbrev pub IsEventOf : ℕ → Event → Type 0
 IsEventOf conn e = (e.conn ≡ conn) × (length e.piece ≤ longest_piece)
 
--- events of the connection, and listed replies to them
+-- events of the connection, and listed replies to them, one an event
 pub record Exchange (conn : ℕ) : Type 0 where
   pub events : List Event
   pub replies : List (List ℕ)
+  pub each : length replies ≡ length events
   pub of_connection : All (IsEventOf conn) events
   pub listed : All IsListedReply replies
 

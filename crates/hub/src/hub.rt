@@ -1,5 +1,5 @@
 use crate::entry::Entry;
-use crate::table::{close, empty, has_request, is_closed, next_number, open, settle};
+use crate::table::{close, empty, has_request, has_rest, is_closed, next_number, open, settle};
 use broker::Store;
 use broker_types::{Fault, Moment, Words};
 use std::alloc::Global;
@@ -82,6 +82,12 @@ impl<S: Store> Hub<S> {
             → result ≡ false }
     {
         has_request(&self.connections, conn)
+    }
+
+    /// Whether bytes of a request that is not whole yet, or of one that waits, lie on the connection. It takes no
+    /// memory.
+    pub fn has_rest(&self, conn: u64) -> bool {
+        has_rest(&self.connections, conn)
     }
 
     /// Closes a connection whose peer is gone, if it was seen, and drops the bytes that wait on it: the hub

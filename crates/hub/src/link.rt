@@ -43,7 +43,8 @@ impl Link {
 
     /// Whether there are any.
     pub fn is_sending(&self) -> bool
-        ensures { result ≡ false → unsent self.now ≡ [] }
+        ensures none { result ≡ false → unsent self.now ≡ [] }
+        ensures some { unsent self.now ≡ [] → result ≡ false }
     {
         self.sent < self.reply.len()
     }

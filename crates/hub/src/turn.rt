@@ -28,9 +28,9 @@ pub enum Turn {
     WentOn,
     /// A request was answered. Its reply was sent, or a part of it waits.
     Answered,
-    /// No byte is there to be read now.
+    /// No byte was read: none is there now, or the read was interrupted. The reader can tell which.
     NeedsBytes,
-    /// There is no room to write now.
+    /// No byte was sent: there is no room now, or the write was interrupted. The writer can tell which.
     NeedsRoom,
     /// The input has ended, or the connection is closed.
     Ended,
@@ -53,7 +53,7 @@ pub fn take_turn<S: Store, R: NowSource, W: NowSink, C: Clock, D: WordSource>(
     words: &mut D,
 ) -> Result<Turn, ConnectionFault>
     ensures took { MatchResult result
-        (λ _. TakesTurn S.seen (number_of link.old) (Consumes (R.left reader.old) (R.left reader.new))
+        (λ turn. TakesTurn S.seen turn (number_of link.old) (Consumes (R.left reader.old) (R.left reader.new))
         (Passes (Appends (W.written writer.old) (W.written writer.new)) (unsent link.old) (unsent link.new))
         (Supplies C.may_tell clock.old clock.new D.may_give words.old words.new) hub.old hub.new)
         (λ fault. TurnStops S.seen (number_of link.old) (Consumes (R.left reader.old) (R.left reader.new))
@@ -66,12 +66,14 @@ pub fn take_turn<S: Store, R: NowSource, W: NowSink, C: Clock, D: WordSource>(
         → LeavesOthers (number_of link.old) all hub.new }
 
     // All was sent and no request waits for its reply where bytes are needed; at the end, the connection is closed, or
-    // the input has ended and the next request needs more bytes. After a fault the connection is closed or not seen.
+    // the input has ended and the next request needs more bytes. Something waits to be sent where room is needed. After
+    // a fault the connection is closed or not seen.
     ensures needs { result ≡ Ok Turn.NeedsBytes → (unsent link.new ≡ [])
         × ((all : Connections) → ConnectionsRepresent hub.new all → IsAnswered all (number_of link.new)) }
     ensures ended { result ≡ Ok Turn.Ended → (unsent link.new ≡ [])
         × ((all : Connections) → ConnectionsRepresent hub.new all
         → HasEnded (R.left reader.new) all (number_of link.new)) }
+    ensures room { result ≡ Ok Turn.NeedsRoom → unsent link.new ≢ [] }
     ensures gone { OnErr result ((all : Connections) → ConnectionsRepresent hub.new all
         → IsGone all (number_of link.new)) }
 
@@ -113,6 +115,7 @@ fn send_rest<W: NowSink>(link: &mut Link, writer: &mut W) -> Result<Turn, Failed
     ensures same { number_of link.new ≡ number_of link.old }
     ensures failed { MatchResult result (λ turn. (turn ≡ Turn.WentOn) ⊎ (turn ≡ Turn.NeedsRoom))
         (λ _. IsTrue (W.has_failed writer.new)) }
+    ensures room { IfOk result (λ turn. turn ≡ Turn.NeedsRoom → unsent link.new ≡ unsent link.old) }
 {
     match writer.push_now(link.unsent()) {
         Ok(0) => Ok(Turn::NeedsRoom),
@@ -136,13 +139,14 @@ fn feed_piece<S: Store, W: NowSink, C: Clock, D: WordSource>(
     requires done { unsent link.old ≡ [] }
     requires short { length piece.now ≤ longest_piece }
     ensures took { MatchResult result
-        (λ _. TakesTurn S.seen (number_of link.old) (λ read. read ≡ piece.now)
+        (λ turn. TakesTurn S.seen turn (number_of link.old) (λ read. read ≡ piece.now)
         (Passes (Appends (W.written writer.old) (W.written writer.new)) (unsent link.old) (unsent link.new))
         (Supplies C.may_tell clock.old clock.new D.may_give words.old words.new) hub.old hub.new)
         (λ fault. TurnStops S.seen (number_of link.old) (λ read. read ≡ piece.now)
         (Passes (Appends (W.written writer.old) (W.written writer.new)) (unsent link.old) (unsent link.new))
         (Supplies C.may_tell clock.old clock.new D.may_give words.old words.new) fault hub.old hub.new) }
     ensures same { number_of link.new ≡ number_of link.old }
+    ensures room { result ≢ Ok Turn.NeedsRoom }
     ensures turns { IfOk result (λ turn. (turn ≡ Turn.WentOn) ⊎ (turn ≡ Turn.Answered)) }
     ensures others { (all : Connections) → ConnectionsRepresent hub.old all
         → LeavesOthers (number_of link.old) all hub.new }
@@ -187,7 +191,7 @@ fn read_piece<S: Store, R: NowSource, W: NowSink, C: Clock, D: WordSource>(
 ) -> Result<Turn, ConnectionFault>
     requires done { unsent link.old ≡ [] }
     ensures took { MatchResult result
-        (λ _. TakesTurn S.seen (number_of link.old) (Consumes (R.left reader.old) (R.left reader.new))
+        (λ turn. TakesTurn S.seen turn (number_of link.old) (Consumes (R.left reader.old) (R.left reader.new))
         (Passes (Appends (W.written writer.old) (W.written writer.new)) (unsent link.old) (unsent link.new))
         (Supplies C.may_tell clock.old clock.new D.may_give words.old words.new) hub.old hub.new)
         (λ fault. TurnStops S.seen (number_of link.old) (Consumes (R.left reader.old) (R.left reader.new))
@@ -199,6 +203,7 @@ fn read_piece<S: Store, R: NowSource, W: NowSink, C: Clock, D: WordSource>(
     ensures needs { result ≡ Ok Turn.NeedsBytes → (unsent link.new ≡ []) × (hub.new ≡ hub.old) }
     ensures ended { result ≡ Ok Turn.Ended → (unsent link.new ≡ []) × (hub.new ≡ hub.old)
         × IsAtEnd (R.left reader.new) }
+    ensures room { result ≢ Ok Turn.NeedsRoom }
     ensures gone { OnErr result ((all : Connections) → ConnectionsRepresent hub.new all
         → IsGone all (number_of link.new)) }
     ensures wants { IsHonestStore (hub_store S.seen hub.new) → (w : World) → HubRepresents S.seen hub.old w

@@ -2,7 +2,6 @@ pub mod Drawn
 pub mod Laws
 pub mod Moments
 pub mod Patience
-pub mod Pieces
 pub mod Prepared
 pub mod Serving
 pub mod Starting

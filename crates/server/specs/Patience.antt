@@ -1,26 +1,26 @@
--- How long a peer may keep the program waiting, in nanoseconds (this project's limits).
-use Rattle.std.specs.Prelude.{ℕ, ◌-◌, min, Option, Some, None, nat_lt, if◌then◌else◌, option_map}
+-- How long a peer may keep its place, in milliseconds (this project's limits).
+use Rattle.std.specs.Prelude.{ℕ, Bool, ◌||◌, nat_lt, if◌then◌else◌, not}
 use Rattle.server.specs.declared.waiting.Wait.{Wait}
 use Rattle.server.specs.declared.waiting.Wait.TheVariants.{NextRequest, Progress, Farewell}
 
--- how long a peer may take to ask again, or to end after its last reply: a quarter of a second
-abbrev pub longest_pause : ℕ
-longest_pause = 250000000
+-- how long it may take to ask again where its place is wanted, or to end after its last reply: a quarter of a second
+abbrev pub short_pause : ℕ
+short_pause = 250
+
+-- how long it may take to ask again: a minute and a half
+abbrev pub long_pause : ℕ
+long_pause = 90000
 
 -- how long it may neither send nor take a byte: five seconds
 abbrev pub longest_silence : ℕ
-longest_silence = 5000000000
+longest_silence = 5000
 
 -- how long it may take to send one request, or to take one reply: twenty seconds
 abbrev pub longest_exchange : ℕ
-longest_exchange = 20000000000
+longest_exchange = 20000
 
--- what is left of a limit, if anything is
-abbrev pub left_of : ℕ → ℕ → Option ℕ
-left_of limit age = if nat_lt age limit then Some (limit - age) else None
-
--- How long to wait now, if what is waited for began so long ago; none if its time is over.
-abbrev pub patience : Wait → ℕ → Option ℕ
-patience NextRequest age = Some longest_pause
-patience Progress age = option_map (min longest_silence) (left_of longest_exchange age)
-patience Farewell age = left_of longest_pause age
+-- Whether its time is over, by the time since the last byte, and the age of what is waited for.
+abbrev pub is_over : Wait → ℕ → ℕ → Bool → Bool
+is_over NextRequest silence age is_pressed = not (nat_lt age (if is_pressed then short_pause else long_pause))
+is_over Progress silence age is_pressed = not (nat_lt silence longest_silence) || not (nat_lt age longest_exchange)
+is_over Farewell silence age is_pressed = not (nat_lt age short_pause)

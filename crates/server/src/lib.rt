@@ -1,9 +1,12 @@
-//! The broker behind a socket: connections that are served one after another, with the moments of the
+//! The broker behind a socket: many connections that are served at once in one thread, with the moments of the
 //! system's clock and random words.
 #![tactic(auto)]
 
+mod accepting;
 mod drawn;
 mod laws;
+mod links;
+mod listening;
 mod peer;
 mod preparing;
 mod serving;
@@ -13,6 +16,7 @@ mod waiting;
 
 pub use drawn::{DrawnWords, seeded};
 pub use laws::all_that_is_asked_keeps_the_laws;
+pub use listening::Listening;
 pub use preparing::prepare;
 pub use serving::serve;
 pub use starting::{serve_file, serve_in_memory};

@@ -1,196 +1,238 @@
-ghost use Rattle.std.specs.Prelude.{◌≡◌, ◌≤◌, ◌++◌, [], length, take, OnOk};
-ghost use Rattle.std.specs.Io.{ReadsAtMost};
-ghost use Rattle.std.specs.Io.KnownBytes.{Appends};
-ghost use Rattle.server.specs.Pieces.{at_most_one};
+ghost use Rattle.std.specs.Prelude.{◌≡◌, ◌≢◌, true, MatchResult};
+ghost use Rattle.broker_types.specs.declared.fault.Fault.TheVariants.{Memory};
+ghost use Rattle.hub.specs.Representing.{ConnectionsRepresent};
+ghost use Rattle.hub.specs.Supplies.{Supplies};
+ghost use Rattle.hub.specs.World.{Connections};
+ghost use Rattle.hub.specs.declared.serve.ConnectionFault.TheVariants.{Broker};
+ghost use Rattle.server.specs.Serving.{LeavesBelow, LeavesServed, is_skipped};
 
-use crate::waiting::{Wait, patience};
-use endpoints::{Failed, Reading, Sink};
-use std::cell::Cell;
-use std::io;
-use std::io::{ErrorKind, Read, Write};
-use std::net::{Shutdown, TcpStream};
-use std::time::{Clock, Duration, Instant};
+use crate::waiting::{Wait, is_over};
+use broker::Store;
+use broker_types::Fault;
+use endpoints::{NowReading, NowSink, NowWriting};
+use hub::{Clock, ConnectionFault, Hub, Link, Turn, WordSource, take_turn};
+use mio::event::Event;
+use mio::net::TcpStream;
+use std::alloc::Global;
+use std::io::{ErrorKind, Read};
+use std::net::Shutdown;
 
-/// A connection's stream, and what its two ends know of the peer: what it is waited for, and since when.
+/// A connection: its stream, its link, what is known of its readiness, and what its peer is waited for. Times are
+/// milliseconds since the start.
 #[derive(Drop)]
-pub(crate) struct Peer<'s, R: Clock> {
-    rt: &'s R,
-    stream: &'s TcpStream,
-    wait: Cell<Wait>,
-    since: Cell<Instant>,
+pub(crate) struct Peer {
+    stream: TcpStream,
+    link: Link,
+    /// Whether a read may give something at once, as far as is known; so for a write.
+    can_read: bool,
+    can_write: bool,
+    /// Whether the peer was reported to send no more.
+    is_read_closed: bool,
+    is_queued: bool,
+    wait: Wait,
+    /// When it began to be waited for so.
+    since: u64,
+    /// When the last byte came or went.
+    last_byte: u64,
 }
 
-impl<'s, R: Clock> Peer<'s, R> {
-    /// The peer of a connection that begins now. Each reply is sent at once.
-    pub(crate) fn new(rt: &'s R, stream: &'s TcpStream) -> io::Result<Peer<'s, R>> {
-        stream.set_nodelay(true)?;
-        Ok(Peer {
-            rt,
+/// What a turn left of a connection.
+#[derive(Clone, Copy, Debug, PartialEq, Eq)]
+pub(crate) enum Stay {
+    /// It can go on at once.
+    Ready,
+    /// It waits for an event.
+    Waits,
+    /// It has ended, or had a fault.
+    Gone,
+}
+
+impl Peer {
+    /// A connection that was just accepted.
+    pub(crate) fn new(alloc: Global, stream: TcpStream, conn: u64, now: u64) -> Peer {
+        Peer {
             stream,
-            wait: Cell::new(Wait::Progress),
-            since: Cell::new(Instant::now(rt)?),
-        })
-    }
-
-    /// Where its requests come from.
-    pub(crate) fn requests(&'s self) -> Reading<LastAlone<'s, &'s Peer<'s, R>>> {
-        Reading::new(LastAlone {
-            reader: self,
-            held: None,
-            wait: &self.wait,
-        })
-    }
-
-    /// Where its replies go.
-    pub(crate) fn replies(&'s self) -> Replies<'s, &'s Peer<'s, R>, R> {
-        Replies {
-            writer: self,
-            peer: self,
-            failed: false,
+            link: Link::new(alloc, conn),
+            can_read: false,
+            can_write: true,
+            is_read_closed: false,
+            is_queued: false,
+            wait: Wait::Progress,
+            since: now,
+            last_byte: now,
         }
     }
 
-    /// From now on the peer is waited for so.
-    fn await_from_now(&self, wait: Wait) -> io::Result<()> {
-        self.since.set(Instant::now(self.rt)?);
-        self.wait.set(wait);
-        Ok(())
+    // ---- readiness
+
+    /// Takes down what was reported.
+    pub(crate) fn mark(&mut self, event: &Event) {
+        let has_failed = event.is_error();
+        self.can_read |= event.is_readable() || event.is_read_closed() || has_failed;
+        self.can_write |= event.is_writable() || event.is_write_closed() || has_failed;
+        self.is_read_closed |= event.is_read_closed() || has_failed;
     }
 
-    /// How long to wait for the peer now. It fails if its time is over.
-    fn patience(&self) -> io::Result<Duration> {
-        let age = self.since.get().elapsed(self.rt)?;
-        patience(self.wait.get(), age).ok_or(io::Error::from(ErrorKind::TimedOut))
+    /// Whether it is to be put into the queue now.
+    pub(crate) fn enters_queue(&mut self) -> bool {
+        let enters = !self.is_queued;
+        self.is_queued = true;
+        enters
     }
 
-    /// The next bytes that the peer sends. It fails if none come in time.
-    fn receive(&self, buffer: &mut [u8]) -> io::Result<usize>
-        ensures { ReadsAtMost result buffer.new }
+    // ---- one turn
+
+    /// One turn. A fault that does not end the whole ends this connection. No connection below the first number is
+    /// touched.
+    pub(crate) fn turn<S: Store, C: Clock, D: WordSource>(
+        &mut self,
+        hub: &mut Hub<S>,
+        first: u64,
+        clock: &mut C,
+        words: &mut D,
+        now: u64,
+    ) -> Result<Stay, Fault>
+        ensures served { LeavesServed S.seen
+            (Supplies C.may_tell clock.old clock.new D.may_give words.old words.new) result hub.old hub.new }
+        ensures below { (all : Connections) → ConnectionsRepresent hub.old all → LeavesBelow first all hub.new }
     {
-        self.stream.set_read_timeout(Some(self.patience()?))?;
-        let mut stream = self.stream;
-        stream.read(buffer)
+        self.is_queued = false;
+        if self.wait == Wait::Farewell {
+            return Ok(self.drain());
+        }
+        // Numbers are given from the first on. The contract rests on this line, and not on who gave this one.
+        if self.link.conn() < first {
+            return Ok(Stay::Gone);
+        }
+        let mut reader = NowReading::new(&self.stream);
+        let mut writer = NowWriting::new(&self.stream);
+        match take_turn(hub, &mut self.link, &mut reader, &mut writer, clock, words) {
+            Ok(turn) => {
+                let is_emptied = reader.is_emptied();
+                let is_full = writer.is_full();
+                self.unmark(turn, is_emptied, is_full);
+                Ok(self.settle(hub, turn, now))
+            }
+            Err(fault) => unskipped(fault),
+        }
     }
 
-    /// Ends the connection after its last reply. What the peer still sends is taken for a quarter of a second
-    /// at most: a stream that is closed with bytes unread is reset, and its peer can lose the reply (RFC 9112,
-    /// section 9.6).
-    pub(crate) fn let_go(&self) -> io::Result<()> {
-        self.stream.shutdown(Shutdown::Write)?;
-        self.await_from_now(Wait::Farewell)?;
+    /// Takes down that a call would have waited now, or that a read gave fewer bytes than there was room for, and so has
+    /// emptied the stream. A peer that sends no more is read until the end is met, since no event comes for that.
+    fn unmark(&mut self, turn: Turn, is_emptied: bool, is_full: bool) {
+        if is_emptied && (turn == Turn::NeedsBytes || !self.is_read_closed) {
+            self.can_read = false;
+        }
+        if is_full {
+            self.can_write = false;
+        }
+    }
+
+    /// What the turn left.
+    fn settle<S: Store>(&mut self, hub: &Hub<S>, turn: Turn, now: u64) -> Stay {
+        if turn == Turn::WentOn || turn == Turn::Answered {
+            self.note(hub, turn == Turn::Answered, now);
+        }
+        if !self.link.is_sending() && hub.is_closed(self.link.conn()) {
+            return self.begin_farewell(now);
+        }
+        if turn == Turn::Ended {
+            return Stay::Gone;
+        }
+        if self.can_go(hub) {
+            Stay::Ready
+        } else {
+            Stay::Waits
+        }
+    }
+
+    /// Bytes came or went now, and a request was answered or not. Each reply begins the limits anew: a peer that sends
+    /// the next request before it has the reply to the last is as quick as any.
+    fn note<S: Store>(&mut self, hub: &Hub<S>, has_answered: bool, now: u64) {
+        self.last_byte = now;
+        let wait = if self.link.is_sending() || hub.has_rest(self.link.conn()) {
+            Wait::Progress
+        } else {
+            Wait::NextRequest
+        };
+        if has_answered || wait != self.wait {
+            self.wait = wait;
+            self.since = now;
+        }
+    }
+
+    /// Whether a turn can do something, as far as is known.
+    fn can_go<S: Store>(&self, hub: &Hub<S>) -> bool {
+        if self.link.is_sending() {
+            return self.can_write;
+        }
+        self.can_read || hub.has_request(self.link.conn())
+    }
+
+    /// Tries once to send what was not sent of the last reply.
+    pub(crate) fn send_rest(&self) {
+        if self.link.is_sending() {
+            let _ = NowWriting::new(&self.stream).push_now(self.link.unsent());
+        }
+    }
+
+    // ---- the farewell
+
+    /// The last reply was sent. The peer is told so, and what it still sends is taken for a quarter of a second at most:
+    /// a stream that is closed with bytes unread is reset, and its peer can lose the reply (RFC 9112, section 9.6).
+    fn begin_farewell(&mut self, now: u64) -> Stay {
+        if self.stream.shutdown(Shutdown::Write).is_err() {
+            return Stay::Gone;
+        }
+        self.wait = Wait::Farewell;
+        self.since = now;
+        if self.can_read {
+            Stay::Ready
+        } else {
+            Stay::Waits
+        }
+    }
+
+    /// Takes what the peer still sends.
+    fn drain(&mut self) -> Stay {
         let mut buffer = [0; 8_192];
-        for _ in 0..u32::MAX {
-            if self.receive(&mut buffer)? == 0 {
-                break;
+        let mut stream = &self.stream;
+        match stream.read(&mut buffer) {
+            Ok(0) => Stay::Gone,
+            Ok(_) => Stay::Ready,
+            Err(error) if error.kind() == ErrorKind::Interrupted => Stay::Ready,
+            Err(error) if error.kind() == ErrorKind::WouldBlock => {
+                self.can_read = false;
+                Stay::Waits
             }
+            Err(_) => Stay::Gone,
         }
-        Ok(())
-    }
-}
-
-impl<'s, R: Clock> Write for &Peer<'s, R> {
-    /// It fails if the peer takes no byte in time.
-    fn write(&mut self, bytes: &[u8]) -> io::Result<usize> {
-        self.stream.set_write_timeout(Some(self.patience()?))?;
-        let mut stream = self.stream;
-        stream.write(bytes)
     }
 
-    fn flush(&mut self) -> io::Result<()> {
-        Ok(())
+    // ---- limits
+
+    /// Whether its time is over.
+    pub(crate) fn is_over(&self, now: u64, is_pressed: bool) -> bool {
+        let silence = now.saturating_sub(self.last_byte);
+        let age = now.saturating_sub(self.since);
+        is_over(self.wait, silence, age, is_pressed)
     }
-}
 
-impl<'s, R: Clock> Read for &Peer<'s, R> {
-    /// It fails if the peer sends no byte in time.
-    fn read(&mut self, buffer: &mut [u8]) -> io::Result<usize> {
-        self.receive(buffer)
-    }
-}
-
-/// A reader that hands on the last byte of each read alone, when it is the only one left. So a reply that follows it
-/// answers all that came: no byte waits for more of its request. Once it has read, the rest of a request is waited for.
-#[derive(Drop)]
-pub(crate) struct LastAlone<'s, R: Read> {
-    reader: R,
-    held: Option<u8>,
-    wait: &'s Cell<Wait>,
-}
-
-impl<'s, R: Read> Read for LastAlone<'s, R> {
-    ghost use Rattle.server.specs.Pieces.{remaining_of};
-
-    ghost remaining = { remaining_of R.remaining };
-
-    fn read(&mut self, buffer: &mut [u8]) -> io::Result<usize> {
-        if buffer.is_empty() {
-            return Ok(0);
+    /// Since when it has been idle, if it is: it is between requests, and nothing of it waits to be read.
+    pub(crate) fn idle_since(&self) -> Option<u64> {
+        match self.wait {
+            Wait::NextRequest if !self.is_queued => Some(self.since),
+            _ => None,
         }
-        if let Some(byte) = self.held.take() {
-            buffer[0] = byte;
-            self.wait.set(Wait::Progress);
-            return Ok(1);
-        }
-        let count = self.reader.read(buffer)?;
-        let (handed_on, held) = without_last(&buffer[..count]);
-        self.held = held;
-        self.wait.set(Wait::Progress);
-        Ok(handed_on)
     }
 }
 
-/// How many of the bytes are handed on, and the last one if it is not among them. If there are any, some are.
-fn without_last(bytes: &[u8]) -> (usize, Option<u8>)
-    ensures whole { take result.0 bytes.now ++ at_most_one result.1 ≡ bytes.now }
-    ensures some { result.0 ≡ 0 → bytes.now ≡ [] }
-    ensures bound { result.0 ≤ length bytes.now }
+/// What a fault leaves of its connection, or the fault if it ends the whole.
+fn unskipped(fault: ConnectionFault) -> Result<Stay, Fault>
+    ensures { MatchResult result (λ _. is_skipped fault ≡ true) (λ left. (fault ≡ Broker left) × (left ≢ Memory)) }
 {
-    match bytes {
-        [_, .., last] => (bytes.len() - 1, Some(*last)),
-        _ => (bytes.len(), None),
-    }
-}
-
-/// Where the replies to a peer go, each whole, through a writer. A push fails if the peer does not take the reply in
-/// time.
-#[derive(Drop)]
-pub(crate) struct Replies<'s, W: Write, R: Clock> {
-    writer: W,
-    peer: &'s Peer<'s, R>,
-    failed: bool,
-}
-
-impl<'s, W: Write, R: Clock> Replies<'s, W, R> {
-    /// Sends a whole reply; then the next request is waited for. It fails if the peer does not take the
-    /// reply in time.
-    fn send(&mut self, reply: &[u8]) -> io::Result<()>
-        ensures whole { OnOk result (Appends (W.contents self.old.writer) (W.contents self.new.writer) reply.now) }
-        ensures failed { self.new.failed ≡ self.old.failed }
-    {
-        self.peer.await_from_now(Wait::Progress)?;
-        self.writer.write_all(reply)?;
-        self.peer.await_from_now(Wait::NextRequest)
-    }
-}
-
-impl<'s, W: Write, R: Clock> Sink for Replies<'s, W, R> {
-    ghost use Rattle.server.specs.Pieces.{push_failed, writer_of};
-
-    ghost written = { λ replies. W.contents (writer_of replies) };
-
-    ghost has_failed = { push_failed };
-
-    fn push(&mut self, reply: &[u8]) -> Result<(), Failed> {
-        match self.send(reply) {
-            Ok(()) => Ok(()),
-            Err(_) => {
-                self.failed = true;
-                Err(Failed)
-            }
-        }
-    }
-
-    fn failed(&self) -> bool {
-        self.failed
+    match fault {
+        ConnectionFault::Broker(fault) if fault != Fault::Memory => Err(fault),
+        _ => Ok(Stay::Gone),
     }
 }

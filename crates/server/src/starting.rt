@@ -6,11 +6,12 @@ ghost use Rattle.broker_sql.specs.SqlKept.{kept_records};
 ghost use Rattle.server.specs.Starting.{IsFaultOfNew, ReturnsWhatWasWritten};
 
 use crate::drawn::seeded;
+use crate::listening::Listening;
 use crate::preparing::prepare;
 use crate::serving::serve;
 use crate::system_clock::SystemClock;
 use broker_sql::SqlStore;
-use broker_types::TokenText;
+use broker_types::{Fault, TokenText};
 use hub::{Clock, ConnectionFault, Hub, WordSource};
 use records_sql::SqlRecords;
 use sqlite::{Alter, Unknown};
@@ -24,14 +25,15 @@ use std::rt::HostRuntime;
 use std::{io, time};
 
 /// Starts a broker in memory, prints its root token on standard output, and serves so many connections to the
-/// address, one after another, or serves without an end. It fails before it serves if memory runs out, the words of
-/// the root token and its accessor are equal, the system has no randomness or the address cannot be listened on (a
-/// fault of reading), or the token cannot be printed (one of writing); and at any time if the database in memory
-/// fails, which it does if memory runs out for it.
+/// address, or serves without an end, and at most `at_once` of them at once. It fails before it serves if memory runs
+/// out, the words of the root token and its accessor are equal, the system has no randomness or the address cannot be
+/// listened on (a fault of reading), or the token cannot be printed (one of writing); and at any time if the database in
+/// memory fails, which it does if memory runs out for it.
 pub fn serve_in_memory<R>(
     rt: &R,
     address: &str,
     connections: Option<u32>,
+    at_once: u32,
 ) -> Result<(), ConnectionFault>
 where
     R: AllocGlobal
@@ -42,12 +44,12 @@ where
     ensures { IfErr result IsFaultOfNew }
 {
     let records = SqlRecords::in_memory(rt.alloc())?;
-    serve_records(rt, records, address, connections)
+    serve_records(rt, records, address, connections, at_once)
 }
 
 /// Serves the broker that a file keeps, with its log beside it, or starts one in a file that is new, and prints its
-/// root token on standard output: so many connections to the address, one after another, or without an end. A file
-/// that is not there is made, for its owner alone. It fails as `serve_in_memory` does; and with `Storage` if the
+/// root token on standard output: so many connections to the address, or without an end, and at most `at_once` of them
+/// at once. A file that is not there is made, for its owner alone. It fails as `serve_in_memory` does; and with `Storage` if the
 /// file cannot be opened, or has another table than that of a broker, with `BadStart` if it has rows and none of
 /// the clock, and with `Damaged` if a row cannot be read.
 pub fn serve_file(
@@ -55,11 +57,12 @@ pub fn serve_file(
     path: &str,
     address: &str,
     connections: Option<u32>,
+    at_once: u32,
 ) -> Result<(), ConnectionFault> {
     // If it is there, or cannot be made, opening it tells.
     let _ = make_private(rt, path);
     let store = SqlStore::open_from(rt, path, Unknown)?;
-    serve_records(rt, store.into_records(), address, connections)
+    serve_records(rt, store.into_records(), address, connections, at_once)
 }
 
 /// Makes an empty file that its owner alone may read and write, if there is none.
@@ -79,6 +82,7 @@ fn serve_records<R, S: Alter + Drop>(
     records: SqlRecords<S>,
     address: &str,
     connections: Option<u32>,
+    at_once: u32,
 ) -> Result<(), ConnectionFault>
 where
     R: AllocGlobal
@@ -99,12 +103,33 @@ where
     {
         return Err(ConnectionFault::Write);
     }
-    let Ok(listener) = TcpListener::bind(rt, address) else {
-        return Err(ConnectionFault::Read);
+    let listening = match listen(rt, address, connections, at_once) {
+        Ok(listening) => listening,
+        Err(error) => return Err(fault_of(&error)),
     };
     let mut hub = Hub::new(rt.alloc(), store);
-    serve(rt, &mut hub, &listener, connections, &mut clock, &mut words)?;
+    serve(rt, &mut hub, listening, &mut clock, &mut words)?;
     Ok(())
+}
+
+/// Listens on the address.
+fn listen<R>(rt: &R, address: &str, connections: Option<u32>, at_once: u32) -> io::Result<Listening>
+where
+    R: AllocGlobal + time::Clock + Net<Listener = TcpListener, Stream = TcpStream>,
+{
+    let listener = TcpListener::bind(rt, address)?;
+    Listening::new(rt, listener, connections, at_once)
+}
+
+/// The fault where the address cannot be listened on: one of memory, or of reading.
+fn fault_of(error: &io::Error) -> ConnectionFault
+    ensures { IsFaultOfNew result }
+{
+    if error.kind() == io::ErrorKind::OutOfMemory {
+        ConnectionFault::Broker(Fault::Memory)
+    } else {
+        ConnectionFault::Read
+    }
 }
 
 /// Prints the line of the root token.

@@ -3,10 +3,10 @@
 use crate::standing::{Fixed, Same};
 use api_client::{command_of, reply_of, request_of};
 use broker::ListStore;
-use broker_types::{Bytes, Fault, Moment, Words};
+use broker_types::{Bytes, Moment, Words};
 use endpoints::Reading;
 use hub::Hub;
-use server::serve;
+use server::{Listening, serve};
 use std::alloc::{AllocError, Global};
 use std::io::Write;
 use std::net::{TcpListener, TcpStream};
@@ -51,19 +51,14 @@ fn request_by(alloc: Global, token: &str) -> Result<Vec<u8>, Fail> {
 fn serve_one(
     rt: &HostRuntime,
     store: ListStore,
-    listener: &TcpListener,
+    listener: TcpListener,
     moment: Moment,
-) -> Result<(), Fault> {
+) -> Result<(), Fail> {
     let mut hub = Hub::new(rt.alloc(), store);
     let mut same = Same(Words([32, 33, 34, 35, 36, 37, 38, 39]));
-    serve(
-        rt,
-        &mut hub,
-        listener,
-        Some(1),
-        &mut Fixed(moment),
-        &mut same,
-    )
+    let listening = Listening::new(rt, listener, Some(1), 1)?;
+    serve(rt, &mut hub, listening, &mut Fixed(moment), &mut same)?;
+    Ok(())
 }
 
 /// The status and the body of the reply that comes on the stream.
@@ -84,7 +79,7 @@ fn a_read_over_the_loopback(rt: HostRuntime) -> Result<(), Fail> {
     let listener = TcpListener::bind(&rt, "127.0.0.1:0")?;
     let mut stream = TcpStream::connect(&rt, listener.local_addr()?)?;
     stream.write_all(request_by(alloc, root.as_str())?.as_slice())?;
-    serve_one(&rt, store, &listener, moment)?;
+    serve_one(&rt, store, listener, moment)?;
     let (status, body) = reply_on(alloc, &stream)?;
     assert_eq!(rt; status, 200);
     assert_eq!(rt; body.as_slice(), SETTINGS.as_bytes());

@@ -4,7 +4,7 @@ use crate::standing::{Fixed, Same};
 use broker::ListStore;
 use broker_types::{Moment, Words};
 use hub::{Clock, Hub, WordSource};
-use server::{SystemClock, seeded, serve};
+use server::{Listening, SystemClock, seeded, serve};
 use std::io;
 use std::io::Write;
 use std::net::{Shutdown, TcpListener, TcpStream};
@@ -29,35 +29,39 @@ const FOUND: &str = "HTTP/1.1 200 OK\r\n\
     {\"auth\":null,\"data\":{\"k\":\"v\"},\"lease_duration\":0,\"lease_id\":\"\",\"renewable\":false,\
     \"request_id\":\"00000000-0000-0000-0000-000000000020\",\"warnings\":null,\"wrap_info\":null}\n";
 
-/// The first peer stays connected without a word; the second is served all the same.
-#[test]
-fn two_peers_over_the_loopback(rt: HostRuntime) -> Result<(), Fail> {
+/// Two peers connect before they are served. The first stays connected without a word after its request; the second is
+/// served all the same. Each gets its reply, and its connection is closed.
+fn serve_two(rt: &HostRuntime, at_once: u32) -> Result<(), Fail> {
     let alloc = rt.alloc();
     let moment = Moment::new(1_700_000_000).ok_or("the moment is in range")?;
     let mut store = ListStore::new(alloc);
     store.start(moment, &Words([0, 1, 2, 3, 4, 5, 6, 7]))?;
     let mut hub = Hub::new(alloc, store);
-    let listener = TcpListener::bind(&rt, "127.0.0.1:0")?;
-    let mut first = TcpStream::connect(&rt, listener.local_addr()?)?;
+    let listener = TcpListener::bind(rt, "127.0.0.1:0")?;
+    let mut first = TcpStream::connect(rt, listener.local_addr()?)?;
     first.write_all(WRITE.as_bytes())?;
-    let mut second = TcpStream::connect(&rt, listener.local_addr()?)?;
+    let mut second = TcpStream::connect(rt, listener.local_addr()?)?;
     second.write_all(READ.as_bytes())?;
     second.shutdown(Shutdown::Write)?;
+    let listening = Listening::new(rt, listener, Some(2), at_once)?;
     let mut words = Same(Words([32, 33, 34, 35, 36, 37, 38, 39]));
-    serve(
-        &rt,
-        &mut hub,
-        &listener,
-        Some(2),
-        &mut Fixed(moment),
-        &mut words,
-    )?;
+    serve(rt, &mut hub, listening, &mut Fixed(moment), &mut words)?;
     let written = io::read_to_string(alloc, first)?;
     assert_eq!(rt; written.as_str(), WRITTEN);
     let found = io::read_to_string(alloc, second)?;
     assert_eq!(rt; found.as_str(), FOUND);
     assert!(rt; hub.is_closed(0) && hub.is_closed(1));
     Ok(())
+}
+
+#[test]
+fn two_peers_at_once(rt: HostRuntime) -> Result<(), Fail> {
+    serve_two(&rt, 2)
+}
+
+#[test]
+fn two_peers_one_after_another(rt: HostRuntime) -> Result<(), Fail> {
+    serve_two(&rt, 1)
 }
 
 #[test]

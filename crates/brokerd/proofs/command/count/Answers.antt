@@ -1,30 +1,9 @@
-use Rattle.std.proofs.Common.{◌≡◌, inl, inr, ℕ, List, Option, Some, None, Result, Ok, Err, Bool, true, false, unwrap_or, codes, refl}
-use Rattle.std.specs.Str.Parse.{ParsesUnsigned, ExplainsUnsignedError, HasUnsignedDigitsIfOk}
-use Rattle.std.specs.declared.num.ParseIntError.{ParseIntError}
+use Rattle.std.proofs.Common.{◌≡◌, inl, inr, ℕ, List, Option, Some, None, Result, Ok, Err, Bool, true, false, codes, refl}
 use Rattle.clap.specs.Words.{Text, found_of, one_text, TriesOne}
 use Rattle.clap.proofs.WalkLemmas.{one_text-rows}
-use Rattle.brokerd.specs.CommandLine.{IsNotSet, IsNumber, IsNumberOf, IsSet}
+use Rattle.brokerd.specs.CommandLine.{IsNotSet, IsSet}
+use Rattle.brokerd.proofs.NumberLemmas.{Reads, counted, uncounted}
 use Rattle.brokerd.proofs.command.count.Goals as goal
-
--- how `clap` reads a text as a number
-abbrev Reads : List ℕ → Result ℕ ParseIntError → Type 0
-Reads text r = ParsesUnsigned 32 10 text r × ExplainsUnsignedError 10 text r × HasUnsignedDigitsIfOk text r
-
-counted : {E : Type 0} (G : List ℕ → Result ℕ E → Type 0) (o : Option Text) (given : Option ℕ)
-    → ((t : Text) (v : ℕ) → G t (Ok v) → IsNumberOf (Some t) v)
-    → (o ≡ None → ◌≡◌ {A = Result (Option ℕ) E} (Ok given) (Ok None))
-    → ((t : Text) → o ≡ Some t → TriesOne G t (Ok given)) → IsNumberOf o (unwrap_or given 1000)
-counted G None None reads none value = refl
-counted G None (Some v) reads none value = cc (none refl)
-counted G (Some t) None reads none value = absurd (value t refl)
-counted G (Some t) (Some v) reads none value = reads t v (value t refl)
-
-uncounted : {E : Type 0} (G : List ℕ → Result ℕ E → Type 0) (o : Option Text) (error : E)
-    → ((t : Text) → G t (Err error) → ¬ IsNumber t)
-    → (o ≡ None → ◌≡◌ {A = Result (Option ℕ) E} (Err error) (Ok None))
-    → ((t : Text) → o ≡ Some t → TriesOne G t (Err error)) → (t : Text) × (o ≡ Some t) × ¬ IsNumber t
-uncounted G None error reads none value = cc (none refl)
-uncounted G (Some t) error reads none value = (t, refl, reads t (value t refl))
 
 -- a number was given for a text
 text_of : {E : Type 0} (o : Option Text) (given : Option ℕ) (v : ℕ) → given ≡ Some v
@@ -57,7 +36,7 @@ returns-in_default-clause-none c = λ _.
 pub returns-then-not-get_flag-clause-some : goal.returns-then-not-get_flag-clause-some
 returns-then-not-get_flag-clause-some c =
     let f = found_of c.args.found.now in
-    let given = counted Reads (one_text f (codes "connections")) c.in-Ok.given (λ t v g. (g.0.0, g.0.1)) c.in-Ok.ensures.none c.in-Ok.ensures.value in
+    let given = counted 1000 Reads (one_text f (codes "connections")) c.in-Ok.given (λ t v g. (g.0.0, g.0.1)) c.in-Ok.ensures.none c.in-Ok.ensures.value in
     let flag = not_set (one_text f (codes "until-stopped")) c.get_flag.result c.get_flag.ensures.value c.if-not-get_flag.true in
     (rw (← one_text-rows f (codes "until-stopped")) flag, rw (c.unwrap_or.ensures, ← one_text-rows f (codes "connections")) given)
 

@@ -14,7 +14,11 @@ returns-in_default c =
     (search rules, λ _. inl (sym (c.get_str.ensures ∙ first_value-rows f (codes "listen")) ∙ ap (option_map _) none))
 
 pub returns-in_err-count : goal.returns-in_err-count
-returns-in_err-count c = rw (c.from_residual.ensures) (search rules, λ _. inr (c.in_err-count.ensures.none refl))
+returns-in_err-count c = rw (c.from_residual.ensures) (search rules, λ _. inr (inl (c.in_err-count.ensures.none refl)))
+
+pub returns-in_err-places : goal.returns-in_err-places
+returns-in_err-places c =
+    rw (c.from_residual-in_err-places.ensures) (search rules, λ _. inr (inr (c.in_err-places.ensures.none refl)))
 
 pub returns : goal.returns
 returns c =
@@ -23,4 +27,5 @@ returns c =
       sym (c.get_str.ensures ∙ first_value-rows f (codes "listen")) ∙ ap (λ (o : Option (Bor (List ℕ))). option_map (λ s. s.now) o) c.in-Some.is,
       c.get_str-2.ensures ∙ first_value-rows f (codes "db"),
       c.in_ok-count.ensures.some,
+      c.in_ok-places.ensures.some,
     )

@@ -10,4 +10,5 @@ returns c =
     let one = c.in_ok-arg.ensures.shape c.listen.ensures.local ∙ ap₂ with_rule told c.listen.ensures.rule in
     let two = c.in_ok-arg-2.ensures.shape c.db.ensures.local ∙ ap₂ with_rule one c.db.ensures.rule in
     let three = c.in_ok-arg-3.ensures.shape c.connections.ensures.local ∙ ap₂ with_rule two c.connections.ensures.rule in
-    IfOk-weaker c.arg-4.result _ _ (λ d h. h.shape c.until_stopped.ensures.local ∙ ap₂ with_rule three c.until_stopped.ensures.rule) c.arg-4.ensures
+    let four = c.in_ok-arg-4.ensures.shape c.at_once.ensures.local ∙ ap₂ with_rule three c.at_once.ensures.rule in
+    IfOk-weaker c.arg-5.result _ _ (λ d h. h.shape c.until_stopped.ensures.local ∙ ap₂ with_rule four c.until_stopped.ensures.rule) c.arg-5.ensures

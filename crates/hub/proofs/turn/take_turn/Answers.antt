@@ -1,4 +1,5 @@
-use Rattle.std.proofs.Common.{◌∙◌, ℕ, [], inl, refl, sym, ap, subst}
+use Rattle.std.proofs.Common.{◌≡◌, ◌∙◌, ℕ, [], inl, refl, sym, ap, subst}
+use Rattle.std.proofs.lemmas.Bool.{false≢true}
 use Rattle.std.specs.Io.KnownBytes.{Appends, Consumes}
 use Rattle.broker.specs.Kept.{Kept}
 use Rattle.hub.specs.Links.{number_of, unsent}
@@ -8,21 +9,22 @@ use Rattle.hub.specs.Supplies.{Supplies}
 use Rattle.hub.specs.SuppliesLaws.{Supplies-nil}
 use Rattle.hub.specs.Turning.{Passes, TurnStops}
 use Rattle.hub.specs.declared.serve.ConnectionFault.TheVariants.{Write}
+use Rattle.hub.specs.declared.turn.Turn.TheVariants.{Ended, NeedsRoom}
 use Rattle.hub.specs.World.{Connections}
 use Rattle.hub.specs.declared.hub.Hub.{Hub}
 use Rattle.hub.proofs.EndingLemmas.{gone_closing}
 use Rattle.hub.proofs.KnownLemmas.{Consumes-nil}
 use Rattle.hub.proofs.ServingLemmas.{closed_leaves, ended_at, leaves_none}
-use Rattle.hub.proofs.TakingLemmas.{passes_nothing, stop_none, turn_none, turned_so}
+use Rattle.hub.proofs.TakingLemmas.{passes_nothing, said_sending, stop_none, turn_none, turned_so}
 use Rattle.hub.proofs.turn.take_turn.Goals as goal
 
 pub returns-in-Ok-clause-took : goal.returns-in-Ok-clause-took
 returns-in-Ok-clause-took g c =
     let left = g.R.NowSource.left c.args.reader.now in
     let X = Supplies g.C.Clock.may_tell c.args.clock.now c.args.clock.now g.D.WordSource.may_give c.args.words.now c.args.words.now in
-    turn_none g.S.Store.seen (number_of c.args.link.now) (Consumes left left)
+    turn_none g.S.Store.seen c.in-Ok.turn (number_of c.args.link.now) (Consumes left left)
     (Passes (Appends (g.W.NowSink.written c.args.writer.now) (g.W.NowSink.written c.send_rest.new.writer)) (unsent c.args.link.now) (unsent c.send_rest.new.link))
-    X c.args.hub.now (Consumes-nil left) c.send_rest.ensures.sent
+    X c.args.hub.now (said_sending c.in-Ok.turn c.in-Ok.ensures.failed) (Consumes-nil left) c.send_rest.ensures.sent
     (Supplies-nil g.C.Clock.may_tell c.args.clock.now g.D.WordSource.may_give c.args.words.now)
 
 pub returns-in-Err-clause-took : goal.returns-in-Err-clause-took
@@ -45,6 +47,11 @@ returns-then-has_request-clause-took g c =
     X c.args.hub.now c.feed_piece.new.hub c.feed_piece.result (Consumes-nil left) c.feed_piece.ensures.took
 
 -- ---- what was not sent
+
+pub returns-in-Ok-clause-room : goal.returns-in-Ok-clause-room
+returns-in-Ok-clause-room g c = λ is nothing.
+    let turn : c.in-Ok.turn ≡ NeedsRoom = cc is in
+    false≢true (sym (c.is_sending.ensures.some (sym (c.in-Ok.ensures.room turn) ∙ nothing)) ∙ c.if-is_sending.true)
 
 pub returns-in-Ok-clause-others : goal.returns-in-Ok-clause-others
 returns-in-Ok-clause-others g c = λ all each. leaves_none (number_of c.args.link.now) all c.args.hub.now each
@@ -70,8 +77,8 @@ returns-then-is_closed-clause-took g c =
     let known = g.W.NowSink.written c.args.writer.now in
     let still = unsent c.args.link.now in
     let X = Supplies g.C.Clock.may_tell c.args.clock.now c.args.clock.now g.D.WordSource.may_give c.args.words.now c.args.words.now in
-    turn_none g.S.Store.seen (number_of c.args.link.now) (Consumes left left) (Passes (Appends known known) still still) X c.args.hub.now
-    (Consumes-nil left) (passes_nothing known still still refl)
+    turn_none g.S.Store.seen Ended (number_of c.args.link.now) (Consumes left left) (Passes (Appends known known) still still) X c.args.hub.now
+    refl (Consumes-nil left) (passes_nothing known still still refl)
     (Supplies-nil g.C.Clock.may_tell c.args.clock.now g.D.WordSource.may_give c.args.words.now)
 
 pub returns-then-is_closed-clause-others : goal.returns-then-is_closed-clause-others
@@ -79,7 +86,7 @@ returns-then-is_closed-clause-others g c = λ all each. leaves_none (number_of c
 
 pub returns-then-is_closed-clause-ended : goal.returns-then-is_closed-clause-ended
 returns-then-is_closed-clause-ended g c = λ is. (
-  c.is_sending.ensures c.if-is_sending.false,
+  c.is_sending.ensures.none c.if-is_sending.false,
   λ all each.
       subst (λ (k : ℕ). HasEnded (g.R.NowSource.left c.args.reader.now) all k) c.conn-2.ensures
       (inl (sym (c.is_closed.ensures all each) ∙ c.if-is_closed.true)),

@@ -2,12 +2,12 @@ use Rattle.std.proofs.Common.{Ok}
 use Rattle.hub.specs.Representing.{ConnectionsRepresent}
 use Rattle.hub.specs.Supplies.{Supplies}
 use Rattle.hub.specs.World.{Connections}
-use Rattle.server.specs.Serving.{LeavesOrCloses, LeavesServed}
-use Rattle.server.proofs.serving.serve.Given as goal
+use Rattle.server.specs.Serving.{LeavesBelow, LeavesServed}
+use Rattle.server.proofs.listening.Listening.take_turns.Given as goal
 
 abbrev pub invariant-loop : goal.invariant-loop
 invariant-loop g l = record {
   served : LeavesServed {A = Unit {0}} g.S.Store.seen
       (Supplies g.C.Clock.may_tell l.fn.clock l.clock g.D.WordSource.may_give l.fn.words l.words) (Ok tt) l.fn.hub l.hub;
-  closed : (all : Connections) → ConnectionsRepresent l.fn.hub all → LeavesOrCloses all l.hub;
+  below : (all : Connections) → ConnectionsRepresent l.fn.hub all → LeavesBelow l.fn.first all l.hub;
 }

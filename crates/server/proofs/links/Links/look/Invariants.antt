@@ -1,0 +1,10 @@
+use Rattle.hub.specs.Representing.{ConnectionsRepresent}
+use Rattle.hub.specs.World.{Connections}
+use Rattle.server.specs.Serving.{ClosesSome, LeavesBelow}
+use Rattle.server.proofs.links.Links.look.Given as goal
+
+abbrev pub invariant-loop : goal.invariant-loop
+invariant-loop g l = record {
+  steps : ClosesSome g.S.Store.seen l.fn.hub l.hub;
+  below : (all : Connections) → ConnectionsRepresent l.fn.hub all → LeavesBelow l.fn.first all l.hub;
+}

@@ -1,0 +1,16 @@
+use Rattle.hub.specs.SuppliesLaws.{Supplies-nil}
+use Rattle.server.proofs.ServingLemmas.{below_on, leaves_closing, leaves_none}
+use Rattle.server.proofs.links.Links.turn.Goals as goal
+
+pub returns-in_default-clause-served : goal.returns-in_default-clause-served
+returns-in_default-clause-served g c = leaves_none g.S.Store.seen _ tt c.args.hub.now
+    (Supplies-nil g.C.Clock.may_tell c.args.clock.now g.D.WordSource.may_give c.args.words.now)
+
+pub returns-in-Ok-Gone-clause-served : goal.returns-in-Ok-Gone-clause-served
+returns-in-Ok-Gone-clause-served g c =
+    leaves_closing g.S.Store.seen _ _ tt c.args.hub.now c.turn.new.hub c.close.new.hub c.in-Ok-Gone.ensures.served
+    c.close.ensures.steps
+
+pub returns-in-Ok-Gone-clause-below : goal.returns-in-Ok-Gone-clause-below
+returns-in-Ok-Gone-clause-below g c = λ all each.
+    below_on c.args.first all c.turn.new.hub c.close.new.hub (c.turn.ensures.below all each) c.close.ensures.below

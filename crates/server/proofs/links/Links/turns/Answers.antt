@@ -1,0 +1,35 @@
+use Rattle.std.proofs.Common.{◌∙◌, Ok, Err, ap}
+use Rattle.std.proofs.lemmas.Result.{err_from_is_err_and}
+use Rattle.hub.specs.SuppliesLaws.{Supplies-append, Supplies-nil}
+use Rattle.server.proofs.ServingLemmas.{below_all, below_on, leaves_none, leaves_on}
+use Rattle.server.proofs.links.Links.turns.Goals as goal
+
+pub loop-init : goal.loop-init
+loop-init g c = record {
+  served = leaves_none g.S.Store.seen _ tt c.args.hub.now
+      (Supplies-nil g.C.Clock.may_tell c.args.clock.now g.D.WordSource.may_give c.args.words.now);
+  below = λ all each. below_all c.args.first all c.args.hub.now each;
+}
+
+pub loop-preserved : goal.loop-preserved
+loop-preserved g c = record {
+  served = leaves_on g.S.Store.seen _ _ _ tt (Ok tt) c.args.hub.now c.loop.hub c.turn.new.hub
+      (Supplies-append g.C.Clock.may_tell c.args.clock.now c.loop.clock c.turn.new.clock g.D.WordSource.may_give
+      c.args.words.now c.loop.words c.turn.new.words)
+      c.loop.invariant.served c.in_ok-turn.ensures.served;
+  below = λ all each.
+      below_on c.args.first all c.loop.hub c.turn.new.hub (c.loop.invariant.below all each) c.turn.ensures.below;
+}
+
+pub returns-in_err-turn-clause-served : goal.returns-in_err-turn-clause-served
+returns-in_err-turn-clause-served g c =
+    let p = err_from_is_err_and c.from_residual.result c.from_residual.ensures.1 in
+    rw (p.1 ∙ ap Err p.2)
+    (leaves_on g.S.Store.seen _ _ _ tt (Err c.in_err-turn.field-0.0) c.args.hub.now c.loop.hub c.turn.new.hub
+    (Supplies-append g.C.Clock.may_tell c.args.clock.now c.loop.clock c.turn.new.clock g.D.WordSource.may_give
+    c.args.words.now c.loop.words c.turn.new.words)
+    c.loop.invariant.served c.in_err-turn.ensures.served)
+
+pub returns-in_err-turn-clause-below : goal.returns-in_err-turn-clause-below
+returns-in_err-turn-clause-below g c = λ all each.
+    below_on c.args.first all c.loop.hub c.turn.new.hub (c.loop.invariant.below all each) c.turn.ensures.below

@@ -1,0 +1,207 @@
+ghost use Rattle.std.specs.Prelude.{◌≤◌};
+ghost use Rattle.hub.specs.Representing.{ConnectionsRepresent};
+ghost use Rattle.hub.specs.Serving.{LeavesClosed};
+ghost use Rattle.hub.specs.Supplies.{Supplies};
+ghost use Rattle.hub.specs.World.{Connections};
+ghost use Rattle.server.specs.Serving.{ClosesSome, LeavesBelow, LeavesServed};
+
+use crate::peer::{Peer, Stay};
+use broker::Store;
+use broker_types::Fault;
+use hub::{Clock, Hub, WordSource};
+use mio::event::Event;
+use mio::net::TcpStream;
+use mio::{Interest, Registry, Token};
+use std::alloc::{AllocError, Global};
+use std::collections::{BTreeMap, VecDeque};
+
+/// The connections that are open, by their numbers, and those that can go on.
+#[derive(Drop)]
+pub(crate) struct Links {
+    alloc: Global,
+    peers: BTreeMap<u64, Peer>,
+    /// Each is in it once. Some of them may have been closed since.
+    ready: VecDeque<u64>,
+    /// Those whose time is over, while they are closed.
+    over: Vec<u64>,
+}
+
+impl Links {
+    /// None is open. So many can be open at once without memory for the queue: a round adds each of them at most, to as
+    /// many that were closed since the last.
+    pub(crate) fn new(alloc: Global, at_once: usize) -> Result<Links, AllocError> {
+        Ok(Links {
+            alloc,
+            peers: BTreeMap::new(alloc),
+            ready: VecDeque::with_capacity(alloc, at_once.saturating_mul(2))?,
+            over: Vec::with_capacity(alloc, at_once)?,
+        })
+    }
+
+    /// How many are open.
+    pub(crate) fn len(&self) -> usize {
+        self.peers.len()
+    }
+
+    /// Whether one can go on at once.
+    pub(crate) fn is_ready(&self) -> bool {
+        !self.ready.is_empty()
+    }
+
+    /// Opens a connection. One that finds no memory, or cannot be registered, is closed.
+    pub(crate) fn add(&mut self, registry: &Registry, mut stream: TcpStream, conn: u64, now: u64) {
+        if stream.set_nodelay(true).is_err() {
+            return;
+        }
+        let both = Interest::READABLE | Interest::WRITABLE;
+        if registry
+            .register(&mut stream, Token(conn as usize), both)
+            .is_err()
+        {
+            return;
+        }
+        let _ = self
+            .peers
+            .insert(conn, Peer::new(self.alloc, stream, conn, now));
+    }
+
+    /// Takes down an event of the connection, and puts it into the queue.
+    pub(crate) fn mark(&mut self, conn: u64, event: &Event) {
+        let Some(peer) = self.peers.get_mut(&conn) else {
+            return;
+        };
+        peer.mark(event);
+        if peer.enters_queue() {
+            let _ = self.ready.push_back(conn);
+        }
+    }
+
+    /// One turn of each connection that is in the queue now.
+    pub(crate) fn turns<S: Store, C: Clock, D: WordSource>(
+        &mut self,
+        hub: &mut Hub<S>,
+        first: u64,
+        clock: &mut C,
+        words: &mut D,
+        now: u64,
+    ) -> Result<(), Fault>
+        ensures served { LeavesServed S.seen
+            (Supplies C.may_tell clock.old clock.new D.may_give words.old words.new) result hub.old hub.new }
+        ensures below { (all : Connections) → ConnectionsRepresent hub.old all → LeavesBelow first all hub.new }
+    {
+        for _ in 0..self.ready.len() {
+            let Some(conn) = self.ready.pop_front() else {
+                return Ok(());
+            };
+            self.turn(hub, first, conn, clock, words, now)?;
+        }
+        Ok(())
+    }
+
+    /// One turn of a connection: it goes back into the queue if it can go on, and is closed if it has ended.
+    fn turn<S: Store, C: Clock, D: WordSource>(
+        &mut self,
+        hub: &mut Hub<S>,
+        first: u64,
+        conn: u64,
+        clock: &mut C,
+        words: &mut D,
+        now: u64,
+    ) -> Result<(), Fault>
+        ensures served { LeavesServed S.seen
+            (Supplies C.may_tell clock.old clock.new D.may_give words.old words.new) result hub.old hub.new }
+        ensures below { (all : Connections) → ConnectionsRepresent hub.old all → LeavesBelow first all hub.new }
+    {
+        let Some(peer) = self.peers.get_mut(&conn) else {
+            return Ok(());
+        };
+        match peer.turn(hub, first, clock, words, now) {
+            Ok(Stay::Ready) => {
+                peer.enters_queue();
+                let _ = self.ready.push_back(conn);
+                Ok(())
+            }
+            Ok(Stay::Waits) => Ok(()),
+            Ok(Stay::Gone) => {
+                self.close(hub, first, conn);
+                Ok(())
+            }
+            Err(fault) => Err(fault),
+        }
+    }
+
+    /// Closes those whose time is over.
+    pub(crate) fn look<S: Store>(
+        &mut self,
+        hub: &mut Hub<S>,
+        first: u64,
+        now: u64,
+        is_pressed: bool,
+    )
+        ensures steps { ClosesSome S.seen hub.old hub.new }
+        ensures below { (all : Connections) → ConnectionsRepresent hub.old all → LeavesBelow first all hub.new }
+    {
+        self.over.clear();
+        for (conn, peer) in &self.peers {
+            if peer.is_over(now, is_pressed) {
+                let _ = self.over.push(*conn);
+            }
+        }
+        for _ in 0..self.over.len() {
+            let Some(conn) = self.over.pop() else {
+                return;
+            };
+            self.close(hub, first, conn);
+        }
+    }
+
+    /// Closes the one that has been idle longest, if any is idle for longer than a peer may be whose place is wanted.
+    /// Whether one was closed.
+    pub(crate) fn make_room<S: Store>(&mut self, hub: &mut Hub<S>, first: u64, now: u64) -> bool
+        ensures steps { ClosesSome S.seen hub.old hub.new }
+        ensures below { (all : Connections) → ConnectionsRepresent hub.old all → LeavesBelow first all hub.new }
+    {
+        let Some(conn) = self.longest_idle(now) else {
+            return false;
+        };
+        self.close(hub, first, conn);
+        true
+    }
+
+    /// The number of the one that has been idle longest, if its time is over where its place is wanted.
+    fn longest_idle(&self, now: u64) -> Option<u64> {
+        let mut longest: Option<(u64, u64)> = None;
+        for (conn, peer) in &self.peers {
+            if let Some(since) = peer.idle_since()
+                && peer.is_over(now, true)
+            {
+                match longest {
+                    Some((_, first)) if first <= since => {}
+                    _ => longest = Some((*conn, since)),
+                }
+            }
+        }
+        Some(longest?.0)
+    }
+
+    /// Closes a connection, and drops what waits on it. No connection below the first number is touched.
+    fn close<S: Store>(&mut self, hub: &mut Hub<S>, first: u64, conn: u64)
+        ensures steps { ClosesSome S.seen hub.old hub.new }
+        ensures below { (all : Connections) → ConnectionsRepresent hub.old all → LeavesBelow first all hub.new }
+        ensures closed { first ≤ conn → (all : Connections) → ConnectionsRepresent hub.old all
+            → (after : Connections) × ConnectionsRepresent hub.new after × LeavesClosed all conn after }
+    {
+        self.peers.remove(&conn);
+        if conn < first {
+            return;
+        }
+        hub.close(conn);
+    }
+
+    /// Tries once, on each connection, to send what was not sent of its last reply.
+    pub(crate) fn send_rests(&self) {
+        for (_, peer) in &self.peers {
+            peer.send_rest();
+        }
+    }
+}

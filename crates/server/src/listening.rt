@@ -1,0 +1,209 @@
+ghost use Rattle.hub.specs.Representing.{ConnectionsRepresent};
+ghost use Rattle.hub.specs.Supplies.{Supplies};
+ghost use Rattle.hub.specs.World.{Connections};
+ghost use Rattle.server.specs.Serving.{ClosesSome, LeavesBelow, LeavesServed};
+
+use crate::accepting::{Accepting, LISTENER};
+use crate::links::Links;
+use crate::waiting::TICK;
+use broker::Store;
+use broker_types::Fault;
+use hub::{Hub, WordSource};
+use mio::net::TcpListener;
+use mio::{Events, Poll};
+use std::alloc::AllocGlobal;
+use std::net::Net;
+use std::time::{Clock, Duration, Instant};
+use std::{io, net, thread};
+
+/// How many turns each connection gets between two looks at the system.
+const PASSES: u32 = 4;
+
+/// How much time one round counts for at most, in milliseconds: a wait of `TICK`, and some for what is done then.
+const LONGEST_ROUND: u64 = 100;
+
+/// An address that is listened on, the connections that are open, and what the system tells of them.
+#[derive(Drop)]
+pub struct Listening {
+    poll: Poll,
+    events: Events,
+    accepting: Accepting,
+    links: Links,
+    start: Instant,
+    /// How long ago the start was when the clock was read last, in milliseconds.
+    age: u64,
+    /// The time by which limits are counted, in milliseconds. It stands still while one request takes long, so that no
+    /// peer's time runs out while it waits for the program.
+    now: u64,
+    /// When the limits are to be looked at.
+    look_at: u64,
+}
+
+impl Listening {
+    /// From this listener so many connections are to be served, or as many as come, and at most `at_once` of them at once,
+    /// which is at least 1. None is accepted yet. It fails if memory runs out (`OutOfMemory`), or a call of the system fails.
+    pub fn new<R>(
+        rt: &R,
+        listener: net::TcpListener,
+        connections: Option<u32>,
+        at_once: u32,
+    ) -> io::Result<Listening>
+    where
+        R: AllocGlobal + Clock + Net,
+    {
+        listener.set_nonblocking(true)?;
+        let poll = Poll::new(rt)?;
+        let at_once = at_once.max(1) as usize;
+        // Without an end there are more than a program can ever accept.
+        let accepting = Accepting::new(
+            poll.registry(),
+            TcpListener::from_std(listener),
+            connections.map_or(u64::MAX, u64::from),
+            at_once,
+        )?;
+        Ok(Listening {
+            poll,
+            // One for each connection, and one for the listener: a round knows all that can be done.
+            events: Events::with_capacity(rt.alloc(), at_once.saturating_add(1))?,
+            accepting,
+            links: Links::new(rt.alloc(), at_once)?,
+            start: Instant::now(rt)?,
+            age: 0,
+            now: 0,
+            look_at: TICK,
+        })
+    }
+
+    /// Connections are accepted under numbers from this one on.
+    pub(crate) fn begin(&mut self, first: u64) {
+        self.accepting.begin(first);
+    }
+
+    /// Whether all is done: no more connections are accepted, and none is open.
+    pub(crate) fn is_done(&self) -> bool {
+        self.accepting.is_shut() && self.links.len() == 0
+    }
+
+    /// One round: waits until something can be done, accepts those that wait, takes some turns of each connection that
+    /// can go on, and closes those whose time is over. No connection below the first number is touched.
+    pub(crate) fn round<S: Store, C: hub::Clock, D: WordSource, R: Clock>(
+        &mut self,
+        rt: &R,
+        hub: &mut Hub<S>,
+        first: u64,
+        clock: &mut C,
+        words: &mut D,
+    ) -> Result<(), Fault>
+        ensures served { LeavesServed S.seen
+            (Supplies C.may_tell clock.old clock.new D.may_give words.old words.new) result hub.old hub.new }
+        ensures below { (all : Connections) → ConnectionsRepresent hub.old all → LeavesBelow first all hub.new }
+    {
+        self.await_events(rt);
+        self.make_room(hub, first);
+        self.accepting
+            .accept(self.poll.registry(), &mut self.links, self.now);
+        self.take_turns(hub, first, clock, words)?;
+        self.look(hub, first);
+        Ok(())
+    }
+
+    /// Tries once, on each connection, to send what was not sent of its last reply.
+    pub(crate) fn send_rests(&self) {
+        self.links.send_rests();
+    }
+
+    // ---- the parts of a round
+
+    /// Waits for events, unless something can be done at once, and takes them down.
+    fn await_events<R: Clock>(&mut self, rt: &R) {
+        let longest = self.longest_wait();
+        if self.poll.poll(&mut self.events, longest).is_err() {
+            thread::sleep(rt, Duration::from_millis(TICK));
+        }
+        self.count_time(rt);
+        mark_all(&self.events, &mut self.accepting, &mut self.links);
+    }
+
+    /// Counts the time since the last round, as far as a round counts.
+    fn count_time<R: Clock>(&mut self, rt: &R) {
+        let age = milliseconds(self.start.elapsed(rt), self.age);
+        let passed = age.saturating_sub(self.age).min(LONGEST_ROUND);
+        self.now = self.now.saturating_add(passed);
+        self.age = age;
+    }
+
+    /// How long to wait for events at most. Without a limit to look at it is as long as it takes.
+    fn longest_wait(&self) -> Option<Duration> {
+        let len = self.links.len();
+        if self.links.is_ready() || self.accepting.is_open(self.now, len) {
+            return Some(Duration::from_millis(0));
+        }
+        if len == 0 && self.accepting.is_quiet() {
+            return None;
+        }
+        Some(Duration::from_millis(TICK))
+    }
+
+    /// Closes the connection that has been idle longest, if somebody waits for its place. One leaves for each that waits,
+    /// and no more: a client that keeps many connections open in good faith keeps the others, where closing all that are
+    /// idle would have it connect again with each, though one place was wanted.
+    fn make_room<S: Store>(&mut self, hub: &mut Hub<S>, first: u64)
+        ensures steps { ClosesSome S.seen hub.old hub.new }
+        ensures below { (all : Connections) → ConnectionsRepresent hub.old all → LeavesBelow first all hub.new }
+    {
+        if self.accepting.wants_room(self.now, self.links.len()) {
+            let was_made = self.links.make_room(hub, first, self.now);
+            self.accepting.note_room(was_made, self.now);
+        }
+    }
+
+    /// Some turns of each connection that can go on.
+    fn take_turns<S: Store, C: hub::Clock, D: WordSource>(
+        &mut self,
+        hub: &mut Hub<S>,
+        first: u64,
+        clock: &mut C,
+        words: &mut D,
+    ) -> Result<(), Fault>
+        ensures served { LeavesServed S.seen
+            (Supplies C.may_tell clock.old clock.new D.may_give words.old words.new) result hub.old hub.new }
+        ensures below { (all : Connections) → ConnectionsRepresent hub.old all → LeavesBelow first all hub.new }
+    {
+        for _ in 0..PASSES {
+            self.links.turns(hub, first, clock, words, self.now)?;
+        }
+        Ok(())
+    }
+
+    /// Closes the connections whose time is over, if it is time to look. Once no more are accepted, those that are idle
+    /// are not waited for longer than where their places are wanted.
+    fn look<S: Store>(&mut self, hub: &mut Hub<S>, first: u64)
+        ensures steps { ClosesSome S.seen hub.old hub.new }
+        ensures below { (all : Connections) → ConnectionsRepresent hub.old all → LeavesBelow first all hub.new }
+    {
+        if self.now >= self.look_at {
+            self.look_at = self.now.saturating_add(TICK);
+            self.links
+                .look(hub, first, self.now, self.accepting.is_shut());
+        }
+    }
+}
+
+/// Takes down all that was reported.
+fn mark_all(events: &Events, accepting: &mut Accepting, links: &mut Links) {
+    for event in events {
+        if event.token() == LISTENER {
+            accepting.mark();
+        } else {
+            links.mark(event.token().0 as u64, event);
+        }
+    }
+}
+
+/// The age in milliseconds; the last one if it cannot be told.
+fn milliseconds(age: io::Result<Duration>, last: u64) -> u64 {
+    match age {
+        Ok(age) => u64::try_from(age.as_millis()).unwrap_or(u64::MAX),
+        Err(_) => last,
+    }
+}
