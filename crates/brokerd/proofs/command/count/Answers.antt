@@ -1,4 +1,4 @@
-use Rattle.std.proofs.Common.{◌≡◌, inl, inr, ℕ, List, Option, Some, None, Result, Ok, Err, Bool, true, false, codes, refl}
+use Rattle.std.proofs.Common.{◌≡◌, inl, inr, ℕ, List, Option, Some, None, Result, Ok, Bool, true, false, codes, refl}
 use Rattle.clap.specs.Words.{Text, found_of, one_text, TriesOne}
 use Rattle.clap.proofs.WalkLemmas.{one_text-rows}
 use Rattle.brokerd.specs.CommandLine.{IsNotSet, IsSet}
