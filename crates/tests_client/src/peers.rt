@@ -29,9 +29,16 @@ const FOUND: &str = "HTTP/1.1 200 OK\r\n\
     {\"auth\":null,\"data\":{\"k\":\"v\"},\"lease_duration\":0,\"lease_id\":\"\",\"renewable\":false,\
     \"request_id\":\"00000000-0000-0000-0000-000000000020\",\"warnings\":null,\"wrap_info\":null}\n";
 
-/// Two peers connect before they are served. The first stays connected without a word after its request; the second is
-/// served all the same. Each gets its reply, and its connection is closed.
-fn serve_two(rt: &HostRuntime, at_once: u32) -> Result<(), Fail> {
+/// What two peers got, and whether both connections are closed.
+#[derive(Drop)]
+struct Got {
+    written: String,
+    found: String,
+    are_closed: bool,
+}
+
+/// Serves two peers that connected before. The first stays connected without a word after its request.
+fn serve_two(rt: &HostRuntime, at_once: u32) -> Result<Got, Fail> {
     let alloc = rt.alloc();
     let moment = Moment::new(1_700_000_000).ok_or("the moment is in range")?;
     let mut store = ListStore::new(alloc);
@@ -46,22 +53,29 @@ fn serve_two(rt: &HostRuntime, at_once: u32) -> Result<(), Fail> {
     let listening = Listening::new(rt, listener, Some(2), at_once)?;
     let mut words = Same(Words([32, 33, 34, 35, 36, 37, 38, 39]));
     serve(rt, &mut hub, listening, &mut Fixed(moment), &mut words)?;
-    let written = io::read_to_string(alloc, first)?;
-    assert_eq!(rt; written.as_str(), WRITTEN);
-    let found = io::read_to_string(alloc, second)?;
-    assert_eq!(rt; found.as_str(), FOUND);
-    assert!(rt; hub.is_closed(0) && hub.is_closed(1));
-    Ok(())
+    Ok(Got {
+        written: io::read_to_string(alloc, first)?,
+        found: io::read_to_string(alloc, second)?,
+        are_closed: hub.is_closed(0) && hub.is_closed(1),
+    })
 }
 
 #[test]
 fn two_peers_at_once(rt: HostRuntime) -> Result<(), Fail> {
-    serve_two(&rt, 2)
+    let got = serve_two(&rt, 2)?;
+    assert_eq!(rt; got.written.as_str(), WRITTEN);
+    assert_eq!(rt; got.found.as_str(), FOUND);
+    assert!(rt; got.are_closed);
+    Ok(())
 }
 
 #[test]
 fn two_peers_one_after_another(rt: HostRuntime) -> Result<(), Fail> {
-    serve_two(&rt, 1)
+    let got = serve_two(&rt, 1)?;
+    assert_eq!(rt; got.written.as_str(), WRITTEN);
+    assert_eq!(rt; got.found.as_str(), FOUND);
+    assert!(rt; got.are_closed);
+    Ok(())
 }
 
 #[test]
