@@ -2,9 +2,10 @@ ghost use Rattle.std.specs.Prelude.{◌≤◌, length};
 
 use std::alloc::Global;
 
-/// The number of a connection, and the last reply to it with how much of this was sent.
+/// The number of a connection, and the reply that is being sent with how much of it was.
 #[derive(Drop)]
 pub struct Link {
+    alloc: Global,
     conn: u64,
     reply: Vec<u8>,
     sent: usize,
@@ -21,6 +22,7 @@ impl Link {
         ensures nothing { unsent result ≡ [] }
     {
         Link {
+            alloc,
             conn,
             reply: Vec::new(alloc),
             sent: 0,
@@ -49,13 +51,16 @@ impl Link {
         self.sent < self.reply.len()
     }
 
-    /// So many more were sent.
+    /// So many more were sent. A reply that was sent whole is dropped: an idle connection keeps none.
     pub(crate) fn advance(&mut self, count: usize)
         requires { count ≤ length (unsent self.old) }
         ensures same { number_of self.new ≡ number_of self.old }
         ensures rest { unsent self.new ≡ drop count (unsent self.old) }
     {
         self.sent += count;
+        if !self.is_sending() {
+            self.set_reply(Vec::new(self.alloc));
+        }
     }
 
     /// The next reply, in place of the last, of which all was sent.
