@@ -1,0 +1,73 @@
+"""Runs programs over the library of hostile.c: what the scripts beside this one share. README.md says what it does."""
+
+import collections
+import os
+import shutil
+import struct
+import subprocess
+from pathlib import Path
+
+HERE = Path(__file__).resolve().parent
+HEAP = "malloc,realloc,calloc"
+UNIT = struct.Struct("=16sQQ")  # a call in a report: its name, how often it was made, and how often it was changed
+RULE = struct.Struct("=QQQQ")  # a rule in a report: first and last, and the same counts
+RULES = 8
+HEAD = struct.Struct("=16sQqqqqq")  # what a record has before the data of a call
+
+Call = collections.namedtuple("Call", "name number fd offset length result data")
+Rule = collections.namedtuple("Rule", "first last made changed")
+
+
+def compiler():
+    """The command of the toolchain's C compiler."""
+    rt = shutil.which("rt")
+    if rt is None:
+        raise SystemExit("hostile: the Rattle toolchain is missing: there is no command 'rt'")
+    return Path(rt).resolve().parent.parent / "toolchain/bin/clang"
+
+
+def build(folder):
+    """The library, built in a folder."""
+    library = Path(folder) / "hostile.so"
+    subprocess.run([compiler(), "-O2", "-Wall", "-Wextra", "-Werror", "-ffreestanding", "-fno-builtin", "-fPIC", "-shared",
+                    "-nostdlib", "-fuse-ld=lld", "-o", library, HERE / "hostile.c"], check=True)
+    return library
+
+
+def environment(library, rules="", report=None, record=None, **others):
+    """The variables of a run under the library: rules in one text, and the files that it writes."""
+    found = {"PATH": os.environ.get("PATH", ""), "LD_PRELOAD": str(library), "HOSTILE": rules}
+    if report is not None:
+        found["HOSTILE_REPORT"] = str(report)
+    if record is not None:
+        found["HOSTILE_RECORD"] = str(record)
+    return {**found, **others}
+
+
+class Report:
+    """What a report says, also while the program runs."""
+
+    def __init__(self, file):
+        data = Path(file).read_bytes()
+        calls = len(data) - RULES * RULE.size
+        if calls <= 0 or calls % UNIT.size:
+            raise ValueError(f"{file} has {len(data)} bytes: the program was not run under the library")
+        units = [UNIT.unpack_from(data, at) for at in range(0, calls, UNIT.size)]
+        self.made = {name.rstrip(b"\0").decode(): made for name, made, _ in units}
+        self.changed = {name.rstrip(b"\0").decode(): changed for name, _, changed in units}
+        self.rules = [Rule(*RULE.unpack_from(data, at)) for at in range(calls, len(data), RULE.size)]
+
+
+def aim(file, rule, first, last):
+    """Gives a rule of a running program another first and last call. They count from its start, as `made` does."""
+    with open(file, "r+b") as report:
+        report.seek(-(RULES - rule) * RULE.size, os.SEEK_END)
+        report.write(struct.pack("=QQ", first, last))
+
+
+def recorded(file):
+    """The calls of a record, in their order."""
+    with open(file, "rb") as record:
+        while head := record.read(HEAD.size):
+            name, number, fd, offset, length, result, size = HEAD.unpack(head)
+            yield Call(name.rstrip(b"\0").decode(), number, fd, offset, length, result, record.read(size))
