@@ -5,6 +5,7 @@ import os
 import shutil
 import struct
 import subprocess
+import tempfile
 from pathlib import Path
 
 HERE = Path(__file__).resolve().parent
@@ -71,3 +72,52 @@ def recorded(file):
         while head := record.read(HEAD.size):
             name, number, fd, offset, length, result, size = HEAD.unpack(head)
             yield Call(name.rstrip(b"\0").decode(), number, fd, offset, length, result, record.read(size))
+
+
+def scratch():
+    """A folder for the files of runs, in memory if there is a place for that."""
+    place = "/dev/shm"
+    return tempfile.TemporaryDirectory(dir=place if os.access(place, os.W_OK) else None)
+
+
+def replies_of(output):
+    """The replies that an output is made of. A reply ends with its head, or with the body of its length."""
+    replies = []
+    while output:
+        end = output.index(b"\r\n\r\n") + 4
+        for line in output[:end].split(b"\r\n"):
+            name, _, value = line.partition(b":")
+            if name == b"Content-Length":
+                end += int(value)
+        replies.append(output[:end])
+        output = output[end:]
+    return replies
+
+
+class Tally:
+    """Counts what passed and failed, and prints the first failures, unless it has no title."""
+
+    SHOWN = 20
+
+    def __init__(self, title):
+        self.title, self.passed, self.failed = title, 0, 0
+
+    def expect(self, is_right, what):
+        """Counts one thing, and says what it is if it is wrong."""
+        if is_right:
+            self.passed += 1
+        else:
+            self.failed += 1
+            if self.failed <= self.SHOWN:
+                self.tell(what)
+        return is_right
+
+    def tell(self, what):
+        """Prints a line."""
+        if self.title is not None:
+            print(f"{self.title}: {what}", flush=True)
+
+    def end(self):
+        """Prints the last line, and answers the status."""
+        print(f"{self.passed} passed, {self.failed} failed")
+        return 1 if self.failed else 0

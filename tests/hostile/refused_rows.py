@@ -1,0 +1,303 @@
+#!/usr/bin/env python3
+"""Refuses memory to rows of tests/rows, one allocation after another, over both stores.
+
+    python3 tests/hostile/refused_rows.py [--all [STEP]] BROKERD TRIAL_STORES
+
+`TRIAL_STORES retry list` and `retry sql` send a request that met a fault once more, on another connection. Where one
+allocation is refused, each run has to give the usual replies, and to tell the one fault that it met, or none; or else
+the start has to end by the fault. Over SQL the rows after the fault are those before the request. `TRIAL_STORES list`
+and `BROKERD replay` do not send it once more: each run has to give the usual replies, or to write whole replies from the
+first one on and to end with status 1 and the fault. There all later allocations are refused too in some runs. Over the
+list a fault is always `fault 1`, over SQL also `fault 2`. The usual replies are those of the reference broker.
+
+Without `--all` five rows are run: by `retry` each allocation after the start is refused, and each of the start too for
+the first row; by the other commands each seventh. With it all rows are run, and each allocation is refused, or each
+STEPth. A row in which an event is not one whole request on an open connection is not run by `retry`.
+
+Memory is overwritten when it is given and when it is freed (`MALLOC_PERTURB_`), so that no run is right by what it happens
+to find there. For each row and command a line tells what came of it. The last line is `N passed, M failed`.
+"""
+
+import argparse
+import collections
+import concurrent.futures
+import functools
+import itertools
+import json
+import os
+import re
+import subprocess
+import sys
+from pathlib import Path
+
+from hostile import HEAP, HERE, Report, Tally, build, environment, replies_of, scratch
+
+ROWS = HERE.parent / "rows"
+FIVE = ["first_run", "orphan_survives", "check_and_set", "wrapped_reply_once", "lease_ends_with_token"]
+SEVENTH = 7
+SPARSE = 40  # where mistakes are looked for
+SECONDS = 60  # for one run
+CHUNK = 16  # runs that a process is handed at once
+
+# The fewest allocations of an event on average, and the fewest runs of a hundred, among those with an allocation after
+# the start refused, in which the request has to be sent once more.
+ALLOCATIONS = {"list": 90, "sql": 90}
+SENT = {"list": 95, "sql": 50}
+FAULTS = {"list": "1", "sql": "12"}
+
+TOLD = {"list": re.compile(rb"event ([1-9][0-9]*): fault (1), sent once more\n"),
+        "sql": re.compile(rb"event ([1-9][0-9]*): fault ([12]), rows as before, sent once more\n")}
+FAULT = re.compile(rb"fault ([1-9])\n")
+
+Way = collections.namedtuple("Way", "name words store retries onward step")
+Ended = collections.namedtuple("Ended", "output error status changed made")
+# What came of a run: `kind` is usual, started (a fault at the start), again (sent once more), or ended (by the fault);
+# `place` is the event that met the fault, or the number of replies before it.
+Outcome = collections.namedtuple("Outcome", "kind place fault", defaults=(None, None))
+
+
+@functools.cache
+def usual_of(replay):
+    """What a replay usually ends with: its output, standard error and status, and its replies."""
+    output = Path(replay).with_suffix(".out").read_bytes()
+    error, status = usual_ends().get(Path(replay).stem, (b"", 0))
+    return output, error, status, replies_of(output)
+
+
+@functools.cache
+def usual_ends():
+    """The standard error and the status of each row, as the index has them."""
+    found = {}
+    for line in (ROWS / "INDEX.md").read_text(encoding="utf-8").splitlines():
+        if line.startswith("| `"):
+            name, _, status, word = (it.strip().strip("`") for it in line.split("|")[1:5])
+            found[name] = (f"{word}\n".encode() if word else b"", int(status))
+    return found
+
+
+def is_whole(replay):
+    """Whether each event of a replay is one whole request, and is answered on a connection that stays open."""
+    output, error, status, replies = usual_of(replay)
+    lines = Path(replay).read_bytes().splitlines()
+    if status != 0 or error or len(replies) != len(lines) - 1 or any(b"\r\nConnection: close\r\n" in it for it in replies):
+        return False
+    return all(is_one_request(json.loads(line)) for line in lines[1:])
+
+
+def is_one_request(event):
+    """Whether the bytes of an event are a head and a body of its length."""
+    piece = bytes.fromhex(event["hex"]) if "hex" in event else event["piece"].encode()
+    head, empty_line, body = piece.partition(b"\r\n\r\n")
+    lengths = [line.partition(b":")[2] for line in head.split(b"\r\n") if line.lower().startswith(b"content-length:")]
+    return bool(empty_line) and len(body) == sum(int(it) if it.strip().isdigit() else -1 for it in lengths)
+
+
+def outcome_of(way, replay, ended):
+    """What came of a run, or None and what is wrong."""
+    output, error, status, replies = usual_of(replay)
+    if ended[:3] == (output, error, status):
+        return Outcome("usual"), None
+    fault = FAULT.fullmatch(ended.error)
+    told = TOLD[way.store].fullmatch(ended.error) if way.retries else None
+    if told and (ended.output, ended.status) == (output, status):
+        return Outcome("again", int(told[1]), told[2].decode()), None
+    if fault and ended.status == 1 and fault[1].decode() in FAULTS[way.store]:
+        whole = list(itertools.accumulate(replies[:-1], initial=b"")).index(ended.output) if is_front(ended, replies) else -1
+        if way.retries and whole == 0:
+            return Outcome("started", 0, fault[1].decode()), None
+        if not way.retries and whole >= 0:
+            return Outcome("ended", whole, fault[1].decode()), None
+    return None, f"status {ended.status}, standard error {ended.error[:120]!r}, the end of the output {ended.output[-80:]!r}"
+
+
+def is_front(ended, replies):
+    """Whether an output is whole replies from the first one on, and not all."""
+    return ended.output in itertools.accumulate(replies[:-1], initial=b"")
+
+
+class Runs:
+    """The runs of a way over a replay. It is handed to other processes."""
+
+    def __init__(self, library, folder, way, replay):
+        self.library, self.folder, self.way, self.replay = str(library), str(folder), way, str(replay)
+
+    def run(self, which):
+        """One run, in which the allocations are refused that `which` names."""
+        report = f"{self.folder}/report-{os.getpid()}"
+        variables = environment(self.library, f"{HEAP}:{which}:ENOMEM", report=report, MALLOC_PERTURB_="165")
+        with open(self.replay, "rb") as lines:
+            done = subprocess.run(self.way.words, stdin=lines, capture_output=True, env=variables, timeout=SECONDS)
+        rule = Report(report).rules[0]
+        return Ended(done.stdout, done.stderr, done.returncode, rule.changed, rule.made)
+
+    def refuse(self, number):
+        """What came of refusing an allocation, what is wrong, and how many allocations were refused."""
+        try:
+            ended = self.run(f"{number}{'+' if self.way.onward else ''}")
+        except subprocess.TimeoutExpired:
+            return None, f"it did not end in {SECONDS} seconds", 0
+        return *outcome_of(self.way, self.replay, ended), ended.changed
+
+    def first_after_the_start(self, count):
+        """An allocation at which the start is over: the one before it ends the start by a fault."""
+        start, later = 1, count
+        while later - start > 1:
+            middle = (start + later) // 2
+            outcome, _, _ = self.refuse(middle)
+            if outcome is not None and outcome.kind == "started":
+                start = middle
+            else:
+                later = middle
+        return later
+
+
+def without(lines, event):
+    """The lines without an event: what is left if it is not sent once more."""
+    return lines[:event] + lines[event + 1:]
+
+
+def with_other_words(lines, event):
+    """The lines with the words of the next event for an event: what it is sent once more with by mistake."""
+    words = {"words": json.loads(lines[min(event + 1, len(lines) - 1)])["words"]}
+    return lines[:event] + [json.dumps({**json.loads(lines[event]), **words}).encode()] + lines[event + 1:]
+
+
+class Mistaken(Runs):
+    """The runs of a program that makes a mistake where it sends a request once more."""
+
+    def __init__(self, mistake, *arguments):
+        super().__init__(*arguments)
+        self.mistake = mistake
+
+    def run(self, which):
+        ended = super().run(which)
+        told = TOLD[self.way.store].fullmatch(ended.error)
+        if not told:
+            return ended
+        lines = b"\n".join(self.mistake(Path(self.replay).read_bytes().splitlines(), int(told[1])))
+        return ended._replace(output=subprocess.run(self.way.words, input=lines, capture_output=True, check=True).stdout)
+
+
+class Forgetful(Runs):
+    """The runs of a program that always answers that memory ran out."""
+
+    def run(self, which):
+        return super().run(which)._replace(output=b"", error=b"fault 1\n", status=1)
+
+
+MISTAKES = {("wrapped_reply_once", "not sent once more"): functools.partial(Mistaken, without),
+            ("wrapped_reply_once", "sent with other words"): functools.partial(Mistaken, with_other_words),
+            ("first_run", "never answered"): Forgetful}
+
+
+class Judge:
+    """Judges the outcomes of a way over a replay, by what each of them may be and by how many there are."""
+
+    def __init__(self, tally, runs, count):
+        self.tally, self.way, self.count = tally, runs.way, count
+        self.name = f"{Path(runs.replay).stem}, {runs.way.name}"
+        self.events = len(usual_of(runs.replay)[3])
+        self.last, self.kinds, self.faults, self.sent = 0, collections.Counter(), collections.Counter(), collections.Counter()
+
+    def take(self, number, outcome, wrong, changed):
+        """Judges what came of one run."""
+        if wrong is None:
+            wrong = self.wrong_refusals(number, outcome, changed) or self.wrong_place(outcome)
+        self.tally.expect(wrong is None, f"{self.name}: allocation {number}: {wrong}")
+        if outcome is not None:
+            self.kinds[outcome.kind] += 1
+            self.faults[outcome.fault] += outcome.fault is not None
+            self.sent[outcome.place] += outcome.kind == "again"
+
+    def wrong_refusals(self, number, outcome, changed):
+        """What is wrong with the number of allocations that were refused."""
+        if number > self.count:
+            return "there is no such allocation, but a fault" if outcome.kind != "usual" or changed else None
+        if changed < 1 or (changed > 1 and not self.way.onward):
+            return f"{changed} allocations were refused"
+        return None
+
+    def wrong_place(self, outcome):
+        """What is wrong with the place of a fault: the later the allocation, the later the event."""
+        if outcome.kind == "usual":
+            return None
+        if outcome.place < self.last:
+            return f"a fault at {outcome.place}, though an earlier allocation led to one at {self.last}"
+        self.last = outcome.place
+        return None
+
+    def end(self):
+        """Judges how many outcomes of each kind there were, and prints them."""
+        tried = sum(self.kinds.values()) - 1
+        faults = " and ".join(f"{count} times fault {fault}" for fault, count in sorted(self.faults.items()) if count)
+        kinds = (("started", "at the start"), ("again", "sent once more"), ("usual", "the usual replies"))
+        told = ", ".join(f"{self.kinds[kind]} times {text}" for kind, text in kinds if self.kinds[kind])
+        self.tally.tell(f"{self.name}: {self.count} allocations, {tried} runs: {faults}; {told}")
+        store, expect = self.way.store, self.tally.expect
+        expect(self.count >= ALLOCATIONS[store] * self.events, f"{self.name}: {self.count} allocations in {self.events} events")
+        expect(all(self.faults[fault] for fault in FAULTS[store]), f"{self.name}: one of the faults never came")
+        if self.way.retries:
+            after = tried - self.kinds["started"]
+            expect(100 * self.kinds["again"] >= SENT[store] * after,
+                   f"{self.name}: sent once more in {self.kinds['again']} of {after} runs")
+            for event in range(1, self.events + 1):
+                expect(self.sent[event] > 0, f"{self.name}: event {event} was never sent once more")
+
+
+def try_row(tally, pool, runs, has_start):
+    """Refuses the allocations of a replay, one after another, and one more than there are. Without the start, those by
+    which it may end are left out."""
+    way, name = runs.way, f"{Path(runs.replay).stem}, {runs.way.name}"
+    usual = runs.run("0")
+    outcome, wrong = outcome_of(way, runs.replay, usual)
+    if not tally.expect(outcome == Outcome("usual") and not usual.changed, f"{name}: not the usual replies: {wrong}"):
+        return
+    first = runs.first_after_the_start(usual.made) if way.retries and not has_start else 1
+    numbers = [*range(first, usual.made + 1, way.step), usual.made + 1]
+    judge = Judge(tally, runs, usual.made)
+    for number, found in zip(numbers, pool.map(runs.refuse, numbers, chunksize=CHUNK)):
+        judge.take(number, *found)
+    judge.end()
+
+
+def try_mistakes(tally, pool, library, folder, ways):
+    """Each mistake has to be found by the runs of a row."""
+    for way, (row, mistake) in itertools.product(ways, MISTAKES.items()):
+        found = Tally(None)
+        try_row(found, pool, mistake(library, folder, way._replace(step=SPARSE), ROWS / f"{row[0]}.replay"), False)
+        tally.expect(found.failed > 0, f"{row[0]}, {way.name}: a program whose request is {row[1]} is not found")
+
+
+def ways_of(brokerd, trial_stores, step):
+    """The commands that are tried, and how."""
+    sparse = step or SEVENTH
+    return [Way("retry list", [trial_stores, "retry", "list"], "list", True, False, step or 1),
+            Way("retry sql", [trial_stores, "retry", "sql"], "sql", True, False, step or 1),
+            Way("list", [trial_stores, "list"], "list", False, False, sparse),
+            Way("list, all later ones too", [trial_stores, "list"], "list", False, True, sparse),
+            Way("replay", [brokerd, "replay"], "sql", False, False, sparse),
+            Way("replay, all later ones too", [brokerd, "replay"], "sql", False, True, sparse)]
+
+
+def main():
+    parser = argparse.ArgumentParser(description="refuses memory to rows, one allocation after another")
+    parser.add_argument("--all", nargs="?", type=int, const=1, default=0, metavar="STEP")
+    parser.add_argument("brokerd", type=os.path.abspath)
+    parser.add_argument("trial_stores", type=os.path.abspath)
+    arguments = parser.parse_args()
+    replays = [ROWS / f"{name}.replay" for name in FIVE]
+    if arguments.all:
+        replays = [*sorted(ROWS.glob("*.replay")), HERE / "tree_revoked.replay"]
+    tally = Tally("refused, rows")
+    with scratch() as folder, concurrent.futures.ProcessPoolExecutor(os.cpu_count()) as pool:
+        library = build(folder)
+        ways = ways_of(arguments.brokerd, arguments.trial_stores, arguments.all)
+        for replay, way in itertools.product(replays, ways):
+            if not way.retries or is_whole(replay):
+                try_row(tally, pool, Runs(library, folder, way, replay), arguments.all or replay.stem == FIVE[0])
+        try_mistakes(tally, pool, library, folder, [way for way in ways if way.retries])
+    return tally.end()
+
+
+if __name__ == "__main__":
+    sys.exit(main())
