@@ -1,9 +1,9 @@
 #!/bin/bash
-# Refuses memory to the programs as they are built, one allocation after another: to five rows of tests/rows over each of
-# the two stores, to `client`, and to `brokerd serve --db`. tests/hostile says what is right then. It takes some 30
-# seconds. tests/refused.sh --all [STEP] takes all rows, and each allocation, or each STEPth, which takes hours if it is
-# each; the gate does not do it. BROKERD, CLIENT and TRIAL_STORES name other programs. The last line is 'N passed, M
-# failed'; the status is 0 if nothing failed.
+# Refuses memory to the programs as they are built, one allocation after another: to five rows of tests/rows over each
+# of the two stores, to `client`, and to `brokerd serve --db`. tests/hostile says what is right then. It takes some 30
+# seconds. tests/refused.sh --all [STEP] takes all rows, and each allocation, or each STEPth; the gate does not do it.
+# BROKERD, CLIENT and TRIAL_STORES name other programs. The last line is 'N passed, M failed'; the status is 0 if
+# nothing failed.
 set -u
 cd "$(dirname "$0")/.."
 

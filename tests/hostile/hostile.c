@@ -32,8 +32,8 @@ enum {
 struct timespec { long seconds, nanoseconds; };
 struct part { const void *bytes; size_t length; };
 
-/* Calls of the heap; calls whose second argument is a place of bytes and whose third is their number; those of them that
-   hand bytes over; and those whose fourth is an offset. */
+/* Calls of the heap; calls whose second argument is a place of bytes and whose third is their number; those of them
+   that hand bytes over; and those whose fourth is an offset. */
 #define BIT(name) (1UL << CALL_##name)
 static const number HEAP = BIT(malloc) | BIT(realloc) | BIT(calloc);
 static const number WITH_BYTES = BIT(read) | BIT(write) | BIT(pread) | BIT(pwrite) | BIT(recv) | BIT(send);
@@ -154,7 +154,9 @@ static int takes_error(const char **text, long *value) {
 }
 
 static int takes_act(const char **text, struct rule *rule) {
-    static const struct { const char *word; enum act act; } acts[] = {{"short=", SHORTEN}, {"add=", ADD}, {"set=", SET}};
+    static const struct { const char *word; enum act act; } acts[] = {
+        {"short=", SHORTEN}, {"add=", ADD}, {"set=", SET},
+    };
     for (size_t it = 0; it < sizeof acts / sizeof *acts; it++)
         if (takes(text, acts[it].word)) {
             rule->act = acts[it].act;

@@ -30,8 +30,8 @@ def compiler():
 def build(folder):
     """The library, built in a folder."""
     library = Path(folder) / "hostile.so"
-    subprocess.run([compiler(), "-O2", "-Wall", "-Wextra", "-Werror", "-ffreestanding", "-fno-builtin", "-fPIC", "-shared",
-                    "-nostdlib", "-fuse-ld=lld", "-o", library, HERE / "hostile.c"], check=True)
+    subprocess.run([compiler(), "-O2", "-Wall", "-Wextra", "-Werror", "-ffreestanding", "-fno-builtin", "-fPIC",
+                    "-shared", "-nostdlib", "-fuse-ld=lld", "-o", library, HERE / "hostile.c"], check=True)
     return library
 
 

@@ -5,13 +5,13 @@
 
 A server of this script takes the request, and sends one reply of a broker. In turn:
 
-- **Memory**: each allocation of a read, a write and a write of standard input is refused alone, and with all later ones.
-  The client has to print the usual reply, or nothing and `fault 1` with status 1. What the server got is the usual
-  request or a front of it, and nothing else.
+- **Memory**: each allocation of a read, a write and a write of standard input is refused alone, and with all later
+  ones. The client has to print the usual reply, or nothing and `fault 1` with status 1. What the server got is the
+  usual request or a front of it, and nothing else.
 - **A cut reply**: after each of its bytes but the last, and before the first, the connection ends: `bad reply`.
 - **Standard output**: full, `fault 6`.
-- **Calls**: each `send`, `recv` and `write` is asked for one byte: the usual reply. One that fails is `fault 6`, or `bad
-  reply` if it is a `recv`; where there is no connection, `fault 5`.
+- **Calls**: each `send`, `recv` and `write` is asked for one byte: the usual reply. One that fails is `fault 6`, or
+  `bad reply` if it is a `recv`; where there is no connection, `fault 5`.
 
 The last line is `N passed, M failed`.
 """
@@ -127,7 +127,8 @@ def refuse_memory(tally, client, pool, name, request):
             tally.expect(ended in right and request.startswith(got) and (ended != usual or got == request)
                          and (refused > 0) == (number <= count) and (refused <= 1 or onward),
                          f"{name}: allocation {number}{onward}: {ended}, {refused} refused, the server got {got!r}")
-        print(f"{name}: {count} allocations, each refused{', and all later ones' if onward else ' alone'}: {faults} times fault 1")
+        way = "with all later ones" if onward else "alone"
+        tally.tell(f"{name}: {count} allocations, each refused {way}: {faults} times fault 1")
         tally.expect(10 * faults >= 9 * count, f"{name}: only {faults} faults in {count} runs")
 
 
@@ -137,22 +138,22 @@ def cut_replies(tally, client, pool, name):
     cuts = range(len(reply))
     for cut, (ended, _, _) in zip(cuts, pool.map(lambda it: client.run(name, reply=reply[:it]), cuts)):
         tally.expect(ended == (b"", b"bad reply\n", 1), f"{name}: a reply of {cut} bytes of {len(reply)}: {ended}")
-    print(f"{name}: {len(reply)} cut replies")
+    tally.tell(f"{name}: {len(reply)} cut replies")
 
 
 def fail_calls(tally, client, request):
     """Makes calls fail, cuts them short, and fills standard output."""
     usual = (body_of(READ), b"", 0)
+    unwritten, unreached, bad = (b"", b"fault 6\n", 1), (b"", b"fault 5\n", 1), (b"", b"bad reply\n", 1)
     for rules, wanted in [("send:1+:short=1", usual), ("recv:1+:short=1", usual), ("write:1+:short=1", usual),
-                          ("send:1:ECONNRESET", (b"", b"fault 6\n", 1)), ("recv:1:ECONNRESET", (b"", b"bad reply\n", 1)),
-                          ("connect:1:ENOBUFS", (b"", b"fault 5\n", 1)), ("socket:1:EMFILE", (b"", b"fault 5\n", 1)),
-                          ("write:1:ENOSPC", (b"", b"fault 6\n", 1)), ("write:1:EIO", (b"", b"fault 6\n", 1))]:
+                          ("send:1:ECONNRESET", unwritten), ("recv:1:ECONNRESET", bad), ("socket:1:EMFILE", unreached),
+                          ("connect:1:ENOBUFS", unreached), ("write:1:ENOSPC", unwritten), ("write:1:EIO", unwritten)]:
         ended, got, report = client.run("read", rules)
         tally.expect(ended == wanted and report.rules[0].changed > 0 and got in (b"", request),
                      f"{rules}: {ended}, {report.rules[0].changed} calls changed, the server got {got!r}")
     with open("/dev/full", "wb") as full:
         ended, _, _ = client.run("read", output=full)
-    tally.expect(ended == (b"", b"fault 6\n", 1), f"standard output is full: {ended}")
+    tally.expect(ended == unwritten, f"standard output is full: {ended}")
 
 
 def main():
@@ -162,7 +163,8 @@ def main():
         requests = {}
         for name, (_, _, reply) in COMMANDS.items():
             ended, requests[name], _ = client.run(name)
-            tally.expect(ended == (body_of(reply), b"", 0) and requests[name].endswith(b'{"k":"v"}' if reply == WRITTEN else b""),
+            body = b'{"k":"v"}' if reply == WRITTEN else b""
+            tally.expect(ended == (body_of(reply), b"", 0) and requests[name].endswith(b"\r\n\r\n" + body),
                          f"{name}: {ended}, the server got {requests[name]!r}")
         for name in COMMANDS:
             refuse_memory(tally, client, pool, name, requests[name])

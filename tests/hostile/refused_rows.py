@@ -6,16 +6,18 @@
 `TRIAL_STORES retry list` and `retry sql` send a request that met a fault once more, on another connection. Where one
 allocation is refused, each run has to give the usual replies, and to tell the one fault that it met, or none; or else
 the start has to end by the fault. Over SQL the rows after the fault are those before the request. `TRIAL_STORES list`
-and `BROKERD replay` do not send it once more: each run has to give the usual replies, or to write whole replies from the
-first one on and to end with status 1 and the fault. There all later allocations are refused too in some runs. Over the
-list a fault is always `fault 1`, over SQL also `fault 2`. The usual replies are those of the reference broker.
+and `BROKERD replay` do not send it once more: each run has to give the usual replies, or to write whole replies from
+the first one on and to end with status 1 and the fault. There all later allocations are refused too in some runs. Over
+the list a fault is always `fault 1`, over SQL also `fault 2`. The usual replies are those of the reference broker.
 
 Without `--all` five rows are run: by `retry` each allocation after the start is refused, and each of the start too for
 the first row; by the other commands each seventh. With it all rows are run, and each allocation is refused, or each
 STEPth. A row in which an event is not one whole request on an open connection is not run by `retry`.
 
-Memory is overwritten when it is given and when it is freed (`MALLOC_PERTURB_`), so that no run is right by what it happens
-to find there. For each row and command a line tells what came of it. The last line is `N passed, M failed`.
+Memory is overwritten when it is given and when it is freed (`MALLOC_PERTURB_`), so that no run is right by what it
+happens to find there. For each row and command a line tells what came of it. At the end programs are tried that do not
+send a request once more, or send it with other words, or always answer that memory ran out: each has to be found. The
+last line is `N passed, M failed`.
 """
 
 import argparse
@@ -79,9 +81,10 @@ def is_whole(replay):
     """Whether each event of a replay is one whole request, and is answered on a connection that stays open."""
     output, error, status, replies = usual_of(replay)
     lines = Path(replay).read_bytes().splitlines()
-    if status != 0 or error or len(replies) != len(lines) - 1 or any(b"\r\nConnection: close\r\n" in it for it in replies):
+    if status != 0 or error or len(replies) != len(lines) - 1:
         return False
-    return all(is_one_request(json.loads(line)) for line in lines[1:])
+    closes = any(b"\r\nConnection: close\r\n" in reply for reply in replies)
+    return not closes and all(is_one_request(json.loads(line)) for line in lines[1:])
 
 
 def is_one_request(event):
@@ -102,17 +105,12 @@ def outcome_of(way, replay, ended):
     if told and (ended.output, ended.status) == (output, status):
         return Outcome("again", int(told[1]), told[2].decode()), None
     if fault and ended.status == 1 and fault[1].decode() in FAULTS[way.store]:
-        whole = list(itertools.accumulate(replies[:-1], initial=b"")).index(ended.output) if is_front(ended, replies) else -1
-        if way.retries and whole == 0:
+        fronts = list(itertools.accumulate(replies[:-1], initial=b""))
+        if way.retries and not ended.output:
             return Outcome("started", 0, fault[1].decode()), None
-        if not way.retries and whole >= 0:
-            return Outcome("ended", whole, fault[1].decode()), None
-    return None, f"status {ended.status}, standard error {ended.error[:120]!r}, the end of the output {ended.output[-80:]!r}"
-
-
-def is_front(ended, replies):
-    """Whether an output is whole replies from the first one on, and not all."""
-    return ended.output in itertools.accumulate(replies[:-1], initial=b"")
+        if not way.retries and ended.output in fronts:
+            return Outcome("ended", fronts.index(ended.output), fault[1].decode()), None
+    return None, f"status {ended.status}, standard error {ended.error[:120]!r}, output that ends {ended.output[-80:]!r}"
 
 
 class Runs:
@@ -175,7 +173,8 @@ class Mistaken(Runs):
         if not told:
             return ended
         lines = b"\n".join(self.mistake(Path(self.replay).read_bytes().splitlines(), int(told[1])))
-        return ended._replace(output=subprocess.run(self.way.words, input=lines, capture_output=True, check=True).stdout)
+        mistaken = subprocess.run(self.way.words, input=lines, capture_output=True, check=True)
+        return ended._replace(output=mistaken.stdout)
 
 
 class Forgetful(Runs):
@@ -197,7 +196,8 @@ class Judge:
         self.tally, self.way, self.count = tally, runs.way, count
         self.name = f"{Path(runs.replay).stem}, {runs.way.name}"
         self.events = len(usual_of(runs.replay)[3])
-        self.last, self.kinds, self.faults, self.sent = 0, collections.Counter(), collections.Counter(), collections.Counter()
+        self.last = 0
+        self.kinds, self.faults, self.sent = (collections.Counter() for _ in range(3))
 
     def take(self, number, outcome, wrong, changed):
         """Judges what came of one run."""
@@ -234,7 +234,7 @@ class Judge:
         told = ", ".join(f"{self.kinds[kind]} times {text}" for kind, text in kinds if self.kinds[kind])
         self.tally.tell(f"{self.name}: {self.count} allocations, {tried} runs: {faults}; {told}")
         store, expect = self.way.store, self.tally.expect
-        expect(self.count >= ALLOCATIONS[store] * self.events, f"{self.name}: {self.count} allocations in {self.events} events")
+        expect(self.count >= ALLOCATIONS[store] * self.events, f"{self.name}: {self.count} allocations")
         expect(all(self.faults[fault] for fault in FAULTS[store]), f"{self.name}: one of the faults never came")
         if self.way.retries:
             after = tried - self.kinds["started"]

@@ -63,6 +63,7 @@ class Served:
         place = (os.getpid() << 8 | next(numbers) & 0xff) & 0xffffff
         self.address = (f"127.{place >> 16}.{place >> 8 & 0xff}.{place & 0xff}", 8200 + next(numbers) % 10000)
         self.report, self.out, self.err = (Path(folder) / name for name in ("report", "out", "err"))
+        self.report.unlink(missing_ok=True)
         with open(self.out, "wb") as out, open(self.err, "wb") as err:
             self.process = subprocess.Popen(
                 [program, "serve", "--listen", f"{self.address[0]}:{self.address[1]}", "--until-stopped", "--db",
@@ -71,7 +72,9 @@ class Served:
                 env=environment(library, rules, report=self.report, MALLOC_PERTURB_="165"))
         until = time.monotonic() + SECONDS
         while self.process.poll() is None and not self.listens():
-            expect(time.monotonic() < until, "it neither listens nor ends")
+            if time.monotonic() > until:
+                self.stop()
+                raise Wrong("it neither listens nor ends")
             time.sleep(0.002)
         self.made = self.read().rules[0].made  # by the start
 
@@ -79,6 +82,9 @@ class Served:
         return self
 
     def __exit__(self, *_):
+        self.stop()
+
+    def stop(self):
         self.process.kill()
         self.process.wait()
 
@@ -94,7 +100,8 @@ class Served:
     def token(self):
         """The root token that was printed; none if nothing was."""
         printed = self.out.read_bytes().decode()
-        expect(printed == "" or (printed.startswith("root token: ") and printed.endswith("\n")), f"it printed {printed!r}")
+        is_line = printed.startswith("root token: ") and printed.endswith("\n")
+        expect(is_line or not printed, f"it printed {printed!r}")
         return printed[12:-1] or None
 
     def end(self):
@@ -120,7 +127,8 @@ class Served:
             raise Closed(f"{method} {path}: closed")
         head, _, rest = got.partition(b"\r\n\r\n")
         lines = dict(line.lower().split(b": ", 1) for line in head.split(b"\r\n")[1:])
-        expect(len(rest) == int(lines.get(b"content-length", b"0")), f"{method} {path}: a reply that is not whole: {got!r}")
+        length = int(lines.get(b"content-length", b"0"))
+        expect(len(rest) == length, f"{method} {path}: the reply is not whole: {got!r}")
         return int(head.split(b" ")[1]), json.loads(rest) if rest else None
 
     def get(self, status, *words, **named):
@@ -146,7 +154,8 @@ def write(served, known):
 
 def read(served, known):
     found = served.get(200, "GET", "secret/data/a", known.root)["data"]
-    expect((found["metadata"]["version"], found["data"]) == (known.version, {"number": known.version}), f"the secret is {found}")
+    expect(found["metadata"]["version"] == known.version, f"the version is {found['metadata']['version']}")
+    expect(found["data"] == {"number": known.version}, f"version {known.version} has {found['data']}")
 
 
 def create(served, known):
@@ -254,44 +263,50 @@ def try_requests(program, library, stride, step):
                 number += stride
         except (Wrong, Closed, subprocess.TimeoutExpired) as error:
             tally.expect(False, f"{name}: allocation {number}: {error!r}")
-        requests.served.__exit__()
+        requests.served.stop()
     told = ", ".join(f"{count} times {what}" for what, count in sorted(requests.counts.items()))
-    print(f"{name}: {number - stride} allocations and more, each {stride}th refused: {told}", flush=True)
+    tally.tell(f"{name}: some {number - 1} allocations, {sum(requests.counts.values())} refused alone: {told}")
     tally.expect(number >= LEAST, f"{name}: {number} allocations")
     tally.expect(requests.counts["closed"] + requests.counts["fault 2"] > 0, f"{name}: no fault")
     return tally.passed, tally.failed
 
 
-def is_kept(served, known):
-    """Whether the broker is the one that is known, after a start without refusal."""
-    expect(served.token() is None, "another broker is started")
-    if known.version:
-        check(served, known)
-    served.get(200, "GET", "auth/token/lookup-self", known.root)
+def copy_file(of, to):
+    """Copies the file of a broker, if there is one, into a folder that has none."""
+    for file in Path(of).glob("broker.db*"):
+        shutil.copy(file, to)
 
 
-def try_start(program, library, filled, known, which):
-    """Refuses allocations of a start: with a new file, or with a copy of that in a folder. Answers what came of it, or
-    what is wrong, and how many were refused."""
+def start_refused(program, library, folder, known, which):
+    """A start with refused allocations. Answers how it ended, the token that it printed, and how many were refused."""
+    with Served(program, library, folder, f"{HEAP}:{which}:ENOMEM") as served:
+        token, changed = served.token(), served.read().rules[0].changed
+        if served.process.poll() is not None:
+            return f"fault {served.end()}", token, changed
+        if "+" not in which:
+            served.get(200, "GET", "auth/token/lookup-self", known.root if known else token)
+        return "served", token, changed
+
+
+def start_again(program, library, folder, known, token):
+    """A start without refusal: it finds the broker that is known, or that whose token was printed, or starts one."""
+    with Served(program, library, folder) as served:
+        root = known.root if known else token
+        expect((served.token() is None) == (root is not None), f"it printed {served.token()}, and {root} was there")
+        served.get(200, "GET", "auth/token/lookup-self", root or served.token())
+        if known:
+            check(served, known)
+
+
+def try_start(program, library, place, known, which):
+    """Refuses allocations of a start with a copy of the file in a folder. Answers how it ended, what is wrong, and how
+    many were refused."""
     with scratch() as folder:
-        for file in Path(filled).glob("broker.db*") if known else ():
-            shutil.copy(file, folder)
+        copy_file(place, folder)
         try:
-            with Served(program, library, folder, f"{HEAP}:{which}:ENOMEM") as served:
-                token, changed = served.token(), served.read().rules[0].changed
-                if served.process.poll() is not None:
-                    found = f"fault {served.end()}"
-                else:
-                    found = "served"
-                    if "+" not in which:
-                        served.get(200, "GET", "auth/token/lookup-self", known.root if known else token)
-            with Served(program, library, folder) as served:
-                root = token or (None if known else served.token())
-                is_new = known is None and token is None
-                served.get(200, "GET", "auth/token/lookup-self", known.root if known else root)
-                if not is_new:
-                    is_kept(served, known or Known(root))
-            return found, None, changed
+            end, token, changed = start_refused(program, library, folder, known, which)
+            start_again(program, library, folder, known, token)
+            return end, None, changed
         except (Wrong, Closed, subprocess.TimeoutExpired) as error:
             return None, repr(error), 0
 
@@ -308,41 +323,39 @@ def fill(program, library, folder):
     return known
 
 
-def try_starts(tally, pool, program, library, stride):
-    """Refuses each STRIDEth allocation of a start with a new file, and with one that has a broker."""
-    with scratch() as filled, scratch() as empty:
-        known = fill(program, library, filled)
-        for name, found in (("a new file", None), ("a file with a broker", known)):
-            if found:
-                for file in Path(filled).glob("broker.db*"):
-                    shutil.copy(file, empty)
-            for file in Path(empty).glob("broker.db*") if not found else ():
-                file.unlink()
-            with Served(program, library, empty) as served:
-                count = served.made
-            tally.expect(count >= LEAST, f"a start with {name}: {count} allocations")
-            for onward in ("", "+") if found else ("",):
-                refused = [f"{number}{onward}" for number in range(1, count + 1, stride)]
-                ends = Counter()
-                run = functools.partial(try_start, program, library, filled, found)
-                for which, (end, wrong, changed) in zip(refused, pool.map(run, refused)):
-                    ends[end] += 1
-                    tally.expect(wrong is None and changed > 0 and (changed == 1 or onward),
-                                 f"a start with {name}: allocation {which}: {wrong}, {changed} were refused")
-                told = ", ".join(f"{count} times {what}" for what, count in ends.items())
-                print(f"a start with {name}: {count} allocations, each {stride}th refused{onward and ', and all later ones'}: {told}")
-                tally.expect(ends["fault 1"] > 0 and ends["fault 2"] > 0, f"a start with {name}: one of the faults never came")
+def try_starts(tally, pool, program, library, stride, place, known):
+    """Refuses each STRIDEth allocation of a start with a copy of the file in a folder, which may have none."""
+    name = "a start with a broker" if known else "a first start"
+    with scratch() as folder:
+        copy_file(place, folder)
+        with Served(program, library, folder) as served:
+            count = served.made
+    tally.expect(count >= LEAST, f"{name}: {count} allocations")
+    for onward in ("", "+"):
+        refused = [f"{number}{onward}" for number in range(1, count + 1, stride)]
+        ends = Counter()
+        run = functools.partial(try_start, program, library, place, known)
+        for which, (end, wrong, changed) in zip(refused, pool.map(run, refused)):
+            ends[end] += 1
+            tally.expect(wrong is None and changed > 0 and (changed == 1 or onward),
+                         f"{name}: allocation {which}: {wrong}, {changed} were refused")
+        told = ", ".join(f"{count} times {what}" for what, count in ends.items())
+        way = "with all later ones" if onward else "alone"
+        tally.tell(f"{name}: {count} allocations, {len(refused)} refused {way}: {told}")
+        for fault in ("fault 1", "fault 2"):
+            tally.expect(ends[fault] > 0, f"{name}: no {fault}")
 
 
 def main():
     program, stride = os.path.abspath(sys.argv[1]), int(sys.argv[2]) if len(sys.argv) > 2 else 1
     tally = Tally("refused, server")
-    with scratch() as folder, concurrent.futures.ProcessPoolExecutor(os.cpu_count()) as pool:
-        library = build(folder)
+    with scratch() as empty, scratch() as filled, concurrent.futures.ProcessPoolExecutor(os.cpu_count()) as pool:
+        library = build(empty)
         for passed, failed in pool.map(functools.partial(try_requests, program, library, stride), STEPS):
             tally.passed += passed
             tally.failed += failed
-        try_starts(tally, pool, program, library, stride)
+        try_starts(tally, pool, program, library, stride, empty, None)
+        try_starts(tally, pool, program, library, stride, filled, fill(program, library, filled))
     return tally.end()
 
 
