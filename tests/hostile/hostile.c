@@ -1,6 +1,6 @@
 /* Fails, shortens, counts and records calls of the C library by the program that it is preloaded into. README.md beside
-   it says what the variables HOSTILE, HOSTILE_REPORT and HOSTILE_RECORD mean, and hostile.py sets them and reads the
-   files. It needs no header and no compiler but the toolchain's clang, and runs on Linux on x86-64. */
+   it says what the variables HOSTILE, HOSTILE_REPORT, HOSTILE_RECORD and HOSTILE_EACH mean, and hostile.py sets them and
+   reads the files. It needs no header and no compiler but the toolchain's clang, and runs on Linux on x86-64. */
 
 typedef unsigned long size_t;
 typedef long ssize_t;
@@ -17,16 +17,18 @@ enum call { EACH_CALL(CALL) CALLS };
 #define NAME(name) #name,
 static const char *const names[CALLS] = {EACH_CALL(NAME)};
 
-enum { RULES = 8, NAME_SIZE = 16, ENOMEM = 12, SIGABRT = 6, SIGKILL = 9, CLOCK_REALTIME = 0 };
+enum { RULES = 8, NAME_SIZE = 16, SIGABRT = 6, SIGKILL = 9, CLOCK_REALTIME = 0, PR_SET_PDEATHSIG = 1 };
 enum { O_RDWR = 2, O_CREAT = 0100, O_TRUNC = 01000, O_APPEND = 02000, O_CLOEXEC = 02000000, AT_FDCWD = -100 };
+enum { SEEK_SET = 0, SEEK_CUR = 1, SEEK_END = 2, F_DUPFD_CLOEXEC = 1030, HIGH = 500 /* a great descriptor */ };
 
 /* The numbers of the system's calls. */
 enum {
-    SYS_read = 0, SYS_write = 1, SYS_close = 3, SYS_poll = 7, SYS_mmap = 9, SYS_pread = 17, SYS_pwrite = 18,
-    SYS_writev = 20, SYS_getpid = 39, SYS_socket = 41, SYS_connect = 42, SYS_sendto = 44, SYS_recvfrom = 45,
-    SYS_bind = 49, SYS_listen = 50, SYS_kill = 62, SYS_fcntl = 72, SYS_fsync = 74, SYS_fdatasync = 75,
-    SYS_ftruncate = 77, SYS_clock_gettime = 228, SYS_exit_group = 231, SYS_epoll_wait = 232,
-    SYS_epoll_ctl = 233, SYS_openat = 257, SYS_unlinkat = 263, SYS_accept4 = 288, SYS_getrandom = 318
+    SYS_read = 0, SYS_write = 1, SYS_close = 3, SYS_poll = 7, SYS_lseek = 8, SYS_mmap = 9, SYS_pread = 17,
+    SYS_pwrite = 18, SYS_writev = 20, SYS_dup2 = 33, SYS_getpid = 39, SYS_sendfile = 40, SYS_socket = 41,
+    SYS_connect = 42, SYS_sendto = 44, SYS_recvfrom = 45, SYS_bind = 49, SYS_listen = 50, SYS_wait4 = 61, SYS_kill = 62,
+    SYS_fcntl = 72, SYS_fsync = 74, SYS_fdatasync = 75, SYS_ftruncate = 77, SYS_prctl = 157, SYS_clock_gettime = 228,
+    SYS_exit_group = 231, SYS_epoll_wait = 232, SYS_epoll_ctl = 233, SYS_openat = 257, SYS_unlinkat = 263,
+    SYS_accept4 = 288, SYS_getrandom = 318, SYS_memfd_create = 319
 };
 
 struct timespec { long seconds, nanoseconds; };
@@ -47,6 +49,8 @@ struct rule {
     number calls; /* a bit for each call */
     enum act act;
     long value;
+    long step; /* above 0: each call so far from the one before is changed in a child process of its own */
+    int is_onward; /* and there all later ones too */
 };
 
 /* The file of HOSTILE_REPORT, or memory of the same form. It is right at each moment, also after SIGKILL, and the first
@@ -63,18 +67,28 @@ struct head {
     long fd, offset, length, result, data;
 };
 
+/* What HOSTILE_EACH has before the output and the standard error of a child process. */
+struct child {
+    number number;
+    long written, status, output, error; /* how much the program had written before; the status as wait has it; sizes */
+};
+
 extern char **environ;
+int fork(void);
 int *__errno_location(void);
 void *__libc_malloc(size_t size);
 void *__libc_realloc(void *old, size_t size);
 void *__libc_calloc(size_t count, size_t size);
+void __libc_free(void *place);
 
 static struct rule rules[RULES];
 static int rules_set;
 static struct report untold;
 static struct report *report = &untold;
 static int recording = -1;
-static int is_ready;
+static int children = -1; /* the file of HOSTILE_EACH, and what the child processes write to */
+static int child_output, child_error;
+static int is_ready, is_child;
 
 static long make(long number, long a, long b, long c, long d, long e, long f) {
     register long r10 __asm__("r10") = d;
@@ -185,6 +199,21 @@ static int is_possible(const struct rule *rule) {
     }
 }
 
+/* Whether the text begins with what tells the last call of a rule. It is behind it then. */
+static int takes_last(const char **text, struct rule *rule, long first, long *last) {
+    *last = first;
+    if (takes(text, "-"))
+        return takes_number(text, last) && *last >= first;
+    if (takes(text, "/")) {
+        *last = -1;
+        if (!takes_number(text, &rule->step) || rule->step <= 0)
+            return 0;
+        rule->is_onward = takes(text, "+");
+    } else if (takes(text, "+"))
+        *last = -1;
+    return 1;
+}
+
 /* Whether the text begins with a rule, CALL,CALL..:WHICH:WHAT, which is set then. The text is behind it. */
 static int takes_rule(const char **text) {
     struct rule *rule = &rules[rules_set];
@@ -195,10 +224,7 @@ static int takes_rule(const char **text) {
             return 0;
         rule->calls |= 1UL << call;
     } while (takes(text, ","));
-    if (!takes(text, ":") || !takes_number(text, &first) || first < 0)
-        return 0;
-    last = takes(text, "+") ? -1 : first;
-    if (last == first && takes(text, "-") && (!takes_number(text, &last) || last < first))
+    if (!takes(text, ":") || !takes_number(text, &first) || first < 0 || !takes_last(text, rule, first, &last))
         return 0;
     if (!takes(text, ":") || !takes_act(text, rule) || !is_possible(rule) || (**text != 0 && **text != ' '))
         return 0;
@@ -245,14 +271,19 @@ static void share_report(const char *name) {
     report = (struct report *)place;
 }
 
-/* The descriptor is a great one, if there may be such, so that those of the program are as usual. */
-static void record_to(const char *name) {
-    long fd = opened(name, O_APPEND), moved = make(SYS_fcntl, fd, 1030 /* F_DUPFD_CLOEXEC */, 500, 0, 0, 0);
-    recording = fd;
-    if (moved >= 0) {
-        recording = moved;
-        make(SYS_close, fd, 0, 0, 0, 0, 0);
-    }
+/* A great descriptor in place of one, if there may be such: those of the program are as usual then. */
+static int moved(long fd) {
+    long high = make(SYS_fcntl, fd, F_DUPFD_CLOEXEC, HIGH, 0, 0, 0);
+    if (high < 0)
+        return fd;
+    make(SYS_close, fd, 0, 0, 0, 0, 0);
+    return high;
+}
+
+static void try_each(const char *name) {
+    children = moved(opened(name, 0));
+    child_output = moved(make(SYS_memfd_create, (long)"output", 0, 0, 0, 0, 0));
+    child_error = moved(make(SYS_memfd_create, (long)"error", 0, 0, 0, 0, 0));
 }
 
 static void copy_name(char *to, enum call call) {
@@ -262,6 +293,7 @@ static void copy_name(char *to, enum call call) {
 
 __attribute__((constructor)) static void set_up(void) {
     const char *told = variable("HOSTILE_REPORT"), *record = variable("HOSTILE_RECORD"), *text = variable("HOSTILE");
+    const char *each = variable("HOSTILE_EACH");
     if (told != 0)
         share_report(told);
     for (int it = 0; it < CALLS; it++)
@@ -269,7 +301,12 @@ __attribute__((constructor)) static void set_up(void) {
     if (text != 0)
         set_rules(text);
     if (record != 0)
-        record_to(record);
+        recording = moved(opened(record, O_APPEND));
+    if (each != 0)
+        try_each(each);
+    for (int it = 0; it < rules_set; it++)
+        if (rules[it].step > 0 && each == 0)
+            give_up("a rule with a step needs HOSTILE_EACH", text);
     is_ready = 1;
 }
 
@@ -281,6 +318,74 @@ static number count(number *counter) {
     return __atomic_add_fetch(counter, 1, __ATOMIC_SEQ_CST);
 }
 
+static long seek(int fd, long offset, int from) {
+    return make(SYS_lseek, fd, offset, from, 0, 0, 0);
+}
+
+static void empty(int fd) {
+    make(SYS_ftruncate, fd, 0, 0, 0, 0, 0);
+    seek(fd, 0, SEEK_SET);
+}
+
+/* The process is a child: it has its own counts, output and place in the input, and the rule is for this call, and for
+   the later ones if it says so. It ends with the program. */
+static void become_child(int rule, number place) {
+    long input = make(SYS_openat, AT_FDCWD, (long)"/proc/self/fd/0", O_CLOEXEC, 0, 0, 0);
+    make(SYS_prctl, PR_SET_PDEATHSIG, SIGKILL, 0, 0, 0, 0);
+    untold = *report;
+    report = &untold;
+    report->rules[rule].first = place;
+    report->rules[rule].last = rules[rule].is_onward ? -1UL : place;
+    rules[rule].step = 0;
+    recording = -1;
+    is_child = 1;
+    make(SYS_dup2, child_output, 1, 0, 0, 0, 0);
+    make(SYS_dup2, child_error, 2, 0, 0, 0, 0);
+    if (input >= 0) {
+        seek(input, seek(0, 0, SEEK_CUR), SEEK_SET);
+        make(SYS_dup2, input, 0, 0, 0, 0, 0);
+        make(SYS_close, input, 0, 0, 0, 0, 0);
+    }
+}
+
+static void append(int fd, long size) {
+    long from = 0;
+    if (size > 0 && make(SYS_sendfile, children, fd, (long)&from, size, 0, 0) != size)
+        give_up("it cannot be written", "HOSTILE_EACH");
+}
+
+/* Lets a child process go on from here to its end, and writes what came of it. It answers whether this is the child. */
+static int is_in_a_child(int rule, number place) {
+    struct child child = {.number = place, .written = seek(1, 0, SEEK_CUR)};
+    struct part head = {&child, sizeof child};
+    int process, status = -1;
+    empty(child_output);
+    empty(child_error);
+    process = fork();
+    if (process == 0) {
+        become_child(rule, place);
+        return 1;
+    }
+    if (process < 0 || make(SYS_wait4, process, (long)&status, 0, 0, 0, 0) != process)
+        give_up("a child process", "it cannot be made, or waited for");
+    child.status = status;
+    child.output = seek(child_output, 0, SEEK_END);
+    child.error = seek(child_error, 0, SEEK_END);
+    if (make(SYS_writev, children, (long)&head, 1, 0, 0, 0) != (long)sizeof child)
+        give_up("it cannot be written", "HOSTILE_EACH");
+    append(child_output, child.output);
+    append(child_error, child.error);
+    return 0;
+}
+
+/* Whether a rule is for the call of such a number. Where it has a step, this is so in the child process alone. */
+static int is_for(int rule, number place) {
+    number first = report->rules[rule].first;
+    if (place < first || place > report->rules[rule].last)
+        return 0;
+    return rules[rule].step <= 0 || ((place - first) % rules[rule].step == 0 && is_in_a_child(rule, place));
+}
+
 /* Counts a call, and answers the number of the rule for it, or -1. A rule counts each call that it names. */
 static int rule_for(enum call call, number *made) {
     int found = -1;
@@ -288,7 +393,7 @@ static int rule_for(enum call call, number *made) {
     for (int it = 0; it < rules_set; it++)
         if (is_one_of(call, rules[it].calls)) {
             number place = count(&report->rules[it].made);
-            if (found < 0 && report->rules[it].first <= place && place <= report->rules[it].last)
+            if (found < 0 && is_for(it, place))
                 found = it;
         }
     return found;
@@ -320,6 +425,13 @@ void *realloc(void *old, size_t size) {
 
 void *calloc(size_t items, size_t size) {
     return is_refused(CALL_calloc) ? 0 : __libc_calloc(items, size);
+}
+
+/* A child process frees nothing: nearly all that it has is shared with the program, and each page of it that is written
+   is copied then, which takes ten times as long as all else that it does. */
+void free(void *place) {
+    if (!is_child)
+        __libc_free(place);
 }
 
 static void end_by(long signal) {

@@ -14,9 +14,11 @@ UNIT = struct.Struct("=16sQQ")  # a call in a report: its name, how often it was
 RULE = struct.Struct("=QQQQ")  # a rule in a report: first and last, and the same counts
 RULES = 8
 HEAD = struct.Struct("=16sQqqqqq")  # what a record has before the data of a call
+CHILD = struct.Struct("=Qqqqq")  # what comes before the output and the standard error of a child process
 
 Call = collections.namedtuple("Call", "name number fd offset length result data")
 Rule = collections.namedtuple("Rule", "first last made changed")
+Child = collections.namedtuple("Child", "number written output error status")
 
 
 def compiler():
@@ -35,13 +37,15 @@ def build(folder):
     return library
 
 
-def environment(library, rules="", report=None, record=None, **others):
+def environment(library, rules="", report=None, record=None, each=None, **others):
     """The variables of a run under the library: rules in one text, and the files that it writes."""
     found = {"PATH": os.environ.get("PATH", ""), "LD_PRELOAD": str(library), "HOSTILE": rules}
     if report is not None:
         found["HOSTILE_REPORT"] = str(report)
     if record is not None:
         found["HOSTILE_RECORD"] = str(record)
+    if each is not None:
+        found["HOSTILE_EACH"] = str(each)
     return {**found, **others}
 
 
@@ -72,6 +76,15 @@ def recorded(file):
         while head := record.read(HEAD.size):
             name, number, fd, offset, length, result, size = HEAD.unpack(head)
             yield Call(name.rstrip(b"\0").decode(), number, fd, offset, length, result, record.read(size))
+
+
+def children(file):
+    """What came of the child processes, in the order of the calls that were changed. The status is negative after a
+    signal."""
+    with open(file, "rb") as each:
+        while head := each.read(CHILD.size):
+            number, written, status, output, error = CHILD.unpack(head)
+            yield Child(number, written, each.read(output), each.read(error), os.waitstatus_to_exitcode(status))
 
 
 def scratch():

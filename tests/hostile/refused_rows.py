@@ -32,14 +32,15 @@ import subprocess
 import sys
 from pathlib import Path
 
-from hostile import HEAP, HERE, Report, Tally, build, environment, replies_of, scratch
+from hostile import HEAP, HERE, Report, Tally, build, children, environment, replies_of, scratch
 
 ROWS = HERE.parent / "rows"
 FIVE = ["first_run", "orphan_survives", "check_and_set", "wrapped_reply_once", "lease_ends_with_token"]
 SEVENTH = 7
 SPARSE = 40  # where mistakes are looked for
-SECONDS = 60  # for one run
-CHUNK = 16  # runs that a process is handed at once
+SAMPLE = 4  # runs from the start
+SECONDS = 1200  # for a run with its child processes
+NUMBERS = itertools.count()  # of runs
 
 # The fewest allocations of an event on average, and the fewest runs of a hundred, among those with an allocation after
 # the start refused, in which the request has to be sent once more.
@@ -52,7 +53,7 @@ TOLD = {"list": re.compile(rb"event ([1-9][0-9]*): fault (1), sent once more\n")
 FAULT = re.compile(rb"fault ([1-9])\n")
 
 Way = collections.namedtuple("Way", "name words store retries onward step")
-Ended = collections.namedtuple("Ended", "output error status changed made")
+Ended = collections.namedtuple("Ended", "output error status")
 # What came of a run: `kind` is usual, started (a fault at the start), again (sent once more), or ended (by the fault);
 # `place` is the event that met the fault, or the number of replies before it.
 Outcome = collections.namedtuple("Outcome", "kind place fault", defaults=(None, None))
@@ -60,10 +61,9 @@ Outcome = collections.namedtuple("Outcome", "kind place fault", defaults=(None, 
 
 @functools.cache
 def usual_of(replay):
-    """What a replay usually ends with: its output, standard error and status, and its replies."""
-    output = Path(replay).with_suffix(".out").read_bytes()
-    error, status = usual_ends().get(Path(replay).stem, (b"", 0))
-    return output, error, status, replies_of(output)
+    """How a replay usually ends, and its replies."""
+    output = replay.with_suffix(".out").read_bytes()
+    return Ended(output, *usual_ends().get(replay.stem, (b"", 0))), replies_of(output)
 
 
 @functools.cache
@@ -79,9 +79,9 @@ def usual_ends():
 
 def is_whole(replay):
     """Whether each event of a replay is one whole request, and is answered on a connection that stays open."""
-    output, error, status, replies = usual_of(replay)
-    lines = Path(replay).read_bytes().splitlines()
-    if status != 0 or error or len(replies) != len(lines) - 1:
+    usual, replies = usual_of(replay)
+    lines = replay.read_bytes().splitlines()
+    if usual.status != 0 or usual.error or len(replies) != len(lines) - 1:
         return False
     closes = any(b"\r\nConnection: close\r\n" in reply for reply in replies)
     return not closes and all(is_one_request(json.loads(line)) for line in lines[1:])
@@ -97,12 +97,12 @@ def is_one_request(event):
 
 def outcome_of(way, replay, ended):
     """What came of a run, or None and what is wrong."""
-    output, error, status, replies = usual_of(replay)
-    if ended[:3] == (output, error, status):
+    usual, replies = usual_of(replay)
+    if ended == usual:
         return Outcome("usual"), None
     fault = FAULT.fullmatch(ended.error)
     told = TOLD[way.store].fullmatch(ended.error) if way.retries else None
-    if told and (ended.output, ended.status) == (output, status):
+    if told and (ended.output, ended.status) == (usual.output, usual.status):
         return Outcome("again", int(told[1]), told[2].decode()), None
     if fault and ended.status == 1 and fault[1].decode() in FAULTS[way.store]:
         fronts = list(itertools.accumulate(replies[:-1], initial=b""))
@@ -114,34 +114,51 @@ def outcome_of(way, replay, ended):
 
 
 class Runs:
-    """The runs of a way over a replay. It is handed to other processes."""
+    """The runs of a way over a replay."""
 
-    def __init__(self, library, folder, way, replay):
-        self.library, self.folder, self.way, self.replay = str(library), str(folder), way, str(replay)
+    def __init__(self, library, folder, way, replay, variables):
+        self.library, self.folder, self.way, self.replay, self.variables = library, folder, way, replay, variables
+        self.name = f"{replay.stem}, {way.name}"
 
-    def run(self, which):
-        """One run, in which the allocations are refused that `which` names."""
-        report = f"{self.folder}/report-{os.getpid()}"
-        variables = environment(self.library, f"{HEAP}:{which}:ENOMEM", report=report, MALLOC_PERTURB_="165")
-        with open(self.replay, "rb") as lines:
-            done = subprocess.run(self.way.words, stdin=lines, capture_output=True, env=variables, timeout=SECONDS)
-        rule = Report(report).rules[0]
-        return Ended(done.stdout, done.stderr, done.returncode, rule.changed, rule.made)
+    def altered(self, ended):
+        """How a run ended. A program that makes a mistake ends otherwise."""
+        return ended
+
+    def run(self, which, **variables):
+        """A run from the start, in which the allocations are refused that `which` names. It answers how it ended, what
+        became of the child processes, how many allocations it made, and how many were refused."""
+        name = f"{self.folder}/{next(NUMBERS)}"
+        files = [f"{name}.{kind}" for kind in ("out", "err", "report", "each")]
+        out, err, report, each = files
+        told = environment(self.library, f"{HEAP}:{which}:ENOMEM", report=report, each=each, **variables)
+        try:
+            with open(self.replay, "rb") as lines, open(out, "wb") as output, open(err, "wb") as error:
+                status = subprocess.run(self.way.words, stdin=lines, stdout=output, stderr=error, env=told,
+                                        timeout=SECONDS).returncode
+            printed = Path(out).read_bytes()
+            found = [(it.number, Ended(printed[:it.written] + it.output, it.error, it.status)) for it in children(each)]
+            rule = Report(report).rules[0]
+            return Ended(printed, Path(err).read_bytes(), status), found, rule.made, rule.changed
+        finally:
+            for file in files:
+                Path(file).unlink(missing_ok=True)
 
     def refuse(self, number):
-        """What came of refusing an allocation, what is wrong, and how many allocations were refused."""
-        try:
-            ended = self.run(f"{number}{'+' if self.way.onward else ''}")
-        except subprocess.TimeoutExpired:
-            return None, f"it did not end in {SECONDS} seconds", 0
-        return *outcome_of(self.way, self.replay, ended), ended.changed
+        """How the run ends in which an allocation is refused, and how many were refused."""
+        ended, _, _, changed = self.run(f"{number}{'+' if self.way.onward else ''}", MALLOC_PERTURB_="165")
+        return self.altered(ended), changed
+
+    def refuse_each(self, first, step):
+        """The same for an allocation and each so far from the one before. The program itself ends first."""
+        ended, found, _, changed = self.run(f"{first}/{step}{'+' if self.way.onward else ''}", **self.variables)
+        return ended, changed, [(number, self.altered(it)) for number, it in found]
 
     def first_after_the_start(self, count):
         """An allocation at which the start is over: the one before it ends the start by a fault."""
         start, later = 1, count
         while later - start > 1:
             middle = (start + later) // 2
-            outcome, _, _ = self.refuse(middle)
+            outcome, _ = outcome_of(self.way, self.replay, self.refuse(middle)[0])
             if outcome is not None and outcome.kind == "started":
                 start = middle
             else:
@@ -167,21 +184,26 @@ class Mistaken(Runs):
         super().__init__(*arguments)
         self.mistake = mistake
 
-    def run(self, which):
-        ended = super().run(which)
+    def altered(self, ended):
         told = TOLD[self.way.store].fullmatch(ended.error)
-        if not told:
-            return ended
-        lines = b"\n".join(self.mistake(Path(self.replay).read_bytes().splitlines(), int(told[1])))
-        mistaken = subprocess.run(self.way.words, input=lines, capture_output=True, check=True)
-        return ended._replace(output=mistaken.stdout)
+        return ended._replace(output=self.output(int(told[1]))) if told else ended
+
+    @functools.cache
+    def output(self, event):
+        """What the program prints that made the mistake at an event."""
+        lines = b"\n".join(self.mistake(self.replay.read_bytes().splitlines(), event))
+        return subprocess.run(self.way.words, input=lines, capture_output=True, check=True, timeout=SECONDS).stdout
+
+
+FORGETFUL = Ended(b"", b"fault 1\n", 1)
 
 
 class Forgetful(Runs):
     """The runs of a program that always answers that memory ran out."""
 
-    def run(self, which):
-        return super().run(which)._replace(output=b"", error=b"fault 1\n", status=1)
+    def run(self, which, **variables):
+        _, found, made, changed = super().run(which, **variables)
+        return FORGETFUL, [(number, FORGETFUL) for number, _ in found], made, changed
 
 
 MISTAKES = {("wrapped_reply_once", "not sent once more"): functools.partial(Mistaken, without),
@@ -193,29 +215,20 @@ class Judge:
     """Judges the outcomes of a way over a replay, by what each of them may be and by how many there are."""
 
     def __init__(self, tally, runs, count):
-        self.tally, self.way, self.count = tally, runs.way, count
-        self.name = f"{Path(runs.replay).stem}, {runs.way.name}"
-        self.events = len(usual_of(runs.replay)[3])
+        self.expect, self.tell, self.runs, self.way, self.count = tally.expect, tally.tell, runs, runs.way, count
+        self.name, self.events = runs.name, len(usual_of(runs.replay)[1])
         self.last = 0
         self.kinds, self.faults, self.sent = (collections.Counter() for _ in range(3))
 
-    def take(self, number, outcome, wrong, changed):
+    def take(self, number, ended):
         """Judges what came of one run."""
-        if wrong is None:
-            wrong = self.wrong_refusals(number, outcome, changed) or self.wrong_place(outcome)
-        self.tally.expect(wrong is None, f"{self.name}: allocation {number}: {wrong}")
+        outcome, wrong = outcome_of(self.way, self.runs.replay, ended)
         if outcome is not None:
             self.kinds[outcome.kind] += 1
-            self.faults[outcome.fault] += outcome.fault is not None
-            self.sent[outcome.place] += outcome.kind == "again"
-
-    def wrong_refusals(self, number, outcome, changed):
-        """What is wrong with the number of allocations that were refused."""
-        if number > self.count:
-            return "there is no such allocation, but a fault" if outcome.kind != "usual" or changed else None
-        if changed < 1 or (changed > 1 and not self.way.onward):
-            return f"{changed} allocations were refused"
-        return None
+            self.faults.update([outcome.fault] if outcome.fault else [])
+            self.sent.update([outcome.place] if outcome.kind == "again" else [])
+            wrong = self.wrong_place(outcome)
+        self.expect(wrong is None, f"{self.name}: allocation {number}: {wrong}")
 
     def wrong_place(self, outcome):
         """What is wrong with the place of a fault: the later the allocation, the later the event."""
@@ -227,44 +240,53 @@ class Judge:
         return None
 
     def end(self):
-        """Judges how many outcomes of each kind there were, and prints them."""
-        tried = sum(self.kinds.values()) - 1
-        faults = " and ".join(f"{count} times fault {fault}" for fault, count in sorted(self.faults.items()) if count)
+        """Judges how many outcomes of each kind there were, and tells them."""
+        tried, store = sum(self.kinds.values()), self.way.store
+        faults = " and ".join(f"{count} times fault {fault}" for fault, count in sorted(self.faults.items()))
         kinds = (("started", "at the start"), ("again", "sent once more"), ("usual", "the usual replies"))
         told = ", ".join(f"{self.kinds[kind]} times {text}" for kind, text in kinds if self.kinds[kind])
-        self.tally.tell(f"{self.name}: {self.count} allocations, {tried} runs: {faults}; {told}")
-        store, expect = self.way.store, self.tally.expect
-        expect(self.count >= ALLOCATIONS[store] * self.events, f"{self.name}: {self.count} allocations")
-        expect(all(self.faults[fault] for fault in FAULTS[store]), f"{self.name}: one of the faults never came")
+        self.tell(f"{self.name}: {self.count} allocations, {tried} refused: {faults}; {told}")
+        self.expect(self.count >= ALLOCATIONS[store] * self.events, f"{self.name}: {self.count} allocations")
+        for fault in FAULTS[store]:
+            self.expect(self.faults[fault] > 0, f"{self.name}: no fault {fault}")
         if self.way.retries:
-            after = tried - self.kinds["started"]
-            expect(100 * self.kinds["again"] >= SENT[store] * after,
-                   f"{self.name}: sent once more in {self.kinds['again']} of {after} runs")
+            sent, after = self.kinds["again"], tried - self.kinds["started"]
+            self.expect(100 * sent >= SENT[store] * after, f"{self.name}: sent once more in {sent} of {after} runs")
             for event in range(1, self.events + 1):
-                expect(self.sent[event] > 0, f"{self.name}: event {event} was never sent once more")
+                self.expect(self.sent[event] > 0, f"{self.name}: event {event} was never sent once more")
 
 
 def try_row(tally, pool, runs, has_start):
-    """Refuses the allocations of a replay, one after another, and one more than there are. Without the start, those by
-    which it may end are left out."""
-    way, name = runs.way, f"{Path(runs.replay).stem}, {runs.way.name}"
-    usual = runs.run("0")
-    outcome, wrong = outcome_of(way, runs.replay, usual)
-    if not tally.expect(outcome == Outcome("usual") and not usual.changed, f"{name}: not the usual replies: {wrong}"):
+    """Refuses the allocations of a replay, one after another. Without the start, those by which it may end are left
+    out. A sample of the runs is made from the start, and ends in the same way."""
+    usual, name = usual_of(runs.replay)[0], runs.name
+    ended, _, count, changed = runs.run("0")
+    if not tally.expect((ended, changed) == (usual, 0), f"{name}: without refusal {outcome_of(runs.way, runs.replay, ended)}"):
         return
-    first = runs.first_after_the_start(usual.made) if way.retries and not has_start else 1
-    numbers = [*range(first, usual.made + 1, way.step), usual.made + 1]
-    judge = Judge(tally, runs, usual.made)
-    for number, found in zip(numbers, pool.map(runs.refuse, numbers, chunksize=CHUNK)):
-        judge.take(number, *found)
+    first, step, shards = 1 if has_start else runs.first_after_the_start(count), runs.way.step, os.cpu_count()
+    found = {}
+    for ended, changed, children_found in pool.map(
+            lambda it: runs.refuse_each(first + it * step, shards * step), range(shards)):
+        tally.expect((ended, changed) == (usual, 0), f"{name}: the program itself is not as usual")
+        found.update(children_found)
+    numbers = range(first, count + 1, step)
+    tally.expect(sorted(found) == list(numbers), f"{name}: {len(found)} allocations were refused, and not {len(numbers)}")
+    judge = Judge(tally, runs, count)
+    for number in sorted(found):
+        judge.take(number, found[number])
     judge.end()
+    for number in [*numbers[::max(1, len(numbers) // SAMPLE)], count + 1]:
+        again, changed = runs.refuse(number)
+        is_same = again == found.get(number, usual) and (changed > 0) == (number <= count) and (changed < 2 or runs.way.onward)
+        tally.expect(is_same, f"{name}: allocation {number}, from the start: {again}, {changed} were refused")
 
 
 def try_mistakes(tally, pool, library, folder, ways):
     """Each mistake has to be found by the runs of a row."""
     for way, (row, mistake) in itertools.product(ways, MISTAKES.items()):
         found = Tally(None)
-        try_row(found, pool, mistake(library, folder, way._replace(step=SPARSE), ROWS / f"{row[0]}.replay"), False)
+        runs = mistake(library, folder, way._replace(step=SPARSE), ROWS / f"{row[0]}.replay", {})
+        try_row(found, pool, runs, False)
         tally.expect(found.failed > 0, f"{row[0]}, {way.name}: a program whose request is {row[1]} is not found")
 
 
@@ -289,12 +311,14 @@ def main():
     if arguments.all:
         replays = [*sorted(ROWS.glob("*.replay")), HERE / "tree_revoked.replay"]
     tally = Tally("refused, rows")
-    with scratch() as folder, concurrent.futures.ProcessPoolExecutor(os.cpu_count()) as pool:
+    variables = {"MALLOC_PERTURB_": "165"} if arguments.all else {}
+    with scratch() as folder, concurrent.futures.ThreadPoolExecutor(os.cpu_count()) as pool:
         library = build(folder)
         ways = ways_of(arguments.brokerd, arguments.trial_stores, arguments.all)
         for replay, way in itertools.product(replays, ways):
             if not way.retries or is_whole(replay):
-                try_row(tally, pool, Runs(library, folder, way, replay), arguments.all or replay.stem == FIVE[0])
+                has_start = arguments.all or not way.retries or replay.stem == FIVE[0]
+                try_row(tally, pool, Runs(library, folder, way, replay, variables), has_start)
         try_mistakes(tally, pool, library, folder, [way for way in ways if way.retries])
     return tally.end()
 
