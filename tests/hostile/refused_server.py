@@ -90,7 +90,7 @@ class Served:
 
     def listens(self):
         try:
-            return self.read().made["listen"] > 0
+            return self.read().made.get("listen", 0) > 0
         except (OSError, ValueError):  # it has not begun
             return False
 
