@@ -49,7 +49,8 @@ SENT = {"list": 95, "sql": 50}
 FAULTS = {"list": "1", "sql": "12"}
 
 TOLD = {"list": re.compile(rb"event ([1-9][0-9]*): fault (1), sent once more\n"),
-        "sql": re.compile(rb"event ([1-9][0-9]*): fault ([12]), rows as before, sent once more\n")}
+        "sql": re.compile(rb"event ([1-9][0-9]*): fault ([12]), rows as before, sent once more\n"
+                          rb"at the end: rows as usual\n")}
 FAULT = re.compile(rb"fault ([1-9])\n")
 
 Way = collections.namedtuple("Way", "name words store retries onward step")
@@ -61,9 +62,17 @@ Outcome = collections.namedtuple("Outcome", "kind place fault", defaults=(None, 
 
 @functools.cache
 def usual_of(replay):
-    """How a replay usually ends, and its replies."""
+    """How a replay usually ends, and how many of its replies have ended at each byte where a fault may end it."""
     output = replay.with_suffix(".out").read_bytes()
-    return Ended(output, *usual_ends().get(replay.stem, (b"", 0))), replies_of(output)
+    ends = {end: count for count, end in enumerate(itertools.accumulate(map(len, replies_of(output)), initial=0))}
+    if len(ends) == len(events_of(replay)) + 1:
+        del ends[len(output)]  # after the last reply there is nothing that memory could be refused to
+    return Ended(output, *usual_ends().get(replay.stem, (b"", 0))), ends
+
+
+def events_of(replay):
+    """The lines of the events."""
+    return replay.read_bytes().splitlines()[1:]
 
 
 @functools.cache
@@ -79,12 +88,11 @@ def usual_ends():
 
 def is_whole(replay):
     """Whether each event of a replay is one whole request, and is answered on a connection that stays open."""
-    usual, replies = usual_of(replay)
-    lines = replay.read_bytes().splitlines()
-    if usual.status != 0 or usual.error or len(replies) != len(lines) - 1:
+    usual, ends = usual_of(replay)
+    events = events_of(replay)
+    if usual.status != 0 or usual.error or len(ends) != len(events) or b"\r\nConnection: close\r\n" in usual.output:
         return False
-    closes = any(b"\r\nConnection: close\r\n" in reply for reply in replies)
-    return not closes and all(is_one_request(json.loads(line)) for line in lines[1:])
+    return all(is_one_request(json.loads(event)) for event in events)
 
 
 def is_one_request(event):
@@ -97,7 +105,7 @@ def is_one_request(event):
 
 def outcome_of(way, replay, ended):
     """What came of a run, or None and what is wrong."""
-    usual, replies = usual_of(replay)
+    usual, ends = usual_of(replay)
     if ended == usual:
         return Outcome("usual"), None
     fault = FAULT.fullmatch(ended.error)
@@ -105,11 +113,11 @@ def outcome_of(way, replay, ended):
     if told and (ended.output, ended.status) == (usual.output, usual.status):
         return Outcome("again", int(told[1]), told[2].decode()), None
     if fault and ended.status == 1 and fault[1].decode() in FAULTS[way.store]:
-        fronts = list(itertools.accumulate(replies[:-1], initial=b""))
-        if way.retries and not ended.output:
+        count = ends.get(len(ended.output)) if usual.output.startswith(ended.output) else None
+        if way.retries and count == 0:
             return Outcome("started", 0, fault[1].decode()), None
-        if not way.retries and ended.output in fronts:
-            return Outcome("ended", fronts.index(ended.output), fault[1].decode()), None
+        if not way.retries and count is not None:
+            return Outcome("ended", count, fault[1].decode()), None
     return None, f"status {ended.status}, standard error {ended.error[:120]!r}, output that ends {ended.output[-80:]!r}"
 
 
@@ -216,7 +224,7 @@ class Judge:
 
     def __init__(self, tally, runs, count):
         self.expect, self.tell, self.runs, self.way, self.count = tally.expect, tally.tell, runs, runs.way, count
-        self.name, self.events = runs.name, len(usual_of(runs.replay)[1])
+        self.name, self.events = runs.name, len(events_of(runs.replay))
         self.last = 0
         self.kinds, self.faults, self.sent = (collections.Counter() for _ in range(3))
 
