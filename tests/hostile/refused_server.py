@@ -37,6 +37,7 @@ sys.path.append(str(HERE.parent / "clients"))
 from broker import request  # noqa: E402  what the clients' scripts share
 
 SECONDS = 60.0  # for a start, a reply and an end
+SETTLED = 0.2  # seconds until a program that will end has ended, and one that listens allocates nothing
 MOST = 3  # tokens that are left before they are revoked
 LEAST = 90  # allocations of a request, and of a start
 RULE = f"{HEAP}:0:ENOMEM"  # none, until it is aimed
@@ -76,7 +77,6 @@ class Served:
                 self.stop()
                 raise Wrong("it neither listens nor ends")
             time.sleep(0.002)
-        self.made = self.read().rules[0].made  # by the start
 
     def __enter__(self):
         return self
@@ -93,6 +93,14 @@ class Served:
             return self.read().made.get("listen", 0) > 0
         except (OSError, ValueError):  # it has not begun
             return False
+
+    def is_alive(self):
+        """Whether it goes on, some time after it has closed a connection or has not taken it."""
+        try:
+            self.process.wait(SETTLED)
+        except subprocess.TimeoutExpired:
+            return True
+        return False
 
     def read(self):
         return Report(self.report)
@@ -280,12 +288,13 @@ def copy_file(of, to):
 def start_refused(program, library, folder, known, which):
     """A start with refused allocations. Answers how it ended, the token that it printed, and how many were refused."""
     with Served(program, library, folder, f"{HEAP}:{which}:ENOMEM") as served:
-        token, changed = served.token(), served.read().rules[0].changed
-        if served.process.poll() is not None:
-            return f"fault {served.end()}", token, changed
-        if "+" not in which:
-            served.get(200, "GET", "auth/token/lookup-self", known.root if known else token)
-        return "served", token, changed
+        end = "served"
+        try:
+            served.get(200, "GET", "auth/token/lookup-self", known.root if known else served.token())
+        except Closed:
+            end = "served none" if served.is_alive() else f"fault {served.end()}"
+        expect(end != "served none" or "+" in which, "it serves none, though memory is not refused any more")
+        return end, served.token(), served.read().rules[0].changed
 
 
 def start_again(program, library, folder, known, token):
@@ -329,7 +338,8 @@ def try_starts(tally, pool, program, library, stride, place, known):
     with scratch() as folder:
         copy_file(place, folder)
         with Served(program, library, folder) as served:
-            count = served.made
+            time.sleep(SETTLED)
+            count = served.read().rules[0].made
     tally.expect(count >= LEAST, f"{name}: {count} allocations")
     for onward in ("", "+"):
         refused = [f"{number}{onward}" for number in range(1, count + 1, stride)]
