@@ -10,14 +10,16 @@ and `BROKERD replay` do not send it once more: each run has to give the usual re
 the first one on and to end with status 1 and the fault. There all later allocations are refused too in some runs. Over
 the list a fault is always `fault 1`, over SQL also `fault 2`. The usual replies are those of the reference broker.
 
-Without `--all` five rows are run: by `retry` each allocation after the start is refused, and each of the start too for
-the first row; by the other commands each seventh. With it all rows are run, and each allocation is refused, or each
-STEPth. A row in which an event is not one whole request on an open connection is not run by `retry`.
+Without `--all` five rows are run, and each allocation is refused alone; each seventh with all later ones, and by `retry
+sql`, which compares rows. `retry` leaves out the start but for the first row. With `--all` all rows are run, and each
+allocation is refused, or each STEPth. A row in which an event is not one whole request on an open connection is not run
+by `retry`.
 
-Memory is overwritten when it is given and when it is freed (`MALLOC_PERTURB_`), so that no run is right by what it
-happens to find there. For each row and command a line tells what came of it. At the end programs are tried that do not
-send a request once more, or send it with other words, or always answer that memory ran out: each has to be found. The
-last line is `N passed, M failed`.
+A run with a refused allocation is forked from the usual one. A few are made from the start, and have to end in the
+same way; there, and with `--all`, memory is overwritten when it is given and when it is freed (`MALLOC_PERTURB_`), so
+that no run is right by what it happens to find in it. For each row and command a line tells what came of it. At the end
+programs are tried that do not send a request once more, or send it with other words, or always answer that memory ran
+out: each has to be found. The last line is `N passed, M failed`.
 """
 
 import argparse
@@ -37,15 +39,15 @@ from hostile import HEAP, HERE, Report, Tally, build, children, environment, rep
 ROWS = HERE.parent / "rows"
 FIVE = ["first_run", "orphan_survives", "check_and_set", "wrapped_reply_once", "lease_ends_with_token"]
 SEVENTH = 7
-SPARSE = 40  # where mistakes are looked for
+SPARSE = 20  # where mistakes are looked for
 SAMPLE = 4  # runs from the start
 SECONDS = 1200  # for a run with its child processes
 NUMBERS = itertools.count()  # of runs
 
-# The fewest allocations of an event on average, and the fewest runs of a hundred, among those with an allocation after
-# the start refused, in which the request has to be sent once more.
-ALLOCATIONS = {"list": 90, "sql": 90}
-SENT = {"list": 95, "sql": 50}
+# The fewest allocations of an event on average, without the start, and the fewest runs of a hundred with an allocation
+# after the start refused in which the request has to be sent once more.
+ALLOCATIONS = {"list": 50, "sql": 150}
+SENT = {"list": 95, "sql": 95}
 FAULTS = {"list": "1", "sql": "12"}
 
 TOLD = {"list": re.compile(rb"event ([1-9][0-9]*): fault (1), sent once more\n"),
@@ -57,6 +59,7 @@ Way = collections.namedtuple("Way", "name words store retries onward step")
 Ended = collections.namedtuple("Ended", "output error status")
 # What came of a run: `kind` is usual, started (a fault at the start), again (sent once more), or ended (by the fault);
 # `place` is the event that met the fault, or the number of replies before it.
+KINDS = {"started": "at the start", "again": "sent once more", "usual": "the usual replies"}
 Outcome = collections.namedtuple("Outcome", "kind place fault", defaults=(None, None))
 
 
@@ -250,43 +253,57 @@ class Judge:
     def end(self):
         """Judges how many outcomes of each kind there were, and tells them."""
         tried, store = sum(self.kinds.values()), self.way.store
-        faults = " and ".join(f"{count} times fault {fault}" for fault, count in sorted(self.faults.items()))
-        kinds = (("started", "at the start"), ("again", "sent once more"), ("usual", "the usual replies"))
-        told = ", ".join(f"{self.kinds[kind]} times {text}" for kind, text in kinds if self.kinds[kind])
-        self.tell(f"{self.name}: {self.count} allocations, {tried} refused: {faults}; {told}")
-        self.expect(self.count >= ALLOCATIONS[store] * self.events, f"{self.name}: {self.count} allocations")
+        told = [f"{count} times fault {fault}" for fault, count in sorted(self.faults.items())]
+        told += [f"{self.kinds[kind]} times {text}" for kind, text in KINDS.items() if self.kinds[kind]]
+        self.tell(f"{self.name}: {self.count} allocations, {tried} refused: {', '.join(told)}")
         for fault in FAULTS[store]:
             self.expect(self.faults[fault] > 0, f"{self.name}: no fault {fault}")
         if self.way.retries:
             sent, after = self.kinds["again"], tried - self.kinds["started"]
+            self.expect(after * self.way.step >= ALLOCATIONS[store] * self.events,
+                        f"{self.name}: {after} allocations of the events were refused")
             self.expect(100 * sent >= SENT[store] * after, f"{self.name}: sent once more in {sent} of {after} runs")
             for event in range(1, self.events + 1):
                 self.expect(self.sent[event] > 0, f"{self.name}: event {event} was never sent once more")
 
 
+def refuse_all(tally, pool, runs, numbers):
+    """How each run ends in which one of the allocations is refused."""
+    usual, shards, found = usual_of(runs.replay)[0], os.cpu_count(), {}
+    starts = range(numbers.start, numbers.start + shards * numbers.step, numbers.step)
+    for ended, changed, forked in pool.map(lambda first: runs.refuse_each(first, shards * numbers.step), starts):
+        tally.expect((ended, changed) == (usual, 0), f"{runs.name}: the program that is forked is not as usual")
+        found.update(forked)
+    is_each = sorted(found) == list(numbers)
+    tally.expect(is_each, f"{runs.name}: {len(found)} allocations were refused in place of {len(numbers)}")
+    return found
+
+
+def check_sample(tally, runs, numbers, count, found):
+    """Makes a sample of the runs from the start, and one in which an allocation is refused that there is not."""
+    usual = usual_of(runs.replay)[0]
+    for number in [*numbers[::max(1, len(numbers) // SAMPLE)], count + 1]:
+        ended, changed = runs.refuse(number)
+        is_same = ended == found.get(number, usual) and (changed > 0) == (number <= count)
+        tally.expect(is_same and (changed < 2 or runs.way.onward),
+                     f"{runs.name}: allocation {number}, from the start: {ended}, {changed} were refused")
+
+
 def try_row(tally, pool, runs, has_start):
     """Refuses the allocations of a replay, one after another. Without the start, those by which it may end are left
-    out. A sample of the runs is made from the start, and ends in the same way."""
-    usual, name = usual_of(runs.replay)[0], runs.name
+    out."""
     ended, _, count, changed = runs.run("0")
-    if not tally.expect((ended, changed) == (usual, 0), f"{name}: without refusal {outcome_of(runs.way, runs.replay, ended)}"):
+    is_usual = (ended, changed) == (usual_of(runs.replay)[0], 0)
+    if not tally.expect(is_usual, f"{runs.name}: without refusal {outcome_of(runs.way, runs.replay, ended)}"):
         return
-    first, step, shards = 1 if has_start else runs.first_after_the_start(count), runs.way.step, os.cpu_count()
-    found = {}
-    for ended, changed, children_found in pool.map(
-            lambda it: runs.refuse_each(first + it * step, shards * step), range(shards)):
-        tally.expect((ended, changed) == (usual, 0), f"{name}: the program itself is not as usual")
-        found.update(children_found)
-    numbers = range(first, count + 1, step)
-    tally.expect(sorted(found) == list(numbers), f"{name}: {len(found)} allocations were refused, and not {len(numbers)}")
+    first = 1 if has_start else runs.first_after_the_start(count)
+    numbers = range(first, count + 1, runs.way.step)
+    found = refuse_all(tally, pool, runs, numbers)
     judge = Judge(tally, runs, count)
     for number in sorted(found):
         judge.take(number, found[number])
     judge.end()
-    for number in [*numbers[::max(1, len(numbers) // SAMPLE)], count + 1]:
-        again, changed = runs.refuse(number)
-        is_same = again == found.get(number, usual) and (changed > 0) == (number <= count) and (changed < 2 or runs.way.onward)
-        tally.expect(is_same, f"{name}: allocation {number}, from the start: {again}, {changed} were refused")
+    check_sample(tally, runs, numbers, count, found)
 
 
 def try_mistakes(tally, pool, library, folder, ways):
@@ -300,13 +317,13 @@ def try_mistakes(tally, pool, library, folder, ways):
 
 def ways_of(brokerd, trial_stores, step):
     """The commands that are tried, and how."""
-    sparse = step or SEVENTH
-    return [Way("retry list", [trial_stores, "retry", "list"], "list", True, False, step or 1),
-            Way("retry sql", [trial_stores, "retry", "sql"], "sql", True, False, step or 1),
-            Way("list", [trial_stores, "list"], "list", False, False, sparse),
-            Way("list, all later ones too", [trial_stores, "list"], "list", False, True, sparse),
-            Way("replay", [brokerd, "replay"], "sql", False, False, sparse),
-            Way("replay, all later ones too", [brokerd, "replay"], "sql", False, True, sparse)]
+    each, seventh = (step, step) if step else (1, SEVENTH)
+    return [Way("retry list", [trial_stores, "retry", "list"], "list", True, False, each),
+            Way("retry sql", [trial_stores, "retry", "sql"], "sql", True, False, seventh),
+            Way("list", [trial_stores, "list"], "list", False, False, each),
+            Way("list, all later ones too", [trial_stores, "list"], "list", False, True, seventh),
+            Way("replay", [brokerd, "replay"], "sql", False, False, each),
+            Way("replay, all later ones too", [brokerd, "replay"], "sql", False, True, seventh)]
 
 
 def main():
