@@ -86,6 +86,7 @@ class Client:
             except BrokenPipeError:
                 pass
             got = self.serve(server, client, usual if reply is None else reply)
+            got = re.sub(rb"(?m)^(Host: 127.0.0.1):[0-9]+\r$", rb"\1:PORT\r", got)
             printed = client.stdout.read() if client.stdout else b""
             said = client.stderr.read()
             client.wait(SECONDS)
