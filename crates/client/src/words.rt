@@ -1,6 +1,6 @@
 //! The words of the command line, with what the environment and standard input add to them.
 
-use api_client::{Command, Request, command_of};
+use api_client::{Command, NoCommand, Request, command_of};
 use std::alloc::{AllocError, Global};
 use std::env::{self, VarError};
 use std::io::{self, Read};
@@ -44,7 +44,7 @@ pub(crate) fn complete(rt: &HostRuntime, words: &mut Vec<String>) -> Result<(), 
     {
         put_option(rt.alloc(), words, "--addr=", address_of(url.as_str())?)?;
     }
-    if asks_for_input(rt.alloc(), words.as_slice())
+    if asks_for_input(rt.alloc(), words.as_slice())?
         && let Some(place) = words.iter().rposition(|word| word.as_str() == "-")
     {
         words[place] = text_of(rt.alloc(), rt.reader())?;
@@ -125,16 +125,17 @@ fn address_of(url: &str) -> Result<&str, Incomplete> {
     }
 }
 
-/// Whether the words are those of a write with the body `-`.
-fn asks_for_input(alloc: Global, words: &[String]) -> bool {
+/// Whether the words are those of a write with the body `-`. It fails if memory runs out.
+fn asks_for_input(alloc: Global, words: &[String]) -> Result<bool, Incomplete> {
     match command_of(alloc, words) {
         Ok(
             Command {
                 request: Request::Write(_, body),
                 ..
             },
-        ) => body.as_slice() == b"-".as_slice(),
-        _ => false,
+        ) => Ok(body.as_slice() == b"-".as_slice()),
+        Err(NoCommand::Fault(_)) => Err(Incomplete::Memory),
+        Ok(_) | Err(NoCommand::Usage(_)) => Ok(false),
     }
 }
 

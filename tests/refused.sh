@@ -1,0 +1,49 @@
+#!/bin/bash
+# Refuses memory to the programs as they are built, one allocation after another: to five rows of tests/rows over each
+# of the two stores, to `client`, and to `brokerd serve --db`. tests/hostile says what is right then. It takes some 30
+# seconds. tests/refused.sh --all [STEP] takes all rows, and each allocation, or each STEPth; the gate does not do it.
+# BROKERD, CLIENT and TRIAL_STORES name other programs. The last line is 'N passed, M failed'; the status is 0 if
+# nothing failed.
+set -u
+cd "$(dirname "$0")/.."
+
+passed=0
+failed=0
+log=$(mktemp)
+trap 'rm -f "$log"' EXIT
+
+# Runs a command whose last line is 'N passed, M failed', and adds its counts.
+count() {
+    "$@" | tee "$log" | sed '$d'
+    if [[ $(tail -n 1 "$log") =~ ^([0-9]+)\ passed,\ ([0-9]+)\ failed$ ]]; then
+        passed=$((passed + BASH_REMATCH[1]))
+        failed=$((failed + BASH_REMATCH[2]))
+    else
+        echo "refused, $*: it did not end"
+        failed=$((failed + 1))
+    fi
+}
+
+# The first use builds the programs.
+for script in "${BROKERD:-bin/brokerd}" "${CLIENT:-bin/client}" "${TRIAL_STORES:-tests/trial_stores}"; do
+    if ! "$script" --help > /dev/null; then
+        echo "0 passed, 1 failed"
+        exit 1
+    fi
+done
+brokerd=${BROKERD:-crates/brokerd/out/brokerd}
+client=${CLIENT:-crates/client/out/client}
+trial_stores=${TRIAL_STORES:-crates/trial_stores/out/trial_stores}
+
+if [ "${1:-}" = --all ]; then
+    count python3 tests/hostile/refused_rows.py --all "${2:-1}" "$brokerd" "$trial_stores"
+    count python3 tests/hostile/refused_client.py "$client"
+    count python3 tests/hostile/refused_server.py "$brokerd" "${2:-1}"
+else
+    count python3 tests/hostile/refused_rows.py "$brokerd" "$trial_stores"
+    count python3 tests/hostile/refused_client.py "$client"
+    count python3 tests/hostile/refused_server.py "$brokerd" 20
+fi
+
+echo "$passed passed, $failed failed"
+[ "$failed" -eq 0 ]
