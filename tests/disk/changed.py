@@ -1,0 +1,372 @@
+"""Files that were changed: bits, bytes, sectors and pages, in the database or in its log.
+
+Whatever is in the files, the program serves, or ends with `fault 2`, `fault 3` or `fault 4`: within ten seconds, in 500 MB,
+and by no signal. What it serves from a database without a log is what the standard library's SQLite reads there, or if that
+reads nothing, what was there before the change; a file that is cut to nothing is a new broker. What it serves from a log is
+the broker after some number of the requests, or a new one. Neither has sums that tell a change in every place, so answered
+requests may be lost, and changed ones served: this is counted.
+"""
+
+import contextlib
+import random
+import re
+import sqlite3
+from dataclasses import dataclass
+
+from asking import LOOK, REQUESTS, TODAY, WITH_ALL_KINDS, Reply, Request, Server, Story, looked, rows_of
+from images import bytes_of
+from program import Running, Wrong, expect
+from rows import close_log, in_all_parts, read_rows, rows_in
+from stored_broker import broker_of
+from trial import MOMENT, Tally, side_by_side
+
+PAGE, SECTOR = 4096, 512
+MOST_MEMORY = 500_000  # kB
+AMONG_THE_REQUESTS = 4  # requests before the older copy
+LEAST = {"databases": 150, "logs": 80, "refused": 30, "other rows served": 10, "the same rows served": 10,
+         "all requests found in the log": 5, "requests lost with the log": 20, "unchanged files told": 10,
+         "logs of another broker told": 1}
+
+# What is asked of what is found. The parts of the first requests are there, and the last takes what waits.
+QUESTIONS = (
+    LOOK,
+    Request("GET", "secret/data/app"),
+    Request("GET", "secret/metadata/app"),
+    Request("LIST", "secret/metadata"),
+    Request("GET", "secret/config"),
+    Request("LIST", "auth/token/accessors"),
+    Request("POST", "auth/token/lookup", '{"token":"{child}"}'),
+    Request("GET", "auth/token/lookup-self", None, "parent"),
+    Request("GET", "cubbyhole/a", None, "child"),
+    Request("POST", "sys/leases/lookup", '{"lease_id":"{lease}"}'),
+    Request("GET", "db/roles/r"),
+    Request("GET", "sys/mounts"),
+    Request("GET", "sys/policies/acl/app"),
+    Request("POST", "sys/wrapping/lookup", '{"token":"{waiting}"}'),
+    Request("POST", "sys/wrapping/unwrap", None, "waiting"),
+)
+
+
+@dataclass
+class Base:
+    """A broker in its files, which are changed."""
+    story: Story
+    logged: dict  # the files as the program left them
+    closed: bytes  # the database with all that was in the log
+    older: bytes  # the same after the first requests
+    other_log: bytes  # the log of another broker
+    statements: list  # that make the table and its indexes
+
+    def __post_init__(self):
+        self.questions = [question.text(self.story.known) for question in QUESTIONS]
+        self.rows = rows_of(self.story.brokers[-1], TODAY)
+        self.looked = [looked(broker, MOMENT + 1, self.questions[0]) for broker in self.story.brokers]
+
+
+def make_base(trial):
+    """A broker with rows of all kinds, whose files are copied. Raises Wrong."""
+    place = trial.place()
+    with Running(trial.program, place / "broker.db", trial.at(MOMENT)) as running:
+        story = Story(running.told_root())
+        expect(story.run(running, REQUESTS[:AMONG_THE_REQUESTS]), "with no fault the program ends")
+        older = bytes_of(place / "broker.db")
+        expect(story.run(running, REQUESTS[AMONG_THE_REQUESTS:WITH_ALL_KINDS]), "with no fault the program ends")
+    logged = bytes_of(place / "broker.db")
+    statements = statements_in(place / "broker.db")
+    with Running(trial.program, place / "other.db", trial.at(MOMENT)) as running:
+        expect(Story(running.told_root()).run(running, REQUESTS[:1]), "with no fault the program ends")
+    return Base(story, logged, closed(place / "copy.db", logged), closed(place / "copy.db", older),
+                bytes_of(place / "other.db")["-wal"], statements)
+
+
+def statements_in(file):
+    """The statements that have made a database."""
+    with contextlib.closing(sqlite3.connect(file)) as database:
+        return [sql for sql, in database.execute("SELECT sql FROM sqlite_master WHERE sql IS NOT NULL ORDER BY rowid")]
+
+
+def put(file, files):
+    """Writes the files of a database."""
+    for name in ("", "-wal", "-shm"):
+        path = file.with_name(file.name + name)
+        path.unlink(missing_ok=True)
+        if files.get(name) is not None:
+            path.write_bytes(files[name])
+
+
+def closed(file, files):
+    """The database of these files with all that is in its log."""
+    put(file, files)
+    close_log(file)
+    return file.read_bytes()
+
+
+# ---------------------------------------------------------------------------------------- changes
+
+def change(data, older, draw):
+    """The name of a drawn change, and the bytes after it."""
+    found = bytearray(data)
+    name = draw.choice(list(CHANGES))
+    CHANGES[name](found, older, draw)
+    return name, bytes(found)
+
+
+def place_in(data, draw, size=1):
+    """Where a piece of so many bytes may begin."""
+    return draw.randrange(max(1, len(data) // size)) * size
+
+
+def flip_bits(data, draw, count):
+    for _ in range(count):
+        data[place_in(data, draw)] ^= 1 << draw.randrange(8)
+
+
+def flip_early(data, draw):
+    """Among the first bytes of a page are numbers and offsets."""
+    at = place_in(data, draw, PAGE) + draw.randrange(48)
+    data[at % len(data)] ^= 1 << draw.randrange(8)
+
+
+def draw_bytes(data, draw, count):
+    at = place_in(data, draw)
+    piece = draw.randbytes(count)[:len(data) - at]
+    data[at:at + len(piece)] = piece
+
+
+def fill(data, draw, size, value):
+    at = place_in(data, draw, size)
+    length = len(data[at:at + size])
+    data[at:at + length] = bytes([value]) * length
+
+
+def double(data, draw, size):
+    one, two = place_in(data, draw, size), place_in(data, draw, size)
+    piece = data[one:one + size]
+    data[two:two + len(piece)] = piece
+
+
+def swap(data, draw, size):
+    one, two = place_in(data, draw, size), place_in(data, draw, size)
+    first, second = data[one:one + size], data[two:two + size]
+    data[one:one + len(second)], data[two:two + len(first)] = second, first
+
+
+def cut(data, draw):
+    del data[draw.choice((0, draw.randrange(len(data)), place_in(data, draw, SECTOR), place_in(data, draw, PAGE))):]
+
+
+def lengthen(data, draw):
+    data.extend(draw.choice((bytes, draw.randbytes))(draw.choice((1, SECTOR, PAGE))))
+
+
+def from_older(data, older, draw, size):
+    at = place_in(older, draw, size)
+    piece = older[at:at + size]
+    data[at:at + len(piece)] = piece
+
+
+CHANGES = {
+    "a bit": lambda data, _, draw: flip_bits(data, draw, 1),
+    "another bit": lambda data, _, draw: flip_bits(data, draw, 1),
+    "eight bits": lambda data, _, draw: flip_bits(data, draw, 8),
+    "a bit at the head of a page": lambda data, _, draw: flip_early(data, draw),
+    "a byte": lambda data, _, draw: draw_bytes(data, draw, 1),
+    "eight bytes": lambda data, _, draw: draw_bytes(data, draw, 8),
+    "a sector of zeros": lambda data, _, draw: fill(data, draw, SECTOR, 0),
+    "a sector of ones": lambda data, _, draw: fill(data, draw, SECTOR, 255),
+    "a sector twice": lambda data, _, draw: double(data, draw, SECTOR),
+    "two sectors swapped": lambda data, _, draw: swap(data, draw, SECTOR),
+    "a page of zeros": lambda data, _, draw: fill(data, draw, PAGE, 0),
+    "a page twice": lambda data, _, draw: double(data, draw, PAGE),
+    "two pages swapped": lambda data, _, draw: swap(data, draw, PAGE),
+    "cut": lambda data, _, draw: cut(data, draw),
+    "longer": lambda data, _, draw: lengthen(data, draw),
+    "a sector of an older copy": lambda data, older, draw: from_older(data, older, draw, SECTOR),
+    "a page of an older copy": lambda data, older, draw: from_older(data, older, draw, PAGE),
+}
+
+
+# ---------------------------------------------------------------------------------------- what is served
+
+def ask_all(trial, file, questions):
+    """The replies of the program over a file, until it ends, and its end. Raises Wrong."""
+    replies = []
+    with Running(trial.program, file, trial.at(MOMENT + 1)) as running:
+        for text in questions:
+            data = running.ask(text)
+            if not data:
+                running.ends()
+                break
+            replies.append(data)
+        end = running.close()
+    expect(end.memory <= MOST_MEMORY, f"it took {end.memory} kB")
+    expect(end.is_kill() if len(replies) == len(questions) else end.is_fault(2, 3, 4), f"{end}")
+    return replies, end
+
+
+def read_by_sqlite(file, data):
+    """The rows that SQLite reads in a database, none where it finds no table; None if it finds it damaged."""
+    put(file, {"": data})
+    try:
+        with contextlib.closing(sqlite3.connect(file)) as database:
+            if not database.execute("SELECT count(*) FROM sqlite_master").fetchone()[0]:
+                return {}
+            return read_rows(database)
+    except (sqlite3.Error, UnicodeDecodeError):
+        return None
+
+
+def reference_of(rows):
+    """The reference broker that has these rows, or None if they are those of no broker."""
+    try:
+        server = Server(0, range(8))
+        server.broker = broker_of(in_all_parts(rows))
+        return server if rows_of(server.broker, TODAY) == rows else None
+    except Exception:
+        return None
+
+
+def reference_replies(rows, questions, replies):
+    """What the reference broker with these rows answers, and its rows then; None if it has no such rows."""
+    server, found = reference_of(rows), []
+    if server is None:
+        return None, None
+    try:
+        for text, data in zip(questions, replies):
+            reply = Reply(data)
+            found.append(server.feed(1, text, reply.moment, reply.words()))
+        return found, server.rows()
+    except Exception:
+        return None, None
+
+
+def copied_replies(trial, file, base, rows):
+    """What the program answers over a new database that SQLite makes of these rows."""
+    put(file, {})
+    with contextlib.closing(sqlite3.connect(file)) as database:
+        for statement in base.statements:
+            database.execute(statement)
+        database.executemany("INSERT INTO broker_rows VALUES (?, ?, ?, ?, ?)",
+                             [(kind, key, *rest) for (kind, key), rest in rows.items()])
+        database.commit()
+    return ask_all(trial, file, base.questions)
+
+
+def plain(replies):
+    """Replies without the identifiers that differ from run to run."""
+    return [re.sub(rb'"request_id":"[0-9a-f-]{36}"', b"", data) for data in replies]
+
+
+def judge_database(trial, base, served, read):
+    """What the program serves of a database, and whether it is what SQLite reads in another, mostly the same: what came of
+    it. Raises Wrong."""
+    place = trial.place()
+    rows = read_by_sqlite(place / "read.db", read)
+    put(place / "broker.db", {"": served})
+    replies, end = ask_all(trial, place / "broker.db", base.questions)
+    if end.root_token() is not None:
+        expect(rows == {} or (rows is None and len(served) <= PAGE), "a new broker in place of rows")
+        return "started anew"
+    if not end.is_kill():
+        expect(rows is None or rows != base.rows or end.is_fault(2), f"the rows are as before, but {end}")
+        expect(not end.is_fault(4) or rows is None or (1, "") not in rows, "the clock is there, but fault 4")
+    if not replies:
+        return {"fault 2": "refused", "fault 3": "damaged", "fault 4": "without the clock"}[end.said.strip()]
+    expected, left = reference_replies(base.rows if rows is None else rows, base.questions, replies)
+    if expected is not None:
+        expect(replies == expected, f"SQLite reads other rows: {first_other(replies, expected)}")
+        expect(not end.is_kill() or rows_in(place / "broker.db") == left, "it leaves other rows")
+    else:
+        copied, copied_end = copied_replies(trial, place / "copy.db", base, rows)
+        expect(plain(replies) == plain(copied), f"over a copy of its rows: {first_other(plain(replies), plain(copied))}")
+        expect(end.said == copied_end.said, f"over a copy of its rows: {copied_end} in place of {end}")
+    if not end.is_kill():
+        return "damaged"
+    return "the same rows served" if rows in (None, base.rows) else "other rows served"
+
+
+def first_other(replies, expected):
+    """The first reply that is another one, and what was expected, in words."""
+    for one, two in zip(replies, expected):
+        if one != two:
+            return f"{one[-160:]!r} in place of {two[-160:]!r}"
+    return f"{len(replies)} replies in place of {len(expected)}"
+
+
+def judge_log(trial, base, log):
+    """What the program serves of a log: how many of the requests are lost, or None if it serves none. Raises Wrong."""
+    file = trial.place() / "broker.db"
+    put(file, {**base.logged, "-wal": log})
+    replies, end = ask_all(trial, file, base.questions[:1])
+    if not replies:
+        return None
+    if end.root_token() is not None:
+        return len(base.looked)
+    rows = rows_in(file)
+    expect(rows in base.looked, "the rows are those after no number of the requests")
+    return len(base.looked) - 1 - max(place for place, each in enumerate(base.looked) if each == rows)
+
+
+# ------------------------------------------------------------------------------------------ the part
+
+def try_change(trial, base, seed):
+    """One drawn change: what came of it. Raises Wrong."""
+    draw = random.Random(seed)
+    if draw.randrange(3):
+        name, data = change(base.closed, base.older, draw)
+        try:
+            told = judge_database(trial, base, data, data)
+        except Wrong as error:
+            raise Wrong(f"{name} in the database: {error}") from None
+        return ["databases", told, *tell_unchanged(trial, base, data, told)]
+    name, data = change(base.logged["-wal"], base.logged["-wal"], draw)
+    try:
+        lost = judge_log(trial, base, data)
+    except Wrong as error:
+        raise Wrong(f"{name} in the log: {error}") from None
+    if lost is None:
+        return ["logs", "refused"]
+    return ["logs"] + ["requests lost with the log" if lost else "all requests found in the log"]
+
+
+def tell_unchanged(trial, base, data, told):
+    """If the program is handed the unchanged database in place of one with other rows, that has to be told. Raises Wrong."""
+    if told != "other rows served" or reference_of(read_by_sqlite(trial.place() / "read.db", data)) is None:
+        return []
+    try:
+        judge_database(trial, base, base.closed, data)
+    except Wrong:
+        return ["unchanged files told"]
+    raise Wrong("the unchanged database is taken for the changed one")
+
+
+def tell_other_log(trial, base, tally):
+    """The log of another broker has to be told."""
+    try:
+        judge_log(trial, base, base.other_log)
+    except Wrong:
+        tally.passes("logs of another broker told")
+        return
+    tally.fails("the log of another broker is taken for its own")
+
+
+def try_changes(trial, jobs, seed=1, count=300, is_gate=True):
+    """So many drawn changes."""
+    tally, draw = Tally("changed"), random.Random(seed)
+    try:
+        base = make_base(trial)
+        expect(judge_database(trial, base, base.closed, base.closed) == "the same rows served", "unchanged")
+        expect(judge_log(trial, base, base.logged["-wal"]) == 0, "an unchanged log loses requests")
+    except Wrong as error:
+        tally.fails(f"{error}")
+        return tally
+    tell_other_log(trial, base, tally)
+    seeds = [draw.getrandbits(64) for _ in range(count)]
+    for each, found, wrong in side_by_side(lambda each: try_change(trial, base, each), seeds, jobs):
+        if wrong is None:
+            tally.passes(*found)
+        else:
+            tally.fails(f"seed {each}: {wrong}")
+    for name, least in LEAST.items() if is_gate else ():
+        tally.has(name, least)
+    return tally
