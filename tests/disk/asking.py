@@ -146,6 +146,15 @@ class Story:
         self.brokers = []  # after the start, and after each request that was answered
         self.replies = []
 
+    def going_on(self):
+        """A story that begins with the broker after the last answer."""
+        found = Story(self.known["root"])
+        found.known = dict(self.known)
+        found.server = Server(0, range(8))
+        found.server.broker = self.brokers[-1]
+        found.brokers = self.brokers[-1:]
+        return found
+
     def look(self):
         """The bytes of a request that changes the clock alone."""
         return LOOK.text(self.known)
@@ -178,9 +187,9 @@ class Story:
                 value = value[member]
             self.known[name] = value
 
-    def run(self, running, requests=REQUESTS):
-        """Asks a look and the requests. Whether all were answered: else the program has ended. Raises Wrong."""
-        for request in (LOOK, *requests):
+    def run(self, running, requests=REQUESTS, has_look=True):
+        """Asks a look first and the requests. Whether all were answered: else the program has ended. Raises Wrong."""
+        for request in (*[LOOK] * has_look, *requests):
             self.asked = request.text(self.known)
             data = running.ask(self.asked)
             if not is_whole(data):
@@ -188,10 +197,6 @@ class Story:
                 return False
             self.answer(data, request)
         return True
-
-    def may_be(self):
-        """The broker after the last answer, and the request that may have been taken as well, or None."""
-        return self.brokers[-1], self.asked
 
 
 def is_whole(data):

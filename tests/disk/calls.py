@@ -1,83 +1,114 @@
 """Calls that fail, and calls that are cut short.
 
-A run from nothing is repeated for each call of the program on its files: the call fails, by EIO or by ENOSPC, alone or
-with all such calls after it; or a read or a write moves one byte, or all but one. Then the program ends with `fault 2`, or
-it has answered as usual. After a start without faults the broker has all that was answered.
+Two runs are repeated for each call of the program on its files: one from nothing, and one over a log that is so long that
+it is moved into the database. The call fails, by EIO or by ENOSPC, alone or with all such calls after it; or a read or a
+write moves one byte, or all but one. Then the program ends with `fault 2`, or it has answered as usual. After a start
+without faults the broker has all that was answered.
 """
 
+import random
+from dataclasses import dataclass
+
+from asking import REQUESTS
 from hostile import Report
+from images import SHORT_WRITES, make_long_log
 from program import Wrong, expect
+from rows import bytes_of, put
 from trial import FAULT_OF_STORAGE, MOMENT, Run, Tally, check_found, side_by_side
 
 FAILED = ("pread", "pwrite", "fsync", "fdatasync", "ftruncate")
 SHORTENED = ("pread", "pwrite")
 ERRORS = ("EIO", "ENOSPC")
 LENGTHS = ("short=1", "short=-1")
-LEAST = {"pread": 5, "pwrite": 30, "fsync": 4, "fdatasync": 14, "ftruncate": 1}  # calls that a run makes
+ALWAYS = ("short=-1", "short=512", "short=100")
+READS = 10  # reads that are tried in the gate, where there are thousands
+LEAST = {"calls of pread": 1000, "calls of pwrite": 100, "calls of fsync": 8, "calls of fdatasync": 40,
+         "calls of ftruncate": 1, "failed": 700, "fault 2": 700, "short": 200, "short and answered as usual": 150,
+         "before any broker": 50, "request taken": 50, "request not taken": 100}
 
 
-def usual_calls(trial):
-    """How often a run makes each call, if none fails. Raises Wrong."""
-    place = trial.place()
-    run = Run(trial, place / "broker.db", trial.at(MOMENT, report=place / "report"))
-    expect(run.all_answered, f"with no fault the program ends: {run.end}")
-    expect(check_found(trial, place / "broker.db", run.story) is False, "with no fault another broker is found")
-    report = Report(place / "report")
-    expect(sum(report.changed[name] for name in FAILED) == 0, "with no fault a call is changed")
-    return {name: report.made[name] for name in FAILED}
+@dataclass
+class Scene:
+    """Where a run begins: its files, and the story of the broker in them, or None; and what it is asked."""
+    name: str
+    files: dict
+    story: object
+    requests: tuple
+
+    def run(self, trial, *rules):
+        """A run with these rules, its file and its report. Raises Wrong."""
+        place = trial.place()
+        file, report = place / "broker.db", place / "report"
+        put(file, self.files)
+        run = Run(trial, file, trial.at(MOMENT, *rules, report=report), story=self.story, requests=self.requests)
+        return run, file, Report(report)
+
+    def usual_calls(self, trial):
+        """How often a run makes each call, if none fails. Raises Wrong."""
+        run, file, report = self.run(trial)
+        expect(run.all_answered, f"with no fault the program ends: {run.end}")
+        expect(check_found(trial, file, run.story) is False, "with no fault another broker is found")
+        expect(sum(report.changed[name] for name in FAILED) == 0, "with no fault a call is changed")
+        return {name: report.made[name] for name in FAILED}
 
 
-def all_rules(calls):
-    """The rules of each run."""
+def both_scenes(trial):
+    """Nothing, and a long log. Raises Wrong."""
+    yield Scene("start", {}, None, REQUESTS)
+    file = trial.place() / "broker.db"
+    story = make_long_log(trial, file)
+    yield Scene("long log", bytes_of(file), story, SHORT_WRITES)
+
+
+def all_rules(calls, draw, reads):
+    """The rules of each run, for so many drawn reads."""
     for name in FAILED:
-        for number in range(1, calls[name] + 1):
+        numbers = range(1, calls[name] + 1)
+        for number in sorted(draw.sample(numbers, min(reads, len(numbers)))) if name == "pread" else numbers:
             for error in ERRORS:
                 yield f"{name}:{number}:{error}"
                 yield f"{name}:{number}+:{error}"
-    for name in SHORTENED:
-        for number in range(1, calls[name] + 1):
-            for length in LENGTHS:
+            for length in LENGTHS if name in SHORTENED else ():
                 yield f"{name}:{number}:{length}"
-    for length in ("short=-1", "short=512", "short=100"):
-        yield f"pread,pwrite:1+:{length}"
+    for name in SHORTENED:
+        for length in ALWAYS:
+            yield f"{name}:1+:{length}"
 
 
-def try_rule(trial, rule):
+def try_rule(trial, scene, rule):
     """One run, and what it has left: what came of it. Raises Wrong."""
-    place = trial.place()
-    file = place / "broker.db"
-    run = Run(trial, file, trial.at(MOMENT, rule, report=place / "report"))
-    changed = Report(place / "report").rules[1].changed
+    run, file, report = scene.run(trial, rule)
+    changed = report.rules[1].changed
     is_short, is_alone = "short" in rule, "+" not in rule
     if changed == 0:
         expect(run.all_answered, f"no call was changed, but {run.end}")
         return ["not met"]
     expect(changed == 1 or not is_alone, f"{changed} calls were changed")
-    if not run.all_answered:
-        expect(run.end.is_fault(FAULT_OF_STORAGE), f"in place of fault 2: {run.end}")
-    expect(run.all_answered or not is_short, "a short call is told as a fault")
+    expect(run.all_answered or run.end.is_fault(FAULT_OF_STORAGE), f"in place of fault 2: {run.end}")
+    expect(not run.all_answered or is_short or rule.startswith("pread"), "a failed write or sync was passed over")
     has_more = check_found(trial, file, run.story)
+    if is_short:
+        return ["short", "short and answered as usual" if run.all_answered else "short and fault 2"]
     if run.all_answered:
-        return ["short" if is_short else "failed", "answered as usual"]
-    told = {None: "before any broker", True: "request taken", False: "request not taken"}
-    return ["failed", "fault 2", told[has_more]]
+        return ["failed", "failed and answered as usual"]
+    return ["failed", "fault 2", {None: "before any broker", True: "request taken", False: "request not taken"}[has_more]]
 
 
-def try_calls(trial, jobs, keep=lambda place: True):
-    """All runs, or those whose place is kept."""
-    tally = Tally("calls")
+def try_calls(trial, jobs, seed=1, reads=READS):
+    """All runs, with so many drawn reads."""
+    tally, draw = Tally("calls"), random.Random(seed)
     try:
-        calls = usual_calls(trial)
+        for scene in both_scenes(trial):
+            calls = scene.usual_calls(trial)
+            tally.counts.update({f"calls of {name}": count for name, count in calls.items()})
+            rules = list(all_rules(calls, draw, reads))
+            for rule, found, wrong in side_by_side(lambda rule: try_rule(trial, scene, rule), rules, jobs):
+                if wrong is None:
+                    tally.passes(*found)
+                else:
+                    tally.fails(f"{scene.name}, {rule}: {wrong}")
     except Wrong as error:
         tally.fails(f"{error}")
-        return tally
     for name, least in LEAST.items():
-        tally.counts[name] = calls[name]
         tally.has(name, least)
-    rules = [rule for place, rule in enumerate(all_rules(calls)) if keep(place)]
-    for rule, outcome, wrong in side_by_side(lambda rule: try_rule(trial, rule), rules, jobs):
-        if wrong is None:
-            tally.passes(*outcome)
-        else:
-            tally.fails(f"{rule}: {wrong}")
     return tally

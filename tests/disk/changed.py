@@ -14,25 +14,32 @@ import sqlite3
 from dataclasses import dataclass
 
 from asking import LOOK, REQUESTS, TODAY, WITH_ALL_KINDS, Reply, Request, Server, Story, looked, rows_of
-from images import bytes_of
 from program import Running, Wrong, expect
-from rows import close_log, in_all_parts, read_rows, rows_in
+from rows import bytes_of, close_log, in_all_parts, put, read_rows, rows_in
 from stored_broker import broker_of
 from trial import MOMENT, Tally, side_by_side
 
+CLOCK = (1, "")
 PAGE, SECTOR = 4096, 512
 MOST_MEMORY = 500_000  # kB
-AMONG_THE_REQUESTS = 4  # requests before the older copy
-LEAST = {"databases": 150, "logs": 80, "refused": 30, "other rows served": 10, "the same rows served": 10,
-         "all requests found in the log": 5, "requests lost with the log": 20, "unchanged files told": 10,
-         "logs of another broker told": 1}
+VALUES = re.compile(b"|".join(map(re.escape, (
+    b'{"number":', b'{"k":[1,{', b'"path":{"secret', b'"capabilities":["', b'{"auth":null,', b"default", b"\0\0\0\6issued"))))
+FIRST = 4  # requests before the older copy, and every other one of those that fill the database
+FILLING = tuple(Request("POST", f"secret/data/{number % 7}/k{number}", '{"data":{"number":%d,"text":"%s"}}' % (
+    number, "z" * (9000 if number in (20, 21) else number % 5 * 60))) for number in range(40))
+CHANGES_IN_THE_GATE = 600
+LEAST = {"databases": 250, "logs": 150, "refused": 100, "damaged": 5, "other rows served": 30, "the same rows served": 60,
+         "logs with all requests": 40, "requests lost with the log": 70, "brokers lost with the log": 3,
+         "unchanged files told": 15, "logs of another broker told": 1}
 
-# What is asked of what is found. The parts of the first requests are there, and the last takes what waits.
+# What is asked of what is found. The last takes the response that waits.
 QUESTIONS = (
     LOOK,
     Request("GET", "secret/data/app"),
     Request("GET", "secret/metadata/app"),
     Request("LIST", "secret/metadata"),
+    Request("GET", "secret/data/6/k20"),
+    Request("GET", "secret/data/0/k21"),
     Request("GET", "secret/config"),
     Request("LIST", "auth/token/accessors"),
     Request("POST", "auth/token/lookup", '{"token":"{child}"}'),
@@ -51,9 +58,11 @@ QUESTIONS = (
 class Base:
     """A broker in its files, which are changed."""
     story: Story
-    logged: dict  # the files as the program left them
-    closed: bytes  # the database with all that was in the log
-    older: bytes  # the same after the first requests
+    young: dict  # the files after the first requests: all is in the log
+    count: int  # of the brokers that the story had until then
+    older: bytes  # the database with all that was in that log
+    logged: dict  # the files after all requests: the later ones are in the log
+    closed: bytes  # the database with all that was in that log too
     other_log: bytes  # the log of another broker
     statements: list  # that make the table and its indexes
 
@@ -66,32 +75,30 @@ class Base:
 def make_base(trial):
     """A broker with rows of all kinds, whose files are copied. Raises Wrong."""
     place = trial.place()
-    with Running(trial.program, place / "broker.db", trial.at(MOMENT)) as running:
-        story = Story(running.told_root())
-        expect(story.run(running, REQUESTS[:AMONG_THE_REQUESTS]), "with no fault the program ends")
-        older = bytes_of(place / "broker.db")
-        expect(story.run(running, REQUESTS[AMONG_THE_REQUESTS:WITH_ALL_KINDS]), "with no fault the program ends")
-    logged = bytes_of(place / "broker.db")
-    statements = statements_in(place / "broker.db")
-    with Running(trial.program, place / "other.db", trial.at(MOMENT)) as running:
-        expect(Story(running.told_root()).run(running, REQUESTS[:1]), "with no fault the program ends")
-    return Base(story, logged, closed(place / "copy.db", logged), closed(place / "copy.db", older),
-                bytes_of(place / "other.db")["-wal"], statements)
+    file = place / "broker.db"
+    story = make_part(trial, file, None, (*REQUESTS[:FIRST], *FILLING[::2]))
+    young, count = bytes_of(file), len(story.brokers)
+    close_log(file)
+    older = file.read_bytes()
+    make_part(trial, file, story, (*REQUESTS[FIRST:WITH_ALL_KINDS], *FILLING[1::2]))
+    logged = bytes_of(file)
+    statements = statements_in(file)
+    make_part(trial, place / "other.db", None, REQUESTS[:1])
+    return Base(story, young, count, older, logged, closed(file, logged), bytes_of(place / "other.db")["-wal"], statements)
+
+
+def make_part(trial, file, story, requests):
+    """A run over a file, which begins a story or goes on with it: the story. Raises Wrong."""
+    with Running(trial.program, file, trial.at(MOMENT)) as running:
+        story = story or Story(running.told_root())
+        expect(story.run(running, requests), "with no fault the program ends")
+    return story
 
 
 def statements_in(file):
     """The statements that have made a database."""
     with contextlib.closing(sqlite3.connect(file)) as database:
         return [sql for sql, in database.execute("SELECT sql FROM sqlite_master WHERE sql IS NOT NULL ORDER BY rowid")]
-
-
-def put(file, files):
-    """Writes the files of a database."""
-    for name in ("", "-wal", "-shm"):
-        path = file.with_name(file.name + name)
-        path.unlink(missing_ok=True)
-        if files.get(name) is not None:
-            path.write_bytes(files[name])
 
 
 def closed(file, files):
@@ -125,6 +132,18 @@ def flip_early(data, draw):
     """Among the first bytes of a page are numbers and offsets."""
     at = place_in(data, draw, PAGE) + draw.randrange(48)
     data[at % len(data)] ^= 1 << draw.randrange(8)
+
+
+def flip_used(data, draw):
+    """A byte that is not zero is part of something."""
+    at = draw.choice([at for at in range(len(data)) if data[at]])
+    data[at] ^= 1 << draw.randrange(8)
+
+
+def flip_value(data, draw):
+    """In the text of a value, or of another body."""
+    at = draw.choice([match.start() for match in VALUES.finditer(data)])
+    data[at + draw.randrange(10)] ^= 1 << draw.randrange(8)
 
 
 def draw_bytes(data, draw, count):
@@ -167,7 +186,9 @@ def from_older(data, older, draw, size):
 
 CHANGES = {
     "a bit": lambda data, _, draw: flip_bits(data, draw, 1),
-    "another bit": lambda data, _, draw: flip_bits(data, draw, 1),
+    "a bit of what is not zero": lambda data, _, draw: flip_used(data, draw),
+    "another bit of what is not zero": lambda data, _, draw: flip_used(data, draw),
+    "a bit of a value": lambda data, _, draw: flip_value(data, draw),
     "eight bits": lambda data, _, draw: flip_bits(data, draw, 8),
     "a bit at the head of a page": lambda data, _, draw: flip_early(data, draw),
     "a byte": lambda data, _, draw: draw_bytes(data, draw, 1),
@@ -204,9 +225,9 @@ def ask_all(trial, file, questions):
     return replies, end
 
 
-def read_by_sqlite(file, data):
+def read_by_sqlite(file, files):
     """The rows that SQLite reads in a database, none where it finds no table; None if it finds it damaged."""
-    put(file, {"": data})
+    put(file, files)
     try:
         with contextlib.closing(sqlite3.connect(file)) as database:
             if not database.execute("SELECT count(*) FROM sqlite_master").fetchone()[0]:
@@ -258,31 +279,31 @@ def plain(replies):
 
 
 def judge_database(trial, base, served, read):
-    """What the program serves of a database, and whether it is what SQLite reads in another, mostly the same: what came of
-    it. Raises Wrong."""
+    """What the program serves of some files, and whether it is what SQLite reads in some, which are the same but for a
+    control: what came of it, and how the program ended. Raises Wrong."""
     place = trial.place()
-    rows = read_by_sqlite(place / "read.db", read)
-    put(place / "broker.db", {"": served})
-    replies, end = ask_all(trial, place / "broker.db", base.questions)
+    file, rows = place / "broker.db", read_by_sqlite(place / "read.db", read)
+    put(file, served)
+    replies, end = ask_all(trial, file, base.questions)
     if end.root_token() is not None:
-        expect(rows == {} or (rows is None and len(served) <= PAGE), "a new broker in place of rows")
-        return "started anew"
+        expect(rows == {} or (rows is None and len(served[""]) <= PAGE), "a new broker in place of rows")
+        return "started anew", end
     if not end.is_kill():
-        expect(rows is None or rows != base.rows or end.is_fault(2), f"the rows are as before, but {end}")
-        expect(not end.is_fault(4) or rows is None or (1, "") not in rows, "the clock is there, but fault 4")
+        expect(end.is_fault(2) or rows is None or rows != base.rows, f"the rows are as before, but {end}")
+        expect(not end.is_fault(4) or rows is None or CLOCK not in rows, "the clock is there, but fault 4")
     if not replies:
-        return {"fault 2": "refused", "fault 3": "damaged", "fault 4": "without the clock"}[end.said.strip()]
+        return {"fault 2": "refused", "fault 3": "damaged", "fault 4": "without the clock"}[end.said.strip()], end
     expected, left = reference_replies(base.rows if rows is None else rows, base.questions, replies)
     if expected is not None:
         expect(replies == expected, f"SQLite reads other rows: {first_other(replies, expected)}")
-        expect(not end.is_kill() or rows_in(place / "broker.db") == left, "it leaves other rows")
+        expect(not end.is_kill() or rows_in(file) == left, "it leaves other rows")
     else:
         copied, copied_end = copied_replies(trial, place / "copy.db", base, rows)
         expect(plain(replies) == plain(copied), f"over a copy of its rows: {first_other(plain(replies), plain(copied))}")
         expect(end.said == copied_end.said, f"over a copy of its rows: {copied_end} in place of {end}")
     if not end.is_kill():
-        return "damaged"
-    return "the same rows served" if rows in (None, base.rows) else "other rows served"
+        return "damaged", end
+    return "the same rows served" if rows in (None, base.rows) else "other rows served", end
 
 
 def first_other(replies, expected):
@@ -293,18 +314,20 @@ def first_other(replies, expected):
     return f"{len(replies)} replies in place of {len(expected)}"
 
 
-def judge_log(trial, base, log):
-    """What the program serves of a log: how many of the requests are lost, or None if it serves none. Raises Wrong."""
-    file = trial.place() / "broker.db"
-    put(file, {**base.logged, "-wal": log})
+def judge_log(trial, base, files, first=0, last=None):
+    """What the program serves of files whose log was changed: how many of the requests from the first to the last are lost,
+    all if it has started a new broker, or None if it serves none. Raises Wrong."""
+    file, known = trial.place() / "broker.db", base.looked[first:last]
+    put(file, files)
     replies, end = ask_all(trial, file, base.questions[:1])
     if not replies:
         return None
     if end.root_token() is not None:
-        return len(base.looked)
+        expect(first == 0, "a new broker in place of the one in the database")
+        return len(known)
     rows = rows_in(file)
-    expect(rows in base.looked, "the rows are those after no number of the requests")
-    return len(base.looked) - 1 - max(place for place, each in enumerate(base.looked) if each == rows)
+    expect(rows in known, "the rows are those after no number of the requests")
+    return len(known) - 1 - max(place for place, each in enumerate(known) if each == rows)
 
 
 # ------------------------------------------------------------------------------------------ the part
@@ -312,29 +335,37 @@ def judge_log(trial, base, log):
 def try_change(trial, base, seed):
     """One drawn change: what came of it. Raises Wrong."""
     draw = random.Random(seed)
-    if draw.randrange(3):
-        name, data = change(base.closed, base.older, draw)
-        try:
-            told = judge_database(trial, base, data, data)
-        except Wrong as error:
-            raise Wrong(f"{name} in the database: {error}") from None
-        return ["databases", told, *tell_unchanged(trial, base, data, told)]
-    name, data = change(base.logged["-wal"], base.logged["-wal"], draw)
+    part = draw.choice(("a database", "a database", "a database beside its log", "a log", "a young log"))
+    data, older = {"a database": (base.closed, base.older), "a database beside its log": (base.older, base.closed),
+                   "a log": (base.logged["-wal"], base.young["-wal"]),
+                   "a young log": (base.young["-wal"], base.logged["-wal"])}[part]
+    name, data = change(data, older, draw)
     try:
-        lost = judge_log(trial, base, data)
+        if part == "a young log":
+            lost = judge_log(trial, base, {**base.young, "-wal": data}, 0, base.count)
+        elif part == "a log":
+            lost = judge_log(trial, base, {**base.logged, "-wal": data}, base.count - 1)
+        else:
+            files = {"": data, "-wal": base.logged["-wal"] if part == "a database beside its log" else None}
+            told, end = judge_database(trial, base, files, files)
+            return ["databases", told, *tell_unchanged(trial, base, files, told), ("MB at most", end.memory // 1000)]
     except Wrong as error:
-        raise Wrong(f"{name} in the log: {error}") from None
+        raise Wrong(f"{name}, in {part}: {error}") from None
     if lost is None:
-        return ["logs", "refused"]
-    return ["logs"] + ["requests lost with the log" if lost else "all requests found in the log"]
+        return ["logs", "logs refused"]
+    if lost == base.count and part == "a young log":
+        return ["logs", "brokers lost with the log"]
+    return ["logs", "requests lost with the log" if lost else "logs with all requests"]
 
 
-def tell_unchanged(trial, base, data, told):
-    """If the program is handed the unchanged database in place of one with other rows, that has to be told. Raises Wrong."""
-    if told != "other rows served" or reference_of(read_by_sqlite(trial.place() / "read.db", data)) is None:
+def tell_unchanged(trial, base, files, told):
+    """If the program is handed the unchanged database in place of one with other rows, that has to be told: but for one in
+    which the clock alone is another one, since the first question sets it. Raises Wrong."""
+    rows = read_by_sqlite(trial.place() / "read.db", files)
+    if told != "other rows served" or reference_of(rows) is None or {**rows, CLOCK: None} == {**base.rows, CLOCK: None}:
         return []
     try:
-        judge_database(trial, base, base.closed, data)
+        judge_database(trial, base, {"": base.closed}, files)
     except Wrong:
         return ["unchanged files told"]
     raise Wrong("the unchanged database is taken for the changed one")
@@ -343,20 +374,22 @@ def tell_unchanged(trial, base, data, told):
 def tell_other_log(trial, base, tally):
     """The log of another broker has to be told."""
     try:
-        judge_log(trial, base, base.other_log)
+        judge_log(trial, base, {"": base.young[""], "-wal": base.other_log})
     except Wrong:
         tally.passes("logs of another broker told")
         return
     tally.fails("the log of another broker is taken for its own")
 
 
-def try_changes(trial, jobs, seed=1, count=300, is_gate=True):
+def try_changes(trial, jobs, seed=1, count=CHANGES_IN_THE_GATE, is_gate=True):
     """So many drawn changes."""
     tally, draw = Tally("changed"), random.Random(seed)
     try:
         base = make_base(trial)
-        expect(judge_database(trial, base, base.closed, base.closed) == "the same rows served", "unchanged")
-        expect(judge_log(trial, base, base.logged["-wal"]) == 0, "an unchanged log loses requests")
+        for files in {"": base.closed}, base.logged:
+            expect(judge_database(trial, base, files, files)[0] == "the same rows served", "an unchanged one has other rows")
+        expect(judge_log(trial, base, base.logged, base.count - 1) == 0, "an unchanged log loses requests")
+        expect(judge_log(trial, base, base.young, 0, base.count) == 0, "an unchanged log loses requests")
     except Wrong as error:
         tally.fails(f"{error}")
         return tally

@@ -185,7 +185,7 @@ def instants_of(record, file, first):
             mark_end(found, files, written)
             written.syncs()
         elif call.name == "write" and call.fd == 1:
-            is_told = True
+            is_told = is_told or call.data.endswith(b"\n")
         elif call.name in ("send", "write") and call.fd > 2:
             sent += call.result
         else:

@@ -10,18 +10,21 @@ from dataclasses import dataclass
 from asking import REQUESTS, Reply, Request, Story, looked
 from history import NAMES, instants_of
 from program import Running, Wrong, expect
-from rows import whole_rows_in
+from rows import bytes_of, put, whole_rows_in
 from trial import MOMENT, Run, Tally, check_found, side_by_side
 
 ALL, NONE = ("all",), ("none",)
-WRITES_BEFORE = 130  # requests that fill the log, so that it is moved into the database soon
-AFTER_THAT = 24  # requests that are recorded
+FRAME = 24 + 4096  # bytes of a page in the log
+MOVED = 1000  # frames of a log that is moved into the database
+NEARLY = MOVED - 30
+LONG = 60_000  # bytes that fill many pages of it at once
+RECORDED = 12  # requests over a log that is nearly so long
 MIXES = 6  # drawn mixes of a stretch in the gate
 TEARS = 3  # places in the gate at which a write is torn
 FORGOTTEN = 40  # synced writes that are left out
 RECOVERED = 12  # images of the recovery of an image
-LEAST = {"images": 400, "stretches": 30, "before": 100, "after": 100, "of the database": 20, "no broker": 5,
-         "told without a synced write": 10}
+LEAST = {"images": 500, "stretches": 30, "before": 300, "after": 20, "of the database": 80, "no broker": 50,
+         "told without a synced write": 40}
 
 
 @dataclass
@@ -43,12 +46,6 @@ class History:
         return sum(end <= instant.sent for end in self.ends)
 
 
-def bytes_of(file):
-    """What the files of a database have, each None if it is not there."""
-    paths = [file.with_name(file.name + name) for name in NAMES]
-    return {name: path.read_bytes() if path.exists() else None for name, path in zip(NAMES, paths)}
-
-
 def record_start(trial):
     """A recorded run from nothing. Raises Wrong."""
     place = trial.place()
@@ -60,19 +57,51 @@ def record_start(trial):
     return history
 
 
+def frames_in(log):
+    """How many frames a log has, from its beginning to the first that has no page."""
+    with open(log, "rb") as opened:
+        for count in range(MOVED + 1):
+            opened.seek(32 + count * FRAME)
+            if not any(opened.read(4)):
+                return count
+    return MOVED
+
+
+def make_long_log(trial, file):
+    """A broker whose log is nearly so long that it is moved into the database: its story. Raises Wrong."""
+    with Running(trial.program, file, trial.at(MOMENT)) as running:
+        story, log = Story(running.told_root()), file.with_name(file.name + "-wal")
+        answered = story.run(running, REQUESTS[:-1])
+        while answered and frames_in(log) < NEARLY - 100:
+            answered = story.run(running, [long_write(LONG)], has_look=False)
+        answered = answered and story.run(running, [long_write(1)], has_look=False)
+        while answered and frames_in(log) < NEARLY:
+            answered = story.run(running, [short_write(len(story.replies))], has_look=False)
+        expect(answered, f"with no fault the program ends: {running.close()}")
+    return story
+
+
+def long_write(length):
+    """A write of many pages, which those after it write again."""
+    return Request("POST", "cubbyhole/long", '{"text":"%s"}' % ("x" * length))
+
+
+def short_write(number):
+    """A write of few pages."""
+    return Request("POST", f"secret/data/k{number % 3}", '{"data":{"number":%d,"text":"%s"}}' % (number, "y" * (number % 7 * 40)))
+
+
+SHORT_WRITES = tuple(short_write(number) for number in range(RECORDED))
+
+
 def record_long_log(trial):
-    """A recorded run over a log that is nearly so long that it is moved into the database. Raises Wrong."""
+    """A recorded run over a log that is moved into the database in its midst. Raises Wrong."""
     place = trial.place()
     file = place / "broker.db"
-    writes = [Request("POST", f"secret/data/k{number % 7}", '{"data":{"text":"%s"}}' % ("x" * 3000 * (number % 3)))
-              for number in range(WRITES_BEFORE + AFTER_THAT)]
-    run = Run(trial, file, trial.at(MOMENT), requests=(*REQUESTS[:-1], *writes[:WRITES_BEFORE]))
+    story, first = make_long_log(trial, file), bytes_of(file)
+    run = Run(trial, file, trial.at(MOMENT, record=place / "record"), story=story, requests=SHORT_WRITES)
     expect(run.all_answered, f"with no fault the program ends: {run.end}")
-    story, first = run.story, bytes_of(file)
-    story.brokers, story.replies = story.brokers[-1:], []
-    with Running(trial.program, file, trial.at(MOMENT, record=place / "record")) as running:
-        expect(story.run(running, writes[WRITES_BEFORE:]), "with no fault the program ends")
-    return History("long log", story, instants_of(place / "record", file, first))
+    return History("long log", run.story, instants_of(place / "record", file, first))
 
 
 def ways_of(part, is_all, draw):
@@ -125,11 +154,7 @@ def content_name(part, way):
 
 def open_image(trial, file, instant, ways, look, moment, record=None):
     """Makes an image, and lets the program open it: its rows, or None if it has started a new broker. Raises Wrong."""
-    for path in (file, file.with_name(file.name + "-wal"), file.with_name(file.name + "-shm")):
-        path.unlink(missing_ok=True)
-    for name, part, way in zip(NAMES, instant.parts, ways):
-        if part is not None:
-            file.with_name(file.name + name).write_bytes(part.left(*way))
+    put(file, {name: part and part.left(*way) for name, part, way in zip(NAMES, instant.parts, ways)})
     with Running(trial.program, file, trial.at(moment, record=record)) as running:
         data = running.ask(look)
         end = running.close()
@@ -160,7 +185,7 @@ def judge_recovery(trial, history, place, ways, seed):
     instant, draw = history.instants[place], random.Random(seed)
     answered, folder = history.answered(instant), trial.place()
     file, record = folder / "broker.db", folder / "record"
-    first = {name: None if part is None else part.left(*way) for name, part, way in zip(NAMES, instant.parts, ways)}
+    first = {name: part and part.left(*way) for name, part, way in zip(NAMES, instant.parts, ways)}
     rows = open_image(trial, file, instant, ways, history.look, MOMENT + 1, record)
     if rows is None:
         return ["recoveries without a broker"]

@@ -48,6 +48,21 @@ def with_settings(body):
     return b"\x02" + body[1:] + bytes(1 + 8 + 4) if body[:1] == b"\x01" else body
 
 
+def bytes_of(file):
+    """What the files of a database have, each None if it is not there."""
+    paths = {name: file.with_name(file.name + name) for name in ("", "-wal")}
+    return {name: path.read_bytes() if path.exists() else None for name, path in paths.items()}
+
+
+def put(file, files):
+    """Writes the files of a database, in place of those that are there."""
+    for name in ("", "-wal", "-shm", "-journal"):
+        path = file.with_name(file.name + name)
+        path.unlink(missing_ok=True)
+        if files.get(name) is not None:
+            path.write_bytes(files[name])
+
+
 def close_log(file):
     """Moves the log of a database into the database, as SQLite does."""
     with contextlib.closing(sqlite3.connect(file)) as database:

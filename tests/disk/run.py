@@ -46,7 +46,7 @@ def hour_parts(trial, jobs, draw):
     yield "full", lambda: try_full(trial, jobs, seed, draw.randrange(512, 4096))
     yield "small disks", lambda: try_disks(trial, jobs, [draw.randrange(65536, 1_200_000) for _ in range(20)])
     yield "kills", lambda: try_kills(trial, seed, 20, is_gate=False)
-    yield "calls", lambda: try_calls(trial, jobs)
+    yield "calls", lambda: try_calls(trial, jobs, seed, 300)
 
 
 class Sum:

@@ -40,25 +40,23 @@ class Trial:
 
 
 class Run:
-    """A run of the program from nothing: a start, a look and requests, until all are answered or it ends."""
+    """A run of the program: from nothing, or from where a story has come to. It is asked a look and requests, until all are
+    answered or it ends."""
 
-    def __init__(self, trial, file, variables, longest=None, requests=REQUESTS):
-        self.story = None
+    def __init__(self, trial, file, variables, longest=None, story=None, requests=REQUESTS):
+        self.story = story and story.going_on()
         self.all_answered = False
         with Running(trial.program, file, variables, longest) as running:
-            root = running.told_root()
-            if root is not None:
-                self.story = Story(root)
+            if self.story is None:
+                root = running.told_root()
+                self.story = root and Story(root)
+            if self.story is not None:
                 self.all_answered = self.story.run(running, requests)
             if not self.all_answered:
                 running.ends()
             self.end = running.close()
         if self.all_answered:
             expect(self.end.is_kill(), f"after all replies: {self.end}")
-
-    def answered(self):
-        """How many requests were answered, or None if there was no start."""
-        return None if self.story is None else len(self.story.replies)
 
 
 def check_found(trial, file, story, moment=MOMENT + 1):
@@ -129,8 +127,11 @@ class Tally:
         self.counts = Counter()
 
     def passes(self, *counted):
+        """Something was right: what is counted of it, and the most of something, by its name and a number."""
         self.passed += 1
-        self.counts.update(counted)
+        self.counts.update(each for each in counted if isinstance(each, str))
+        for name, number in (each for each in counted if not isinstance(each, str)):
+            self.counts[name] = max(self.counts[name], number)
 
     def fails(self, what):
         self.failed += 1
