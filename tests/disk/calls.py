@@ -18,12 +18,10 @@ from trial import FAULT_OF_STORAGE, MOMENT, Run, Tally, check_found, side_by_sid
 
 FAILED = ("pread", "pwrite", "fsync", "fdatasync", "ftruncate")
 SHORTENED = ("pread", "pwrite")
-ERRORS = ("EIO", "ENOSPC")
-LENGTHS = ("short=1", "short=-1")
 ALWAYS = ("short=-1", "short=512", "short=100")
 READS = 10  # reads that are tried in the gate, where there are thousands
 LEAST = {"calls of pread": 1000, "calls of pwrite": 100, "calls of fsync": 8, "calls of fdatasync": 40,
-         "calls of ftruncate": 1, "failed": 700, "fault 2": 700, "short": 200, "short and answered as usual": 150,
+         "calls of ftruncate": 1, "failed": 500, "fault 2": 500, "short": 120, "short and answered as usual": 120,
          "before any broker": 50, "request taken": 50, "request not taken": 100}
 
 
@@ -60,16 +58,17 @@ def both_scenes(trial):
     yield Scene("long log", bytes_of(file), story, SHORT_WRITES)
 
 
-def all_rules(calls, draw, reads):
-    """The rules of each run, for so many drawn reads."""
+def all_rules(calls, draw, reads, is_half):
+    """The rules of each run, for so many drawn reads. `is_half`: each call fails by one error alone, and by the other with
+    all later ones, by turns."""
     for name in FAILED:
         numbers = range(1, calls[name] + 1)
         for number in sorted(draw.sample(numbers, min(reads, len(numbers)))) if name == "pread" else numbers:
-            for error in ERRORS:
-                yield f"{name}:{number}:{error}"
-                yield f"{name}:{number}+:{error}"
-            for length in LENGTHS if name in SHORTENED else ():
-                yield f"{name}:{number}:{length}"
+            ways = [f"{number}:EIO", f"{number}+:ENOSPC", f"{number}:ENOSPC", f"{number}+:EIO"]
+            if name in SHORTENED:
+                ways += [f"{number}:short=1", f"{number}:short=-1"]
+            for way in ways[number % 2 * 2:][:2] + ways[4:][number % 2:][:1] if is_half else ways:
+                yield f"{name}:{way}"
     for name in SHORTENED:
         for length in ALWAYS:
             yield f"{name}:1+:{length}"
@@ -94,14 +93,14 @@ def try_rule(trial, scene, rule):
     return ["failed", "fault 2", {None: "before any broker", True: "request taken", False: "request not taken"}[has_more]]
 
 
-def try_calls(trial, jobs, seed=1, reads=READS):
-    """All runs, with so many drawn reads."""
+def try_calls(trial, jobs, seed=1, reads=READS, is_gate=True):
+    """All runs, with so many drawn reads; in the gate half of those over the long log."""
     tally, draw = Tally("calls"), random.Random(seed)
     try:
         for scene in both_scenes(trial):
             calls = scene.usual_calls(trial)
             tally.counts.update({f"calls of {name}": count for name, count in calls.items()})
-            rules = list(all_rules(calls, draw, reads))
+            rules = list(all_rules(calls, draw, reads, is_gate and scene.story is not None))
             for rule, found, wrong in side_by_side(lambda rule: try_rule(trial, scene, rule), rules, jobs):
                 if wrong is None:
                     tally.passes(*found)

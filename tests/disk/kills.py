@@ -1,4 +1,4 @@
-"""SIGKILL at random moments, while many connections ask.
+"""SIGKILL at random moments and before drawn calls, while many connections ask.
 
 Each connection has secrets and tokens of its own, so that the reference broker can take what was answered on one after
 another. After each kill the program is started again. Its rows have to be those of the reference broker after all that was
@@ -15,6 +15,7 @@ import time
 
 from asking import (LOOK, RESPONSE, TODAY, TOKEN, UNTOLD, VERSION, Reply, Server, after, is_whole, looked, request_text,
                     rows_of, started, word)
+from hostile import environment
 from program import SECONDS, Running, Wrong, expect, reply_from
 from rows import whole_rows_in
 from trial import MOMENT, NOBODY, Tally, differing
@@ -23,15 +24,17 @@ CLOCK = (1, "")
 CONNECTIONS = 16
 KINDS = ("write", "create", "revoke", "wrap", "unwrap")
 SECRETS = 3  # of a connection
-LEFT = 2  # tokens, and responses, that a connection leaves before some are ended
-FEWEST, MOST = 20, 400  # requests that are answered before a kill
-TIMES = 6
+LEFT = 1  # tokens, and responses, that a connection leaves before some are ended
+FEWEST, MOST = 20, 250  # requests that are answered before a kill
+KILLS = (None, "send", None, None, "pwrite", None, None, "fdatasync", None)  # at a random moment, or before a call
+CALLS = {"send": 1, "pwrite": 3, "fdatasync": 1}  # so many for each request
 START_CALLS = ("fsync:1", "fsync:2", "fsync:4", "pwrite:1", "pwrite:2", "pwrite:5", "fdatasync:1", "fdatasync:2",
                "fdatasync:3", "write:1")
-LEAST = {"kills": TIMES, "answered": TIMES * FEWEST, "kills with requests in progress": TIMES // 2, "not taken": 1,
-         **dict.fromkeys(KINDS, TIMES), "first starts stopped": 6, "a broker in what is left": 1,
+LEAST = {"kills at a moment": 6, "kills before a call": 3, "answered": len(KILLS) * FEWEST,
+         "kills with requests in progress": len(KILLS) // 2 + 1, "taken": 1, "not taken": 1,
+         **dict.fromkeys(KINDS, len(KILLS)), "first starts stopped": 6, "a broker in what is left": 1,
          "no broker in what is left": 1}
-LEAST_AT_ONCE = {"connections answered": TIMES * CONNECTIONS // 2}
+LEAST_AT_ONCE = {"connections answered": len(KILLS) * CONNECTIONS // 2}
 
 
 class Asked:
@@ -158,10 +161,10 @@ class Load:
         for peer in self.peers:
             peer.start()
 
-    def wait(self, count):
-        """Waits until so many requests are answered. Raises Wrong."""
+    def wait(self, is_enough):
+        """Waits until it is enough. Raises Wrong."""
         until = time.monotonic() + SECONDS
-        while len(self.answered) < count:
+        while not is_enough():
             expect(time.monotonic() < until, f"{len(self.answered)} answers in {SECONDS} seconds")
             time.sleep(0.0005)
 
@@ -233,13 +236,15 @@ class Killed:
             expect(data == expected, f"the reply is {data[-200:]!r} in place of {expected[-200:]!r}")
             self.tally.counts[asked.kind] += 1
 
-    def kill(self, draw):
-        """One start, a load of requests, and a kill. Raises Wrong."""
-        with Running(self.trial.program, self.file) as running:
+    def kill(self, draw, call):
+        """One start, a load of requests, and a kill, at a moment or before a call. Raises Wrong."""
+        count = draw.randint(FEWEST, MOST)
+        rule = "" if call is None else f"{call}:{count * CALLS[call]}:kill"
+        with Running(self.trial.program, self.file, environment(self.trial.library, rule)) as running:
             running.connect().close()
             load = Load(running, self.root, draw.getrandbits(32))
             try:
-                load.wait(draw.randint(FEWEST, MOST))
+                load.wait(running.has_ended if call else lambda: len(load.answered) >= count)
             finally:
                 end = running.close()
                 load.end()
@@ -247,12 +252,12 @@ class Killed:
         self.take(load.answered)
         self.pending = load.pending()
         self.tally.counts.update({
-            "kills": 1, "answered": len(load.answered), "kills with requests in progress": bool(self.pending),
+            "kills before a call" if call else "kills at a moment": 1, "answered": len(load.answered), "kills with requests in progress": bool(self.pending),
             "connections answered": sum(peer.answered > 0 for peer in load.peers)})
 
 
-def try_kills(trial, seed=1, times=TIMES, is_gate=True):
-    """So many kills of one broker, and some of a first start."""
+def try_kills(trial, seed=1, times=len(KILLS), is_gate=True):
+    """So many kills of one broker; in the gate some of a first start too."""
     tally, draw = Tally("kills"), random.Random(seed)
     killed = Killed(trial, trial.place() / "broker.db", tally)
     for turn in range(times + 1):
@@ -260,7 +265,7 @@ def try_kills(trial, seed=1, times=TIMES, is_gate=True):
             with Running(trial.program, killed.file) as running:
                 killed.start(running)
             if turn < times:
-                killed.kill(draw)
+                killed.kill(draw, KILLS[turn % len(KILLS)])
             tally.passes()
         except Wrong as error:
             tally.fails(f"seed {seed}, kill {turn}: {error}")

@@ -12,6 +12,7 @@ from dataclasses import dataclass
 
 SECONDS = 10  # until a program listens, answers or has ended by itself
 PAUSE = 0.001  # between two looks at it
+IDLE = 0.15  # after which the program may have closed a connection: it does after 0.25
 PORTS = itertools.count()
 
 
@@ -64,6 +65,15 @@ def own_address():
     return f"127.{64 + (pid >> 16) % 64}.{pid >> 8 & 255}.{pid & 255}", 10_000 + next(PORTS) % 20_000
 
 
+def exchange(connection, text):
+    """The bytes of the reply to a request, as of the next reply."""
+    try:
+        connection.sendall(text)
+    except OSError:
+        return b""
+    return reply_from(connection)
+
+
 def reply_from(connection):
     """The bytes of the next reply on a connection; what has come if the connection ends, and b"" if nothing has."""
     found = b""
@@ -101,9 +111,9 @@ class Running:
             stdin=subprocess.DEVNULL, stdout=subprocess.PIPE, stderr=subprocess.PIPE, env=variables,
             **({} if longest is None else self.limited(longest)))
         self.connection = None
+        self.asked = time.monotonic()  # when the last request was sent, or the connection was made
         self.memory = 0
         self.printed = b""
-        self.until = time.monotonic() + SECONDS
 
     @staticmethod
     def limited(longest):
@@ -134,6 +144,7 @@ class Running:
 
     def connect(self):
         """A new connection, or None if the program has ended. Raises TooSlow."""
+        until = time.monotonic() + SECONDS
         while True:
             try:
                 connection = socket.create_connection(self.address, timeout=SECONDS)
@@ -142,21 +153,24 @@ class Running:
             except ConnectionRefusedError:
                 if self.has_ended():
                     return None
-                if time.monotonic() > self.until:
+                if time.monotonic() > until:
                     raise TooSlow("it does not listen") from None
                 time.sleep(PAUSE)
 
     def ask(self, text):
-        """The reply to a request, on one connection for all; b"" or a part if the program has ended. Raises TooSlow."""
-        if self.connection is None:
-            self.connection = self.connect()
-        if self.connection is None:
-            return b""
-        try:
-            self.connection.sendall(text)
-        except OSError:
-            return b""
-        return reply_from(self.connection)
+        """The reply to a request, on one connection for all; b"" or a part if the program has ended. If the connection was
+        idle for so long that the program may have closed it, the request is sent on another one. Raises TooSlow."""
+        while True:
+            if self.connection is None:
+                self.connection, self.asked = self.connect(), time.monotonic()
+            if self.connection is None:
+                return b""
+            before, self.asked = self.asked, time.monotonic()
+            found = exchange(self.connection, text)
+            if found or self.asked - before < IDLE:
+                return found
+            self.connection.close()
+            self.connection = None
 
     def ends(self):
         """Waits until the program has ended by itself. Raises TooSlow."""

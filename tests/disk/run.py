@@ -46,7 +46,7 @@ def hour_parts(trial, jobs, draw):
     yield "full", lambda: try_full(trial, jobs, seed, draw.randrange(512, 4096))
     yield "small disks", lambda: try_disks(trial, jobs, [draw.randrange(65536, 1_200_000) for _ in range(20)])
     yield "kills", lambda: try_kills(trial, seed, 20, is_gate=False)
-    yield "calls", lambda: try_calls(trial, jobs, seed, 300)
+    yield "calls", lambda: try_calls(trial, jobs, seed, 300, is_gate=False)
 
 
 class Sum:
@@ -94,7 +94,7 @@ def main():
     parser.add_argument("--hours", type=float)
     parser.add_argument("--seed", type=int, default=1)
     parser.add_argument("--jobs", type=int, default=os.cpu_count())
-    arguments = parser.parse_args()
+    arguments = parser.parse_intermixed_args()
     with temporary_folder() as folder:
         trial = Trial(arguments.program, folder)
         if arguments.hours is None:
