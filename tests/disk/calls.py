@@ -1,20 +1,16 @@
 """Calls that fail, and calls that are cut short.
 
-Two runs are repeated for each call of the program on its files: one from nothing, and one over a log that is so long that
-it is moved into the database. The call fails, by EIO or by ENOSPC, alone or with all such calls after it; or a read or a
-write moves one byte, or all but one. Then the program ends with `fault 2`, or it has answered as usual. After a start
-without faults the broker has all that was answered.
+Two runs are repeated for each call of the program on its files: one from nothing, and one over a log that is so long
+that it is moved into the database. The call fails, by EIO or by ENOSPC, alone or with all such calls after it; or a
+read or a write moves one byte, or all but one. Then the program ends with `fault 2`, or it has answered as usual. After
+a start without faults the broker has all that was answered.
 """
 
 import random
-from dataclasses import dataclass
 
-from asking import REQUESTS
-from hostile import Report
-from images import SHORT_WRITES, make_long_log
 from program import Wrong, expect
-from rows import bytes_of, put
-from trial import FAULT_OF_STORAGE, MOMENT, Run, Tally, check_found, side_by_side
+from scenes import both_scenes
+from trial import FAULT_OF_STORAGE, Tally, check_found, side_by_side
 
 FAILED = ("pread", "pwrite", "fsync", "fdatasync", "ftruncate")
 SHORTENED = ("pread", "pwrite")
@@ -25,42 +21,18 @@ LEAST = {"calls of pread": 1000, "calls of pwrite": 100, "calls of fsync": 8, "c
          "before any broker": 50, "request taken": 50, "request not taken": 100}
 
 
-@dataclass
-class Scene:
-    """Where a run begins: its files, and the story of the broker in them, or None; and what it is asked."""
-    name: str
-    files: dict
-    story: object
-    requests: tuple
-
-    def run(self, trial, *rules):
-        """A run with these rules, its file and its report. Raises Wrong."""
-        place = trial.place()
-        file, report = place / "broker.db", place / "report"
-        put(file, self.files)
-        run = Run(trial, file, trial.at(MOMENT, *rules, report=report), story=self.story, requests=self.requests)
-        return run, file, Report(report)
-
-    def usual_calls(self, trial):
-        """How often a run makes each call, if none fails. Raises Wrong."""
-        run, file, report = self.run(trial)
-        expect(run.all_answered, f"with no fault the program ends: {run.end}")
-        expect(check_found(trial, file, run.story) is False, "with no fault another broker is found")
-        expect(sum(report.changed[name] for name in FAILED) == 0, "with no fault a call is changed")
-        return {name: report.made[name] for name in FAILED}
-
-
-def both_scenes(trial):
-    """Nothing, and a long log. Raises Wrong."""
-    yield Scene("start", {}, None, REQUESTS)
-    file = trial.place() / "broker.db"
-    story = make_long_log(trial, file)
-    yield Scene("long log", bytes_of(file), story, SHORT_WRITES)
+def usual_calls(trial, scene):
+    """How often a run makes each call, if none fails. Raises Wrong."""
+    run, file, report = scene.run(trial)
+    expect(run.all_answered, f"with no fault the program ends: {run.end}")
+    expect(check_found(trial, file, run.story) is False, "with no fault another broker is found")
+    expect(sum(report.changed[name] for name in FAILED) == 0, "with no fault a call is changed")
+    return {name: report.made[name] for name in FAILED}
 
 
 def all_rules(calls, draw, reads, is_half):
-    """The rules of each run, for so many drawn reads. `is_half`: each call fails by one error alone, and by the other with
-    all later ones, by turns."""
+    """The rules of each run, for so many drawn reads. `is_half`: each call fails by one error alone, and by the other
+    with all later ones, by turns."""
     for name in FAILED:
         numbers = range(1, calls[name] + 1)
         for number in sorted(draw.sample(numbers, min(reads, len(numbers)))) if name == "pread" else numbers:
@@ -76,7 +48,7 @@ def all_rules(calls, draw, reads, is_half):
 
 def try_rule(trial, scene, rule):
     """One run, and what it has left: what came of it. Raises Wrong."""
-    run, file, report = scene.run(trial, rule)
+    run, file, report = scene.run(trial, None, rule)
     changed = report.rules[1].changed
     is_short, is_alone = "short" in rule, "+" not in rule
     if changed == 0:
@@ -90,7 +62,8 @@ def try_rule(trial, scene, rule):
         return ["short", "short and answered as usual" if run.all_answered else "short and fault 2"]
     if run.all_answered:
         return ["failed", "failed and answered as usual"]
-    return ["failed", "fault 2", {None: "before any broker", True: "request taken", False: "request not taken"}[has_more]]
+    told = {None: "before any broker", True: "request taken", False: "request not taken"}
+    return ["failed", "fault 2", told[has_more]]
 
 
 def try_calls(trial, jobs, seed=1, reads=READS, is_gate=True):
@@ -98,7 +71,7 @@ def try_calls(trial, jobs, seed=1, reads=READS, is_gate=True):
     tally, draw = Tally("calls"), random.Random(seed)
     try:
         for scene in both_scenes(trial):
-            calls = scene.usual_calls(trial)
+            calls = usual_calls(trial, scene)
             tally.counts.update({f"calls of {name}": count for name, count in calls.items()})
             rules = list(all_rules(calls, draw, reads, is_gate and scene.story is not None))
             for rule, found, wrong in side_by_side(lambda rule: try_rule(trial, scene, rule), rules, jobs):

@@ -1,10 +1,10 @@
 """Files that were changed: bits, bytes, sectors and pages, in the database or in its log.
 
-Whatever is in the files, the program serves, or ends with `fault 2`, `fault 3` or `fault 4`: within ten seconds, in 500 MB,
-and by no signal. What it serves from a database without a log is what the standard library's SQLite reads there, or if that
-reads nothing, what was there before the change; a file that is cut to nothing is a new broker. What it serves from a log is
-the broker after some number of the requests, or a new one. Neither has sums that tell a change in every place, so answered
-requests may be lost, and changed ones served: this is counted.
+Whatever is in the files, the program serves, or ends with `fault 2`, `fault 3` or `fault 4`: within ten seconds, in 500
+MB, and by no signal. What it serves from a database without a log is what the standard library's SQLite reads there, or
+if that reads nothing, what was there before the change; a file that is cut to nothing is a new broker. What it serves
+from a log is the broker after some number of the requests, or a new one. Neither has sums that tell a change in every
+place, so answered requests may be lost, and changed ones served: this is counted.
 """
 
 import contextlib
@@ -23,14 +23,15 @@ CLOCK = (1, "")
 PAGE, SECTOR = 4096, 512
 MOST_MEMORY = 500_000  # kB
 VALUES = re.compile(b"|".join(map(re.escape, (
-    b'{"number":', b'{"k":[1,{', b'"path":{"secret', b'"capabilities":["', b'{"auth":null,', b"default", b"\0\0\0\6issued"))))
+    b'{"number":', b'{"k":[1,{', b'"path":{"secret', b'"capabilities":["', b'{"auth":null,', b"default",
+    b"\0\0\0\6issued"))))
 FIRST = 4  # requests before the older copy, and every other one of those that fill the database
 FILLING = tuple(Request("POST", f"secret/data/{number % 7}/k{number}", '{"data":{"number":%d,"text":"%s"}}' % (
     number, "z" * (9000 if number in (20, 21) else number % 5 * 60))) for number in range(40))
 CHANGES_IN_THE_GATE = 600
-LEAST = {"databases": 250, "logs": 150, "refused": 100, "damaged": 5, "other rows served": 30, "the same rows served": 60,
-         "logs with all requests": 40, "requests lost with the log": 70, "brokers lost with the log": 3,
-         "unchanged files told": 15, "logs of another broker told": 1}
+LEAST = {"databases": 250, "logs": 150, "refused": 100, "damaged": 5, "other rows served": 30,
+         "the same rows served": 60, "logs with all requests": 40, "requests lost with the log": 70,
+         "brokers lost with the log": 3, "unchanged files told": 15, "logs of another broker told": 1}
 
 # What is asked of what is found. The last takes the response that waits.
 QUESTIONS = (
@@ -84,7 +85,8 @@ def make_base(trial):
     logged = bytes_of(file)
     statements = statements_in(file)
     make_part(trial, place / "other.db", None, REQUESTS[:1])
-    return Base(story, young, count, older, logged, closed(file, logged), bytes_of(place / "other.db")["-wal"], statements)
+    return Base(story, young, count, older, logged, closed(file, logged), bytes_of(place / "other.db")["-wal"],
+                statements)
 
 
 def make_part(trial, file, story, requests):
@@ -238,13 +240,17 @@ def read_by_sqlite(file, files):
 
 
 def reference_of(rows):
-    """The reference broker that has these rows, or None if they are those of no broker."""
+    """The reference broker that has these rows, or None if they are those of no broker: also where a token has a period
+    and none is served yet, since the reference broker would tell it."""
     try:
         server = Server(0, range(8))
         server.broker = broker_of(in_all_parts(rows))
-        return server if rows_of(server.broker, TODAY) == rows else None
     except Exception:
         return None
+    has_period = any(token.period for token in server.broker.tokens.values())
+    if (has_period and "periods" not in TODAY) or rows_of(server.broker, TODAY) != rows:
+        return None
+    return server
 
 
 def reference_replies(rows, questions, replies):
@@ -299,7 +305,8 @@ def judge_database(trial, base, served, read):
         expect(not end.is_kill() or rows_in(file) == left, "it leaves other rows")
     else:
         copied, copied_end = copied_replies(trial, place / "copy.db", base, rows)
-        expect(plain(replies) == plain(copied), f"over a copy of its rows: {first_other(plain(replies), plain(copied))}")
+        found, copied = plain(replies), plain(copied)
+        expect(found == copied, f"over a copy of its rows: {first_other(found, copied)}")
         expect(end.said == copied_end.said, f"over a copy of its rows: {copied_end} in place of {end}")
     if not end.is_kill():
         return "damaged", end
@@ -310,13 +317,14 @@ def first_other(replies, expected):
     """The first reply that is another one, and what was expected, in words."""
     for one, two in zip(replies, expected):
         if one != two:
-            return f"{one[-160:]!r} in place of {two[-160:]!r}"
+            at = next((at for at in range(min(len(one), len(two))) if one[at] != two[at]), 0)
+            return f"{one[max(0, at - 80):at + 80]!r} in place of {two[max(0, at - 80):at + 80]!r}"
     return f"{len(replies)} replies in place of {len(expected)}"
 
 
 def judge_log(trial, base, files, first=0, last=None):
-    """What the program serves of files whose log was changed: how many of the requests from the first to the last are lost,
-    all if it has started a new broker, or None if it serves none. Raises Wrong."""
+    """What the program serves of files whose log was changed: how many of the requests from the first to the last are
+    lost, all if it has started a new broker, or None if it serves none. Raises Wrong."""
     file, known = trial.place() / "broker.db", base.looked[first:last]
     put(file, files)
     replies, end = ask_all(trial, file, base.questions[:1])
@@ -359,8 +367,8 @@ def try_change(trial, base, seed):
 
 
 def tell_unchanged(trial, base, files, told):
-    """If the program is handed the unchanged database in place of one with other rows, that has to be told: but for one in
-    which the clock alone is another one, since the first question sets it. Raises Wrong."""
+    """If the program is handed the unchanged database in place of one with other rows, that has to be told: but for one
+    in which the clock alone is another one, since the first question sets it. Raises Wrong."""
     rows = read_by_sqlite(trial.place() / "read.db", files)
     if told != "other rows served" or reference_of(rows) is None or {**rows, CLOCK: None} == {**base.rows, CLOCK: None}:
         return []
@@ -387,7 +395,8 @@ def try_changes(trial, jobs, seed=1, count=CHANGES_IN_THE_GATE, is_gate=True):
     try:
         base = make_base(trial)
         for files in {"": base.closed}, base.logged:
-            expect(judge_database(trial, base, files, files)[0] == "the same rows served", "an unchanged one has other rows")
+            told, _ = judge_database(trial, base, files, files)
+            expect(told == "the same rows served", f"an unchanged database: {told}")
         expect(judge_log(trial, base, base.logged, base.count - 1) == 0, "an unchanged log loses requests")
         expect(judge_log(trial, base, base.young, 0, base.count) == 0, "an unchanged log loses requests")
     except Wrong as error:

@@ -1,8 +1,8 @@
 """A disk that is full.
 
-A run from nothing is repeated while no file may be longer than a limit, from no byte up to more than the run needs. It ends
-with `fault 2`, or it has answered as usual; a start under the same limit ends so too, or serves; and after a start without
-a limit the broker has all that was answered. Beside the gate the same is done on a small file system in memory.
+A run from nothing is repeated while no file may be longer than a limit, from no byte up to more than the run needs. It
+ends with `fault 2`, or it has answered as usual; a start under the same limit ends so too, or serves; and after a start
+without a limit the broker has all that was answered. Beside the gate the same is done on a small file system in memory.
 """
 
 import contextlib
@@ -11,11 +11,15 @@ import subprocess
 
 from asking import LOOK
 from program import Running, Wrong, expect
+from scenes import both_scenes
 from trial import FAULT_OF_STORAGE, MOMENT, NOBODY, Run, Tally, check_found, side_by_side
 
-STEP = 8192
+PAGE = 4096
+STEP = 2 * PAGE
 BEYOND = 16384  # bytes beyond what the run needs, up to which the limits go
-LEAST = {"limits": 50, "limits that were met": 40, "at a request": 5, "before any broker": 10, "answered as usual": 1}
+MOST_ROOM = {"start": 700_000, "long log": 250_000}  # bytes of a small disk beyond what the files have at first
+LEAST = {"limits": 100, "limits that were met": 90, "at a request": 30, "before any broker": 30, "served once more": 30,
+         "refused once more": 30, "answered as usual": 1}
 
 
 def longest_file(trial):
@@ -88,31 +92,35 @@ def small_disk(place, size):
         subprocess.run(["umount", place], check=True)
 
 
-def try_disk(trial, size):
+def try_disk(trial, scene, size):
     """One run on a disk of so many bytes, which is larger at the last start: what came of it. Raises Wrong."""
     with small_disk(trial.place(), size) as place:
         file = place / "broker.db"
-        run = Run(trial, file, trial.at(MOMENT))
+        run = scene.begin(trial, file, trial.at(MOMENT))
         if not run.all_answered:
             expect(run.end.is_fault(FAULT_OF_STORAGE), f"in place of fault 2: {run.end}")
             start_again(trial, file, run.story, None)
         subprocess.run(["mount", "-o", "remount,size=64m", place], check=True)
         check_found(trial, file, run.story)
-    return ["small disks", "answered as usual" if run.all_answered else "full disks"]
+    return ["small disks", f"{scene.name}, " + ("answered as usual" if run.all_answered else "full disks")]
 
 
-def try_disks(trial, jobs, sizes):
-    """Disks of these sizes. Where nothing can be mounted there is none."""
-    tally = Tally("small disks")
+def try_disks(trial, jobs, seed, count):
+    """So many small disks for a run from nothing, and for one over a long log. Where nothing can be mounted there is
+    none."""
+    tally, draw = Tally("small disks"), random.Random(seed)
     try:
-        with small_disk(trial.place(), 65536):
+        with small_disk(trial.place(), PAGE):
             pass
     except (OSError, subprocess.CalledProcessError) as error:
         tally.counts[f"small disks, since nothing can be mounted here ({error})"] = 0
         return tally
-    for size, found, wrong in side_by_side(lambda size: try_disk(trial, size), sizes, jobs):
-        if wrong is None:
-            tally.passes(*found)
-        else:
-            tally.fails(f"a disk of {size} bytes: {wrong}")
+    for scene in both_scenes(trial):
+        taken = sum(len(data) for data in scene.files.values())
+        sizes = [taken + draw.randrange(PAGE, MOST_ROOM[scene.name]) for _ in range(count)]
+        for size, found, wrong in side_by_side(lambda size: try_disk(trial, scene, size), sizes, jobs):
+            if wrong is None:
+                tally.passes(*found)
+            else:
+                tally.fails(f"{scene.name}, a disk of {size} bytes: {wrong}")
     return tally

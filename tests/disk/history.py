@@ -1,8 +1,8 @@
 """What a run has written to its two files, and what a crash may leave of it.
 
-A crash keeps what was synced. Of each write since then it keeps each byte below the end that the file had, or the old one,
-and anything past that end; the file is as long as before, or longer by a part of the write. Of a change of length it keeps
-any length in between. Writes that were made one after another are lost in any order.
+A crash keeps what was synced. Of each write since then it keeps each byte below the end that the file had, or the old
+one, and anything past that end; the file is as long as before, or longer by a part of the write. Of a change of length
+it keeps any length in between. Writes that were made one after another are lost in any order.
 """
 
 import random
@@ -70,8 +70,8 @@ def mixture(old, new, at, draw, grain):
 
 @dataclass(frozen=True)
 class Part:
-    """One of the files at an instant: what it had at first, and its steps in stretches that end with a sync each, but for
-    the last."""
+    """One of the files at an instant: what it had at first, and its steps in stretches that end with a sync each, but
+    for the last."""
     first: bytes
     stretches: tuple
 

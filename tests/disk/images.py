@@ -7,24 +7,21 @@ answered by then, or after one more. Where the root token had not been printed t
 import random
 from dataclasses import dataclass
 
-from asking import REQUESTS, Reply, Request, Story, looked
+from asking import Reply, Story, looked
 from history import NAMES, instants_of
 from program import Running, Wrong, expect
-from rows import bytes_of, put, whole_rows_in
-from trial import MOMENT, Run, Tally, check_found, side_by_side
+from rows import put, whole_rows_in
+from scenes import both_scenes
+from trial import MOMENT, Tally, check_found, side_by_side
 
 ALL, NONE = ("all",), ("none",)
-FRAME = 24 + 4096  # bytes of a page in the log
-MOVED = 1000  # frames of a log that is moved into the database
-NEARLY = MOVED - 30
-LONG = 60_000  # bytes that fill many pages of it at once
-RECORDED = 12  # requests over a log that is nearly so long
 MIXES = 6  # drawn mixes of a stretch in the gate
 TEARS = 3  # places in the gate at which a write is torn
 FORGOTTEN = 40  # synced writes that are left out
 RECOVERED = 12  # images of the recovery of an image
+MOST = 1500  # images of a run beside the gate, drawn among all
 LEAST = {"images": 500, "stretches": 30, "before": 300, "after": 20, "of the database": 80, "no broker": 50,
-         "told without a synced write": 40}
+         "told without a synced write": 25}
 
 
 @dataclass
@@ -46,62 +43,15 @@ class History:
         return sum(end <= instant.sent for end in self.ends)
 
 
-def record_start(trial):
-    """A recorded run from nothing. Raises Wrong."""
+def record_run(trial, scene):
+    """A recorded run. Raises Wrong."""
     place = trial.place()
-    file = place / "broker.db"
-    run = Run(trial, file, trial.at(MOMENT, record=place / "record"))
+    run, file, _ = scene.run(trial, place / "record")
     expect(run.all_answered, f"with no fault the program ends: {run.end}")
-    history = History("start", run.story, instants_of(place / "record", file, dict.fromkeys(NAMES)))
+    first = {name: scene.files.get(name) for name in NAMES}
+    history = History(scene.name, run.story, instants_of(place / "record", file, first))
     check_found(trial, file, run.story)
     return history
-
-
-def frames_in(log):
-    """How many frames a log has, from its beginning to the first that has no page."""
-    with open(log, "rb") as opened:
-        for count in range(MOVED + 1):
-            opened.seek(32 + count * FRAME)
-            if not any(opened.read(4)):
-                return count
-    return MOVED
-
-
-def make_long_log(trial, file):
-    """A broker whose log is nearly so long that it is moved into the database: its story. Raises Wrong."""
-    with Running(trial.program, file, trial.at(MOMENT)) as running:
-        story, log = Story(running.told_root()), file.with_name(file.name + "-wal")
-        answered = story.run(running, REQUESTS[:-1])
-        while answered and frames_in(log) < NEARLY - 100:
-            answered = story.run(running, [long_write(LONG)], has_look=False)
-        answered = answered and story.run(running, [long_write(1)], has_look=False)
-        while answered and frames_in(log) < NEARLY:
-            answered = story.run(running, [short_write(len(story.replies))], has_look=False)
-        expect(answered, f"with no fault the program ends: {running.close()}")
-    return story
-
-
-def long_write(length):
-    """A write of many pages, which those after it write again."""
-    return Request("POST", "cubbyhole/long", '{"text":"%s"}' % ("x" * length))
-
-
-def short_write(number):
-    """A write of few pages."""
-    return Request("POST", f"secret/data/k{number % 3}", '{"data":{"number":%d,"text":"%s"}}' % (number, "y" * (number % 7 * 40)))
-
-
-SHORT_WRITES = tuple(short_write(number) for number in range(RECORDED))
-
-
-def record_long_log(trial):
-    """A recorded run over a log that is moved into the database in its midst. Raises Wrong."""
-    place = trial.place()
-    file = place / "broker.db"
-    story, first = make_long_log(trial, file), bytes_of(file)
-    run = Run(trial, file, trial.at(MOMENT, record=place / "record"), story=story, requests=SHORT_WRITES)
-    expect(run.all_answered, f"with no fault the program ends: {run.end}")
-    return History("long log", run.story, instants_of(place / "record", file, first))
 
 
 def ways_of(part, is_all, draw):
@@ -218,16 +168,16 @@ def tell_forgotten(trial, history, jobs, draw, tally):
     """Some of the images without a synced write have to be told as wrong."""
     images = forgotten_of(history, draw)
     for _, _, wrong in side_by_side(lambda image: judge(trial, history, *image), images, jobs):
-        tally.counts["told without a synced write" if wrong else "not told, of no use any more"] += 1
+        tally.counts["told without a synced write" if wrong else "without one that is of no use any more"] += 1
 
 
 def histories_of(trial, tally):
     """Both recorded runs."""
-    for record in (record_start, record_long_log):
-        try:
-            yield record(trial)
-        except Wrong as error:
-            tally.fails(f"{record.__name__}: {error}")
+    try:
+        for scene in both_scenes(trial):
+            yield record_run(trial, scene)
+    except Wrong as error:
+        tally.fails(f"a recorded run: {error}")
 
 
 def try_recoveries(trial, jobs, seed, count):
@@ -246,10 +196,12 @@ def try_recoveries(trial, jobs, seed, count):
 
 
 def try_images(trial, jobs, seed=1, is_all=False):
-    """The images of two runs. `is_all`: each tear, more mixes, and both states of the other file."""
+    """The images of two runs. `is_all`: some of those with each tear, more mixes, and both states of the other file."""
     tally, draw = Tally("images"), random.Random(seed)
     for history in histories_of(trial, tally):
         images = list(images_of(history, is_all, draw))
+        tally.counts["possible images"] += len(images)
+        images = draw.sample(images, min(MOST, len(images))) if is_all else images
         tally.counts["stretches"] += sum(instant.is_end[number] and part is not None and part.steps() != ()
                                          for instant in history.instants for number, part in enumerate(instant.parts))
         for (place, ways), found, wrong in side_by_side(lambda image: judge(trial, history, *image), images, jobs):

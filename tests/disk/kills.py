@@ -1,9 +1,9 @@
 """SIGKILL at random moments and before drawn calls, while many connections ask.
 
 Each connection has secrets and tokens of its own, so that the reference broker can take what was answered on one after
-another. After each kill the program is started again. Its rows have to be those of the reference broker after all that was
-answered, and of the requests in progress those that were taken have to be there as a whole. The first start is stopped in
-its midst as well.
+another. After each kill the program is started again. Its rows have to be those of the reference broker after all that
+was answered, and of the requests in progress those that were taken have to be there as a whole. The first start is
+stopped in its midst as well.
 """
 
 import json
@@ -25,6 +25,7 @@ CONNECTIONS = 16
 KINDS = ("write", "create", "revoke", "wrap", "unwrap")
 SECRETS = 3  # of a connection
 LEFT = 1  # tokens, and responses, that a connection leaves before some are ended
+LONGEST = 60  # seconds until they are
 FEWEST, MOST = 20, 250  # requests that are answered before a kill
 KILLS = (None, "send", None, None, "pwrite", None, None, "fdatasync", None)  # at a random moment, or before a call
 CALLS = {"send": 1, "pwrite": 3, "fdatasync": 1}  # so many for each request
@@ -95,7 +96,8 @@ class Peer(threading.Thread):
                          (RESPONSE, self.waiting[0]))
         path = f"{self.mark}/k{self.draw.randrange(SECRETS)}"
         version = self.versions.get(path, 0) + 1
-        text = self.post(f"secret/data/{path}", {"data": {"number": self.number, "by": self.mark * self.draw.randrange(40)}})
+        data = {"number": self.number, "by": self.mark * self.draw.randrange(40)}
+        text = self.post(f"secret/data/{path}", {"data": data})
         return Asked("write", text, (VERSION, f"secret/{path}\n{version:020}"), path)
 
     def create(self):
@@ -163,9 +165,9 @@ class Load:
 
     def wait(self, is_enough):
         """Waits until it is enough. Raises Wrong."""
-        until = time.monotonic() + SECONDS
+        until = time.monotonic() + LONGEST
         while not is_enough():
-            expect(time.monotonic() < until, f"{len(self.answered)} answers in {SECONDS} seconds")
+            expect(time.monotonic() < until, f"{len(self.answered)} answers in {LONGEST} seconds")
             time.sleep(0.0005)
 
     def end(self):
@@ -202,7 +204,8 @@ class Killed:
         self.settle(rows, reply.moment)
         expected = self.server.feed(1, look, reply.moment, reply.words())
         expect(data == expected, f"the reply is {data[-200:]!r} in place of {expected[-200:]!r}")
-        expect(self.server.rows() == rows, f"another broker is found{differing(rows, self.server.broker, reply.moment, look)}")
+        other = differing(rows, self.server.broker, reply.moment, look)
+        expect(self.server.rows() == rows, f"another broker is found{other}")
 
     def settle(self, rows, last):
         """The reference broker takes those of the requests in progress that were taken. Raises Wrong."""
@@ -228,8 +231,8 @@ class Killed:
         raise Wrong(f"a {asked.kind} in progress was done in part")
 
     def take(self, answered):
-        """The reference broker takes what was answered: those of one second in any order, but for those of one connection.
-        Raises Wrong."""
+        """The reference broker takes what was answered: those of one second in any order, but for those of one
+        connection. Raises Wrong."""
         for asked, reply, data in sorted(((asked, Reply(data), data) for asked, data in answered),
                                          key=lambda each: each[1].moment):
             expected = self.server.feed(1, asked.text, reply.moment, reply.words())
@@ -252,7 +255,8 @@ class Killed:
         self.take(load.answered)
         self.pending = load.pending()
         self.tally.counts.update({
-            "kills before a call" if call else "kills at a moment": 1, "answered": len(load.answered), "kills with requests in progress": bool(self.pending),
+            "kills before a call" if call else "kills at a moment": 1, "answered": len(load.answered),
+            "kills with requests in progress": bool(self.pending),
             "connections answered": sum(peer.answered > 0 for peer in load.peers)})
 
 

@@ -158,8 +158,8 @@ class Running:
                 time.sleep(PAUSE)
 
     def ask(self, text):
-        """The reply to a request, on one connection for all; b"" or a part if the program has ended. If the connection was
-        idle for so long that the program may have closed it, the request is sent on another one. Raises TooSlow."""
+        """The reply to a request, on one connection for all; b"" or a part if the program has ended. If the connection
+        was idle for so long that the program may have closed it, the request is sent on another one. Raises TooSlow."""
         while True:
             if self.connection is None:
                 self.connection, self.asked = self.connect(), time.monotonic()

@@ -4,8 +4,8 @@
     python3 tests/disk/run.py PROGRAM [--hours H] [--seed S] [PART...]
 
 The parts are `calls`, `images`, `full`, `changed` and `kills`; README.md beside this says what each does. Without
-`--hours` each is tried once, by a fixed seed, in a minute together. With it all are tried again and again with seeds that
-follow from the first one: each tear and more mixes of the images, images of the recovery of images, limits of all
+`--hours` each is tried once, by a fixed seed, in a minute together. With it all are tried again and again with seeds
+that follow from the first one: each tear and more mixes of the images, images of the recovery of images, limits of all
 lengths, small disks, further changes and kills. Each part tells what it met. The last line is `N passed, M failed`; the
 status is 0 if nothing failed.
 """
@@ -44,7 +44,7 @@ def hour_parts(trial, jobs, draw):
     yield "images", lambda: try_images(trial, jobs, seed, is_all=True)
     yield "recoveries", lambda: try_recoveries(trial, jobs, seed, 100)
     yield "full", lambda: try_full(trial, jobs, seed, draw.randrange(512, 4096))
-    yield "small disks", lambda: try_disks(trial, jobs, [draw.randrange(65536, 1_200_000) for _ in range(20)])
+    yield "small disks", lambda: try_disks(trial, jobs, seed, 20)
     yield "kills", lambda: try_kills(trial, seed, 20, is_gate=False)
     yield "calls", lambda: try_calls(trial, jobs, seed, 300, is_gate=False)
 

@@ -40,8 +40,8 @@ class Trial:
 
 
 class Run:
-    """A run of the program: from nothing, or from where a story has come to. It is asked a look and requests, until all are
-    answered or it ends."""
+    """A run of the program: from nothing, or from where a story has come to. It is asked a look and requests, until all
+    are answered or it ends."""
 
     def __init__(self, trial, file, variables, longest=None, story=None, requests=REQUESTS):
         self.story = story and story.going_on()
@@ -60,9 +60,9 @@ class Run:
 
 
 def check_found(trial, file, story, moment=MOMENT + 1):
-    """Starts the program over what a run has left, and looks at it, at a moment. The broker that is found has all that was
-    answered, and the request that was not answered as a whole or not at all. Whether it has that one; None if the run had
-    not told of a start, and there is another one now. Raises Wrong."""
+    """Starts the program over what a run has left, and looks at it, at a moment. The broker that is found has all that
+    was answered, and the request that was not answered as a whole or not at all. Whether it has that one; None if the
+    run had not told of a start, and there is another one now. Raises Wrong."""
     with Running(trial.program, file, trial.at(moment)) as running:
         known = {"root": story.known["root"] if story else NOBODY}
         look = LOOK.text(known)
@@ -79,7 +79,8 @@ def check_found(trial, file, story, moment=MOMENT + 1):
     expect(Reply(data).status == 200, f"the root token is answered {Reply(data).status}")
     before = story.brokers[-1] if story.brokers else first
     found = found_broker(rows, before, story.asked, moment, look)
-    expect(found is not None, f"after {len(story.replies)} replies another broker is found{differing(rows, before, moment, look)}")
+    other = differing(rows, before, moment, look)
+    expect(found is not None, f"after {len(story.replies)} replies another broker is found{other}")
     return rows_of(found, TODAY) != rows_of(before, TODAY)
 
 
