@@ -302,7 +302,7 @@ def judge_database(trial, base, served, read):
     expected, left = reference_replies(base.rows if rows is None else rows, base.questions, replies)
     if expected is not None:
         expect(replies == expected, f"SQLite reads other rows: {first_other(replies, expected)}")
-        expect(not end.is_kill() or rows_in(file) == left, "it leaves other rows")
+        expect(rows is None or not end.is_kill() or rows_in(file) == left, "it leaves other rows")
     else:
         copied, copied_end = copied_replies(trial, place / "copy.db", base, rows)
         found, copied = plain(replies), plain(copied)

@@ -93,7 +93,7 @@ def reply_from(connection):
             if not more:
                 return found
             found += more
-    except TimeoutError:
+    except socket.timeout:
         raise TooSlow("no reply") from None
     except OSError:
         pass
