@@ -126,6 +126,7 @@ def place_in(data, draw, size=1):
 
 
 def flip_bits(data, draw, count):
+    """So many bits anywhere."""
     for _ in range(count):
         data[place_in(data, draw)] ^= 1 << draw.randrange(8)
 
@@ -149,38 +150,45 @@ def flip_value(data, draw):
 
 
 def draw_bytes(data, draw, count):
+    """So many bytes that are drawn."""
     at = place_in(data, draw)
     piece = draw.randbytes(count)[:len(data) - at]
     data[at:at + len(piece)] = piece
 
 
 def fill(data, draw, size, value):
+    """A piece with one value in each byte."""
     at = place_in(data, draw, size)
     length = len(data[at:at + size])
     data[at:at + length] = bytes([value]) * length
 
 
 def double(data, draw, size):
+    """A piece has what another one has."""
     one, two = place_in(data, draw, size), place_in(data, draw, size)
     piece = data[one:one + size]
     data[two:two + len(piece)] = piece
 
 
 def swap(data, draw, size):
+    """Two pieces have what the other one had."""
     one, two = place_in(data, draw, size), place_in(data, draw, size)
     first, second = data[one:one + size], data[two:two + size]
     data[one:one + len(second)], data[two:two + len(first)] = second, first
 
 
 def cut(data, draw):
+    """The end is missing, or all."""
     del data[draw.choice((0, draw.randrange(len(data)), place_in(data, draw, SECTOR), place_in(data, draw, PAGE))):]
 
 
 def lengthen(data, draw):
+    """There is more at the end."""
     data.extend(draw.choice((bytes, draw.randbytes))(draw.choice((1, SECTOR, PAGE))))
 
 
 def from_older(data, older, draw, size):
+    """A piece has what it has in another copy."""
     at = place_in(older, draw, size)
     piece = older[at:at + size]
     data[at:at + len(piece)] = piece

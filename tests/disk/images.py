@@ -97,8 +97,6 @@ def content_name(part, way):
     count = {"all": len(part.steps()), "none": 0, "front": way[-1]}.get(way[0])
     if count is None:
         return len(part.stretches), len(part.steps()), way
-    if count == 0:
-        return sum(map(len, part.stretches[:-1]))
     return sum(map(len, part.stretches[:-1])) + count
 
 

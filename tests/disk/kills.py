@@ -113,6 +113,7 @@ class Peer(threading.Thread):
         return Asked("wrap", text, mark=f"secret/data/{path}".encode())
 
     def post(self, path, body, token=None):
+        """The bytes of a request of the root token, or of another one."""
         return request_text("POST", path, token or self.root, None, json.dumps(body)).encode()
 
     def keep(self, asked, body):
@@ -133,6 +134,7 @@ class Peer(threading.Thread):
         self.tokens.clear()
 
     def run(self):
+        """Asks, and keeps what is answered."""
         connection = None
         while not self.load.is_over:
             self.pending = self.pending or self.drawn()
@@ -204,8 +206,8 @@ class Killed:
         self.settle(rows, reply.moment)
         expected = self.server.feed(1, look, reply.moment, reply.words())
         expect(data == expected, f"the reply is {data[-200:]!r} in place of {expected[-200:]!r}")
-        other = differing(rows, self.server.broker, reply.moment, look)
-        expect(self.server.rows() == rows, f"another broker is found{other}")
+        if self.server.rows() != rows:
+            raise Wrong(differing(rows, self.server.broker, reply.moment, look))
 
     def settle(self, rows, last):
         """The reference broker takes those of the requests in progress that were taken. Raises Wrong."""

@@ -1,4 +1,4 @@
-"""What the parts share: a run from nothing, the look at what it has left, and many of them side by side."""
+"""What the parts share: a run, the look at what it has left, and many of them side by side."""
 
 import concurrent.futures
 import multiprocessing
@@ -14,7 +14,7 @@ from hostile import build, environment
 from program import Running, Wrong, expect
 from rows import whole_rows_in
 
-MOMENT = 1_790_000_000  # of all requests of a run from nothing: the clock stands still, so that the calls are the same
+MOMENT = 1_790_000_000  # of all requests of a run: the clock stands still, so that the calls are the same each time
 NOBODY = "hvs.00000000-0000-0000-0000-000000000000"
 FAULT_OF_STORAGE = 2
 
@@ -79,16 +79,16 @@ def check_found(trial, file, story, moment=MOMENT + 1):
     expect(Reply(data).status == 200, f"the root token is answered {Reply(data).status}")
     before = story.brokers[-1] if story.brokers else first
     found = found_broker(rows, before, story.asked, moment, look)
-    other = differing(rows, before, moment, look)
-    expect(found is not None, f"after {len(story.replies)} replies another broker is found{other}")
+    if found is None:
+        raise Wrong(f"after {len(story.replies)} replies {differing(rows, before, moment, look)}")
     return rows_of(found, TODAY) != rows_of(before, TODAY)
 
 
 def differing(rows, broker, moment, look):
-    """The first rows in which a broker differs, in words."""
+    """That other rows than those of a broker are found, and the first of them, in words."""
     known = looked(broker, moment, look)
     places = sorted(key for key in {*rows, *known} if rows.get(key) != known.get(key))
-    return f", with {len(places)} other rows: {places[:3]}"
+    return f"another broker is found, with {len(places)} other rows: {places[:3]}"
 
 
 # ---------------------------------------------------------------------------------------- side by side
