@@ -57,15 +57,17 @@ WITHIN = {"cas": "options", "version": "options"}  # members that are members of
 
 
 class Changer:
-    """Draws changes. `members` has the members that each route reads, by the name of the route."""
+    """Draws changes. `members` has the members that each route reads, by the name of the route, and `changes` how often
+    each change is drawn."""
 
-    def __init__(self, draw, members, others):
+    def __init__(self, draw, members, others, changes=None):
         self.draw = draw
         self.members = members
         self.others = others  # answers another request
         self.route = ""  # of the request that is changed, if it is known
-        self.choices = list(CHANGES)
-        self.weights = [CHANGES[change] for change in self.choices]
+        changes = changes or CHANGES
+        self.choices = list(changes)
+        self.weights = list(changes.values())
 
     def pick(self, choices):
         """One of the choices."""
@@ -95,6 +97,7 @@ class Changer:
 # ------------------------------------------------------------------------------------------- bytes
 
 def a_bit(it, request):
+    """A bit is the other one."""
     place = it.place(request)
     return request[:place] + bytes([request[place] ^ 1 << it.draw.randrange(8)]) + request[place + 1:] if request else None
 
