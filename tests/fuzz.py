@@ -3,8 +3,8 @@
 
     python3 tests/fuzz.py [--events N] [--minutes M] [--seed S] [--keep FOLDER] [COMMAND..]
 
-Each COMMAND is called with the lines of a replay on its standard input; without one, `bin/brokerd replay` and
-`tests/trial_stores list` are tried. Real requests are changed (bits, bytes, slices of others, numbers at limits, line ends,
+Each COMMAND is called with the lines of a replay on its standard input; without one, `brokerd replay` and
+`trial_stores list` are tried, which are built if need be. Real requests are changed (bits, bytes, slices of others, numbers at limits, line ends,
 fields, targets, members and levels of bodies, what is UTF-8 and what is not), cut anywhere, and sent on several connections.
 The same seed makes the same runs. With `--minutes` there is one round of N events after another, each with a seed of
 its own, until the time is over.
@@ -29,7 +29,7 @@ from fuzzing.events import Share, bytes_of
 from fuzzing.promised import STATUSES, Promised
 from fuzzing.shrinking import answers_of_reference, shorter
 
-COMMANDS = ("bin/brokerd replay", "tests/trial_stores list")
+PROGRAMS = ("brokerd replay", "trial_stores list")
 EVENTS = 10_000
 LENGTH = 250  # events of a run
 SHARES = 4
@@ -96,6 +96,14 @@ def shown(command, name, run, keep, is_short):
     return f"run {name}, {' '.join(command)}: {told(command, lines)}; the replay is {file}\n{excerpt}"
 
 
+def built(program, *words):
+    """The command of a program of the repository, which is built if need be."""
+    if subprocess.run([TOP / "bin/run-program", "--build", program]).returncode != 0:
+        print(f"{program} cannot be built\n0 passed, 1 failed")
+        sys.exit(1)
+    return [str(TOP / f"crates/{program}/out/{program}"), *words]
+
+
 def try_share(seed, number, events, commands, keep):
     """Makes the runs of a share, and compares the programs on each."""
     share, found = Share(seed, number, SHARES), Found()
@@ -137,11 +145,9 @@ def main():
     parser.add_argument("--minutes", type=float, default=0.0)
     parser.add_argument("--seed", default="1")
     parser.add_argument("--keep", type=Path, default=TOP / "out/fuzz")
-    parser.add_argument("commands", nargs="*", default=COMMANDS, metavar="COMMAND")
+    parser.add_argument("commands", nargs="*", metavar="COMMAND")
     arguments = parser.parse_args()
-    commands = [shlex.split(command) for command in arguments.commands]
-    for command in commands:  # the first use builds a program
-        subprocess.run(command, stdin=subprocess.DEVNULL, stdout=subprocess.DEVNULL, stderr=subprocess.DEVNULL, cwd=TOP)
+    commands = [shlex.split(command) for command in arguments.commands] or [built(*it.split()) for it in PROGRAMS]
     until = time.monotonic() + 60 * arguments.minutes
     passed, missing, found, rounds = 0, [], Found(), 0
     with concurrent.futures.ProcessPoolExecutor(min(SHARES, os.cpu_count())) as pool:
