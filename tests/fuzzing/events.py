@@ -14,6 +14,7 @@ from collections import Counter
 
 from broker.answers import Refusal
 from broker.connections import Server
+from broker.http import VERBS
 from broker.lines import read_event, read_start
 from broker.parts import TODAY
 from broker.routes import find_route
@@ -77,24 +78,24 @@ def rows_of_refusals():
 
 
 class Recorder(Server):
-    """A reference broker that tells what the last event asked."""
+    """A reference broker that tells which verb and which route the last event asked for."""
 
     def __init__(self, moment, words):
         super().__init__(moment, words)
         self.asked = None
 
     def step(self, moment, words, ask):
-        self.asked = (ask, self.route_of(ask))
+        self.asked = (ask.verb, self.route_of(ask.verb, ask.path))
         return super().step(moment, words, ask)
 
-    def route_of(self, ask):
-        """The name of the route that an ask has, as docs/API.md writes it; empty without one."""
+    def route_of(self, verb, path):
+        """The name of the route that a verb and a path have, as docs/API.md writes it; empty without one."""
         try:
-            route, _, _ = find_route(self.broker, ask.verb, ask.path, self.parts)
+            route, _, _ = find_route(self.broker, verb, path, self.parts)
         except Refusal:
             return ""
         mount = {"kv": "secret", "issued": "MOUNT"}.get(route.mount_type, route.mount_type)
-        return route_name(ask.verb, f"{mount}/{route.pattern}".rstrip("/"))
+        return route_name(verb, f"{mount}/{route.pattern}".rstrip("/"))
 
 
 def text_of_refusal(body):
@@ -131,7 +132,7 @@ class Corpus:
         status = int(reply[9:12])
         head, _, body = reply.partition(b"\r\n\r\n")
         text = text_of_refusal(body)
-        ask, route = asked or (None, "")
+        verb, route = asked or (None, "")
         self.statuses[status] += 1
         if status in (200, 204) and route:
             self.served_at[route] = request
@@ -141,7 +142,7 @@ class Corpus:
         if isinstance(text, str):
             self.texts.add(text)
             self.refusals.add((route, text))
-        kind = (status, text, b"\r\nConnection: close" in head, ask and ask.verb, route, min(events, 3))
+        kind = (status, text, b"\r\nConnection: close" in head, verb, route, min(events, 3))
         if kind not in self.kinds and len(request) < 20_000:
             self.kinds.add(kind)
             if len(self.requests) >= KEPT:
@@ -174,9 +175,8 @@ class Row:
         """The connection, the piece and the words of its next event."""
         conn, piece, moment, words = self.events.pop(0)
         run.moment = min(max(run.moment, self.begun + moment - self.start), GREATEST_MOMENT)
-        own = run.new_words()
-        first = words[0]
-        new = [(own[0] + word - first) % 2**128 for word in words]
+        first = run.new_words()[0] if self.is_changed else run.fresh_words()[0]
+        new = [(first + word - words[0]) % 2**128 for word in words]
         self.names.update(zip(map(identifier, words), map(identifier, new)))
         piece = IDENTIFIER.sub(lambda found: self.names.get(found.group().decode(), found.group().decode()).encode(), piece)
         if conn not in self.connections or self.connections[conn] in run.server.closed and not run.chance(8):
@@ -230,7 +230,7 @@ class Run:
 
     def new_words(self):
         """The words of the next request; seldom they have some of an earlier one among them."""
-        self.word += WORDS_OF_A_REQUEST
+        fresh = self.fresh_words()
         if self.chance(50):
             return self.used_words()
         if self.chance(50):
@@ -238,6 +238,11 @@ class Run:
             return words_from((earlier + self.draw.randrange(-6, 7)) % 2**128)
         if self.chance(100):
             return [self.word] * 8
+        return fresh
+
+    def fresh_words(self):
+        """Words that no request had."""
+        self.word += WORDS_OF_A_REQUEST
         return words_from(self.word)
 
     def used_words(self):
@@ -309,17 +314,11 @@ class Run:
 
     def route_of(self, request):
         """The route that a request is for, as far as its first line tells."""
-        parts = request[:600].split(b" ", 2)
-        if len(parts) < 3 or not parts[1].startswith(b"/v1/"):
+        method, _, rest = request[:600].partition(b" ")
+        target = rest.partition(b" ")[0]
+        if not target.startswith(b"/v1/") or method not in VERBS:
             return ""
-        path = parts[1][4:].partition(b"?")[0].decode("utf-8", "replace")
-        verb = {"POST": "WRITE", "PUT": "WRITE"}.get(parts[0].decode("latin-1"), parts[0].decode("latin-1"))
-
-        class Ask:
-            """What `route_of` of a server looks at."""
-        ask = Ask()
-        ask.verb, ask.path = verb, path
-        return self.server.route_of(ask)
+        return self.server.route_of(VERBS[method], target[4:].partition(b"?")[0].decode("utf-8", "replace"))
 
     def at_home(self, request):
         """A request of another run, with tokens, accessors, leases and credentials of this one in place of its own."""
