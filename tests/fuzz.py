@@ -3,15 +3,16 @@
 
     python3 tests/fuzz.py [--events N] [--minutes M] [--seed S] [--keep FOLDER] [COMMAND..]
 
-Each COMMAND is called with the lines of a replay on its standard input; without one, `brokerd replay` and
-`trial_stores list` are tried, which are built if need be. Real requests are changed (bits, bytes, slices of others, numbers at limits, line ends,
-fields, targets, members and levels of bodies, what is UTF-8 and what is not), cut anywhere, and sent on several connections.
-The same seed makes the same runs. With `--minutes` there is one round of N events after another, each with a seed of
-its own, until the time is over.
+Each COMMAND is called with the lines of a replay on its standard input; without one, `brokerd replay` and `trial_stores
+list` are tried, which are built if need be. Real requests are changed (bits, bytes, slices of others, numbers at
+limits, line ends, fields, targets, members and levels of bodies, what is UTF-8 and what is not), cut anywhere, and sent
+on several connections. The same seed makes the same runs. With `--minutes` there is one round of N events after
+another, each with a seed of its own, until the time is over.
 
-In the N events of the first round each status and each text of a refusal in docs/API.md has to be met, the latter at each
-route that names it; that is only asked of 10,000 events and more. A run on which a program differs is made short, printed,
-and written to the folder, which is out/fuzz if not given. The last line is `N passed, M failed`; the status is 0 if nothing failed.
+In the N events of the first round each status and each text of a refusal in docs/API.md has to be met, the latter at
+each route that names it; that is only asked of 10,000 events and more. A run on which a program differs is made short,
+printed, and written to the folder, which is out/fuzz if not given. The last line is `N passed, M failed`; the status is
+0 if nothing failed.
 """
 
 import argparse
@@ -164,9 +165,9 @@ def main():
     for line in missing:
         print(line)
     statuses = ", ".join(f"{status} {count}" for status, count in sorted(found.statuses.items()))
-    print(f"{found.events} events in {found.runs} runs, seed {arguments.seed}: {sum(found.statuses.values())} replies of "
-          f"{len(found.kinds)} kinds ({statuses}); of {found.changed} changed requests {found.asking} were asked of the "
-          f"broker, and {found.served} were served; {len(found.differences)} differences")
+    print(f"{found.events} events in {found.runs} runs, seed {arguments.seed}: {sum(found.statuses.values())} replies "
+          f"of {len(found.kinds)} kinds ({statuses}); of {found.changed} changed requests {found.asking} were asked of "
+          f"the broker, and {found.served} were served; {len(found.differences)} differences")
     passed += len(commands) * found.runs - len(found.differences)
     failed = len(found.differences) + len(missing)
     print(f"{passed} passed, {failed} failed")

@@ -3,13 +3,14 @@
 
     python3 tests/fuzz_client.py [--replies N] [--minutes M] [--seed S] [PROGRAM]
 
-PROGRAM is the built client; without it `bin/client` builds the one of the repository. Real replies are changed: bits, bytes,
-slices, line ends, status lines, fields, lengths of heads and bodies, and the place where they end. They come in pieces. What
-is right is judged by `Rule`, which was written from that page and from the grammar of `httparse` (RFC 9112, sections 4 and 5),
-apart from the client. Each reason for a bad reply has to be met, and each way to be read. As a control, the rule with one
-limit or one choice turned has to disagree with the client on some reply.
+PROGRAM is the built client; without it `bin/client` builds the one of the repository. Real replies are changed: bits,
+bytes, slices, line ends, status lines, fields, lengths of heads and bodies, and the place where they end. They come in
+pieces. What is right is judged by `Rule`, which was written from that page and from the grammar of `httparse` (RFC
+9112, sections 4 and 5), apart from the client. Each reason for a bad reply has to be met, and each way to be read. As a
+control, the rule with one limit or one choice turned has to disagree with the client on some reply.
 
-The last line is `N passed, M failed`; the status is 0 if nothing failed. A reply on which the client differs is printed.
+The last line is `N passed, M failed`; the status is 0 if nothing failed. A reply on which the client differs is
+printed.
 """
 
 import argparse
@@ -80,7 +81,8 @@ class Rule:
         fields = [line.partition(b":") for line in found.group(2).splitlines()]
         if len(fields) > self.most_fields:
             raise Bad("too many fields")
-        length = self.length([value.strip(b" \t") for name, _, value in fields if name.strip().lower() == b"content-length"])
+        lengths = [value.strip(b" \t") for name, _, value in fields if name.strip().lower() == b"content-length"]
+        length = self.length(lengths)
         body = data[found.end():found.end() + length]
         if len(body) < length:
             raise Bad("the body does not end")
@@ -138,15 +140,18 @@ TURNED = {
 # ------------------------------------------------------------------------------------ changed replies
 
 STATUS_LINES = (b"HTTP/1.1 200 OK", b"HTTP/1.1 204 No Content", b"HTTP/1.0 200 OK", b"HTTP/1.1 200", b"HTTP/1.1 200 ",
-                b"HTTP/1.1 404 Not Found", b"HTTP/1.1 100 Continue", b"HTTP/1.1 999 ?", b"HTTP/1.1 000 -", b"HTTP/1.1 99 ?",
-                b"HTTP/1.1 2000 OK", b"HTTP/1.1  200 OK", b"HTTP/1.2 200 OK", b"HTTP/2 200", b"HTTP/1.1 20x OK",
-                b"http/1.1 200 OK", b"HTTP/1.1 200 \xc3\xa9\xff", b"HTTP/1.1 200 \x00", b"HTTP/1.1\t200 OK", b"HTTP/1.1 204\tOK",
-                b"HTTP/1.1 200 OK\r", b" HTTP/1.1 200 OK", b"HTTP/1.1 +20 OK", b"ICY 200 OK", b"HTTP/1.1 500 \t ")
-LENGTHS = (b"0", b"1", b"", b"+5", b"-1", b"5, 5", b"0x5", b"5 5", b"00000000000000000000000000000000000000005", b"16777215",
-           b"16777216", b"16777217", b"18446744073709551616", b"99999999999999999999999999", b"\t5 ", b"5\xa0", b"\xd9\xa5", b"5.0")
+                b"HTTP/1.1 404 Not Found", b"HTTP/1.1 100 Continue", b"HTTP/1.1 999 ?", b"HTTP/1.1 000 -",
+                b"HTTP/1.1 99 ?", b"HTTP/1.1 2000 OK", b"HTTP/1.1  200 OK", b"HTTP/1.2 200 OK", b"HTTP/2 200",
+                b"HTTP/1.1 20x OK", b"http/1.1 200 OK", b"HTTP/1.1 200 \xc3\xa9\xff", b"HTTP/1.1 200 \x00",
+                b"HTTP/1.1\t200 OK", b"HTTP/1.1 204\tOK", b"HTTP/1.1 200 OK\r", b" HTTP/1.1 200 OK", b"HTTP/1.1 +20 OK",
+                b"ICY 200 OK", b"HTTP/1.1 500 \t ")
+LENGTHS = (b"0", b"1", b"", b"+5", b"-1", b"5, 5", b"0x5", b"5 5", b"00000000000000000000000000000000000000005",
+           b"16777215", b"16777216", b"16777217", b"18446744073709551616", b"99999999999999999999999999", b"\t5 ",
+           b"5\xa0", b"\xd9\xa5", b"5.0")
 FIELDS = (b"Content-Length: 0", b"Content-Length: 7", b"content-length: 1", b"CONTENT-LENGTH:2", b"Content-Length : 3",
-          b"Content-Length:", b"Transfer-Encoding: chunked", b"Connection: close", b" folded", b"\tfolded", b"bad", b": b",
-          b"A:", b"A: \x80\xff", b"A: \x00", b"A: \x7f", b"A\x80: b", b"A b: c", b"Content-Length\x00: 1", b"(: b", b"A: b\rc")
+          b"Content-Length:", b"Transfer-Encoding: chunked", b"Connection: close", b" folded", b"\tfolded", b"bad",
+          b": b", b"A:", b"A: \x80\xff", b"A: \x00", b"A: \x7f", b"A\x80: b", b"A b: c", b"Content-Length\x00: 1",
+          b"(: b", b"A: b\rc")
 
 
 def lines_of(data):
@@ -322,8 +327,9 @@ class Found:
         if answer == wanted:
             self.right += 1
         else:
-            self.wrong.append(f"{data[:600]!r} ({len(data)} bytes): {answer[0]}, {answer[1][:200]!r}, {answer[2][:200]!r} in "
-                              f"place of {wanted[0]}, {wanted[1][:200]!r}, {wanted[2]!r} ({why or 'it is a reply'})")
+            self.wrong.append(f"{data[:600]!r} ({len(data)} bytes): {answer[0]}, {answer[1][:200]!r}, "
+                              f"{answer[2][:200]!r} in place of {wanted[0]}, {wanted[1][:200]!r}, {wanted[2]!r} "
+                              f"({why or 'it is a reply'})")
         for name, rule in TURNED.items():
             self.turned[name] += rule.judge(data)[0] != answer
 
@@ -376,7 +382,8 @@ def main():
         passed, failed = passed + found.right + wanted - len(missing), failed + len(found.wrong) + len(missing)
         rounds += 1
         met = ", ".join(f"{what} {count}" for what, count in sorted(found.met.items()))
-        print(f"{found.met.total()} replies ({met}); of {found.changed} changed ones {found.read} were read", flush=True)
+        print(f"{sum(found.met.values())} replies ({met}); of {found.changed} changed ones {found.read} were read",
+              flush=True)
     print(f"{passed} passed, {failed} failed")
     return 1 if failed else 0
 

@@ -3,10 +3,10 @@
 
     python3 tests/fuzz_mutants.py [--events N] [--seed S] [NAME..]
 
-Each change is made in a copy of tests/reference. The copy is given the runs that `tests/fuzz.py` makes with the same seed and
-number of events, and has to differ from the unchanged reference on one of them; the unchanged copy must not. With names, only
-these changes are tried. For each change it prints in which run and after how many events the first difference was. The last
-line is `N passed, M failed`; the status is 0 if nothing failed.
+Each change is made in a copy of tests/reference. The copy is given the runs that `tests/fuzz.py` makes with the same
+seed and number of events, and has to differ from the unchanged reference on one of them; the unchanged copy must not.
+With names, only these changes are tried. For each change it prints in which run and after how many events the first
+difference was. The last line is `N passed, M failed`; the status is 0 if nothing failed.
 """
 
 import argparse
@@ -31,8 +31,8 @@ CHANGES = (
     ("a path of 513 bytes", "http.py", "LONGEST_PATH = 512", "LONGEST_PATH = 513"),
     ("two Hosts", "http.py", "if hosts > 1 or", "if hosts > 2 or"),
     ("no Host", "http.py", "(hosts == 0 and head.minor == 1)", "False"),
-    ("Host before Transfer-Encoding", "http.py", '    if head.values(b"transfer-encoding"):\n        return Refused(501)\n',
-     '    if head.values(b"transfer-encoding") and head.values(b"host"):\n        return Refused(501)\n'),
+    ("Host before Transfer-Encoding", "http.py", 'if head.values(b"transfer-encoding"):',
+     'if head.values(b"transfer-encoding") and head.values(b"host"):'),
     ("two lengths, the first counts", "http.py", "if len(lengths) > 1 or not", "if not"),
     ("a length with a sign", "http.py", 'rb"[0-9]+", lengths[0]', 'rb"[+]?[0-9]+", lengths[0]'),
     ("no line that ends in LF alone", "http.py", r'rb"((?:" + TOKEN + rb":[\t\x20-\x7e\x80-\xff]*\r?\n)*)\r?\n")',
@@ -44,7 +44,7 @@ CHANGES = (
     ("lower-case hexadecimal digits are no escape", "http.py", "%([0-9A-Fa-f]{2})", "%([0-9A-F]{2})"),
     ("`Bearer` as it is written alone", "http.py", "[Bb][Ee][Aa][Rr][Ee][Rr] +", "Bearer +"),
     ("the last version of a query", "http.py", "versions[0].decode", "versions[-1].decode"),
-    ("a wrap TTL that is no duration is none", "http.py", '        raise bad_request("invalid duration")', "        wrap_ttl = 0"),
+    ("a wrap TTL that is no duration is none", "http.py", 'raise bad_request("invalid duration")', "wrap_ttl = 0"),
     ("128 levels", "json_text.py", "DEEPEST = 127", "DEEPEST = 128"),
     ("-0 is 0", "json_text.py", "0 < value <= 2**63", "value <= 2**63"),
     ("half of a surrogate pair", "json_text.py", "if 0xDC00 <= unit <= 0xDFFF:", "if 0xDC00 <= unit <= 0xDBFF:"),
@@ -56,7 +56,7 @@ CHANGES = (
     ("names of 129 characters", "texts.py", "{1,128}", "{1,129}"),
     ("what is due now stays", "state.py", "end <= clock", "end < clock"),
     ("the clock goes back", "state.py", "clock = max(b.clock, moment)", "clock = moment"),
-    ("the last use ends no descendants", "state.py", "        return revoked(b, caller)\n", "        return orphaned(b, caller)\n"),
+    ("the last use ends no descendants", "state.py", "return revoked(b, caller)", "return orphaned(b, caller)"),
     ("eleven versions", "secrets.py", "KEPT_VERSIONS = 10", "KEPT_VERSIONS = 11"),
     ("undelete of a destroyed version", "secrets.py", "lambda v: v if v.destroyed else", "lambda v:"),
     ("`deny` does not win", "permissions.py", ' and "deny" not in granted', ""),
@@ -109,7 +109,8 @@ def main():
         runs = Path(name) / "runs"
         runs.mkdir()
         with concurrent.futures.ProcessPoolExecutor(min(SHARES, os.cpu_count())) as makers:
-            list(makers.map(write_runs, *zip(*[(runs, arguments.seed, number, arguments.events) for number in range(SHARES)])))
+            shares = [(runs, arguments.seed, number, arguments.events) for number in range(SHARES)]
+            list(makers.map(write_runs, *zip(*shares)))
         copies = [copy_with(name, change) for change in (None, *changes)]
         found = list(pool.map(first_difference, copies, [runs] * len(copies)))
     for (what, *_), run in zip((("nothing changed",), *changes), found):

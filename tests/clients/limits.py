@@ -253,21 +253,23 @@ def with_memory(program, megabytes, file):
             refused = write_until_refused(running, written)
         end = running.ended(10 if token is None else 0.2)
         if end is not None:
-            expect(end[0] == 1 and end[1] in (("fault 1", "fault 2") if token is None else ("fault 2",)), f"it ends with {end}")
+            faults = ("fault 1", "fault 2") if token is None else ("fault 2",)
+            expect(end[0] == 1 and end[1] in faults, f"it ends with {end}")
     with served(program, *unlimited("--db", file)) as running:
         running.token = running.token or token
         if running.token is None:  # the first start made the broker, and was refused memory to tell its token
             return end, 0, refused
         for number in written:
             status, found, _ = running.ask("GET", f"secret/data/k{number}")
-            expect(status == 200 and found["data"]["data"]["n"] == number, f"secret {number} was answered and is not there")
+            is_there = status == 200 and found["data"]["data"]["n"] == number
+            expect(is_there, f"secret {number} was answered and is not there")
         expect(running.whoami() == 200, "it does not serve without the limit")
     return end, len(written), refused
 
 
 @part
 def memory(program, folder):
-    """With little memory in all, writes of a megabyte are refused by the faults that are listed, and nothing is lost."""
+    """With little memory in all, writes of a megabyte end in the faults that are listed, and nothing is lost."""
     wrong, found = [], []
     for megabytes in MEMORY:
         try:
@@ -364,12 +366,14 @@ def randomness(program, folder):
         report = folder / "randomness-report"
         for rule in ("getentropy:1+:EIO", "getentropy:1+:ENOSYS", "getentropy:2+:EIO"):
             report.unlink(missing_ok=True)
-            with served(program, *unlimited(*arguments), variables=environment(library, rule, report=report)) as running:
+            variables = environment(library, rule, report=report)
+            with served(program, *unlimited(*arguments), variables=variables) as running:
                 calls = Report(report)
                 if rule.startswith("getentropy:1"):
                     found = running.ended(10)
                     if found != (1, "fault 5") or running.token is not None or calls.changed["getentropy"] != 1:
-                        wrong.append(f"{rule}, {place}: {found}, token {running.token}, {calls.changed['getentropy']} changed")
+                        changed = calls.changed["getentropy"]
+                        wrong.append(f"{rule}, {place}: {found}, token {running.token}, {changed} calls changed")
                 elif running.whoami() != 200 or calls.made["getentropy"] != 1:
                     wrong.append(f"{place}: it does not serve, or asks for randomness {calls.made['getentropy']} times")
     return wrong, 6

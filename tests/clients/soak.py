@@ -4,11 +4,11 @@
     python3 tests/clients/soak.py PROGRAM MINUTES [--connections N] [--period SECONDS] [--seed S]
 
 The requests are those of `tests/drawn_requests.py`, with tokens, accessors, leases, credentials and responses that this
-broker has told. Each connection also writes numbers to an object of its own, and reads each of them back. The program is
-stopped by SIGKILL after each period, 1,800 seconds if not given, and started again over the same file: each connection finds the last
-number that was answered. What is wrong: a reply that is none, a status that no drawn request has, another number, a
-program that ends, and a broker that does not know its root token. Memory and the size of the file are printed; both grow
-with what the broker keeps, which has every identifier that it issued.
+broker has told. Each connection also writes numbers to an object of its own, and reads each of them back. The program
+is stopped by SIGKILL after each period, 1,800 seconds if not given, and started again over the same file: each
+connection finds the last number that was answered. What is wrong: a reply that is none, a status that no drawn request
+has, another number, a program that ends, and a broker that does not know its root token. Memory and the size of the
+file are printed; both grow with what the broker keeps, which has every identifier that it issued.
 
 The last line is 'N passed, M failed'.
 """
@@ -41,7 +41,9 @@ class Known:
 
     def __init__(self, root):
         self.root = root
-        self.tokens, self.accessors, self.leases, self.credentials, self.responses = (deque(maxlen=RECENT) for _ in range(5))
+        self.tokens, self.accessors = deque(maxlen=RECENT), deque(maxlen=RECENT)
+        self.leases, self.credentials = deque(maxlen=RECENT), deque(maxlen=RECENT)
+        self.responses = deque(maxlen=RECENT)
 
     def learn(self, found):
         """Keeps what the object of a reply tells."""
@@ -246,8 +248,8 @@ def main():
     if statuses[200] + statuses[204] < sum(statuses.values()) // 2:
         found.append("few requests are served")
     told = ", ".join(f"{status} {count}" for status, count in sorted(statuses.items()))
-    print(f"{sum(statuses.values())} replies ({told}) on {arguments.connections} connections at once, in {starts} starts; "
-          f"{sum(peer.lost for peer in peers)} times a connection was closed before its reply")
+    print(f"{sum(statuses.values())} replies ({told}) on {arguments.connections} connections at once, in {starts} "
+          f"starts; {sum(peer.lost for peer in peers)} times a connection was closed before its reply")
     print(f"{len(peers) + starts - min(len(found), len(peers) + starts)} passed, {len(found)} failed")
     return 1 if found else 0
 

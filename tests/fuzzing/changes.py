@@ -13,8 +13,8 @@ from .messages import members_of, object_text, taken_apart
 # The numbers at which something is decided, one less and one more.
 LIMITS = sorted({
     max(0, number + step) for step in (-1, 0, 1) for number in (
-        1, 10, 64, 100, 127, 128, 512, 1_000, 16_384, 1_048_576, 2_764_800, 16_777_216, 2**31, 2**32, 2**53, 2**63, 2**64,
-        10**17, 10**18, 250_000_000_000)})
+        1, 10, 64, 100, 127, 128, 512, 1_000, 16_384, 1_048_576, 2_764_800, 16_777_216, 2**31, 2**32, 2**53, 2**63,
+        2**64, 10**17, 10**18, 250_000_000_000)})
 HEAD_LENGTHS = (16_383, 16_384, 16_385, 16_386)
 MOST_FIELDS = (62, 63, 64, 65, 66)
 PATH_LENGTHS = (510, 511, 512, 513)
@@ -22,36 +22,40 @@ NAME_LENGTHS = (127, 128, 129)
 LEVELS = (1, 2, 124, 125, 126, 127, 128)
 LONGEST_BODY = 1_048_576
 ODD_BYTES = b"\r\n\0 \t\x01\x1f\x7f\x80\xff%\"\\:,/?&=.{}[]+-0a;"
-BROKEN_UTF8 = (b"\xff", b"\x80", b"\xc0\x80", b"\xc3", b"\xe2\x82", b"\xed\xa0\x80", b"\xf0\x9f\x98", b"\xf4\x90\x80\x80",
-               b"\xf8\x88\x80\x80\x80", b"\xfe")
+BROKEN_UTF8 = (b"\xff", b"\x80", b"\xc0\x80", b"\xc3", b"\xe2\x82", b"\xed\xa0\x80", b"\xf0\x9f\x98",
+               b"\xf4\x90\x80\x80", b"\xf8\x88\x80\x80\x80", b"\xfe")
 GOOD_UTF8 = ("é".encode(), "€".encode(), "😀".encode(), "\u0080".encode(), "\ufeff".encode(), "\U0010ffff".encode())
 LINE_ENDS = (b"\n", b"\r", b"\r\r\n", b"\n\r", b"\r\n\n", b"\r\n ", b"\r\n\t", b"\n\n", b"", b" \r\n", b"\r\n\r\n")
-METHODS = (b"GET", b"LIST", b"POST", b"PUT", b"DELETE", b"PATCH", b"HEAD", b"OPTIONS", b"get", b"GE", b"GETS", b"G\xc3\xa9T")
+METHODS = (b"GET", b"LIST", b"POST", b"PUT", b"DELETE", b"PATCH", b"HEAD", b"OPTIONS", b"get", b"GE", b"GETS",
+           b"G\xc3\xa9T")
 VERSIONS = (b"HTTP/1.1", b"HTTP/1.0", b"HTTP/1.2", b"HTTP/2", b"HTTP/0.9", b"http/1.1", b"HTTP/1.1 ", b"")
 PERCENTS = (b"%", b"%2", b"%2F", b"%2f", b"%00", b"%7F", b"%zz", b"%25", b"%252F", b"%C3%A9", b"%c3", b"%FF", b"%2E%2e",
             b"%20", b"%3F", b"%0a", b"%1F", b"%E2%82%AC")
 SEGMENTS = (b"", b".", b"..", b"a", b"db", b"sys", b"auth", b"cubbyhole", b"secret", b"token", b"data", b"metadata",
             b"creds", b"roles", b"root", b"default", b"config", b"+", b"*", b"a b", b"a:b", b"identity")
-QUERIES = (b"?", b"?list=true", b"?list=True", b"?version=1", b"?version=0", b"?version=", b"?version=x", b"?a&list=true",
-           b"?version=1&version=2", b"?version=2&version=1", b"?version=999999999999999999", b"?version=1000000000000000000",
-           b"?version=01", b"?a?list=true", b"&list=true", b"?version=2&list=true", b"?list=true&version=x")
+QUERIES = (b"?", b"?list=true", b"?list=True", b"?version=1", b"?version=0", b"?version=", b"?version=x",
+           b"?a&list=true", b"?version=1&version=2", b"?version=2&version=1", b"?version=999999999999999999",
+           b"?version=1000000000000000000", b"?version=01", b"?a?list=true", b"&list=true", b"?version=2&list=true",
+           b"?list=true&version=x")
 FIELDS = (b"Host: c", b"Host:", b"Transfer-Encoding: chunked", b"Transfer-Encoding:", b"Connection: close",
           b"Connection: keep-alive, CLOSE", b"Connection: closed", b"connection:\tclose\t,x", b"Content-Length: 0",
           b"Content-Length: 5", b"Content-Length: 5, 5", b"Content-Length: +5", b"Content-Length:  0009 ",
           b"Content-Length: 1048576", b"Content-Length: 1048577", b"Content-Length: 00000000000000000000000001",
-          b"Content-Length: 18446744073709551616", b"X-Vault-Wrap-TTL: 60", b"X-Vault-Wrap-TTL: 1d", b"X-Vault-Wrap-TTL:",
-          b"X-Vault-Wrap-TTL: 1h30m", b"X-Vault-Wrap-TTL: 0", b"X-Vault-Wrap-TTL: 4294967295",
+          b"Content-Length: 18446744073709551616", b"X-Vault-Wrap-TTL: 60", b"X-Vault-Wrap-TTL: 1d",
+          b"X-Vault-Wrap-TTL:", b"X-Vault-Wrap-TTL: 1h30m", b"X-Vault-Wrap-TTL: 0", b"X-Vault-Wrap-TTL: 4294967295",
           b"X-Vault-Wrap-TTL: 4294967296", b"X-Vault-Wrap-TTL: 2764801", b"X-Vault-Wrap-TTL: 1193046h28m15s",
           b"X-Vault-Wrap-TTL: 1193046h28m16s", b"X-Vault-Token:", b"X-Vault-Token: \xff", b"X-Vault-Token: x",
           b"Authorization: Bearer", b"Authorization: Basic x", b"Authorization: \xff", b"Expect: 100-continue",
-          b"X-Vault-Namespace: n", b" folded", b"bad", b"A : b", b":", b"\x80: b", b"A: \x00", b"A: \x7f", b"A: \x80\xff")
+          b"X-Vault-Namespace: n", b" folded", b"bad", b"A : b", b":", b"\x80: b", b"A: \x00", b"A: \x7f",
+          b"A: \x80\xff")
 # JSON texts of values: of each type, right for some members and wrong for others.
 VALUES = ("null", "true", "false", '"true"', '"false"', '"True"', "0", "1", "2", "-1", "18446744073709551615",
           "18446744073709551616", "-9223372036854775808", "4294967295", "4294967296", '"4294967295"', '"4294967296"',
-          "2764800", "2764801", '"999999999999999999"', '"1000000000000000000"', '"01"', '"1h"', '"1h30m"', '"90"', '"1d"', '""',
-          '"0s"', '"5s"', "[]", "[1]", '["a"]', '["root"]', '["default","a b"]', '"a, b,,"', '" , "', "{}", '{"a":"b"}',
-          '{"a":1}', '{"cas":0}', '{"cas":"x"}', '{"cas":1}', '{"version":"2"}', '{"version":2}', '{"version":1}',
-          '{"version":-1}', '"issued"', '"kv"', '"kv-v2"', '"root"', '"x"', '"é"', '["1",2]', "[null]", "[[1]]")
+          "2764800", "2764801", '"999999999999999999"', '"1000000000000000000"', '"01"', '"1h"', '"1h30m"', '"90"',
+          '"1d"', '""', '"0s"', '"5s"', "[]", "[1]", '["a"]', '["root"]', '["default","a b"]', '"a, b,,"', '" , "',
+          "{}", '{"a":"b"}', '{"a":1}', '{"cas":0}', '{"cas":"x"}', '{"cas":1}', '{"version":"2"}', '{"version":2}',
+          '{"version":1}', '{"version":-1}', '"issued"', '"kv"', '"kv-v2"', '"root"', '"x"', '"é"', '["1",2]', "[null]",
+          "[[1]]")
 NO_VALUES = (*NO_WHOLE_NUMBERS, *NO_TEXTS)
 WITHIN = {"cas": "options", "version": "options"}  # members that are members of another one
 
@@ -98,8 +102,10 @@ class Changer:
 
 def a_bit(it, request):
     """A bit is the other one."""
+    if not request:
+        return None
     place = it.place(request)
-    return request[:place] + bytes([request[place] ^ 1 << it.draw.randrange(8)]) + request[place + 1:] if request else None
+    return request[:place] + bytes([request[place] ^ 1 << it.draw.randrange(8)]) + request[place + 1:]
 
 
 def a_byte(it, request):
@@ -270,8 +276,8 @@ def a_member(it, members):
         members.insert(it.draw.randrange(len(members) + 1), (name, it.value()))
 
 
-NAMES = ("data", "options", "cas", "version", "versions", "token", "accessor", "policies", "ttl", "policy", "type", "é", "",
-         "a b", "k")
+NAMES = ("data", "options", "cas", "version", "versions", "token", "accessor", "policies", "ttl", "policy", "type", "é",
+         "", "a b", "k")
 
 
 def with_member(it, request, name):
@@ -319,7 +325,8 @@ def another_body(it, message):
 def a_space(it, message):
     """White space in a body, or what is not white space."""
     place = it.place(message.body, 1)
-    message.body = message.body[:place] + it.pick((b" ", b"\n", b"\t", b"\r", b"\x0b", b"\xc2\xa0")) + message.body[place:]
+    space = it.pick((b" ", b"\n", b"\t", b"\r", b"\x0b", b"\xc2\xa0"))
+    message.body = message.body[:place] + space + message.body[place:]
     message.fit_length()
 
 
@@ -345,6 +352,6 @@ def longest_body(it, message):
 
 
 CHANGES = {
-    a_bit: 4, a_byte: 6, a_slice: 4, line_end: 4, utf8: 3, a_number: 8, first_line: 3, target: 8, path_length: 3, field: 10,
-    bearer: 2, many_fields: 1, head_length: 1, a_member: 30, deeper: 3, long_texts: 3, another_body: 3, a_space: 2,
-    a_body_length: 1, longest_body: 0.1}
+    a_bit: 4, a_byte: 6, a_slice: 4, line_end: 4, utf8: 3, a_number: 8, first_line: 3, target: 8, path_length: 3,
+    field: 10, bearer: 2, many_fields: 1, head_length: 1, a_member: 30, deeper: 3, long_texts: 3, another_body: 3,
+    a_space: 2, a_body_length: 1, longest_body: 0.1}

@@ -178,7 +178,7 @@ class Row:
         first = run.new_words()[0] if self.is_changed else run.fresh_words()[0]
         new = [(first + word - words[0]) % 2**128 for word in words]
         self.names.update(zip(map(identifier, words), map(identifier, new)))
-        piece = IDENTIFIER.sub(lambda found: self.names.get(found.group().decode(), found.group().decode()).encode(), piece)
+        piece = IDENTIFIER.sub(lambda found: self.names.get(found[0].decode(), found[0].decode()).encode(), piece)
         if conn not in self.connections or self.connections[conn] in run.server.closed and not run.chance(8):
             self.connections[conn] = run.new_connection()
         if self.is_twin and run.chance(2):
@@ -293,7 +293,8 @@ class Run:
     def sought(self, words):
         """A request, and its words, for which a route may give a refusal that was not met yet, or was."""
         corpus = self.corpus
-        known = [found for found in sorted(self.promised.refusals) if found[0] in corpus.served_at and is_simple(found[1])]
+        known = [found for found in sorted(self.promised.refusals)
+                 if found[0] in corpus.served_at and is_simple(found[1])]
         missing = [found for found in known if found not in corpus.refusals]
         if not known:
             return self.at_home(corpus.any(self.draw)), words
@@ -432,7 +433,7 @@ class Share:
         rows = read_rows()
         random.Random(f"{seed} rows").shuffle(rows)
         self.rows = rows[number::of]
-        singles = [piece for events in rows for _, piece, *_ in events[1:] if piece.endswith(b"}") or b"\r\n\r\n" in piece]
+        singles = [piece for events in rows for _, piece, *_ in events[1:] if b"\r\n\r\n" in piece]
         self.corpus = Corpus(singles[number::of])
         self.seed, self.number = seed, number
 
