@@ -202,6 +202,7 @@ class Run:
         self.events, self.replies = [], []
         self.word = 0
         self.opened = 0
+        self.most_underway = 3
         self.idle, self.underway, self.row = [], [], None
 
     def chance(self, one_in):
@@ -216,7 +217,7 @@ class Run:
         while len(self.events) < events:
             if self.server.root_token not in self.server.broker.tokens:
                 events = min(events, len(self.events) + AFTER_ROOT)
-            if len(self.underway) < 3 and (not self.underway or self.chance(2)):
+            if len(self.underway) < self.most_underway and (not self.underway or self.chance(2)):
                 self.underway.append(self.next_delivery())
             delivery = self.draw.choice(self.underway)
             self.deliver(delivery)
