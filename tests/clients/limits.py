@@ -13,7 +13,6 @@ import re
 import resource
 import subprocess
 import sys
-import tempfile
 import threading
 import time
 from contextlib import contextmanager
@@ -22,16 +21,17 @@ from pathlib import Path
 sys.path[:0] = [str(Path(__file__).resolve().parent), str(Path(__file__).resolve().parent.parent / "hostile")]
 
 from broker import connect, free_port, reply, request
-from hostile import Report, aim, build, environment
+from hostile import Report, aim, build, environment, scratch
 
 PARTS = {}
 ENDLESS = 2**62  # a call that no program makes
 DATE = re.compile(rb"\r\nDate: ([^\r]*)\r\n")
 DESCRIPTORS = (*range(3, 13), 32)
+WAYS = ("not loaded", "fault 2", "fault 5", "waits", "serves")  # what may come of few, of more and of more
 AT_ONCE = 40  # connections at once where there are 32 descriptors
 MEGABYTE = 1 << 20
-MEMORY = (16, 24, 32, 40, 48, 64, 96)  # megabytes that a program may have in all
-WRITES = 24  # secrets of a megabyte
+MEMORY = (12, 16, 20, 24, 28, 32, 36, 64)  # megabytes that a program may have in all
+WRITES = 12  # secrets of a megabyte
 ONE_BY_ONE, TOGETHER = 5_000, 500
 GREATEST_MOMENT = 250_000_000_000
 MOST_GROWTH = 200  # kilobytes, for 5,000 connections that are over
@@ -54,14 +54,15 @@ def expect(condition, what):
 
 
 class Served:
-    """A program that serves on a free port. Nobody has connected to it. `limits` are set in the program alone."""
+    """A program that serves on a free port. Nobody has connected to it. `limits` are set in the program alone: the soft
+    ones, so that they can be raised again."""
 
     def __init__(self, program, *arguments, limits=(), variables=None):
         self.port = free_port()
 
         def set_limits():
             for which, value in limits:
-                resource.setrlimit(which, (value, value))
+                resource.setrlimit(which, (value, resource.getrlimit(which)[1]))
         self.process = subprocess.Popen(
             [program, "serve", "--listen", f"127.0.0.1:{self.port}", *arguments], env=variables, preexec_fn=set_limits,
             stdin=subprocess.DEVNULL, stdout=subprocess.PIPE, stderr=subprocess.PIPE)
@@ -126,11 +127,12 @@ class Served:
 
 
 @contextmanager
-def served(program, *arguments, **named):
-    """A program that serves, and ends with the block."""
+def served(program, *arguments, is_new=True, **named):
+    """A program that serves, and ends with the block. A new broker tells its token."""
     running = Served(program, *arguments, **named)
     try:
-        running.read_token()
+        if is_new:
+            running.read_token()
         yield running
     finally:
         running.close()
@@ -144,12 +146,14 @@ def unlimited(*arguments):
 # --------------------------------------------------------------------------------------- descriptors
 
 def with_descriptors(program, number, arguments):
-    """What comes of so few descriptors: `fault 2`, `fault 5`, `waits` or `serves`."""
+    """What comes of so few descriptors: `not loaded`, `fault 2`, `fault 5`, `waits` or `serves`."""
     with served(program, *unlimited(*arguments), limits=[(resource.RLIMIT_NOFILE, number)]) as running:
         if running.token is None:
-            found = running.ended(10)
-            expect(found in ((1, "fault 2"), (1, "fault 5")), f"it ends with {found}")
-            return found[1]
+            status, said = running.ended(10) or (None, "")
+            if status == 127 and "shared libraries" in said:
+                return "not loaded"
+            expect((status, said) in ((1, "fault 2"), (1, "fault 5")), f"it ends with status {status}: {said}")
+            return said
         try:
             connection = connect(running.port, 1.0)
         except OSError:
@@ -168,7 +172,8 @@ def with_descriptors(program, number, arguments):
                 spent = running.seconds_of_processor() - before
                 expect(running.ended(0) is None, f"it ends with {running.ended(0)} while a client waits")
                 expect(spent < 0.5, f"it takes {spent} s of processor in a second in which it waits")
-                resource.prlimit(running.process.pid, resource.RLIMIT_NOFILE, (64, 64))
+                hard = resource.prlimit(running.process.pid, resource.RLIMIT_NOFILE)[1]
+                resource.prlimit(running.process.pid, resource.RLIMIT_NOFILE, (min(64, hard), hard))
                 connection.settimeout(5.0)
                 expect(reply(connection)[0] == 200, "a client that waited is not served once there are descriptors")
                 return "waits"
@@ -204,16 +209,17 @@ def descriptors(program, folder):
             tried += 1
             file = [str(folder / f"descriptors-{number}.db")] if arguments else []
             try:
-                found.setdefault(place, []).append(with_descriptors(program, number, (*arguments, *file)))
+                came = with_descriptors(program, number, (*arguments, *file))
+                found.setdefault(place, []).append((number, came))
             except (Wrong, OSError) as error:
                 wrong.append(f"{number} descriptors, {place}: {error}")
-    order = ["fault 2", "fault 5", "waits", "serves"]
     for place, came in found.items():
         tried += 2
-        print(f"descriptors, {place}: {', '.join(f'{number} {what}' for number, what in zip(DESCRIPTORS, came))}")
-        if came[-1:] != ["serves"] or not came[0].startswith("fault"):
-            wrong.append(f"{place}: with three descriptors it {came[0]}, and with 32 it {came[-1]}")
-        if sorted(came, key=order.index) != came:
+        print(f"descriptors, {place}: {', '.join(f'{number} {what}' for number, what in came)}")
+        ways = [what for _, what in came]
+        if came[-1:] != [(32, "serves")] or "waits" not in ways:
+            wrong.append(f"{place}: it never waits for a descriptor, or does not serve with 32")
+        if sorted(ways, key=WAYS.index) != ways:
             wrong.append(f"{place}: more descriptors do less")
     try:
         many_with_few_descriptors(program)
@@ -255,10 +261,10 @@ def with_memory(program, megabytes, file):
         if end is not None:
             faults = ("fault 1", "fault 2") if token is None else ("fault 2",)
             expect(end[0] == 1 and end[1] in faults, f"it ends with {end}")
-    with served(program, *unlimited("--db", file)) as running:
-        running.token = running.token or token
-        if running.token is None:  # the first start made the broker, and was refused memory to tell its token
-            return end, 0, refused
+    if token is None:  # nobody can ask the broker that the file may have
+        return end, 0, refused
+    with served(program, *unlimited("--db", file), is_new=False) as running:
+        running.token = token
         for number in written:
             status, found, _ = running.ask("GET", f"secret/data/k{number}")
             is_there = status == 200 and found["data"]["data"]["n"] == number
@@ -358,25 +364,44 @@ def clock(program, folder):
     return wrong, len(trials)
 
 
+def start_without_randomness(program, library, folder, rule, arguments):
+    """The fault of a start whose calls for randomness fail by the rule. The next start makes a broker as usual."""
+    report = folder / "randomness-report"
+    report.unlink(missing_ok=True)
+    with served(program, *unlimited(*arguments), variables=environment(library, rule, report=report)) as running:
+        found = running.ended(10)
+        expect(found is not None and found[0] == 1, f"{rule}: it ends with {found}")
+        expect(running.token is None, f"{rule}: a token is told")
+        expect(Report(report).changed["getentropy"] > 0, f"{rule}: no call was changed")
+    with served(program, *unlimited(*arguments)) as running:
+        expect(running.token is not None and running.whoami() == 200, f"{rule}: the next start makes no broker")
+    return found[1]
+
+
 @part
 def randomness(program, folder):
-    """Without randomness the program does not start; it asks for it once."""
-    library, wrong = build(folder), []
-    for place, arguments in (("in memory", ()), ("over a file", ("--db", str(folder / "randomness.db")))):
-        report = folder / "randomness-report"
-        for rule in ("getentropy:1+:EIO", "getentropy:1+:ENOSYS", "getentropy:2+:EIO"):
-            report.unlink(missing_ok=True)
-            variables = environment(library, rule, report=report)
-            with served(program, *unlimited(*arguments), variables=variables) as running:
-                calls = Report(report)
-                if rule.startswith("getentropy:1"):
-                    found = running.ended(10)
-                    if found != (1, "fault 5") or running.token is not None or calls.changed["getentropy"] != 1:
-                        changed = calls.changed["getentropy"]
-                        wrong.append(f"{rule}, {place}: {found}, token {running.token}, {changed} calls changed")
-                elif running.whoami() != 200 or calls.made["getentropy"] != 1:
-                    wrong.append(f"{place}: it does not serve, or asks for randomness {calls.made['getentropy']} times")
-    return wrong, 6
+    """Without randomness the program does not start. In memory it asks for it once; the database asks for some too."""
+    library, report, wrong, tried = build(folder), folder / "randomness-report", [], 0
+    for place, wanted in (("in memory", {"fault 5"}), ("over a file", {"fault 2", "fault 5"})):
+        def arguments(name):
+            return ("--db", str(folder / f"{name}.db")) if place == "over a file" else ()
+        variables = environment(library, "getentropy:0:EIO", report=report)
+        with served(program, *unlimited(*arguments("usual")), variables=variables) as running:
+            expect(running.whoami() == 200, f"{place}: it does not serve")
+            calls = Report(report).made["getentropy"]
+        faults = set()
+        for number in range(1, calls + 1):
+            for rule in (f"getentropy:{number}:EIO", f"getentropy:{number}+:ENOSYS"):
+                tried += 1
+                try:
+                    faults.add(start_without_randomness(program, library, folder, rule, arguments(f"{tried}")))
+                except (Wrong, OSError) as error:
+                    wrong.append(f"{place}: {error}")
+        tried += 1
+        print(f"randomness, {place}: {calls} calls; {', '.join(sorted(faults))}")
+        if faults != wanted:
+            wrong.append(f"{place}: the faults are {faults}")
+    return wrong, tried
 
 
 # --------------------------------------------------------------------------------------- connections
@@ -448,10 +473,13 @@ def connections(program, folder):
 def main():
     program, names = sys.argv[1], sys.argv[2:] or list(PARTS)
     passed = failed = 0
-    with tempfile.TemporaryDirectory() as name:
+    with scratch() as name:
         for part_name in names:
             begin = time.monotonic()
-            wrong, tried = PARTS[part_name](program, Path(name))
+            try:
+                wrong, tried = PARTS[part_name](program, Path(name))
+            except (Wrong, OSError) as error:
+                wrong, tried = [str(error)], 1
             print("".join(f"limits, {part_name}: {line}\n" for line in wrong), end="")
             print(f"{part_name}: {tried - len(wrong)} of {tried} in {time.monotonic() - begin:.1f} s", flush=True)
             passed, failed = passed + tried - len(wrong), failed + len(wrong)
