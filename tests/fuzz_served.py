@@ -15,6 +15,7 @@ The last line is `N passed, M failed`; the status is 0 if nothing failed. A repl
 
 import argparse
 import os
+import re
 import socket
 import subprocess
 import sys
@@ -37,7 +38,8 @@ PATIENCE = 20.0  # seconds for a reply
 IDLE = 0.2  # seconds after which the program may have closed a connection between two requests
 SILENCE = 4.0  # seconds after which the program may close a connection in the midst of a request
 LEAST_OPEN = 3  # connections at once in the middle of a run
-ACCESSORS = b"/v1/auth/token/accessors"
+ACCESSORS = re.compile(rb'"keys":\["' + IDENTIFIER.pattern + rb'"[^]]*')  # a list whose order is that of the identifiers
+NOBODY = b"00000000-0000-0000-0000-000000000000"
 
 
 class Wrong(Exception):
@@ -132,8 +134,7 @@ class ServedRun(Run):
         self.program = program
         self.at_once = at_once
         self.names = {}  # identifiers of the reference broker, and what the program has in their place
-        self.real = []  # the pieces of the delivery that is under way, as the program gets them
-        self.now = None
+        self.now = None  # the delivery whose piece is sent
         self.replied = self.most_open = 0
         self.learn(self.server.root_token.encode(), program.token.encode())
 
@@ -164,24 +165,29 @@ class ServedRun(Run):
     def deliver(self, delivery):
         """Sends the next piece of a delivery. All pieces are translated before the first is sent."""
         if delivery.events == 0:
-            places = [0]
-            for piece, _ in delivery.pieces:
-                places.append(places[-1] + len(piece))
-            whole = self.translated(b"".join(piece for piece, _ in delivery.pieces))
-            delivery.real = [whole[begin:end] for begin, end in zip(places, places[1:])]
+            self.translate(delivery)
         self.now = delivery
         super().deliver(delivery)
 
-    def translated(self, data):
-        """Bytes with the program's identifiers in place of those of the reference broker."""
-        return IDENTIFIER.sub(lambda found: self.names.get(found.group(), found.group()), data)
+    def translate(self, delivery):
+        """The program gets its own identifiers. One that no reply has told is nobody's, for the reference broker too."""
+        places = [0]
+        for piece, _ in delivery.pieces:
+            places.append(places[-1] + len(piece))
+        whole = b"".join(piece for piece, _ in delivery.pieces)
+        whole = IDENTIFIER.sub(lambda found: found[0] if found[0] in self.names else NOBODY, whole)
+        real = IDENTIFIER.sub(lambda found: self.names.get(found[0], NOBODY), whole)
+        parts = list(zip(places, places[1:]))
+        delivery.pieces = [(whole[begin:end], words) for (begin, end), (_, words) in zip(parts, delivery.pieces)]
+        delivery.real = [real[begin:end] for begin, end in parts]
 
     def learn(self, wanted, found):
         """Takes the program's identifiers for those in the same places. False if what is around them differs."""
+        wanted, found = (ACCESSORS.sub(lambda some: IDENTIFIER.sub(NOBODY, some[0]), it) for it in (wanted, found))
         if IDENTIFIER.split(wanted) != IDENTIFIER.split(found):
             return False
         for ours, theirs in zip(IDENTIFIER.findall(wanted), IDENTIFIER.findall(found)):
-            if self.names.setdefault(ours, theirs) != theirs:
+            if NOBODY not in (ours, theirs) and self.names.setdefault(ours, theirs) != theirs:
                 return False
         return True
 
@@ -190,7 +196,6 @@ class ServedRun(Run):
         was_closed = conn in self.server.closed
         was_idle = not self.server.unanswered.get(conn)
         real = self.now.real.pop(0) if self.now.real else b""
-        sorted_keys = ACCESSORS in piece or ACCESSORS in self.server.unanswered.get(conn, b"")
         first = reply = super().send(conn, piece, CLOCK, words)
         wanted = b""
         while reply:
@@ -201,8 +206,7 @@ class ServedRun(Run):
         self.most_open = max(self.most_open, len(self.program.streams))
         self.replied += bool(wanted)
         found = self.program.exchange(conn, real, len(wanted), was_idle)
-        is_equal = len(found) == len(wanted) and found[:12] == wanted[:12] if sorted_keys else self.learn(wanted, found)
-        if not is_equal:
+        if not self.learn(wanted, found):
             raise Wrong(f"event {len(self.events)}, {real[:600]!r}: {found[:600]!r} in place of {wanted[:600]!r}")
         if conn in self.server.closed:
             if not self.program.ends(conn):
