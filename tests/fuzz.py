@@ -31,8 +31,9 @@ from fuzzing.promised import STATUSES, Promised
 from fuzzing.shrinking import answers_of_reference, shorter
 
 PROGRAMS = ("brokerd replay", "trial_stores list")
-EVENTS = 10_000
-LENGTH = 250  # events of a run
+EVENTS = 20_000
+ENOUGH = 10_000  # events that have to meet all that is listed
+LENGTH = 130  # events of a run
 SHARES = 4
 SECONDS = 60  # for one run of a program
 MOST_SHOWN = 3  # differences of a share that are made short
@@ -157,7 +158,7 @@ def main():
             made = try_round(seed, arguments.events, commands, arguments.keep.resolve(), pool)
             for difference in made.differences:
                 print(difference, flush=True)
-            if rounds == 0 and arguments.events >= EVENTS:
+            if rounds == 0 and arguments.events >= ENOUGH:
                 missing, wanted = judge(made)
                 passed += wanted - len(missing)
             found.add(made)

@@ -56,7 +56,7 @@ CHANGES = (
     ("names of 129 characters", "texts.py", "{1,128}", "{1,129}"),
     ("what is due now stays", "state.py", "end <= clock", "end < clock"),
     ("the clock goes back", "state.py", "clock = max(b.clock, moment)", "clock = moment"),
-    ("the last use ends no descendants", "state.py", "return revoked(b, caller)", "return orphaned(b, caller)"),
+    ("a token stays after its last use", "state.py", "        return revoked(b, caller)", "        return b"),
     ("eleven versions", "secrets.py", "KEPT_VERSIONS = 10", "KEPT_VERSIONS = 11"),
     ("undelete of a destroyed version", "secrets.py", "lambda v: v if v.destroyed else", "lambda v:"),
     ("`deny` does not win", "permissions.py", ' and "deny" not in granted', ""),

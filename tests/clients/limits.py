@@ -66,7 +66,7 @@ class Served:
         self.process = subprocess.Popen(
             [program, "serve", "--listen", f"127.0.0.1:{self.port}", *arguments], env=variables, preexec_fn=set_limits,
             stdin=subprocess.DEVNULL, stdout=subprocess.PIPE, stderr=subprocess.PIPE)
-        self.token = None
+        self.token = self.said = None
 
     def read_token(self):
         """Reads the root token, which is told before the program listens. It stays as it was if the program ends."""
@@ -80,7 +80,9 @@ class Served:
             self.process.wait(seconds)
         except subprocess.TimeoutExpired:
             return None
-        return self.process.returncode, self.process.stderr.read().decode().strip()
+        if self.said is None:
+            self.said = self.process.stderr.read().decode().strip()
+        return self.process.returncode, self.said
 
     def connect(self, patience=5.0):
         """A connection. It raises Wrong if the program has ended."""

@@ -4,8 +4,11 @@ Each change takes a `Changer` and a request, and returns the changed one, or Non
 `CHANGES` has how often each is drawn.
 """
 
+import json
 import re
 
+from broker.permissions import CAPABILITIES
+from drawn_requests import PATTERNS
 from request_themes import NO_JSON, NO_OBJECTS, NO_TEXTS, NO_WHOLE_NUMBERS
 
 from .messages import members_of, object_text, taken_apart
@@ -57,6 +60,7 @@ VALUES = ("null", "true", "false", '"true"', '"false"', '"True"', "0", "1", "2",
           '{"version":1}', '{"version":-1}', '"issued"', '"kv"', '"kv-v2"', '"root"', '"x"', '"é"', '["1",2]', "[null]",
           "[[1]]")
 NO_VALUES = (*NO_WHOLE_NUMBERS, *NO_TEXTS)
+POLICY = "WRITE sys/policies/acl/NAME"
 WITHIN = {"cas": "options", "version": "options"}  # members that are members of another one
 
 
@@ -83,7 +87,7 @@ class Changer:
 
     def value(self):
         """The JSON text of a value; seldom a text that is no JSON."""
-        return self.pick(NO_VALUES if self.chance(12) else VALUES)
+        return self.pick(NO_VALUES if self.chance(6) else VALUES)
 
     def place(self, data, beyond=0):
         """A place in the data, and with `beyond` also the one behind its end."""
@@ -92,6 +96,8 @@ class Changer:
     def changed(self, request, route=""):
         """The request with one to three changes; as it was where none applies."""
         self.route = route
+        if route == POLICY and self.chance(2):
+            return a_policy(self, request) or request
         for _ in range(self.pick((1, 1, 1, 1, 2, 3))):
             change = self.draw.choices(self.choices, self.weights)[0]
             request = change(self, request) or request
@@ -339,6 +345,15 @@ def a_body_length(it, message):
     length = max(0, len(message.body) + it.pick((-2, -1, 1, 2)))
     message.fields[places[0]] = b"Content-Length: %d" % length
     return True
+
+
+@on_message
+def a_policy(it, message):
+    """Other rules of a policy: some capabilities for some patterns, `deny` among them or not."""
+    rules = {it.pick(PATTERNS): {"capabilities": [one for one in CAPABILITIES if it.chance(2)]}
+             for _ in range(it.draw.randrange(1, 4))}
+    message.body = json.dumps({"policy": json.dumps({"path": rules})}).encode()
+    message.fit_length()
 
 
 @on_message

@@ -28,6 +28,7 @@ from .promised import Promised, route_name
 WORDS_OF_A_REQUEST = 0x10
 GREATEST_CONNECTION = 2**64 - 1
 MOMENTS = (1_700_000_000, 1_700_000_000, 1_700_000_000, 1_000, 0, GREATEST_MOMENT - 5_000)
+LONGEST_LEAP = 10_000  # seconds to the next moment at which something is due
 MOST_REQUESTS_OF_A_ROW = 70
 KEPT = 400  # requests of a corpus
 NEW = 60  # of these, those that joined last are taken as often as all others
@@ -46,6 +47,7 @@ def words_from(first):
     return [(first + n) % 2**128 for n in range(8)]
 
 
+@functools.lru_cache(maxsize=1)
 def read_rows():
     """The rows of tests/rows that are good lines to their end and not too long: each a list of events."""
     found = []
@@ -158,6 +160,7 @@ class Delivery:
         self.pieces = pieces
         self.request = request
         self.is_changed = is_changed
+        self.is_exact = False  # whether it comes at the moment of the run, and no later
         self.events = 0
 
 
@@ -165,7 +168,7 @@ class Row:
     """A row on its way: its events that are left, and what its identifiers and connections are in the run."""
 
     def __init__(self, events, run, is_changed, is_twin=False):
-        self.whole, self.events = events, events[1:]
+        self.events = events[1:]
         self.is_changed, self.is_twin = is_changed, is_twin
         self.start, self.begun = events[0][2], run.moment
         self.connections = {}
@@ -192,7 +195,8 @@ class Run:
     def __init__(self, seed, corpus, rows, promised):
         self.draw = random.Random(seed)
         self.corpus = corpus
-        self.rows = rows
+        self.rows = rows  # those with which this run and later ones begin
+        self.all_rows = read_rows()
         self.promised = promised
         self.start = self.draw.choice(MOMENTS)
         self.moment = self.start
@@ -210,10 +214,14 @@ class Run:
         return self.draw.randrange(one_in) == 0
 
     def make(self, events):
-        """Makes so many events, or a few more than until the root token is revoked."""
+        """Makes so many events, or a few more than until the root token is revoked. It begins with a row as it is."""
+        self.row = Row(self.rows.pop(), self, False) if self.rows else None
+        while self.row is not None:
+            self.deliver_whole(self.delivery_of_row())
         for path, body in FIRST:
             self.drawer.word = self.word + WORDS_OF_A_REQUEST
-            self.deliver(Delivery(1, [(self.drawer.first_request(path, body).encode(), self.new_words())], b"", False))
+            first = self.drawer.first_request(path, body).encode()
+            self.deliver_whole(Delivery(self.free_connection(), [(first, self.fresh_words())], first, False))
         while len(self.events) < events:
             if self.server.root_token not in self.server.broker.tokens:
                 events = min(events, len(self.events) + AFTER_ROOT)
@@ -223,9 +231,12 @@ class Run:
             self.deliver(delivery)
             if not delivery.pieces:
                 self.underway.remove(delivery)
-        if self.row is not None:
-            self.rows.insert(0, self.row.whole)
         return self
+
+    def deliver_whole(self, delivery):
+        """Sends all pieces of a delivery, one after another."""
+        while delivery.pieces:
+            self.deliver(delivery)
 
     # What is delivered.
 
@@ -257,7 +268,7 @@ class Run:
 
     def next_delivery(self):
         """A request from one of the sources, changed or not, in pieces."""
-        if self.row is None and self.chance(12):
+        if self.row is None and self.chance(8):
             self.row = self.next_row()
         if self.row is not None and not self.is_row_underway() and self.chance(2):
             return self.delivery_of_row()
@@ -280,12 +291,12 @@ class Run:
         rows = rows_of_refusals()
         missing = [found for found in sorted(self.promised.refusals - self.corpus.refusals)
                    if found in rows or (TWINS.get(found[0]), found[1]) in rows]
-        if missing and (not self.rows or self.chance(2)):
+        if missing and self.chance(2):
             route, text = self.draw.choice(missing)
             if (route, text) in rows:
                 return Row(self.draw.choice(rows[route, text]), self, False)
             return Row(self.draw.choice(rows[TWINS[route], text]), self, False, is_twin=True)
-        return Row(self.rows.pop(), self, self.chance(2)) if self.rows else None
+        return Row(self.draw.choice(self.all_rows), self, True)
 
     def is_row_underway(self):
         """Whether an event of the row is on its way."""
@@ -310,9 +321,11 @@ class Run:
         conn, piece, words = self.row.next(self)
         changed = self.changer.changed(piece, self.route_of(piece)) if self.row.is_changed and self.chance(3) else piece
         pieces = self.cut(changed, words) if self.row.is_changed else [(changed, words)]
+        delivery = Delivery(conn, pieces, changed, changed != piece)
+        delivery.is_exact = not self.row.is_changed
         if not self.row.events:
             self.row = None
-        return Delivery(conn, pieces, changed, changed != piece)
+        return delivery
 
     def route_of(self, request):
         """The route that a request is for, as far as its first line tells."""
@@ -386,8 +399,7 @@ class Run:
         """Sends the next piece of a delivery."""
         piece, words = delivery.pieces.pop(0)
         delivery.events += 1
-        self.moment = min(self.moment + self.draw.choice((0, 0, 0, 0, 1, 1, 3, 30)), GREATEST_MOMENT)
-        moment = max(0, self.moment - (50 if self.chance(16) else 0))
+        moment = self.moment if delivery.is_exact else self.next_moment()
         reply = self.send(delivery.conn, piece, moment, words or words_from(self.word + 8))
         if reply:
             self.corpus.note(delivery.request, reply, self.server.asked, delivery.events, delivery.is_changed)
@@ -395,6 +407,22 @@ class Run:
             delivery.pieces.clear()
         elif reply and not delivery.pieces and self.server.unanswered[delivery.conn] and not self.chance(8):
             delivery.pieces.append((b"", self.new_words()))
+
+    def next_moment(self):
+        """A moment that is mostly a little later, or the next one at which something is due, or seldom an earlier one."""
+        self.moment += self.draw.choice((0, 0, 0, 0, 1, 1, 3, 30))
+        if self.chance(40):
+            self.moment = max(self.moment, self.next_end() + self.draw.randrange(-1, 2))
+        self.moment = min(self.moment, GREATEST_MOMENT)
+        return max(0, self.moment - (50 if self.chance(16) else 0))
+
+    def next_end(self):
+        """The next moment at which a token, a lease or a response ends; 0 without one."""
+        broker = self.server.broker
+        ends = [it.end for it in broker.tokens.values() if it.end is not None]
+        ends += [lease.end for it in broker.tokens.values() for lease in it.leases.values()]
+        ends += [it.end() for it in broker.waiting.values()]
+        return min((end for end in ends if self.moment < end < self.moment + LONGEST_LEAP), default=0)
 
     def send(self, conn, piece, moment, words):
         """One event, and the reply to it."""
@@ -431,7 +459,7 @@ class Share:
 
     def __init__(self, seed, number, of):
         self.promised = Promised()
-        rows = read_rows()
+        rows = list(read_rows())
         random.Random(f"{seed} rows").shuffle(rows)
         self.rows = rows[number::of]
         singles = [piece for events in rows for _, piece, *_ in events[1:] if b"\r\n\r\n" in piece]
