@@ -6,9 +6,9 @@
 The requests are those of `tests/fuzz.py` but for the rows, changed and cut in the same ways. Each event goes to the
 reference broker and on its connection to the program, which has to send the same bytes: the program's clock is made to
 stand still (tests/hostile), and the identifiers that the program draws are put in place of those of the reference. A
-reply is taken before the next event, so that both come to the same order. Then the connection closes where the reference
-closes it, and nowhere else, but for the limits of docs/SERVE.md. A program that serves one connection after another is
-sent one after another.
+reply is taken before the next event, so that both come to the same order. Then the connection closes where the
+reference closes it, and nowhere else, but for the limits of docs/SERVE.md. A program that serves one connection after
+another is sent one after another.
 
 The last line is `N passed, M failed`; the status is 0 if nothing failed. A reply that differs is printed.
 """
@@ -38,7 +38,8 @@ PATIENCE = 20.0  # seconds for a reply
 IDLE = 0.2  # seconds after which the program may have closed a connection between two requests
 SILENCE = 4.0  # seconds after which the program may close a connection in the midst of a request
 LEAST_OPEN = 3  # connections at once in the middle of a run
-ACCESSORS = re.compile(rb'"keys":\["' + IDENTIFIER.pattern + rb'"[^]]*')  # a list whose order is that of the identifiers
+# A list whose order is that of the identifiers.
+ACCESSORS = re.compile(rb'"keys":\["' + IDENTIFIER.pattern + rb'"[^]]*')
 NOBODY = b"00000000-0000-0000-0000-000000000000"
 
 
@@ -53,10 +54,10 @@ class Program:
         self.listener = socket.create_server(("127.0.0.1", 0))  # so that the port is free
         self.port = self.listener.getsockname()[1]
         self.listener.close()
-        more = ["--at-once", "64"] if at_once else []
+        command = [*words, "serve", "--listen", f"127.0.0.1:{self.port}", "--until-stopped"]
+        command += ["--at-once", "64"] if at_once else []
         variables = environment(library, f"clock_gettime:1+:set={CLOCK}")
-        self.process = subprocess.Popen([*words, "serve", "--listen", f"127.0.0.1:{self.port}", "--until-stopped", *more],
-                                        env=variables, stdout=subprocess.PIPE, stderr=subprocess.PIPE)
+        self.process = subprocess.Popen(command, env=variables, stdout=subprocess.PIPE, stderr=subprocess.PIPE)
         self.token = self.process.stdout.readline().decode().split()[-1]
         self.streams, self.used = {}, {}
 
@@ -170,7 +171,7 @@ class ServedRun(Run):
         super().deliver(delivery)
 
     def translate(self, delivery):
-        """The program gets its own identifiers. One that no reply has told is nobody's, for the reference broker too."""
+        """Gives the program its own identifiers. One that no reply has told is nobody's, for the reference too."""
         places = [0]
         for piece, _ in delivery.pieces:
             places.append(places[-1] + len(piece))
@@ -261,8 +262,8 @@ def main():
         wrong.append(f"at most {found['most open']} connections were open at once")
         print(wrong[-1])
     statuses = ", ".join(f"{status} {count}" for status, count in sorted(share.corpus.statuses.items()))
-    print(f"{found['events']} events in {runs} runs, seed {arguments.seed}: {found['replies']} replies ({statuses}), with "
-          f"{found['most open']} connections open at most{'' if at_once else ' (one after another)'}")
+    print(f"{found['events']} events in {runs} runs, seed {arguments.seed}: {found['replies']} replies ({statuses}), "
+          f"with {found['most open']} connections open at most{'' if at_once else ' (one after another)'}")
     print(f"{runs - min(runs, len(wrong))} passed, {len(wrong)} failed")
     return 1 if wrong else 0
 

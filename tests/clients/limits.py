@@ -475,6 +475,7 @@ def connections(program, folder):
 def main():
     program, names = sys.argv[1], sys.argv[2:] or list(PARTS)
     passed = failed = 0
+    found = []
     with scratch() as name:
         for part_name in names:
             begin = time.monotonic()
@@ -483,8 +484,9 @@ def main():
             except (Wrong, OSError) as error:
                 wrong, tried = [str(error)], 1
             print("".join(f"limits, {part_name}: {line}\n" for line in wrong), end="")
-            print(f"{part_name}: {tried - len(wrong)} of {tried} in {time.monotonic() - begin:.1f} s", flush=True)
+            found.append(f"{part_name} {tried - len(wrong)} of {tried} in {time.monotonic() - begin:.1f} s")
             passed, failed = passed + tried - len(wrong), failed + len(wrong)
+    print("; ".join(found))
     print(f"{passed} passed, {failed} failed")
     return 1 if failed else 0
 

@@ -409,7 +409,7 @@ class Run:
             delivery.pieces.append((b"", self.new_words()))
 
     def next_moment(self):
-        """A moment that is mostly a little later, or the next one at which something is due, or seldom an earlier one."""
+        """A moment that is a little later, or seldom the next one at which something is due, or an earlier one."""
         self.moment += self.draw.choice((0, 0, 0, 0, 1, 1, 3, 30))
         if self.chance(40):
             self.moment = max(self.moment, self.next_end() + self.draw.randrange(-1, 2))
