@@ -15,7 +15,7 @@ from collections import Counter
 from broker.answers import Refusal
 from broker.connections import Server
 from broker.http import VERBS
-from broker.lines import read_event, read_start
+from broker.lines import BadLine, read_event, read_start
 from broker.parts import TODAY
 from broker.routes import find_route
 from broker.texts import GREATEST_MOMENT, identifier
@@ -52,10 +52,10 @@ def read_rows():
     """The rows of tests/rows that are good lines to their end and not too long: each a list of events."""
     found = []
     for file in sorted((TESTS / "rows").glob("*.replay")):
-        lines = file.read_bytes().splitlines()
+        first, *lines = file.read_bytes().split(b"\n")
         try:
-            events = [(None, b"", *read_start(lines[0], TODAY)), *[read_event(line, TODAY) for line in lines[1:]]]
-        except Exception:  # a row of bad lines
+            events = [(None, b"", *read_start(first, TODAY)), *[read_event(line, TODAY) for line in lines if line]]
+        except BadLine:
             continue
         if len(events) <= MOST_REQUESTS_OF_A_ROW:
             found.append(events)
@@ -219,9 +219,10 @@ class Run:
         while self.row is not None:
             self.deliver_whole(self.delivery_of_row())
         for path, body in FIRST:
-            self.drawer.word = self.word + WORDS_OF_A_REQUEST
+            words = self.fresh_words()
+            self.drawer.word = words[0]
             first = self.drawer.first_request(path, body).encode()
-            self.deliver_whole(Delivery(self.free_connection(), [(first, self.fresh_words())], first, False))
+            self.deliver_whole(Delivery(self.free_connection(), [(first, words)], first, False))
         while len(self.events) < events:
             if self.server.root_token not in self.server.broker.tokens:
                 events = min(events, len(self.events) + AFTER_ROOT)
