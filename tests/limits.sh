@@ -1,0 +1,13 @@
+#!/bin/bash
+# What a broker does at the limits of the system: with few descriptors and little memory, with a clock that goes back or
+# far ahead, without randomness, with 5,000 connections one after another and 500 at once. It takes some 30 seconds.
+# BROKERD names another program. The last line is 'N passed, M failed'; the status is 0 if nothing failed.
+set -u
+cd "$(dirname "$0")/.."
+
+# The first use builds the program.
+if [ -z "${BROKERD:-}" ] && ! bin/brokerd --help > /dev/null; then
+    echo "0 passed, 1 failed"
+    exit 1
+fi
+exec python3 tests/clients/limits.py "${BROKERD:-crates/brokerd/out/brokerd}" "$@"
