@@ -23,6 +23,7 @@ from pathlib import Path
 
 from broker import Broker, connect, exchange, reply, request
 from cases import between, expect, tried
+from closed_connections import memory
 
 sys.path.insert(0, str(Path(__file__).resolve().parent.parent / "known_system"))
 from known import Known  # noqa: E402
@@ -177,6 +178,21 @@ def six_hundred_peers(program):
         seconds = burst(broker, peers)
         expect(broker.hold(peers) == 600 and seconds < 2, f"{broker.hold(peers)} are held; they took {seconds:.2f} s")
         return f"all were answered within {seconds * 1000:.0f} ms"
+
+
+@case
+def no_reply_is_kept(program):
+    """When fifty peers have read a long secret, and are idle, the program has no more memory than after the first."""
+    with Broker(program) as broker, contextlib.ExitStack() as stack:
+        write_long(broker)
+        text, kept = request("GET", "secret/data/long", broker.token), []
+        for _ in range(50):
+            status, body, _ = exchange(stack.enter_context(connect(broker.port)), text)
+            expect(status == 200 and len(body) > 900_000, f"status {status}, {len(body)} bytes")
+            kept.append(memory(broker.process)[0])
+        expect(len(broker.held()) == 50, "an idle peer was let go")
+        expect(kept[-1] - kept[0] < 4000, f"it had {kept[0]} kB after the first reply, and {kept[-1]} kB after 50")
+        return f"{kept[-1] - kept[0]} kB more after 50 replies of 900 kB than after one"
 
 
 @case
