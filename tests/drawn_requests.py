@@ -306,7 +306,11 @@ class Drawer:
 
     def request(self):
         """The text of a request."""
-        _, sender, method, path, members = self.pick(self.choices)
+        return self.request_of(self.pick(self.choices))
+
+    def request_of(self, choice):
+        """The text of a request that is one of `REQUESTS`."""
+        _, sender, method, path, members = choice
         token = self.named(sender)
         method = self.pick(("POST", "POST", "POST", "PUT")) if method == "W" else method
         path = self.expanded(path)

@@ -1,9 +1,9 @@
 #!/bin/bash
 # Starts `brokerd serve` and asks it as its users do: by curl, by `client` if it is there, by Python's hvac and by
 # Ansible if they are installed, and on one connection 10,000 times; then by wrong command lines, over a file that is
-# opened again, by peers that are idle or slow, and on 100,000 connections. It takes some 45 seconds, and 40 more with
-# Ansible. BROKERD and CLIENT name other programs. The last line is 'N passed, M failed'; the status is 0 if nothing
-# failed.
+# opened again, by many peers at once, some of which are idle or slow, by drawn requests on 64 connections, and on
+# 100,000 connections. It takes some 90 seconds, and more with Ansible. BROKERD and CLIENT name other programs. The last
+# line is 'N passed, M failed'; the status is 0 if nothing failed.
 set -u
 cd "$(dirname "$0")/.."
 
@@ -81,18 +81,36 @@ run() {
     fi
 }
 
-# Runs a command whose last line is 'N passed, M failed', and adds its counts. It may take `limit` seconds, or 120.
-count() {
+# Adds the counts of a command, whose output is in a file and ends with 'N passed, M failed': tally FILE COMMAND
+tally() {
     local line
-    timeout "${limit:-120}" "$@" > "$found/log" 2>&1
-    line=$(tail -n 1 "$found/log")
-    head -n -1 "$found/log"
+    line=$(tail -n 1 "$1")
+    head -n -1 "$1"
     if [[ $line =~ ^([0-9]+)\ passed,\ ([0-9]+)\ failed$ ]]; then
         passed=$((passed + BASH_REMATCH[1]))
         failed=$((failed + BASH_REMATCH[2]))
     else
-        fail "$*" "it ended with: $line"
+        fail "$2" "it ended with: $line"
     fi
+}
+
+# Runs a command, and adds its counts. It may take `limit` seconds, or 120.
+count() {
+    timeout "${limit:-120}" "$@" > "$found/log" 2>&1
+    tally "$found/log" "$*"
+}
+
+# Does so with several scripts of tests/clients, which run at the same time, since most of their time they wait. Each is
+# one word with its further arguments.
+count_together() {
+    local place words running=()
+    for place in $(seq $#); do
+        read -ra words <<< "${!place}"
+        timeout 120 python3 "tests/clients/${words[0]}" "$program" "${words[@]:1}" > "$found/log$place" 2>&1 &
+        running+=($!)
+    done
+    wait "${running[@]}"
+    for place in $(seq $#); do tally "$found/log$place" "${!place}"; done
 }
 
 # The wrapping token of the last reply.
@@ -279,7 +297,8 @@ ask_by_environment
 count python3 tests/clients/keep_alive.py "$port" "$token" 10000
 count "$(python_with_hvac)" tests/clients/hvac_calls.py "$port" "$token"
 count "$(python_with_hvac)" tests/clients/hvac_methods.py "$port" "$token"
-limit=600 count python3 tests/clients/ansible_calls.py "$port" "$token"
+count "$(python_with_hvac)" tests/clients/hvac_pool.py "$port" "$token"
+limit=600 count python3 tests/clients/ansible_calls.py "$port" "$token" 5
 run "an address that is taken" 1 'fault 5' serve --listen "127.0.0.1:$port"
 if kill -0 "$pid" 2> /dev/null && [ ! -s "$found/served.err" ]; then pass; else fail "the program" "it has ended"; fi
 stop
@@ -292,6 +311,8 @@ run "no connections" 2 '--connections <N>' serve --listen 127.0.0.1:0 --connecti
 run "too many connections" 2 '--connections <N>' serve --listen 127.0.0.1:0 --connections 4294967296
 run "both a number and no end" 2 'give one of them' serve --listen 127.0.0.1:0 --connections 1 --until-stopped
 run "no end with a value" 2 '--until-stopped' serve --listen 127.0.0.1:0 --until-stopped=yes
+run "no places" 2 '--at-once <M>' serve --listen 127.0.0.1:0 --at-once 0
+run "too many places" 2 '--at-once <M>' serve --listen 127.0.0.1:0 --at-once 10001
 run "another machine's address" 1 'fault 5' serve --listen 192.0.2.1:8200
 run "no address at all" 1 'fault 5' serve --listen nowhere
 output=/dev/full run "a token that cannot be printed" 1 'fault 6' serve --listen 127.0.0.1:0
@@ -312,6 +333,9 @@ if [ "$status" -eq 0 ] && [ ! -s "$found/served.err" ]; then pass; else fail "af
 serve_without_an_end
 keep_in_a_file
 count python3 tests/clients/databases.py "$program"
-count python3 tests/clients/slow_peers.py "$program"
+count_together many_peers.py slow_peers.py "slow_peers.py --alone" scarce_descriptors.py
+count python3 tests/clients/short_lives.py "$program" 4000
+count python3 tests/clients/fault_at_once.py "$program"
+count python3 tests/drawn_at_once.py "$program"
 limit=600 count python3 tests/clients/closed_connections.py "$program" 100000
 finish

@@ -1,11 +1,12 @@
 #!/usr/bin/env python3
 """Modules and lookups of Ansible's collection community.hashi_vault, against a running broker.
 
-    python3 tests/clients/ansible_calls.py PORT ROOT_TOKEN
+    python3 tests/clients/ansible_calls.py PORT ROOT_TOKEN [HOSTS]
 
 They are the tasks of one playbook, which `ansible-playbook` runs on this machine, as a user would: VAULT_ADDR and
-VAULT_TOKEN name the broker. It takes some 40 seconds. If Ansible, the collection or hvac is not installed, it says so,
-and nothing is tried. The last line is 'N passed, M failed'.
+VAULT_TOKEN name the broker. There are so many hosts, or one, which are all this machine, each with a folder of its own;
+each task runs on all of them at once. With one host it takes some 40 seconds. If Ansible, the collection or hvac is not
+installed, it says so, and nothing is tried. The last line is 'N passed, M failed'.
 """
 
 import json
@@ -17,7 +18,7 @@ import tempfile
 from pathlib import Path
 
 COLLECTION = "community.hashi_vault"
-FOLDER = f"ansible/{os.getpid()}"
+FOLDER = "{{ folder }}"  # of a host
 SECRET = f"{FOLDER}/app"
 POLICY = '{"path":{"secret/data/ansible/*":{"capabilities":["read"]}}}'
 TASKS = []
@@ -79,12 +80,12 @@ def a_version_is_read(result):
     return result["secret"] == {"user": "app"} and result["metadata"]["version"] == 1
 
 
-@task(lookup("vault_kv2_get", f"'{SECRET}', version=1"))
+@task(lookup("vault_kv2_get", "folder ~ '/app', version=1"))
 def a_version_is_looked_up(result):
     return result["msg"]["secret"] == {"user": "app"}
 
 
-@task(lookup("hashi_vault", f"'secret=secret/data/{SECRET}:user'"))
+@task(lookup("hashi_vault", "'secret=secret/data/' ~ folder ~ '/app:user'"))
 def a_member_of_a_secret_is_looked_up(result):
     return result["msg"] == "new"
 
@@ -283,17 +284,19 @@ def is_installed():
     return subprocess.run([*python, "-c", test], stderr=subprocess.DEVNULL, check=False).returncode == 0
 
 
-def ran(port, token):
+def ran(port, token, hosts):
     """What `ansible-playbook` says of each task."""
-    play = {"hosts": "localhost", "connection": "local", "gather_facts": False,
-            "vars": {"ansible_python_interpreter": "{{ ansible_playbook_python }}"},
+    play = {"hosts": "all", "connection": "local", "gather_facts": False,
+            "vars": {"ansible_python_interpreter": "{{ ansible_playbook_python }}",
+                     "folder": f"ansible/{os.getpid()}/{{{{ inventory_hostname }}}}"},
             "tasks": [words for words, _ in TASKS]}
     with tempfile.TemporaryDirectory() as folder:
         file = Path(folder) / "playbook.yml"
         file.write_text(json.dumps([play]), encoding="utf-8")
         settings = {"VAULT_ADDR": f"http://127.0.0.1:{port}", "VAULT_TOKEN": token, "HOME": folder,
                     "LC_ALL": "C.UTF-8", "ANSIBLE_STDOUT_CALLBACK": "ansible.posix.json"}
-        done = subprocess.run(["ansible-playbook", "-i", "localhost,", str(file)], env={**os.environ, **settings},
+        done = subprocess.run(["ansible-playbook", "-i", ",".join([*hosts, ""]), "--forks", str(len(hosts)), str(file)],
+                              env={**os.environ, **settings},
                               stdout=subprocess.PIPE, stderr=subprocess.PIPE, text=True, check=False)
     try:
         return json.loads(done.stdout)["plays"][0]["tasks"]
@@ -315,16 +318,17 @@ def main():
         print("Ansible with community.hashi_vault and hvac is not installed: its calls are skipped")
         print("0 passed, 0 failed")
         return 0
-    found = ran(sys.argv[1], sys.argv[2])
-    failed = len(TASKS) - len(found)
-    if failed:
-        print(f"ansible: {failed} tasks were not run")
-    for told, (words, is_right) in zip(found, TASKS):
-        mistake = mistake_of(told["hosts"]["localhost"], is_right)
-        failed += mistake is not None
-        if mistake:
-            print(f"ansible, {words['name']}: {mistake}")
-    print(f"{len(TASKS) - failed} passed, {failed} failed")
+    hosts = [f"host{number}" for number in range(int(sys.argv[3]) if len(sys.argv) > 3 else 1)]
+    found = ran(sys.argv[1], sys.argv[2], hosts)
+    failed, count = 0, len(TASKS) * len(hosts)
+    for place, (words, is_right) in enumerate(TASKS):
+        for host in hosts:
+            told = found[place]["hosts"].get(host) if place < len(found) else None
+            mistake = mistake_of(told, is_right) if told else "it was not run"
+            failed += mistake is not None
+            if mistake:
+                print(f"ansible, {words['name']}, {host}: {mistake}")
+    print(f"{count - failed} passed, {failed} failed")
     return 1 if failed else 0
 
 

@@ -1,11 +1,12 @@
 #!/usr/bin/env python3
-"""Peers that are idle or slow, against `brokerd serve`: each is let go in time, and the next one is served.
+"""Peers that are idle or slow, against `brokerd serve`: each is let go in time, and other clients are served.
 
-    python3 tests/clients/slow_peers.py PROGRAM
+    python3 tests/clients/slow_peers.py PROGRAM [--alone]
 
-Each peer has a broker of its own, and all run at once, so the whole takes some 25 seconds. What is measured is how
-long another client, which connects when the peer begins to be idle or slow, waits for its reply. The last line is
-'N passed, M failed'.
+Each peer has a broker of its own, and all run at once, so the whole takes some 22 seconds. Another client connects when
+the peer begins to be idle or slow. Without `--alone` it is answered at once, and what is measured is when the broker
+lets the peer go, if it does. With `--alone` the program has one place (`--at-once 1`), so the other client has to wait
+for the peer's, and what is measured is how long it waits. The last line is 'N passed, M failed'.
 """
 
 import socket
@@ -16,13 +17,15 @@ import time
 from broker import Broker, connect, reply, request
 
 LONGEST_BODY = 1048576
+LONGEST_WAIT = 0.25  # seconds for another client, beside the peer; a large reply may be made meanwhile
+WATCHED = 3  # seconds for which an idle peer is looked at, which has its place for longer
 PEERS = []
 
 
-def peer(least, most):
-    """A peer, which another client may have to wait for between so many seconds."""
+def peer(least, most, stays=False):
+    """A peer, which is let go between so many seconds. One that stays is so only where another client waits."""
     def add(function):
-        PEERS.append((function, least, most))
+        PEERS.append((function, least, most, stays))
         return function
     return add
 
@@ -39,15 +42,6 @@ def next_client(broker):
     return seconds
 
 
-def ask_once(broker):
-    """A connection that asked once and has its reply."""
-    connection = connect(broker.port)
-    connection.sendall(request("GET", "auth/token/lookup-self", broker.token))
-    status, _, rest = reply(connection)
-    expect((status, rest) == (200, b""), f"the first reply is {status}")
-    return connection
-
-
 def expect_end(connection):
     """The broker has closed the connection, without a further byte."""
     try:
@@ -56,128 +50,150 @@ def expect_end(connection):
         pass
 
 
-@peer(0.1, 2)
-def idle_between_requests(broker):
-    with ask_once(broker) as connection:
-        waited = next_client(broker)
-        expect_end(connection)
-        return waited
+def look_up(broker):
+    return request("GET", "auth/token/lookup-self", broker.token)
 
 
-@peer(3.5, 8)
-def idle_from_the_beginning(broker):
-    with connect(broker.port) as connection:
-        waited = next_client(broker)
-        expect_end(connection)
-        return waited
+def first_reply(connection, text):
+    """Sends the text, whose first request is answered 200, and nothing else is."""
+    connection.sendall(text)
+    status, _, rest = reply(connection)
+    expect((status, rest) == (200, b""), f"the first reply is {status}")
 
 
-@peer(3.5, 8)
-def half_a_request(broker):
-    with connect(broker.port) as connection:
-        connection.sendall(request("GET", "auth/token/lookup-self", broker.token)[:40])
-        waited = next_client(broker)
-        expect_end(connection)
-        return waited
+# Each peer does something on its connection, and answers whether it is over when it is let go, without a further byte.
+
+@peer(0.1, 2, stays=True)
+def idle_between_requests(broker, connection):
+    first_reply(connection, look_up(broker))
+    return True
 
 
-@peer(3.5, 8)
-def one_and_a_half_requests(broker):
+@peer(3.5, 12)
+def idle_from_the_beginning(_, __):
+    return True
+
+
+@peer(3.5, 12)
+def half_a_request(broker, connection):
+    connection.sendall(look_up(broker)[:40])
+    return True
+
+
+@peer(3.5, 12)
+def one_and_a_half_requests(broker, connection):
     """The half one, which came in one piece with a whole one, gets the longer limit."""
-    text = request("GET", "auth/token/lookup-self", broker.token)
-    with connect(broker.port) as connection:
-        connection.sendall(text + text[:40])
-        status, _, rest = reply(connection)
-        expect((status, rest) == (200, b""), f"the first reply is {status}")
-        waited = next_client(broker)
-        expect_end(connection)
-        return waited
+    text = look_up(broker)
+    first_reply(connection, text + text[:40])
+    return True
 
 
-@peer(0, 2)
-def the_other_half_comes(broker):
+@peer(0, 2, stays=True)
+def the_other_half_comes(broker, connection):
     """It is answered, though its client was idle for longer than between two requests."""
-    text = request("GET", "auth/token/lookup-self", broker.token)
-    with connect(broker.port) as connection:
-        connection.sendall(text + text[:40])
-        status, _, rest = reply(connection)
-        time.sleep(2)
-        connection.sendall(text[40:])
-        second, _, rest = reply(connection, rest)
-        expect((status, second) == (200, 200), f"the replies are {status} and {second}")
-        return next_client(broker)
+    text = look_up(broker)
+    first_reply(connection, text + text[:40])
+    time.sleep(2)
+    first_reply(connection, text[40:])
+    return True
 
 
-@peer(18, 24)
-def a_byte_a_second(broker):
-    with connect(broker.port) as connection:
-        stop = threading.Event()
+@peer(18, 40)
+def a_byte_a_second(broker, connection):
+    def send():
+        for byte in look_up(broker):
+            try:
+                connection.sendall(bytes([byte]))
+            except OSError:
+                return
+            time.sleep(1)
 
-        def send():
-            for byte in request("GET", "auth/token/lookup-self", broker.token):
-                try:
-                    connection.sendall(bytes([byte]))
-                except OSError:
-                    return
-                if stop.wait(1):
-                    return
-
-        sender = threading.Thread(target=send)
-        sender.start()
-        waited = next_client(broker)
-        stop.set()
-        sender.join()
-        return waited
+    threading.Thread(target=send, daemon=True).start()
+    return False
 
 
-@peer(3.5, 24)
-def takes_no_reply(broker):
+@peer(3.5, 40)
+def takes_no_reply(broker, connection):
     """It asks for more than the system keeps for it, and reads none of it. How often the system takes some more of the
     reply into its buffers before it takes nothing for five seconds is its own affair."""
-    body = '{"data":{"value":"' + "x" * 900000 + '"}}'
-    expect(broker.ask("POST", "secret/data/long", body)[0] == 200, "the long secret is not written")
-    connection = socket.socket()
-    with connection:
-        connection.setsockopt(socket.SOL_SOCKET, socket.SO_RCVBUF, 4096)
-        connection.connect(("127.0.0.1", broker.port))
-        connection.sendall(request("GET", "secret/data/long", broker.token) * 30)
-        return next_client(broker)
+    connection.sendall(request("GET", "secret/data/long", broker.token) * 30)
+    return False
 
 
-@peer(0, 2)
-def a_slow_line(broker):
+@peer(0, 2, stays=True)
+def a_slow_line(broker, connection):
     """The longest body at 80,000 bytes a second is taken."""
     value = "x" * (LONGEST_BODY - len('{"data":{"value":""}}'))
     text = request("POST", "secret/data/long", broker.token, '{"data":{"value":"' + value + '"}}')
-    with connect(broker.port) as connection:
+    begin = time.monotonic()
+    for place in range(0, len(text), 8000):
+        connection.sendall(text[place:place + 8000])
+        time.sleep(max(0.0, begin + (place + 8000) / 80000 - time.monotonic()))
+    first_reply(connection, b"")
+    return True
+
+
+def connected(broker, function):
+    """The connection of a peer. One that takes no reply has a small receive buffer, and a secret that is long."""
+    connection = socket.socket()
+    if function is takes_no_reply:
+        body = '{"data":{"value":"' + "x" * 900000 + '"}}'
+        expect(broker.ask("POST", "secret/data/long", body)[0] == 200, "the long secret is not written")
+        connection.setsockopt(socket.SOL_SOCKET, socket.SO_RCVBUF, 4096)
+    connection.connect(("127.0.0.1", broker.port))
+    return connection
+
+
+def alone(program, function, least, most):
+    """Another client waits for the place of the peer."""
+    with Broker(program, "--at-once", "1") as broker, connected(broker, function) as connection:
+        ends = function(broker, connection)
+        waited = next_client(broker)
+        expect(least <= waited <= most, f"the next client waited {waited:.2f} s, not {least} to {most} s")
+        if ends:
+            expect_end(connection)
+
+
+def beside(program, function, least, most, stays):
+    """Another client is answered beside the peer. It is asked again where a large reply was made for the peer."""
+    with Broker(program) as broker, connected(broker, function) as connection:
+        ends = function(broker, connection)
         begin = time.monotonic()
-        for place in range(0, len(text), 8000):
-            connection.sendall(text[place:place + 8000])
-            time.sleep(max(0.0, begin + (place + 8000) / 80000 - time.monotonic()))
-        status, _, _ = reply(connection)
-        expect(status == 200, f"the long body got {status}")
-        return next_client(broker)
+        waits = [next_client(broker)]
+        while waits[-1] > LONGEST_WAIT and len(waits) < 10:
+            waits.append(next_client(broker))
+        expect(waits[-1] <= LONGEST_WAIT, f"another client waited {waits}")
+        if stays:
+            expect(broker.lets_go(connection, WATCHED) is None, "it was let go, though there was room")
+            first_reply(connection, look_up(broker))
+            return
+        expect(broker.lets_go(connection, most) is not None, f"it was not let go within {most} s")
+        waited = time.monotonic() - begin
+        expect(least <= waited <= most, f"it was let go after {waited:.2f} s, not {least} to {most} s")
+        if ends:
+            expect_end(connection)
 
 
-def run(program, function, least, most, found):
+def run(program, is_alone, function, least, most, stays, found):
     try:
-        with Broker(program) as broker:
-            waited = function(broker)
-            expect(least <= waited <= most, f"the next client waited {waited:.2f} s, not {least} to {most} s")
-            found.append((function.__name__, None))
+        if is_alone:
+            alone(program, function, least, most)
+        else:
+            beside(program, function, least, most, stays)
+        found.append((function.__name__, None))
     except (AssertionError, OSError, SystemExit) as error:
         found.append((function.__name__, error))
 
 
 def main():
-    program, found = sys.argv[1], []
-    threads = [threading.Thread(target=run, args=(program, *peer, found)) for peer in PEERS]
+    program, is_alone, found = sys.argv[1], sys.argv[2:] == ["--alone"], []
+    threads = [threading.Thread(target=run, args=(program, is_alone, *peer, found)) for peer in PEERS]
     for thread in threads:
         thread.start()
     for thread in threads:
         thread.join()
     failed = [f"{name}: {error}" for name, error in sorted(found, key=lambda one: one[0]) if error is not None]
-    print("".join(f"{line}\n" for line in failed), end="")
+    print("".join(f"slow peers, {line}\n" for line in failed), end="")
     print(f"{len(PEERS) - len(failed)} passed, {len(failed)} failed")
     return 1 if failed else 0
 

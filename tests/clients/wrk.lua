@@ -3,21 +3,9 @@
 --     wrk -t1 -c1 -d600 -s wrk.lua http://127.0.0.1:PORT -- TOKEN SECRETS
 --
 -- The secrets `secret/data/wrk0`, .. have to be there with the value 0. Each reply has to be a 200, and each read the
--- value that was written last. The last line is what was found. Broken are connections; a pause is where more than a
--- quarter of a second has passed from one request to the next.
-
-local ffi = require("ffi")
-ffi.cdef("typedef struct { long seconds, nanoseconds; } moment; int clock_gettime(int clock, moment *now);")
+-- value that was written last. The last line is what was found. Broken are connections.
 
 local ROUND = 10  -- requests to a secret, of which one is a write
-local PAUSE = 0.25
-local MONOTONIC = 1
-local now = ffi.new("moment")
-
-local function seconds()
-   ffi.C.clock_gettime(MONOTONIC, now)
-   return tonumber(now.seconds) + tonumber(now.nanoseconds) / 1e9
-end
 
 function setup(thread)
    threads = threads or {}
@@ -27,16 +15,11 @@ end
 function init(words)
    fields = {["X-Vault-Token"] = words[1], ["Content-Type"] = "application/json"}
    secrets = tonumber(words[2])
-   number, reads, writes, wrong, pauses = 0, 0, 0, 0, 0
+   number, reads, writes, wrong = 0, 0, 0, 0
    values = {}
 end
 
 function request()
-   local at = seconds()
-   if last and at - last > PAUSE then
-      pauses = pauses + 1
-   end
-   last = at
    number = number + 1
    place = math.floor(number / ROUND) % secrets
    value = nil
@@ -65,6 +48,6 @@ end
 
 function done(summary)
    local errors, thread = summary.errors, threads[1]
-   print(string.format("%d reads, %d writes, %d wrong, %d broken, %d pauses", thread:get("reads"), thread:get("writes"),
-      thread:get("wrong"), errors.connect + errors.read + errors.write + errors.timeout, thread:get("pauses")))
+   print(string.format("%d reads, %d writes, %d wrong, %d broken", thread:get("reads"), thread:get("writes"),
+      thread:get("wrong"), errors.connect + errors.read + errors.write + errors.timeout))
 end

@@ -8,9 +8,8 @@ are kept before it begins, so the rows do not grow. The memory is looked at once
 the time may not be more than the most in the fifth tenth, but for a hundredth: over a file on disk it took the program
 330,000 requests until it had all that it keeps, and it took no more in the 490,000 after them.
 
-A broker closes a connection that is idle for a quarter of a second. So the connection may break once for each pause of
-wrk, which there can be where the machine has much other work. If wrk is not installed, it says so, and nothing is
-tried. The last line is 'N passed, M failed'.
+The connection may not break. If wrk is not installed, it says so, and nothing is tried. The last line is 'N passed, M
+failed'.
 """
 
 import re
@@ -73,14 +72,14 @@ def ask(broker, seconds):
 
 def mistakes_of(printed):
     """What is wrong with the replies that wrk told of."""
-    counts = re.search(r"(\d+) reads, (\d+) writes, (\d+) wrong, (\d+) broken, (\d+) pauses", printed)
+    counts = re.search(r"(\d+) reads, (\d+) writes, (\d+) wrong, (\d+) broken", printed)
     if not counts:
         return "wrk has told nothing"
-    reads, writes, wrong, broken, pauses = map(int, counts.groups())
+    reads, writes, wrong, broken = map(int, counts.groups())
     if not reads or not writes:
         return "nothing was read or written"
-    if broken > pauses:
-        return f"the connection broke {broken} times, with {pauses} pauses"
+    if broken:
+        return f"the connection broke {broken} times"
     return f"{wrong} replies are wrong" if wrong else None
 
 

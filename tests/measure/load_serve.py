@@ -30,7 +30,7 @@ from pathlib import Path
 import many_rows
 
 sys.path.insert(0, str(Path(__file__).resolve().parent.parent / "clients"))
-from broker import Broker, connect, reply, request  # noqa: E402
+from broker import Broker, connect, processor_seconds, reply, request  # noqa: E402
 from load import asked  # noqa: E402
 
 KINDS = ["read", "look_up", "write", "create", "wrap", "unwrap", "list"]
@@ -89,11 +89,6 @@ def replies_to(connection, kind, texts):
             raise SystemExit(f"{kind}: reply {place} has status {status}")
         replies.append(body)
     return replies
-
-
-def processor_seconds(process):
-    """The processor time that a process of one thread has taken."""
-    return int(Path(f"/proc/{process}/schedstat").read_text(encoding="ascii").split()[0]) / 1e9
 
 
 def text_in(body, name):

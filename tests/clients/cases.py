@@ -1,0 +1,47 @@
+"""Cases that measure how long a program takes. One that fails where other work kept the machine busy is tried again."""
+
+import threading
+import time
+
+DISTURBED = 0.05  # seconds for which a process does not run, though it could, while others do
+TIMES = 3
+
+
+class Watch(threading.Thread):
+    """Finds out for how long this process is kept from running at most."""
+
+    def __init__(self):
+        super().__init__(daemon=True)
+        self.longest = 0.0
+        self.is_over = False
+
+    def run(self):
+        while not self.is_over:
+            begin = time.monotonic()
+            time.sleep(0.005)
+            self.longest = max(self.longest, time.monotonic() - begin - 0.005)
+
+
+def expect(condition, what):
+    if not condition:
+        raise AssertionError(what)
+
+
+def between(least, seconds, most, what):
+    expect(seconds is not None and least <= seconds <= most, f"{what} after {seconds} s, not {least} to {most} s")
+
+
+def tried(function, *arguments):
+    """What a case has met, and what is wrong with it, if anything is."""
+    for _ in range(TIMES):
+        watch = Watch()
+        watch.start()
+        try:
+            return function(*arguments), None
+        except (AssertionError, OSError, SystemExit) as error:
+            wrong = f"{error} (it was kept from running for {watch.longest * 1000:.0f} ms at most)"
+        finally:
+            watch.is_over = True
+        if watch.longest < DISTURBED:
+            break
+    return None, wrong

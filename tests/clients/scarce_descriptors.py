@@ -1,0 +1,117 @@
+#!/usr/bin/env python3
+"""More peers than the program may have descriptors, against `brokerd serve`: all are answered in the end.
+
+    python3 tests/clients/scarce_descriptors.py PROGRAM
+
+A connection that cannot be accepted for want of a descriptor is not lost and not counted as one of `--connections N`;
+the peer that has been idle longest is let go for it; and while nobody is idle the program waits without work. Each case
+prints what it has met, and fails where that is too little. It takes some 15 seconds. The last line is 'N passed, M
+failed'.
+"""
+
+import contextlib
+import resource
+import selectors
+import sys
+import time
+
+from broker import Broker, connect, exchange, reply, request
+from cases import expect, tried
+
+DESCRIPTORS = 32
+PEERS = 60
+
+
+def few_descriptors():
+    """The process may have so many files open."""
+    resource.setrlimit(resource.RLIMIT_NOFILE, (DESCRIPTORS, DESCRIPTORS))
+
+
+def look_up(broker):
+    return request("GET", "auth/token/lookup-self", broker.token)
+
+
+def statuses_of(peers, patience):
+    """The status of the first reply to each peer, whichever comes first; 0 where none comes in time."""
+    statuses, until = dict.fromkeys(peers, 0), time.monotonic() + patience
+    with selectors.DefaultSelector() as waiting:
+        for peer in peers:
+            waiting.register(peer, selectors.EVENT_READ)
+        while waiting.get_map() and time.monotonic() < until:
+            for key, _ in waiting.select(0.1):
+                waiting.unregister(key.fileobj)
+                with contextlib.suppress(ConnectionResetError):
+                    statuses[key.fileobj] = reply(key.fileobj)[0]
+    return [statuses[peer] for peer in peers]
+
+
+def all_are_answered(program):
+    """More peers than places ask and stay. All are answered; N are counted; and the program ends after the last one."""
+    with contextlib.ExitStack() as stack:
+        broker = stack.enter_context(Broker(program, connections=1 + PEERS, preexec_fn=few_descriptors))
+        used, begin = broker.processor(), time.monotonic()
+        peers = [stack.enter_context(connect(broker.port)) for _ in range(PEERS)]
+        for peer in peers:
+            peer.sendall(look_up(broker))
+        statuses = statuses_of(peers, 20)
+        expect(statuses == [200] * PEERS, f"the replies to {PEERS} peers are {statuses}")
+        seconds, used = time.monotonic() - begin, broker.processor() - used
+        expect(seconds > 0.2, "nobody has waited for a descriptor")
+        expect(used < 0.5, f"{used:.2f} s of processor time in {seconds:.1f} s")
+        expect(broker.ended() == (0, ""), "after the last of them the program does not end with status 0")
+        return f"{PEERS} peers were answered in {seconds:.1f} s, with {used * 1000:.0f} ms of processor time"
+
+
+def nobody_is_idle(program):
+    """All places are taken by peers that have sent half a request. While others wait, the program has no work; then the
+    peers are let go, and the others are answered."""
+    with contextlib.ExitStack() as stack:
+        broker = stack.enter_context(Broker(program, preexec_fn=few_descriptors))
+        halves = [stack.enter_context(connect(broker.port)) for _ in range(DESCRIPTORS)]
+        for half in halves:
+            half.sendall(look_up(broker)[:40])
+        time.sleep(0.3)
+        places = broker.hold(halves)
+        expect(DESCRIPTORS // 2 <= places < DESCRIPTORS, f"{places} places, with {DESCRIPTORS} descriptors")
+        others = [stack.enter_context(connect(broker.port)) for _ in range(8)]
+        for other in others:
+            other.sendall(look_up(broker))
+        used = broker.processor()
+        time.sleep(2.5)
+        used = broker.processor() - used
+        expect(used < 0.15, f"{used:.2f} s of processor time in 2.5 s in which nobody could be taken in")
+        expect(broker.hold(others) == 0 and broker.hold(halves) == places, "another was taken in, or one was let go")
+        statuses = statuses_of(others, 12)
+        expect(statuses == [200] * len(others), f"the replies to those that waited are {statuses}")
+        return f"{places} places, {used * 1000:.0f} ms of processor time in 2.5 s, then {len(others)} were answered"
+
+
+def idle_ones_go_in_their_order(program):
+    """Where a descriptor is wanted, the peer that has been idle longest is let go, and those that ask stay."""
+    with contextlib.ExitStack() as stack:
+        broker = stack.enter_context(Broker(program, preexec_fn=few_descriptors))
+        peers = []
+        while len(peers) < DESCRIPTORS and (not peers or broker.holds(peers[-1])):
+            peers.append(stack.enter_context(connect(broker.port)))
+            peers[-1].sendall(look_up(broker))
+            statuses_of(peers[-1:], 1)
+        gone = sum(not broker.holds(peer) for peer in peers)
+        stayed = [broker.holds(peer) for peer in peers]
+        expect(gone >= 1 and stayed == [False] * gone + [True] * (len(peers) - gone), f"these are held: {stayed}")
+        last = stack.enter_context(connect(broker.port))
+        expect(exchange(last, look_up(broker))[0] == 200, "the last one is not answered")
+        return f"{len(peers) + 1} peers, {gone} of whom were let go"
+
+
+def main():
+    cases, failed = [all_are_answered, nobody_is_idle, idle_ones_go_in_their_order], 0
+    for case in cases:
+        met, wrong = tried(case, sys.argv[1])
+        failed += wrong is not None
+        print(f"scarce descriptors, {case.__name__}: {wrong or met}")
+    print(f"{len(cases) - failed} passed, {failed} failed")
+    return 1 if failed else 0
+
+
+if __name__ == "__main__":
+    sys.exit(main())
