@@ -312,6 +312,7 @@ if [ "$status" -eq 0 ] && [ ! -s "$found/served.err" ]; then pass; else fail "af
 serve_without_an_end
 keep_in_a_file
 count python3 tests/clients/databases.py "$program"
+count python3 tests/clients/damaged.py "$program"
 count python3 tests/clients/slow_peers.py "$program"
 limit=600 count python3 tests/clients/closed_connections.py "$program" 100000
 finish
