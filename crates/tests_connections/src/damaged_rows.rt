@@ -10,6 +10,7 @@ use broker_types::{Answer, Ask, Bytes, Fault, Moment, TextBuf, Words};
 use hub::Hub;
 use records::{Kind, ListRecords, RecordsTx, Row};
 use records_sql::SqlRecords;
+use sqlite::Alter;
 use std::alloc::Global;
 use std::test::Fail;
 use trial_rows::Rows;
@@ -104,19 +105,24 @@ fn is_told_over_list(alloc: Global, moment: Moment) -> Result<bool, Fault> {
     );
     let is_told = tells_damage(&mut hub, moment)?;
     let Planted { records, .. } = hub.into_store();
-    Ok(is_told && Rows::of(alloc, &mut records.begin()?)?.are(&before))
+    let mut tx = records.begin()?;
+    Ok(is_told && Rows::of(alloc, &mut tx)?.are(&before))
 }
 
-/// Whether the damage is told over a database in memory, and leaves the rows as they are.
-fn is_told_over_sql(alloc: Global, moment: Moment) -> Result<bool, Fault> {
-    let mut records = SqlRecords::in_memory(alloc)?;
+/// Whether the damage is told over a database without rows, and leaves the rows as they are.
+fn is_told_over_sql<S: Alter + Drop>(
+    alloc: Global,
+    mut records: SqlRecords<S>,
+    moment: Moment,
+) -> Result<bool, Fault> {
     let mut tx = records.begin()?;
     let before = plant(alloc, &mut tx, moment)?;
     tx.commit()?;
     let mut hub = Hub::new(alloc, SqlStore::adopt(alloc, records)?);
     let is_told = tells_damage(&mut hub, moment)?;
     let mut records = hub.into_store().into_records();
-    Ok(is_told && Rows::of(alloc, &mut records.begin()?)?.are(&before))
+    let mut tx = records.begin()?;
+    Ok(is_told && Rows::of(alloc, &mut tx)?.are(&before))
 }
 
 #[test]
@@ -127,6 +133,7 @@ fn damage_is_told_over_the_list(rt: HostRuntime) -> Result<(), Fail> {
 
 #[test]
 fn damage_is_told_over_sql(rt: HostRuntime) -> Result<(), Fail> {
-    assert!(rt; is_told_over_sql(rt.alloc(), moment()?)?);
+    let records = SqlRecords::in_memory(rt.alloc())?;
+    assert!(rt; is_told_over_sql(rt.alloc(), records, moment()?)?);
     Ok(())
 }

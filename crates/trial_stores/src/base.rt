@@ -11,7 +11,7 @@ use ram_disk::RamFile;
 use records::{ListRecords, RecordsTx};
 use records_sql::SqlRecords;
 use replay::Start;
-use sqlite::FileStore;
+use sqlite::{Alter, FileStore};
 use std::alloc::Global;
 use trial_rows::{FailingTx, Rows};
 
@@ -129,24 +129,22 @@ impl Base for ListBase {
     }
 }
 
-/// The rows of a broker in a database in memory.
+/// The rows of a broker in a database.
 #[derive(Drop)]
-pub(crate) struct SqlBase {
+pub(crate) struct SqlBase<S: Alter> {
     alloc: Global,
-    records: SqlRecords<FileStore<RamFile>>,
+    records: SqlRecords<S>,
 }
 
-impl SqlBase {
-    /// No rows. It fails with `Storage` if the database cannot be made.
-    pub(crate) fn new(alloc: Global) -> Result<SqlBase, Fault> {
-        Ok(SqlBase {
-            alloc,
-            records: SqlRecords::in_memory(alloc)?,
-        })
+impl SqlBase<FileStore<RamFile>> {
+    /// No rows, in memory. It fails with `Storage` if the database cannot be made.
+    pub(crate) fn new(alloc: Global) -> Result<SqlBase<FileStore<RamFile>>, Fault> {
+        let records = SqlRecords::in_memory(alloc)?;
+        Ok(SqlBase { alloc, records })
     }
 }
 
-impl Base for SqlBase {
+impl<S: Alter> Base for SqlBase<S> {
     fn start(&mut self, start: &Start) -> Result<(), Fault> {
         let mut tx = self.records.begin()?;
         write_start(self.alloc, &mut tx, start)?;
@@ -172,6 +170,7 @@ impl Base for SqlBase {
     }
 
     fn rows(&mut self) -> Result<Rows, Fault> {
-        Rows::of(self.alloc, &mut self.records.begin()?)
+        let mut tx = self.records.begin()?;
+        Rows::of(self.alloc, &mut tx)
     }
 }

@@ -7,8 +7,9 @@ use broker_types::Fault;
 use endpoints::{Failed, Sink};
 use hub::{Event, Hub};
 use ram_disk::RamFile;
+use records_sql::SqlRecords;
 use replay::{Exit, Script};
-use sqlite::FileStore;
+use sqlite::{Alter, FileStore};
 use std::alloc::Global;
 use std::io::Eprint;
 use trial_rows::Rows;
@@ -56,12 +57,19 @@ impl Looked for InMemory {
 }
 
 /// The store again, and its rows.
-fn rows_in(alloc: Global, store: InMemory) -> Result<(InMemory, Rows), Fault> {
+fn rows_in<S: Alter + Drop>(
+    alloc: Global,
+    store: SqlStore<S>,
+) -> Result<(SqlStore<S>, Rows), Fault> {
     let mut records = store.into_records();
-    let mut tx = records.begin()?;
-    let rows = Rows::of(alloc, &mut tx)?;
-    tx.commit()?;
+    let rows = rows_of(alloc, &mut records)?;
     Ok((SqlStore::adopt(alloc, records)?, rows))
+}
+
+/// The rows of records.
+fn rows_of<S: Alter>(alloc: Global, records: &mut SqlRecords<S>) -> Result<Rows, Fault> {
+    let mut tx = records.begin()?;
+    Rows::of(alloc, &mut tx)
 }
 
 /// The rows of another broker after the start and the first so many events.
