@@ -104,7 +104,11 @@ fn is_told_over_list(alloc: Global, moment: Moment) -> Result<bool, Fault> {
         },
     );
     let is_told = tells_damage(&mut hub, moment)?;
-    let Planted { records, .. } = hub.into_store();
+    let Planted {
+        alloc: _,
+        records,
+        failed: _,
+    } = hub.into_store();
     let mut tx = records.begin()?;
     Ok(is_told && Rows::of(alloc, &mut tx)?.are(&before))
 }
