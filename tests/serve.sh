@@ -333,6 +333,7 @@ if [ "$status" -eq 0 ] && [ ! -s "$found/served.err" ]; then pass; else fail "af
 serve_without_an_end
 keep_in_a_file
 count python3 tests/clients/databases.py "$program"
+count python3 tests/clients/damaged.py "$program"
 count_together many_peers.py slow_peers.py "slow_peers.py --alone" scarce_descriptors.py
 count python3 tests/clients/short_lives.py "$program" 4000
 count python3 tests/clients/fault_at_once.py "$program"

@@ -1,6 +1,7 @@
 #!/bin/bash
 # Compares the two stores: every row of tests/rows over each, and 5,000 requests that tests/drawn_requests.py draws by
-# the numbers of `trial_stores numbers`. Both stores have to answer these byte for byte as the reference broker does.
+# the numbers of `trial_stores numbers`. Both stores have to answer these byte for byte as the reference broker does, also
+# where calls on the rows fail (tests/failing_calls.py).
 # The last line is 'N passed, M failed'; the status is 0 if nothing failed.
 set -u
 cd "$(dirname "$0")/.."
@@ -13,15 +14,15 @@ trap 'rm -rf "$found"' EXIT
 pass() { passed=$((passed + 1)); }
 fail() { echo "stores, $1: $2"; failed=$((failed + 1)); }
 
-# Runs the rows over a store, and adds their counts.
-run_rows() {
-    tests/rows.sh tests/trial_stores "$1" > "$found/rows"
-    if [[ $(tail -n 1 "$found/rows") =~ ^([0-9]+)\ passed,\ ([0-9]+)\ failed$ ]]; then
+# Runs a command whose last line is 'N passed, M failed', and adds its counts: count NAME COMMAND..
+count() {
+    "${@:2}" > "$found/log"
+    if [[ $(tail -n 1 "$found/log") =~ ^([0-9]+)\ passed,\ ([0-9]+)\ failed$ ]]; then
         passed=$((passed + BASH_REMATCH[1]))
         failed=$((failed + BASH_REMATCH[2]))
-        sed '$d; s/^/stores '"$1"', /' "$found/rows"
+        sed '$d; s/^/stores '"$1"', /' "$found/log"
     else
-        fail "$1" "the rows did not end"
+        fail "$1" "it did not end"
     fi
 }
 
@@ -56,8 +57,8 @@ refuse() {
     fi
 }
 
-run_rows list
-run_rows sql
+count list tests/rows.sh tests/trial_stores list
+count sql tests/rows.sh tests/trial_stores sql
 run numbers /dev/null "$found/numbers"
 python3 tests/drawn_requests.py < "$found/numbers" > "$found/drawn"
 expect "lines that are drawn" [ "$(wc -l < "$found/drawn")" -eq 5001 ]
@@ -69,9 +70,13 @@ expect "requests that are served" [ "$(replies '20[04] ')" -ge 2500 ]
 expect "replies that are wrapped" [ "$(grep -ac '"wrap_info":{' "$found/list")" -ge 300 ]
 python3 tests/reference/reference_broker.py replay < "$found/drawn" > "$found/reference"
 expect "the reference broker" cmp "$found/list" "$found/reference"
+count calls python3 tests/failing_calls.py "$found/drawn"
 refuse
 refuse lists
 refuse list sql
+refuse retry
+refuse failing lists
+refuse faulted list sql
 
 echo "$passed passed, $failed failed"
 [ "$failed" -eq 0 ]

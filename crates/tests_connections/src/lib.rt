@@ -3,6 +3,10 @@
 #![tactic(auto)]
 
 #[cfg(test)]
+mod damaged_rows;
+#[cfg(test)]
+mod failing_ends;
+#[cfg(test)]
 mod replaying;
 #[cfg(test)]
 mod rows;

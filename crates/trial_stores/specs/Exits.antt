@@ -1,10 +1,12 @@
 -- How the program ends (this project's).
 use Rattle.std.specs.Prelude.{ℕ}
-use Rattle.replay.specs.declared.replaying.Exit.{Exit}
 use Rattle.replay.specs.declared.replaying.Exit.TheVariants.{Done, Faulted, BadLine}
+use Rattle.trial_stores.specs.declared.ending.End.{End}
+use Rattle.trial_stores.specs.declared.ending.End.TheVariants.{Replayed, Wrong}
 
 -- the status that the program ends with after a task
-abbrev pub status_after : Exit → ℕ
-status_after Done = 0
-status_after (Faulted number) = 1
-status_after (BadLine line) = 2
+abbrev pub status_after : End → ℕ
+status_after (Replayed Done) = 0
+status_after (Replayed (Faulted number)) = 1
+status_after (Replayed (BadLine line)) = 2
+status_after Wrong = 1

@@ -1,83 +1,207 @@
-//! The lines of a replay over a database, where a request that met a fault is sent once more.
+//! The lines of a replay, where a request that met a fault is sent once more.
 
-use broker::Store;
+use crate::reading::script_exit;
+use broker::{ListStore, Store};
 use broker_sql::SqlStore;
-use endpoints::{Failed, Sink, Source};
+use broker_types::Fault;
+use endpoints::{Failed, Sink};
 use hub::{Event, Hub};
-use replay::{Exit, Script, Unread, read_script, read_to_end};
+use ram_disk::RamFile;
+use records_sql::SqlRecords;
+use replay::{Exit, Script};
+use sqlite::{Alter, FileStore};
 use std::alloc::Global;
+use std::io::Eprint;
+use trial_rows::Rows;
 
 /// How far the number of a connection is from that of the one before, which was closed by a fault.
 const NEXT: u64 = 1_000_000;
 
-/// Runs the lines of the source over a broker in a database in memory, and writes the bytes of their replies. After a
-/// fault the same piece comes once more, on another connection: so what the fault left is asked.
-pub(crate) fn replay_retrying<R: Source, W: Sink>(
-    alloc: Global,
-    reader: &mut R,
-    writer: &mut W,
-) -> Exit {
-    let input = match read_to_end(alloc, reader) {
-        Ok(input) => input,
-        Err(Unread::Memory) => return Exit::Faulted(1),
-        Err(Unread::Failed) => return Exit::Faulted(5),
-    };
-    match read_script(alloc, input.as_slice()) {
-        Ok(Some(script)) => run_retrying(alloc, &script, writer),
-        Ok(None) => Exit::BadLine(1),
-        Err(_) => Exit::Faulted(1),
+/// A store whose rows may be looked at between two requests.
+pub(crate) trait Looked: Store {
+    /// The hub, and whether its rows are those after the first so many events of the script; none if they cannot be
+    /// looked at. It fails if memory runs out or the storage fails; the hub is gone then.
+    fn look(
+        alloc: Global,
+        hub: Hub<Self>,
+        script: &Script,
+        count: usize,
+    ) -> Result<(Hub<Self>, Option<bool>), Fault>;
+}
+
+impl Looked for ListStore {
+    fn look(
+        _: Global,
+        hub: Hub<ListStore>,
+        _: &Script,
+        _: usize,
+    ) -> Result<(Hub<ListStore>, Option<bool>), Fault> {
+        Ok((hub, None))
     }
 }
 
-/// Starts a broker in a database in memory, and feeds it the events.
-fn run_retrying<W: Sink>(alloc: Global, script: &Script, writer: &mut W) -> Exit {
+/// The store in a database in memory.
+type InMemory = SqlStore<FileStore<RamFile>>;
+
+impl Looked for InMemory {
+    fn look(
+        alloc: Global,
+        hub: Hub<InMemory>,
+        script: &Script,
+        count: usize,
+    ) -> Result<(Hub<InMemory>, Option<bool>), Fault> {
+        let wanted = rows_after(alloc, script, count)?;
+        let (store, rows) = rows_in(alloc, hub.into_store())?;
+        Ok((Hub::new(alloc, store), Some(rows.are(&wanted))))
+    }
+}
+
+/// The store again, and its rows.
+fn rows_in<S: Alter + Drop>(
+    alloc: Global,
+    store: SqlStore<S>,
+) -> Result<(SqlStore<S>, Rows), Fault> {
+    let mut records = store.into_records();
+    let rows = rows_of(alloc, &mut records)?;
+    Ok((SqlStore::adopt(alloc, records)?, rows))
+}
+
+/// The rows of records.
+fn rows_of<S: Alter>(alloc: Global, records: &mut SqlRecords<S>) -> Result<Rows, Fault> {
+    let mut tx = records.begin()?;
+    Rows::of(alloc, &mut tx)
+}
+
+/// The rows of another broker after the start and the first so many events.
+fn rows_after(alloc: Global, script: &Script, count: usize) -> Result<Rows, Fault> {
+    let mut store = SqlStore::in_memory(alloc)?;
+    store.start(script.start.moment, &script.start.words)?;
+    let mut hub = Hub::new(alloc, store);
+    for event in script.events.iter().take(count) {
+        feed(&mut hub, event, 0)?;
+    }
+    let (_, rows) = rows_in(alloc, hub.into_store())?;
+    Ok(rows)
+}
+
+/// Starts a broker in a list of rows, and runs the script over it.
+pub(crate) fn retry_over_list<R: Eprint, W: Sink>(
+    rt: &R,
+    alloc: Global,
+    script: &Script,
+    writer: &mut W,
+) -> Exit {
+    let mut store = ListStore::new(alloc);
+    match store.start(script.start.moment, &script.start.words) {
+        Ok(_) => run_retrying(rt, alloc, Hub::new(alloc, store), script, writer),
+        Err(fault) => Exit::from(fault),
+    }
+}
+
+/// Starts a broker in a database in memory, and runs the script over it.
+pub(crate) fn retry_over_sql<R: Eprint, W: Sink>(
+    rt: &R,
+    alloc: Global,
+    script: &Script,
+    writer: &mut W,
+) -> Exit {
     let mut store = match SqlStore::in_memory(alloc) {
         Ok(store) => store,
         Err(fault) => return Exit::from(fault),
     };
-    if let Err(fault) = store.start(script.start.moment, &script.start.words) {
-        return Exit::from(fault);
+    match store.start(script.start.moment, &script.start.words) {
+        Ok(_) => run_retrying(rt, alloc, Hub::new(alloc, store), script, writer),
+        Err(fault) => Exit::from(fault),
     }
-    let mut hub = Hub::new(alloc, store);
-    match feed_all(&mut hub, script.events.as_slice(), writer) {
+}
+
+/// Runs the script over a broker that was started, and writes the replies. After a fault the same piece comes once more,
+/// on another connection: so what the fault left is asked. Each fault is told on standard error.
+fn run_retrying<R: Eprint, S: Looked + Drop, W: Sink>(
+    rt: &R,
+    alloc: Global,
+    hub: Hub<S>,
+    script: &Script,
+    writer: &mut W,
+) -> Exit {
+    match feed_all(rt, alloc, hub, script, writer) {
         Ok(()) => script_exit(script),
         Err(exit) => exit,
     }
 }
 
-/// How the run of a script ends if nothing fails.
-fn script_exit(script: &Script) -> Exit {
-    if script.is_cut {
-        Exit::BadLine((script.events.len() as u64).saturating_add(2))
-    } else {
-        Exit::Done
-    }
-}
-
 /// Feeds the events in turn, each twice if it meets a fault, and writes the replies.
-fn feed_all<S: Store, W: Sink>(
-    hub: &mut Hub<S>,
-    events: &[Event],
+fn feed_all<R: Eprint, S: Looked + Drop, W: Sink>(
+    rt: &R,
+    alloc: Global,
+    mut hub: Hub<S>,
+    script: &Script,
     writer: &mut W,
 ) -> Result<(), Exit> {
     let mut shift = 0;
-    for event in events {
-        let reply = match feed(hub, event, shift) {
+    for (place, event) in script.events.iter().enumerate() {
+        let reply = match feed(&mut hub, event, shift) {
             Ok(reply) => reply,
-            Err(_) => {
+            Err(fault) => {
                 shift = NEXT.saturating_add(shift);
-                feed(hub, event, shift)?
+                hub = look_and_tell(rt, alloc, hub, script, place, fault)?;
+                feed(&mut hub, event, shift)?
             }
         };
         if let Err(Failed) = writer.push(reply.as_slice()) {
             return Err(Exit::Faulted(6));
         }
     }
-    Ok(())
+    if shift == 0 {
+        return Ok(());
+    }
+    tell_end(rt, alloc, hub, script)
 }
 
 /// Feeds an event, on the connection that is so far from its own.
-fn feed<S: Store>(hub: &mut Hub<S>, event: &Event, shift: u64) -> Result<Vec<u8>, Exit> {
+fn feed<S: Store>(hub: &mut Hub<S>, event: &Event, shift: u64) -> Result<Vec<u8>, Fault> {
     let conn = event.conn.saturating_add(shift);
-    Ok(hub.feed(conn, event.piece.as_slice(), event.moment, &event.words)?)
+    hub.feed(conn, event.piece.as_slice(), event.moment, &event.words)
+}
+
+/// Tells the fault of the event at a place, and whether the rows are as before it.
+fn look_and_tell<R: Eprint, S: Looked + Drop>(
+    rt: &R,
+    alloc: Global,
+    hub: Hub<S>,
+    script: &Script,
+    place: usize,
+    fault: Fault,
+) -> Result<Hub<S>, Exit> {
+    let (hub, found) = S::look(alloc, hub, script, place)?;
+    let rows = match found {
+        None => "",
+        Some(true) => ", rows as before",
+        Some(false) => ", other rows",
+    };
+    let event = place.saturating_add(1);
+    let number = fault.number();
+    match eprintln!(rt; "event {event}: fault {number}{rows}, sent once more") {
+        Ok(()) => Ok(hub),
+        Err(_) => Err(Exit::Faulted(6)),
+    }
+}
+
+/// Tells whether the rows at the end of the script are those that it leaves where it meets no fault.
+fn tell_end<R: Eprint, S: Looked + Drop>(
+    rt: &R,
+    alloc: Global,
+    hub: Hub<S>,
+    script: &Script,
+) -> Result<(), Exit> {
+    let (_, found) = S::look(alloc, hub, script, script.events.len())?;
+    let told = match found {
+        None => return Ok(()),
+        Some(true) => eprintln!(rt; "at the end: rows as usual"),
+        Some(false) => eprintln!(rt; "at the end: other rows"),
+    };
+    match told {
+        Ok(()) => Ok(()),
+        Err(_) => Err(Exit::Faulted(6)),
+    }
 }

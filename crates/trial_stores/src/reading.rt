@@ -1,0 +1,29 @@
+//! The lines of standard input.
+
+use endpoints::Source;
+use replay::{Exit, Script, Unread, read_script, read_to_end};
+use std::alloc::Global;
+
+/// The script that the lines of the source are, up to the first that is bad. It fails as a replay of them does if memory
+/// runs out, a read fails, or the first line is bad.
+pub(crate) fn script_of<R: Source>(alloc: Global, reader: &mut R) -> Result<Script, Exit> {
+    let input = match read_to_end(alloc, reader) {
+        Ok(input) => input,
+        Err(Unread::Memory) => return Err(Exit::Faulted(1)),
+        Err(Unread::Failed) => return Err(Exit::Faulted(5)),
+    };
+    match read_script(alloc, input.as_slice()) {
+        Ok(Some(script)) => Ok(script),
+        Ok(None) => Err(Exit::BadLine(1)),
+        Err(_) => Err(Exit::Faulted(1)),
+    }
+}
+
+/// How the run of a script ends if nothing fails.
+pub(crate) fn script_exit(script: &Script) -> Exit {
+    if script.is_cut {
+        Exit::BadLine((script.events.len() as u64).saturating_add(2))
+    } else {
+        Exit::Done
+    }
+}
