@@ -3,8 +3,9 @@
 
     python3 tests/failing_calls.py LINES
 
-Each row of tests/rows is run by `trial_stores failing`: before a request is answered, each of its calls on the rows fails
-in turn, which has to be the fault 2 and to leave the rows as they were. The replies have to be the usual ones.
+Each row of tests/rows, but one whose last request makes thousands of calls, is run by `trial_stores failing`: before a
+request is answered, each of its calls on the rows fails in turn, which has to be the fault 2 and to leave the rows as they
+were. The replies have to be the usual ones.
 
 LINES is a file with requests that tests/drawn_requests.py drew. They are run by `trial_stores faulted`, four on each
 connection: a drawn call of every tenth request fails, which closes its connection. The replies have to be those of the
@@ -29,8 +30,10 @@ from broker.parts import TODAY  # noqa: E402
 
 TALLY = re.compile(r"(\d+) calls failed in (\d+) events, (\d+) of them after a write")
 FAULT = re.compile(r"event (\d+): fault 2")
+LEFT_OUT = "chain_of_200"
 ON_A_CONNECTION = 4
-LEAST_CALLS = 1_000  # that fail in all rows
+LEAST_CALLS = 9_000  # that fail in all rows
+LEAST_AFTER_WRITES = 1_200  # of these
 LEAST_FAULTS = 300  # among the drawn requests
 FAILURES = []
 
@@ -50,8 +53,9 @@ def rows():
     """The rows that are run to their end."""
     for line in (HERE / "rows/INDEX.md").read_text().splitlines():
         cells = [cell.strip() for cell in line.split("|")]
-        if line.startswith("| `") and cells[3:5] == ["0", ""]:
-            yield cells[1].strip("`")
+        name = cells[1].strip("`") if line.startswith("| `") else LEFT_OUT
+        if name != LEFT_OUT and cells[3:5] == ["0", ""]:
+            yield name
 
 
 def fail_row(name):
@@ -73,8 +77,8 @@ def fail_rows():
         tallies = list(pool.map(fail_row, rows()))
     calls, events, after_writes = (sum(numbers) for numbers in zip(*tallies))
     expect(calls >= LEAST_CALLS, f"failing: only {calls} calls")
-    expect(calls >= 8 * events, f"failing: only {calls} calls in {events} events")
-    expect(4 * after_writes >= calls, f"failing: only {after_writes} of {calls} calls came after a write")
+    expect(calls >= 5 * events, f"failing: only {calls} calls in {events} events")
+    expect(after_writes >= LEAST_AFTER_WRITES, f"failing: only {after_writes} calls came after a write")
     print(f"{len(tallies)} rows: {calls} calls failed in {events} events, {after_writes} of them after a write")
 
 
