@@ -217,7 +217,8 @@ class Forgetful(Runs):
         return FORGETFUL, [(number, FORGETFUL) for number, _ in found], made, changed
 
 
-MISTAKES = {("wrapped_reply_once", "not sent once more"): functools.partial(Mistaken, without),
+MISTAKES = {("wrapped_reply_once", "sent once more as it is"): Runs,
+            ("wrapped_reply_once", "not sent once more"): functools.partial(Mistaken, without),
             ("wrapped_reply_once", "sent with other words"): functools.partial(Mistaken, with_other_words),
             ("first_run", "never answered"): Forgetful}
 
@@ -306,13 +307,20 @@ def try_row(tally, pool, runs, has_start):
     check_sample(tally, runs, numbers, count, found)
 
 
+def wrong_in(pool, runs):
+    """How much is found to be wrong with the runs of a row."""
+    found = Tally(None)
+    try_row(found, pool, runs, False)
+    return found.failed
+
+
 def try_mistakes(tally, pool, library, folder, ways):
-    """Each mistake has to be found by the runs of a row."""
-    for way, (row, mistake) in itertools.product(ways, MISTAKES.items()):
-        found = Tally(None)
-        runs = mistake(library, folder, way._replace(step=SPARSE), ROWS / f"{row[0]}.replay", {})
-        try_row(found, pool, runs, False)
-        tally.expect(found.failed > 0, f"{row[0]}, {way.name}: a program whose request is {row[1]} is not found")
+    """Each mistake has to be found by the runs of a row, and nothing without it."""
+    for way in (way._replace(step=SPARSE) for way in ways):
+        for (row, mistake), runs in MISTAKES.items():
+            found = wrong_in(pool, runs(library, folder, way, ROWS / f"{row}.replay", {}))
+            tally.expect((found > 0) == (runs is not Runs),
+                         f"{row}, {way.name}: a request {mistake}: wrong {found} times")
 
 
 def ways_of(brokerd, trial_stores, step):
