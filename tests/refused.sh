@@ -14,7 +14,7 @@ trap 'rm -f "$log"' EXIT
 
 # Runs a command whose last line is 'N passed, M failed', and adds its counts.
 count() {
-    "$@" | tee "$log" | sed '$d'
+    "$@" | tee "$log" | sed -u '$d'
     if [[ $(tail -n 1 "$log") =~ ^([0-9]+)\ passed,\ ([0-9]+)\ failed$ ]]; then
         passed=$((passed + BASH_REMATCH[1]))
         failed=$((failed + BASH_REMATCH[2]))
