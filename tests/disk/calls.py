@@ -18,7 +18,8 @@ ALWAYS = ("short=-1", "short=512", "short=100")
 READS = 10  # reads that are tried in the gate, where there are thousands
 LEAST = {"calls of pread": 1000, "calls of pwrite": 100, "calls of fsync": 8, "calls of fdatasync": 40,
          "calls of ftruncate": 1, "failed": 500, "fault 2": 500, "short": 120, "short and answered as usual": 120,
-         "before any broker": 50, "request taken": 50, "request not taken": 100}
+         "before any broker": 50, "a broker whose token was not printed": 1, "request taken": 30,
+         "request not taken": 100}
 
 
 def usual_calls(trial, scene):
@@ -62,8 +63,9 @@ def try_rule(trial, scene, rule):
         return ["short", "short and answered as usual" if run.all_answered else "short and fault 2"]
     if run.all_answered:
         return ["failed", "failed and answered as usual"]
-    told = {None: "before any broker", True: "request taken", False: "request not taken"}
-    return ["failed", "fault 2", told[has_more]]
+    if run.story is None:
+        return ["failed", "fault 2", "before any broker" if has_more is None else "a broker whose token was not printed"]
+    return ["failed", "fault 2", "request taken" if has_more else "request not taken"]
 
 
 def try_calls(trial, jobs, seed=1, reads=READS, is_gate=True):
