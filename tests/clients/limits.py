@@ -21,6 +21,7 @@ from pathlib import Path
 sys.path[:0] = [str(Path(__file__).resolve().parent), str(Path(__file__).resolve().parent.parent / "hostile")]
 
 from broker import connect, free_port, reply, request
+from closed_connections import ask_once
 from hostile import Report, aim, build, environment, scratch
 
 PARTS = {}
@@ -417,12 +418,13 @@ def ask_and_close(port, token):
 
 
 def one_by_one_and_together(program, arguments):
-    """So many connections one after another, and so many at once; then the program ends by itself."""
+    """So many connections one after another, which ask for what takes no storage, and so many at once; then the program
+    ends by itself."""
     with served(program, "--connections", str(ONE_BY_ONE + TOGETHER), *arguments) as running:
         for number in range(ONE_BY_ONE):
             if number == ONE_BY_ONE // 5:
                 before = running.kilobytes()
-            expect(ask_and_close(running.port, running.token) == 200, f"connection {number} is not served")
+            ask_once(running.port, number % 2 == 0)
         growth = running.kilobytes() - before
         expect(growth < MOST_GROWTH, f"{ONE_BY_ONE} connections take {growth} kB")
         ready = threading.Barrier(TOGETHER)
@@ -459,15 +461,14 @@ def exactly(program, connections, arguments):
 @part
 def connections(program, folder):
     """Thousands of connections, and a program that ends after exactly as many as it was told."""
-    help_text = subprocess.run([program, "serve", "--help"], capture_output=True, text=True).stdout
-    ways = [(), ("--at-once", "1"), ("--at-once", "8")] if "--at-once" in help_text else [()]
+    ways = [(), ("--at-once", "1"), ("--at-once", "8")]
     trials = [(one_by_one_and_together, program, way) for way in ways[:1]]
     trials += [(exactly, program, number, way) for way in ways for number in (1, 2, 7, 12)]
     wrong = []
     for trial, *values in trials:
         try:
             trial(*values)
-        except (Wrong, OSError) as error:
+        except (Wrong, AssertionError, OSError) as error:
             wrong.append(f"{trial.__name__} {values[1:]}: {error}")
     return wrong, len(trials)
 
