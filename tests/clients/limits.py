@@ -20,8 +20,8 @@ from pathlib import Path
 
 sys.path[:0] = [str(Path(__file__).resolve().parent), str(Path(__file__).resolve().parent.parent / "hostile")]
 
+import closed_connections
 from broker import connect, free_port, reply, request
-from closed_connections import ask_once
 from hostile import Report, aim, build, environment, scratch
 
 PARTS = {}
@@ -86,11 +86,15 @@ class Served:
         return self.process.returncode, self.said
 
     def connect(self, patience=5.0):
-        """A connection. It raises Wrong if the program has ended."""
-        try:
-            return connect(self.port, patience)
-        except OSError as error:
-            raise Wrong(f"no connection: {error}, {self.ended(0)}") from None
+        """A connection. It raises Wrong if the program has ended, or does not listen in time."""
+        until = time.monotonic() + patience
+        while True:
+            try:
+                return connect(self.port, 0.0)
+            except OSError as error:
+                if self.process.poll() is not None or time.monotonic() > until:
+                    raise Wrong(f"no connection: {error}, {self.ended(0)}") from None
+                time.sleep(0.02)
 
     def ask(self, method, path, body=None, token=None, seconds=20.0):
         """The status, the object and the Date of a request on a connection of its own. Status 0 without a reply."""
@@ -424,7 +428,9 @@ def one_by_one_and_together(program, arguments):
         for number in range(ONE_BY_ONE):
             if number == ONE_BY_ONE // 5:
                 before = running.kilobytes()
-            ask_once(running.port, number % 2 == 0)
+            connection, closes = running.connect(), number % 2 == 0
+            closed_connections.ask(connection, closes)
+            closed_connections.close(connection, closes)
         growth = running.kilobytes() - before
         expect(growth < MOST_GROWTH, f"{ONE_BY_ONE} connections take {growth} kB")
         ready = threading.Barrier(TOGETHER)
