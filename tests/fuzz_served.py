@@ -7,8 +7,7 @@ The requests are those of `tests/fuzz.py` but for the rows, changed and cut in t
 reference broker and on its connection to the program, which has to send the same bytes: the program's clock is made to
 stand still (tests/hostile), and the identifiers that the program draws are put in place of those of the reference. A
 reply is taken before the next event, so that both come to the same order. Then the connection closes where the
-reference closes it, and nowhere else, but for the limits of docs/SERVE.md. A program that serves one connection after
-another is sent one after another.
+reference closes it, and nowhere else, but for the limits of docs/SERVE.md.
 
 The last line is `N passed, M failed`; the status is 0 if nothing failed. A reply that differs is printed.
 """
@@ -50,12 +49,11 @@ class Wrong(Exception):
 class Program:
     """A running program, and its connections by the numbers that the reference broker has for them."""
 
-    def __init__(self, words, library, at_once):
+    def __init__(self, program, library):
         self.listener = socket.create_server(("127.0.0.1", 0))  # so that the port is free
         self.port = self.listener.getsockname()[1]
         self.listener.close()
-        command = [*words, "serve", "--listen", f"127.0.0.1:{self.port}", "--until-stopped"]
-        command += ["--at-once", "64"] if at_once else []
+        command = [program, "serve", "--listen", f"127.0.0.1:{self.port}", "--until-stopped"]
         variables = environment(library, f"clock_gettime:1+:set={CLOCK}")
         self.process = subprocess.Popen(command, env=variables, stdout=subprocess.PIPE, stderr=subprocess.PIPE)
         self.token = self.process.stdout.readline().decode().split()[-1]
@@ -127,13 +125,11 @@ class Program:
 class ServedRun(Run):
     """A run whose events go to a program too."""
 
-    def __init__(self, seed, corpus, promised, program, at_once):
+    def __init__(self, seed, corpus, promised, program):
         super().__init__(seed, corpus, [], promised)
         self.start = self.moment = CLOCK
         self.server = Recorder(CLOCK, words_from(0))
-        self.most_underway = 3 if at_once else 1
         self.program = program
-        self.at_once = at_once
         self.names = {}  # identifiers of the reference broker, and what the program has in their place
         self.now = None  # the delivery whose piece is sent
         self.replied = self.most_open = 0
@@ -154,14 +150,12 @@ class ServedRun(Run):
         """None: an identifier of a row may be cut in two events."""
 
     def next_delivery(self):
-        delivery = super().next_delivery()
-        for conn, used in list(self.program.used.items()):
-            is_old = time.monotonic() - used > SILENCE and conn in self.program.streams
-            if is_old or (not self.at_once and conn != delivery.conn):
-                if self.server.unanswered.get(conn) or not self.at_once:
-                    self.server.closed.add(conn)
+        """A request. A connection on which half of one waits for long is given up before the program does so."""
+        for conn in list(self.program.streams):
+            if time.monotonic() - self.program.used[conn] > SILENCE and self.server.unanswered.get(conn):
+                self.server.closed.add(conn)
                 self.program.drop(conn)
-        return delivery
+        return super().next_delivery()
 
     def deliver(self, delivery):
         """Sends the next piece of a delivery. All pieces are translated before the first is sent."""
@@ -216,10 +210,10 @@ class ServedRun(Run):
         return first
 
 
-def try_run(name, words, library, at_once, share, found):
+def try_run(name, program, library, share, found):
     """One run against a program of its own. Answers what is wrong, or None."""
-    program = Program(words, library, at_once)
-    run = ServedRun(name, share.corpus, share.promised, program, at_once)
+    program = Program(program, library)
+    run = ServedRun(name, share.corpus, share.promised, program)
     try:
         run.make(LENGTH)
         wrong = None
@@ -243,27 +237,26 @@ def main():
     arguments = parser.parse_args()
     if arguments.program is None:
         subprocess.run([TOP / "bin/run-program", "--build", "brokerd"])
-    words = [os.path.abspath(arguments.program or TOP / "crates/brokerd/out/brokerd")]
-    at_once = "--at-once" in subprocess.run([*words, "serve", "--help"], capture_output=True, text=True).stdout
+    program = os.path.abspath(arguments.program or TOP / "crates/brokerd/out/brokerd")
     share, found, wrong, runs = Share(f"served {arguments.seed}", 0, 1), Counter(), [], 0
     until = time.monotonic() + 60 * arguments.minutes
     with tempfile.TemporaryDirectory() as folder:
         library = build(folder)
         while found["events"] < arguments.events or time.monotonic() < until:
             name = f"served {arguments.seed} {runs}"
-            what = try_run(name, words, library, at_once, share, found)
+            what = try_run(name, program, library, share, found)
             if what is not None:
                 wrong.append(f"run {name}: {what}")
                 print(wrong[-1], flush=True)
                 if len(wrong) > 10:
                     break
             runs += 1
-    if at_once and found["most open"] < LEAST_OPEN:
+    if found["most open"] < LEAST_OPEN:
         wrong.append(f"at most {found['most open']} connections were open at once")
         print(wrong[-1])
     statuses = ", ".join(f"{status} {count}" for status, count in sorted(share.corpus.statuses.items()))
     print(f"{found['events']} events in {runs} runs, seed {arguments.seed}: {found['replies']} replies ({statuses}), "
-          f"with {found['most open']} connections open at most{'' if at_once else ' (one after another)'}")
+          f"with {found['most open']} connections open at most")
     print(f"{runs - min(runs, len(wrong))} passed, {len(wrong)} failed")
     return 1 if wrong else 0
 

@@ -20,6 +20,7 @@ from pathlib import Path
 
 sys.path[:0] = [str(Path(__file__).resolve().parent), str(Path(__file__).resolve().parent.parent / "hostile")]
 
+import closed_connections
 from broker import connect, free_port, reply, request
 from hostile import Report, aim, build, environment, scratch
 
@@ -85,11 +86,15 @@ class Served:
         return self.process.returncode, self.said
 
     def connect(self, patience=5.0):
-        """A connection. It raises Wrong if the program has ended."""
-        try:
-            return connect(self.port, patience)
-        except OSError as error:
-            raise Wrong(f"no connection: {error}, {self.ended(0)}") from None
+        """A connection. It raises Wrong if the program has ended, or does not listen in time."""
+        until = time.monotonic() + patience
+        while True:
+            try:
+                return connect(self.port, 0.0)
+            except OSError as error:
+                if self.process.poll() is not None or time.monotonic() > until:
+                    raise Wrong(f"no connection: {error}, {self.ended(0)}") from None
+                time.sleep(0.02)
 
     def ask(self, method, path, body=None, token=None, seconds=20.0):
         """The status, the object and the Date of a request on a connection of its own. Status 0 without a reply."""
@@ -417,12 +422,15 @@ def ask_and_close(port, token):
 
 
 def one_by_one_and_together(program, arguments):
-    """So many connections one after another, and so many at once; then the program ends by itself."""
+    """So many connections one after another, which ask for what takes no storage, and so many at once; then the program
+    ends by itself."""
     with served(program, "--connections", str(ONE_BY_ONE + TOGETHER), *arguments) as running:
         for number in range(ONE_BY_ONE):
             if number == ONE_BY_ONE // 5:
                 before = running.kilobytes()
-            expect(ask_and_close(running.port, running.token) == 200, f"connection {number} is not served")
+            connection, closes = running.connect(), number % 2 == 0
+            closed_connections.ask(connection, closes)
+            closed_connections.close(connection, closes)
         growth = running.kilobytes() - before
         expect(growth < MOST_GROWTH, f"{ONE_BY_ONE} connections take {growth} kB")
         ready = threading.Barrier(TOGETHER)
@@ -459,15 +467,14 @@ def exactly(program, connections, arguments):
 @part
 def connections(program, folder):
     """Thousands of connections, and a program that ends after exactly as many as it was told."""
-    help_text = subprocess.run([program, "serve", "--help"], capture_output=True, text=True).stdout
-    ways = [(), ("--at-once", "1"), ("--at-once", "8")] if "--at-once" in help_text else [()]
+    ways = [(), ("--at-once", "1"), ("--at-once", "8")]
     trials = [(one_by_one_and_together, program, way) for way in ways[:1]]
     trials += [(exactly, program, number, way) for way in ways for number in (1, 2, 7, 12)]
     wrong = []
     for trial, *values in trials:
         try:
             trial(*values)
-        except (Wrong, OSError) as error:
+        except (Wrong, AssertionError, OSError) as error:
             wrong.append(f"{trial.__name__} {values[1:]}: {error}")
     return wrong, len(trials)
 

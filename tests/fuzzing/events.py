@@ -30,6 +30,7 @@ GREATEST_CONNECTION = 2**64 - 1
 MOMENTS = (1_700_000_000, 1_700_000_000, 1_700_000_000, 1_000, 0, GREATEST_MOMENT - 5_000)
 LONGEST_LEAP = 10_000  # seconds to the next moment at which something is due
 MOST_REQUESTS_OF_A_ROW = 70
+MOST_UNDERWAY = 3  # requests whose pieces come by turns
 KEPT = 400  # requests of a corpus
 NEW = 60  # of these, those that joined last are taken as often as all others
 AFTER_ROOT = 10  # events, once the root token is revoked
@@ -206,7 +207,6 @@ class Run:
         self.events, self.replies = [], []
         self.word = 0
         self.opened = 0
-        self.most_underway = 3
         self.idle, self.underway, self.row = [], [], None
 
     def chance(self, one_in):
@@ -226,7 +226,7 @@ class Run:
         while len(self.events) < events:
             if self.server.root_token not in self.server.broker.tokens:
                 events = min(events, len(self.events) + AFTER_ROOT)
-            if len(self.underway) < self.most_underway and (not self.underway or self.chance(2)):
+            if len(self.underway) < MOST_UNDERWAY and (not self.underway or self.chance(2)):
                 self.underway.append(self.next_delivery())
             delivery = self.draw.choice(self.underway)
             self.deliver(delivery)
