@@ -4,7 +4,7 @@ import threading
 import time
 
 DISTURBED = 0.05  # seconds for which a process does not run, though it could, while others do
-TIMES = 3
+LONGEST = 60  # seconds in which a case is tried again
 
 
 class Watch(threading.Thread):
@@ -33,7 +33,8 @@ def between(least, seconds, most, what):
 
 def tried(function, *arguments):
     """What a case has met, and what is wrong with it, if anything is."""
-    for _ in range(TIMES):
+    until = time.monotonic() + LONGEST
+    while True:
         watch = Watch()
         watch.start()
         try:
@@ -42,6 +43,5 @@ def tried(function, *arguments):
             wrong = f"{error} (it was kept from running for {watch.longest * 1000:.0f} ms at most)"
         finally:
             watch.is_over = True
-        if watch.longest < DISTURBED:
-            break
-    return None, wrong
+        if watch.longest < DISTURBED or time.monotonic() > until:
+            return None, wrong

@@ -81,7 +81,7 @@ class Peer:
         """Reads until the end, or until nothing has come for so long, by a buffer that is not small any more."""
         self.connection.setsockopt(socket.SOL_SOCKET, socket.SO_RCVBUF, 1 << 20)
         self.connection.settimeout(patience)
-        with contextlib.suppress(TimeoutError, ConnectionResetError):
+        with contextlib.suppress(socket.timeout, ConnectionResetError):
             while more := self.connection.recv(1 << 20):
                 self.got += more
 

@@ -22,9 +22,12 @@ DESCRIPTORS = 32
 PEERS = 60
 
 
-def few_descriptors():
-    """The process may have so many files open."""
-    resource.setrlimit(resource.RLIMIT_NOFILE, (DESCRIPTORS, DESCRIPTORS))
+@contextlib.contextmanager
+def limited(program, **options):
+    """A broker whose process may have so many descriptors."""
+    with Broker(program, **options) as broker:
+        resource.prlimit(broker.process.pid, resource.RLIMIT_NOFILE, (DESCRIPTORS, DESCRIPTORS))
+        yield broker
 
 
 def look_up(broker):
@@ -48,7 +51,7 @@ def statuses_of(peers, patience):
 def all_are_answered(program):
     """More peers than places ask and stay. All are answered; N are counted; and the program ends after the last one."""
     with contextlib.ExitStack() as stack:
-        broker = stack.enter_context(Broker(program, connections=1 + PEERS, preexec_fn=few_descriptors))
+        broker = stack.enter_context(limited(program, connections=1 + PEERS))
         used, begin = broker.processor(), time.monotonic()
         peers = [stack.enter_context(connect(broker.port)) for _ in range(PEERS)]
         for peer in peers:
@@ -66,7 +69,8 @@ def nobody_is_idle(program):
     """All places are taken by peers that have sent half a request. While others wait, the program has no work; then the
     peers are let go, and the others are answered."""
     with contextlib.ExitStack() as stack:
-        broker = stack.enter_context(Broker(program, preexec_fn=few_descriptors))
+        broker = stack.enter_context(limited(program))
+        begin = time.monotonic()
         halves = [stack.enter_context(connect(broker.port)) for _ in range(DESCRIPTORS)]
         for half in halves:
             half.sendall(look_up(broker)[:40])
@@ -77,19 +81,20 @@ def nobody_is_idle(program):
         for other in others:
             other.sendall(look_up(broker))
         used = broker.processor()
-        time.sleep(2.5)
+        time.sleep(2)
         used = broker.processor() - used
-        expect(used < 0.15, f"{used:.2f} s of processor time in 2.5 s in which nobody could be taken in")
-        expect(broker.hold(others) == 0 and broker.hold(halves) == places, "another was taken in, or one was let go")
+        expect(used < 0.15, f"{used:.2f} s of processor time in two seconds in which nobody could be taken in")
+        found, age = (broker.hold(others), broker.hold(halves)), time.monotonic() - begin
+        expect(found == (0, places), f"after {age:.1f} s {found[0]} others were taken in, {found[1]} have their places")
         statuses = statuses_of(others, 12)
         expect(statuses == [200] * len(others), f"the replies to those that waited are {statuses}")
-        return f"{places} places, {used * 1000:.0f} ms of processor time in 2.5 s, then {len(others)} were answered"
+        return f"{places} places, {used * 1000:.0f} ms of processor time in two seconds, then {len(others)} answered"
 
 
 def idle_ones_go_in_their_order(program):
     """Where a descriptor is wanted, the peer that has been idle longest is let go, and those that ask stay."""
     with contextlib.ExitStack() as stack:
-        broker = stack.enter_context(Broker(program, preexec_fn=few_descriptors))
+        broker = stack.enter_context(limited(program))
         peers = []
         while len(peers) < DESCRIPTORS and (not peers or broker.holds(peers[-1])):
             peers.append(stack.enter_context(connect(broker.port)))
