@@ -31,6 +31,11 @@ echo '2 passed, 0 failed'
 """
 
 
+def heed_interrupts():
+    """A shell lets what it runs in the background ignore SIGINT."""
+    signal.signal(signal.SIGINT, signal.SIG_DFL)
+
+
 class Checkout:
     """A repository with the programs `tiny` and `other`, and a PATH with that `rt`."""
 
@@ -53,7 +58,7 @@ class Checkout:
     def start(self, *words, environment=None):
         return subprocess.Popen([sys.executable, self.top / "bin/run-program", *words], stdin=subprocess.DEVNULL,
                                 stdout=subprocess.PIPE, stderr=subprocess.PIPE, text=True,
-                                env=environment or self.environment)
+                                env=environment or self.environment, preexec_fn=heed_interrupts)
 
     def run(self, *words, environment=None):
         ran = self.start(*words, environment=environment)
