@@ -60,7 +60,9 @@ class Sum:
         """Adds a part, and tells what it met."""
         self.passed += tally.passed
         self.failed += tally.failed
-        self.counts.setdefault(name, Counter()).update(tally.counts)
+        counts = self.counts.setdefault(name, Counter())
+        for what, count in tally.counts.items():
+            counts[what] = max(counts[what], count) if what.endswith("at most") else counts[what] + count
         print(f"{name}, {seconds:.1f} s: {tally.told()}", flush=True)
 
 
