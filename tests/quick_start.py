@@ -47,12 +47,18 @@ def pattern_of(shown):
     return TIME.sub(r"[0-9TZ:-]+", pattern)
 
 
+def heed_interrupts():
+    """A shell lets what it runs in the background ignore SIGINT."""
+    signal.signal(signal.SIGINT, signal.SIG_DFL)
+
+
 class Broker:
     """The program that the first command starts."""
 
     def __init__(self, command, folder):
         self.ran = subprocess.Popen(["bash", "-c", f"exec {command}"], cwd=folder, stdin=subprocess.DEVNULL,
-                                    stdout=subprocess.PIPE, stderr=subprocess.PIPE, text=True)
+                                    stdout=subprocess.PIPE, stderr=subprocess.PIPE, text=True,
+                                    preexec_fn=heed_interrupts)
 
     def line(self):
         """The next line of its standard output."""
