@@ -227,10 +227,11 @@ def periods(run):
     beside = {"ttl": (0, 1, life * 2), "explicit_max_ttl": (0, life - 1, life + 2, life * 2, 4294967295),
               "num_uses": (0, 9), "no_parent": (True, False)}
     while run.room() > 0:
-        if not run.made or run.chance(4):
+        if not run.made or run.chance(3):
             times = {"period": run.pick(period, period, str(period), f"{period}s", run.pick(0, "1d", -1)),
                      **asked(run, beside, 0, 2)}
-            run.make({"policies": run.pick(["a"], ["a"], ["root"], []), **times}, run.pick(None, run.token()),
+            maker = run.pick(None, run.made[-1][0]) if run.made else None
+            run.make({"policies": run.pick(["a"], ["a"], ["root"], []), **times}, maker,
                      run.pick("create", "create", "create-orphan"), moment=run.moment)
             continue
         token = run.pick(run.made[0], run.made[-1])[0]
