@@ -21,31 +21,31 @@ use Rattle.kv2.specs.SecretRows as rows
 use Rattle.kv2.specs.SecretRows.{WrittenRows, new_entry, next_entry, with_version}
 use Rattle.kv2.specs.Secrets.{Written, secret_name, write, write_over, written}
 use Rattle.kv2.specs.SoundLaws.{room, is_secret_name}
-use Rattle.kv2.specs.Versions.{Given, version_of, key_or_new, checked, or_if_zero, versions_kept}
+use Rattle.kv2.specs.Versions.{WriteAnswer, version_of, key_or_new, checked, or_if_zero, versions_kept}
 use Rattle.kv2.proofs.Digits.{KeyLaws, name_lacks}
 use Rattle.kv2.proofs.Writes.{written_told}
 
 -- ---- the rows, from the calls
 
 -- what a write answers of the key that it leaves
-abbrev pub given : KeyEntry → Given
-given e = record { number = e.current; custom_metadata = e.custom_metadata }
+abbrev pub answer_of : KeyEntry → WriteAnswer
+answer_of e = record { number = e.current; custom_metadata = e.custom_metadata }
 
 -- the answer of a write, and its rows
-abbrev pub IsWritten : Table → Given → WrittenRows → Type 0
+abbrev pub IsWritten : Table → WriteAnswer → WrittenRows → Type 0
 IsWritten new v w = (v.number ≡ w.number) × (v.custom_metadata ≡ w.custom_metadata) × (new ≡ w.rows)
 
 -- the answer of a write, and the broker that its rows tell
-abbrev pub IsToldAs : Table → Given → Written → Type 0
+abbrev pub IsToldAs : Table → WriteAnswer → Written → Type 0
 IsToldAs new v w = (v.number ≡ w.number) × (v.custom_metadata ≡ w.custom_metadata) × Tells of_secrets new w.next
 
 pub rows_written : (old new : Table) (m : Mount) (k : Option KeyEntry) (name object : Text) (now limit : ℕ) (cas : Option ℕ) (e : KeyEntry)
     → e ≡ unwrap_or k (new_entry now) → Ok tt ≡ checked (e.cas_required || m.cas_required) e.current cas
     → limit ≡ or_if_zero e.max_versions (or_if_zero m.max_versions 10) → new ≡ with_version old name e limit now object
-    → EndsOk (IsWritten new) (given (next_entry now e)) (rows.write old (Some m) k name now cas object)
+    → EndsOk (IsWritten new) (answer_of (next_entry now e)) (rows.write old (Some m) k name now cas object)
 rows_written old new m k name object now limit cas e is passed kept left =
-    subst (λ (z : KeyEntry). EndsOk (IsWritten new) (given (next_entry now e)) (rows.write_over old m name now cas object z)) is
-    (subst (λ r. EndsOk (IsWritten new) (given (next_entry now e)) (r >>= (λ _. Ok (rows.written old m name now object e)))) passed
+    subst (λ (z : KeyEntry). EndsOk (IsWritten new) (answer_of (next_entry now e)) (rows.write_over old m name now cas object z)) is
+    (subst (λ r. EndsOk (IsWritten new) (answer_of (next_entry now e)) (r >>= (λ _. Ok (rows.written old m name now object e)))) passed
     (refl, refl, left ∙ ap (λ n. with_version old name e n now object) kept))
 
 -- ---- the broker, from the rows
@@ -99,7 +99,7 @@ module _ (forms : Forms) (b : Broker) (sound : SoundSecrets forms b.secrets) (mo
     same_limit : or_if_zero entry.max_versions (or_if_zero m.max_versions 10) ≡ versions_kept m over
     same_limit = ap (λ (e : KeyEntry). or_if_zero e.max_versions (or_if_zero m.max_versions 10)) entry_is
 
-    after_write : checked (over.cas_required || m.cas_required) over.current cas ≡ Ok tt → (v : Given)
+    after_write : checked (over.cas_required || m.cas_required) over.current cas ≡ Ok tt → (v : WriteAnswer)
         → IsWritten new v (rows.written t m name b.clock object entry) → IsToldAs new v (written b m name object over)
     after_write passed v h =
         let is_name : IsSecretName name = is_secret_name mount path (mounts mount m some).mount_name is_path in
@@ -111,7 +111,7 @@ module _ (forms : Forms) (b : Broker) (sound : SoundSecrets forms b.secrets) (mo
         )
 
   -- the write ends as its definition does on the broker
-  pub write_told : (result : Result Given RequestError)
+  pub write_told : (result : Result WriteAnswer RequestError)
       → Ends (IsWritten new) ⊤ result (rows.write t (get b.mounts mount) (option_map key_entry (get b.secrets name)) name b.clock cas object)
       → Ends (IsToldAs new) ⊤ result (write b mount path cas object)
   write_told result h =

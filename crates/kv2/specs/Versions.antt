@@ -43,7 +43,7 @@ numbered custom_metadata n v = record { number = n; version = v; custom_metadata
 -- ---- writing
 
 -- what a write answers: the number that it gave, and the custom metadata of its key, by name
-pub record Given : Type 0 where
+pub record WriteAnswer : Type 0 where
   pub number : ℕ
   pub custom_metadata : List (Text × Text)
 

@@ -74,9 +74,9 @@ pub struct WrittenVersion {
 }
 
 impl Model for WrittenVersion {
-    ghost use Rattle.kv2.specs.Versions.{Given};
+    ghost use Rattle.kv2.specs.Versions.{WriteAnswer};
 
-    ghost Value = { Given };
+    ghost Value = { WriteAnswer };
 
     ghost view = { λ v. record { number = v.number; custom_metadata = v.custom_metadata.items } };
 }

@@ -23,7 +23,7 @@ use Rattle.kv2.specs.Secrets as secrets
 use Rattle.kv2.specs.SecretRows.{KeepsOtherNames}
 use Rattle.kv2.specs.Secrets.{Written}
 use Rattle.kv2.specs.SoundLaws.{write_is, write_sound}
-use Rattle.kv2.specs.Versions.{Found, Given}
+use Rattle.kv2.specs.Versions.{Found, WriteAnswer}
 use Rattle.broker_model.specs.Forms.{forms}
 use Rattle.broker_model.specs.parts.Place.{Place}
 use Rattle.broker_model.specs.parts.SecretReplies.{object_left, version_reply, version_answered, written_reply}
@@ -48,12 +48,12 @@ acts_changed b who old new secrets st sound tells keeps = (refl, represents-secr
 -- ---- a write
 
 -- what holds of an error of a write holds of the same error of another call
-pub on_written : (P : Type 0) (e : RequestError) → OnAnswer {A = Given} (Err e) P → OnAnswer {A = Code.Answered} (Err e) P
+pub on_written : (P : Type 0) (e : RequestError) → OnAnswer {A = WriteAnswer} (Err e) P → OnAnswer {A = Code.Answered} (Err e) P
 on_written P (Refused r) p = p
 on_written P (Fault f) p = p
 
 -- the version that the code answers is the one that the definition has written, and the rows tell the next broker
-abbrev pub IsWrittenAs : Rows → Given → Written → Type 0
+abbrev pub IsWrittenAs : Rows → WriteAnswer → Written → Type 0
 IsWrittenAs new v w = (v.number ≡ w.number) × (v.custom_metadata ≡ w.custom_metadata) × Tells of_secrets (table_of new) w.next
 
 module _ (b : Broker) (who : Option Text) (old new : Rows) (names : Names) (p : Place) (asked : SecretWrite) (st : Represents who old b) where
@@ -64,11 +64,11 @@ module _ (b : Broker) (who : Option Text) (old new : Rows) (names : Names) (p : 
   shown m = m >>= (λ w. Ok (plainly (reply (written_reply names.request b.clock w.custom_metadata w.number) None) w.next))
 
   -- one that is refused leaves the broker as it was
-  pub acts_not_written : (e : RequestError) → EndsErr ⊤ e outcome → OnRefused {A = Given} (Err e) (new ≡ old)
+  pub acts_not_written : (e : RequestError) → EndsErr ⊤ e outcome → OnRefused {A = WriteAnswer} (Err e) (new ≡ old)
       → ActsAs who b new (Err e) (write b names p asked)
   acts_not_written e ends same = by e outcome ends same
     where
-      by : (e : RequestError) (m : Result Written Refusal) → EndsErr ⊤ e m → OnRefused {A = Given} (Err e) (new ≡ old)
+      by : (e : RequestError) (m : Result Written Refusal) → EndsErr ⊤ e m → OnRefused {A = WriteAnswer} (Err e) (new ≡ old)
           → ActsAs who b new (Err e) (shown m)
       by (Refused r) (Ok w) h same = absurd h
       by (Refused r) (Err x) h same = (h.0, still_represented b old new same st)
@@ -86,7 +86,7 @@ module _ (b : Broker) (who : Option Text) (old new : Rows) (names : Names) (p : 
         (represents-secrets b old new st _ (subst (λ (z : Written). Sound forms who z.next) x.3 sound)
         (subst (λ (z : Written). Tells of_secrets (table_of new) z.next) x.3 tells) inside)
 
-    pub acts_written : (v : Given) (now : ℕ) (x : Code.Answered) → now ≡ b.clock → EndsOk (IsWrittenAs new) v outcome
+    pub acts_written : (v : WriteAnswer) (now : ℕ) (x : Code.Answered) → now ≡ b.clock → EndsOk (IsWrittenAs new) v outcome
         → answered_of x ≡ reply (written_reply names.request now v.custom_metadata v.number) None → ActsAs who b new (Ok x) (write b names p asked)
     acts_written v now x clock ends answered = by outcome refl ends
       where

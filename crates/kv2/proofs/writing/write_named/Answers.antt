@@ -9,7 +9,7 @@ use Rattle.kv2.specs.SecretRows.{HasKey, KeepsOtherNames, new_entry, next_entry,
 use Rattle.kv2.specs.SecretRows as rows
 use Rattle.kv2.specs.Versions.{checked}
 use Rattle.kv2.proofs.Others.{written_keeps}
-use Rattle.kv2.proofs.WriteCalls.{IsWritten, given, rows_written}
+use Rattle.kv2.proofs.WriteCalls.{IsWritten, answer_of, rows_written}
 use Rattle.kv2.proofs.writing.write_named.Goals as goal
 
 pub returns-clause-rows : goal.returns-clause-rows
@@ -29,9 +29,9 @@ returns-clause-rows g c honest m k has_mount has_key =
     let some = sym c.in-Some.is ∙ c.in_ok-settings.ensures.found first m has_mount in
     let there : m ≢ None = λ none. none-some _ (sym (some ∙ none)) in
     let found = c.in_ok-found.ensures.found second k (subst (λ (r : Rows). HasKey (table_of r) name k) (sym same) (has_key there)) in
-    subst (λ (z : KeyEntry). EndsOk (IsWritten new) (given z) (rows.write old m k name now cas object))
+    subst (λ (z : KeyEntry). EndsOk (IsWritten new) (answer_of z) (rows.write old m k name now cas object))
     (sym (c.next.view_is ∙ c.in_ok-next.ensures.answer))
-    (subst (λ o. EndsOk (IsWritten new) (given (next_entry now e)) (rows.write old o k name now cas object)) some
+    (subst (λ o. EndsOk (IsWritten new) (answer_of (next_entry now e)) (rows.write old o k name now cas object)) some
     (rows_written old new c.in-Some.settings k name object now limit cas e
     (c.key_or_new-key.ensures.key ∙ ap (λ o. unwrap_or o (new_entry now)) found)
     (c.in_ok-check.ensures.checked ∙ (λ i. checked (c.is_required-required.ensures i) (c.key.view_is i).current cas))
