@@ -64,21 +64,21 @@ token_object t =
 
 -- ---- secrets (Vault's documentation, "KV secrets engine - version 2 (API)")
 
--- a version
-unfoldable pub version_object : VersionObject → Text
-version_object v =
+-- a version of a secret with this custom metadata
+unfoldable pub version_object : List (Text × Text) → VersionObject → Text
+version_object custom_metadata v =
     object_of (
     name.CreatedTime ⟼ time v.created
-    ∷ name.CustomMetadata ⟼ null_text
+    ∷ name.CustomMetadata ⟼ pairs custom_metadata
     ∷ name.DeletionTime ⟼ time_or (quoted []) v.deleted
     ∷ name.Destroyed ⟼ bool_text v.destroyed
     ∷ name.Version ⟼ whole_number v.version
     ∷ [])
 
 -- a version that is read: its object, which is compact JSON already, and its metadata
-unfoldable pub secret_object : Option Text → VersionObject → Text
-secret_object object v =
-    object_of (name.Payload ⟼ or_null object ∷ name.Metadata ⟼ version_object v ∷ [])
+unfoldable pub secret_object : Option Text → List (Text × Text) → VersionObject → Text
+secret_object object custom_metadata v =
+    object_of (name.Payload ⟼ or_null object ∷ name.Metadata ⟼ version_object custom_metadata v ∷ [])
 
 -- one kept version of a key, by its number in digits
 abbrev pub version_entry : VersionObject → Text × Text
@@ -102,7 +102,7 @@ key_object k =
     name.CasRequired ⟼ bool_text k.cas_required
     ∷ name.CreatedTime ⟼ time k.created
     ∷ name.CurrentVersion ⟼ whole_number k.current_version
-    ∷ name.CustomMetadata ⟼ null_text
+    ∷ name.CustomMetadata ⟼ pairs k.custom_metadata
     ∷ name.DeleteVersionAfter ⟼ quoted (codes "0s")
     ∷ name.MaxVersions ⟼ whole_number k.max_versions
     ∷ name.OldestVersion ⟼ whole_number k.oldest_version

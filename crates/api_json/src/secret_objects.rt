@@ -4,20 +4,26 @@ ghost use Rattle.api_json.specs.Objects.{version_object, version_entry, versions
 ghost use Rattle.api_json.specs.Objects.{secret_object, settings_object};
 
 use crate::by_name::ByName;
+use crate::lists::Pairs;
 use crate::name::Name;
 use crate::printing::ObjectText;
 use crate::version_list::{VersionObject, Versions};
 use broker_types::{Moment, TextBuf};
 use std::alloc::{AllocError, Global};
 
-/// Prints a version of a secret. The only error is running out of memory.
+/// Prints a version of a secret, with the names and texts of the secret's custom metadata, by name; no metadata
+/// prints as null. The only error is running out of memory.
 #[tactic(auto, unfolding(crate::specs::Objects::version_object))]
-pub fn version_object(alloc: Global, version: &VersionObject) -> Result<TextBuf, AllocError>
-    ensures { IfOk result (λ t. t ≡ version_object version.now) }
+pub fn version_object(
+    alloc: Global,
+    custom_metadata: &[(TextBuf, TextBuf)],
+    version: &VersionObject,
+) -> Result<TextBuf, AllocError>
+    ensures { IfOk result (λ t. t ≡ version_object custom_metadata.now version.now) }
 {
     ObjectText::new(alloc)?
         .time(Name::CreatedTime, version.created)?
-        .null(Name::CustomMetadata)?
+        .pairs(Name::CustomMetadata, custom_metadata)?
         .time_or_empty(Name::DeletionTime, version.deleted)?
         .flag(Name::Destroyed, version.destroyed)?
         .number(Name::Version, version.version)?
@@ -30,11 +36,12 @@ pub fn version_object(alloc: Global, version: &VersionObject) -> Result<TextBuf,
 pub fn secret_object(
     alloc: Global,
     object: &Option<TextBuf>,
+    custom_metadata: &[(TextBuf, TextBuf)],
     version: &VersionObject,
 ) -> Result<TextBuf, AllocError>
-    ensures { IfOk result (λ t. t ≡ secret_object object.now version.now) }
+    ensures { IfOk result (λ t. t ≡ secret_object object.now custom_metadata.now version.now) }
 {
-    let metadata = version_object(alloc, version)?;
+    let metadata = version_object(alloc, custom_metadata, version)?;
     ObjectText::new(alloc)?
         .or_null(Name::Payload, object)?
         .member(Name::Metadata, metadata.as_str())?
@@ -50,6 +57,8 @@ pub struct KeyObject {
     pub created: Moment,
     /// The number of its last version.
     pub current_version: u64,
+    /// Names and texts, by name; an empty list prints as null.
+    pub custom_metadata: Pairs,
     /// How many versions it keeps; 0 if its mount says that.
     pub max_versions: u64,
     /// The oldest version that is kept, if above 1; else 0.
@@ -70,7 +79,7 @@ pub fn key_object(alloc: Global, key: &KeyObject) -> Result<TextBuf, AllocError>
         .flag(Name::CasRequired, key.cas_required)?
         .time(Name::CreatedTime, key.created)?
         .number(Name::CurrentVersion, key.current_version)?
-        .null(Name::CustomMetadata)?
+        .pairs(Name::CustomMetadata, key.custom_metadata.as_slice())?
         .text(Name::DeleteVersionAfter, "0s")?
         .number(Name::MaxVersions, key.max_versions)?
         .number(Name::OldestVersion, key.oldest_version)?

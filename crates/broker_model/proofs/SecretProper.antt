@@ -12,7 +12,7 @@ use Rattle.api_json.specs.declared.secret_bodies.SecretWrite.{SecretWrite}
 use Rattle.records.specs.ValueLaws.{ok_inj}
 use Rattle.kv2.specs.Secrets as secrets
 use Rattle.kv2.specs.Secrets.{Written}
-use Rattle.kv2.specs.declared.secret_version.FoundVersion.{FoundVersion}
+use Rattle.kv2.specs.Versions.{Found}
 use Rattle.kv2.specs.SoundLaws.{write_is, write_evolves, secrets_evolve, settings_evolve}
 use Rattle.broker_model.specs.Order.{IsProper}
 use Rattle.broker_model.specs.declared.commands.SecretCommand.{SecretCommand}
@@ -23,7 +23,7 @@ use Rattle.broker_model.specs.parts.Secrets.{act_on_secrets, settings, read, wri
 use Rattle.broker_model.proofs.Operations.{shown_proper, silent_proper, missing_proper, changed_proper, listed_proper}
 
 module _ (b : Broker) where
-  version_proper : (request : Text) (v : FoundVersion) → IsProper b [] (plainly (version_answered request v) b)
+  version_proper : (request : Text) (v : Found) → IsProper b [] (plainly (version_answered request v) b)
   version_proper request v =
       elim (is_some (object_left v.version))
       as (λ x. IsProper b [] (plainly (if x then reply (version_reply request v) None else missing (version_reply request v)) b)) [
@@ -47,7 +47,7 @@ module _ (b : Broker) (names : Names) (p : Place) where
       let w = ok_step (secrets.write b p.mount p.path asked.cas asked.object) _ d e in
       let is = (write_is b p.mount p.path asked.cas asked.object w.0 w.1).3 in
       subst (IsProper b []) (ok_inj w.2)
-      (changed_proper b w.0.next (written_reply names.request b.clock w.0.number)
+      (changed_proper b w.0.next (written_reply names.request b.clock w.0.custom_metadata w.0.number)
       (ap (λ (z : Written). z.next.used) is) (ap (λ (z : Written). z.next.waiting) is)
       (write_evolves b p.mount p.path asked.cas asked.object w.0 w.1))
 

@@ -17,7 +17,7 @@ use Rattle.leases.specs.Endings.{AreReadable, are_owned}
 use Rattle.policies.specs.PolicyRows as policies
 use Rattle.kv2.specs.SecretRows.{IsRead}
 use Rattle.kv2.specs.Secrets.{secret_name}
-use Rattle.kv2.specs.declared.secret_version.FoundVersion.{FoundVersion}
+use Rattle.kv2.specs.Versions.{Found}
 use Rattle.broker_model.specs.parts.Place.{Place}
 
 -- the row at the path of t's cubbyhole is that of some object, or there is none
@@ -34,7 +34,7 @@ IsReadablePolicy rows name =
 -- none; and if there is one, so it is with that of the version.
 abbrev pub IsReadableSecret : Rows → Place → ℕ → Type 0
 IsReadableSecret rows p n =
-    (o : Option FoundVersion) × IsRead (table_of rows) (secret_name p.mount p.path) n o
+    (o : Option Found) × IsRead (table_of rows) (secret_name p.mount p.path) n o
 
 -- the row of t is that of some token, or there is none
 abbrev pub IsReadableToken : Rows → Text → Type 0

@@ -14,7 +14,7 @@ use Rattle.broker_types.specs.declared.refusal.Reason.TheVariants as reason
 use Rattle.records.specs.ValueLaws.{ok_inj}
 use Rattle.cubbyhole.specs.Cubbyhole as cubbyhole
 use Rattle.kv2.specs.Secrets as secrets
-use Rattle.kv2.specs.declared.secret_version.FoundVersion.{FoundVersion}
+use Rattle.kv2.specs.Versions.{Found}
 use Rattle.leases.specs.Leases as leases
 use Rattle.leases.specs.Roles as roles
 use Rattle.mounts.specs.Mounts.{enabled, disabled}
@@ -81,7 +81,7 @@ on_cubbyholes b c names path (of_cubbyhole.Write full) d e =
     let text = ok_step (some_or (refusal.BadRequest reason.MissingData) full) _ d e in
     told d text.2 refl
 
-version_tells : (request : Text) (v : FoundVersion) → is_kept (version_answered request v) ≡ false
+version_tells : (request : Text) (v : Found) → is_kept (version_answered request v) ≡ false
 version_tells request v =
     elim (is_some (object_left v.version)) as
     (λ o. is_kept (if o then reply (version_reply request v) None else missing (version_reply request v)) ≡ false) [

@@ -15,7 +15,7 @@ use Rattle.broker_types.specs.declared.reply.Reply.{Reply}
 use Rattle.records.specs.ValueLaws.{ok_inj}
 use Rattle.cubbyhole.specs.Cubbyhole as cubbyhole
 use Rattle.kv2.specs.Secrets as secrets
-use Rattle.kv2.specs.declared.secret_version.FoundVersion.{FoundVersion}
+use Rattle.kv2.specs.Versions.{Found}
 use Rattle.leases.specs.Leases as leases
 use Rattle.leases.specs.Roles as roles
 use Rattle.mounts.specs.Mounts.{enabled, disabled}
@@ -84,7 +84,7 @@ on_cubbyholes b c names path (of_cubbyhole.Write full) d e =
     let text = ok_step (some_or (refusal.BadRequest reason.MissingData) full) _ d e in
     told names d text.2 tt
 
-version_tells : (names : Names) (v : FoundVersion) → TellsMade names (version_answered names.request v)
+version_tells : (names : Names) (v : Found) → TellsMade names (version_answered names.request v)
 version_tells names v =
     elim (is_some (object_left v.version)) as
     (λ o. TellsMade names (if o then reply (version_reply names.request v) None else missing (version_reply names.request v))) [

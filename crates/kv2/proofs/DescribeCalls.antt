@@ -1,5 +1,5 @@
 -- Metadata, from what its calls say.
-use Rattle.std.specs.Prelude.{◌≡◌, ℕ, List, Option, Some, None, option_map, map, All, false}
+use Rattle.std.specs.Prelude.{◌≡◌, ℕ, List, Option, Some, None, option_map, map, All}
 use Rattle.std.specs.FinMap as fin
 use Rattle.std.proofs.Common.{sym, ◌∙◌, ap, subst}
 use Rattle.std.proofs.lemmas.List.Elements.{All-map, All-weaker}
@@ -42,13 +42,12 @@ module _ (forms : Forms) (b : Broker) (sound : SoundSecrets forms b.secrets) (ro
 
   -- the metadata that the rows have is that of the key
   pub describe_some : KeyLaws → (o : Option KeyEntry) (e : KeyEntry) → ((k : Option KeyEntry) → HasKey (table_of rows) name k → o ≡ k) → o ≡ Some e
-      → (vs : List (ℕ × Version)) × AreVersions rows name vs × (Some (metadata_with false 0 e vs) ≡ metadata b mount path)
+      → (vs : List (ℕ × Version)) × AreVersions rows name vs × (Some (metadata_with e vs) ≡ metadata b mount path)
   describe_some laws o e found some =
-      let k = mapped key_entry here e (sym (found (option_map key_entry here) key_told) ∙ some) in
-      let plain = (sound (secret_name mount path) k.0 k.1).no_settings in (
+      let k = mapped key_entry here e (sym (found (option_map key_entry here) key_told) ∙ some) in (
         fin.entries k.0.versions,
         subst (λ q. AreVersions rows q (fin.entries k.0.versions)) (sym is)
             (versions_listed laws forms b sound rows told (secret_name mount path) k.0 k.1),
-        (λ i. Some (metadata_with (sym plain.cas_required i) (sym plain.max_versions i) (k.2 i) (fin.entries k.0.versions)))
+        (λ i. Some (metadata_with (k.2 i) (fin.entries k.0.versions)))
             ∙ sym (ap (option_map metadata_of) k.1),
       )

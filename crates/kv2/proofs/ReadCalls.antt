@@ -3,7 +3,7 @@ use Rattle.std.specs.Prelude.{◌≡◌, ◌<◌, ◌^◌, ℕ, Option, Some, No
 use Rattle.std.specs.FinMap as fin
 use Rattle.std.proofs.Common.{sym, ◌∙◌, ap, subst}
 use Rattle.broker_types.specs.Text.{Text}
-use Rattle.broker_types.specs.Map.{get}
+use Rattle.broker_types.specs.Map.{get, entries}
 use Rattle.broker_types.specs.OptionLaws.{mapped, mapped_none}
 use Rattle.broker_types.specs.Secret.{Key, Version}
 use Rattle.broker_types.specs.Broker.{Broker}
@@ -12,14 +12,13 @@ use Rattle.records.specs.KeyEntry.{KeyEntry, key_entry}
 use Rattle.records.specs.Parts.{of_secrets, Tells}
 use Rattle.records.specs.Table.{Table}
 use Rattle.kv2.specs.SecretRows.{HasKey, HasVersion}
-use Rattle.kv2.specs.declared.secret_version.FoundVersion.{FoundVersion}
 use Rattle.kv2.specs.Secrets.{secret_name, read}
-use Rattle.kv2.specs.Versions.{version_of, asked_number, numbered}
+use Rattle.kv2.specs.Versions.{Found, version_of, asked_number, numbered}
 use Rattle.kv2.proofs.Digits.{KeyLaws}
 use Rattle.kv2.proofs.SecretsTold.{has_key, has_version}
 
-abbrev reading : ℕ → Key → Option FoundVersion
-reading n k = option_map (numbered (asked_number k.current n)) (fin.get k.versions (asked_number k.current n))
+abbrev reading : ℕ → Key → Option Found
+reading n k = option_map (numbered (entries k.custom_metadata) (asked_number k.current n)) (fin.get k.versions (asked_number k.current n))
 
 module _ (forms : Forms) (b : Broker) (sound : SoundSecrets forms b.secrets) (t : Table) (told : Tells of_secrets t b) (mount path name : Text)
     (is : name ≡ secret_name mount path) (n : ℕ) where
@@ -36,14 +35,14 @@ module _ (forms : Forms) (b : Broker) (sound : SoundSecrets forms b.secrets) (t 
 
   -- the version that the rows have is the one that is read
   pub read_some : KeyLaws → (o : Option KeyEntry) (e : KeyEntry) → ((k : Option KeyEntry) → HasKey t name k → o ≡ k) → o ≡ Some e → (m : ℕ)
-      → m ≡ asked_number e.current n → m < 2 ^ 64 → (v : Option Version) × HasVersion t name m v × (option_map (numbered m) v ≡ read b mount path n)
+      → m ≡ asked_number e.current n → m < 2 ^ 64 → (v : Option Version) × HasVersion t name m v × (option_map (numbered e.custom_metadata m) v ≡ read b mount path n)
   read_some laws o e found some m at small =
       let k = mapped key_entry here e (sym (found (option_map key_entry here) its_key) ∙ some) in
       let m_is : m ≡ asked_number k.0.current n = at ∙ ap (λ (e : KeyEntry). asked_number e.current n) k.2 in (
         version_of here m,
         subst (λ q. HasVersion t q m (version_of here m)) (sym is)
             (has_version forms b sound t told laws (secret_name mount path) m (sound (secret_name mount path) k.0 k.1).name small),
-        ap (λ o. option_map (numbered m) (version_of o m)) k.1
-            ∙ ap (λ z. option_map (numbered z) (fin.get k.0.versions z)) m_is
+        ap (λ o. option_map (numbered e.custom_metadata m) (version_of o m)) k.1
+            ∙ (λ i. option_map (numbered (k.2 i).custom_metadata (m_is i)) (fin.get k.0.versions (m_is i)))
             ∙ sym (ap (option_and_then (reading n)) k.1),
       )

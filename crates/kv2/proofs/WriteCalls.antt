@@ -1,8 +1,9 @@
 -- A write: what its calls say of the rows, and what the rows say of the broker.
-use Rattle.std.specs.Prelude.{◌≡◌, ◌+◌, ◌||◌, ℕ, false, Option, Some, None, option_map, unwrap_or, Result, Ok, Err, ⊤}
+use Rattle.std.specs.Prelude.{◌≡◌, ◌+◌, ◌||◌, ℕ, Option, Some, None, option_map, unwrap_or, Result, Ok, Err, ⊤}
 use Rattle.std.proofs.Common.{refl, sym, ◌∙◌, ap, subst, arith}
 use Rattle.broker_types.specs.Text.{Text}
 use Rattle.broker_types.specs.Map.{get}
+use Rattle.broker_types.specs.MapLaws.{entries-empty}
 use Rattle.broker_types.specs.Refuse.{◌>>=◌, some_or}
 use Rattle.broker_types.specs.RequestError.{Ends, EndsOk}
 use Rattle.broker_types.specs.Secret.{Key}
@@ -17,32 +18,35 @@ use Rattle.records.specs.Parts.{of_secrets, Tells}
 use Rattle.records.specs.Table.{Table}
 use Rattle.records.specs.ValueLaws.{none_of}
 use Rattle.kv2.specs.SecretRows as rows
-use Rattle.kv2.specs.SecretRows.{WrittenRows, new_entry, with_version}
+use Rattle.kv2.specs.SecretRows.{WrittenRows, new_entry, next_entry, with_version}
 use Rattle.kv2.specs.Secrets.{Written, secret_name, write, write_over, written}
 use Rattle.kv2.specs.SoundLaws.{room, is_secret_name}
-use Rattle.kv2.specs.declared.secret_version.WrittenVersion.{WrittenVersion}
-use Rattle.kv2.specs.Versions.{version_of, key_or_new, checked, or_if_zero, versions_kept}
+use Rattle.kv2.specs.Versions.{WriteAnswer, version_of, key_or_new, checked, or_if_zero, versions_kept}
 use Rattle.kv2.proofs.Digits.{KeyLaws, name_lacks}
 use Rattle.kv2.proofs.Writes.{written_told}
 
 -- ---- the rows, from the calls
 
--- the version after the current one of a key
-abbrev pub next_version : KeyEntry → WrittenVersion
-next_version e = record { number = e.current + 1 }
+-- what a write answers of the key that it leaves
+abbrev pub answer_of : KeyEntry → WriteAnswer
+answer_of e = record { number = e.current; custom_metadata = e.custom_metadata }
 
 -- the answer of a write, and its rows
-abbrev pub IsWritten : Table → WrittenVersion → WrittenRows → Type 0
-IsWritten new v w = (v.number ≡ w.number) × (new ≡ w.rows)
+abbrev pub IsWritten : Table → WriteAnswer → WrittenRows → Type 0
+IsWritten new v w = (v.number ≡ w.number) × (v.custom_metadata ≡ w.custom_metadata) × (new ≡ w.rows)
+
+-- the answer of a write, and the broker that its rows tell
+abbrev pub IsToldAs : Table → WriteAnswer → Written → Type 0
+IsToldAs new v w = (v.number ≡ w.number) × (v.custom_metadata ≡ w.custom_metadata) × Tells of_secrets new w.next
 
 pub rows_written : (old new : Table) (m : Mount) (k : Option KeyEntry) (name object : Text) (now limit : ℕ) (cas : Option ℕ) (e : KeyEntry)
-    → e ≡ unwrap_or k (new_entry now) → Ok tt ≡ checked m.cas_required e.current cas → limit ≡ or_if_zero m.max_versions 10
-    → new ≡ with_version old name e limit now object
-    → EndsOk (IsWritten new) (next_version e) (rows.write old (Some m) k name now cas object)
+    → e ≡ unwrap_or k (new_entry now) → Ok tt ≡ checked (e.cas_required || m.cas_required) e.current cas
+    → limit ≡ or_if_zero e.max_versions (or_if_zero m.max_versions 10) → new ≡ with_version old name e limit now object
+    → EndsOk (IsWritten new) (answer_of (next_entry now e)) (rows.write old (Some m) k name now cas object)
 rows_written old new m k name object now limit cas e is passed kept left =
-    subst (λ r. EndsOk (IsWritten new) (next_version e) (r >>= (λ _. Ok (rows.written old m name now object (unwrap_or k (new_entry now))))))
-    (passed ∙ ap (λ (z : KeyEntry). checked m.cas_required z.current cas) is)
-    (ap (λ (z : KeyEntry). z.current + 1) is, left ∙ (λ i. with_version old name (is i) (kept i) now object))
+    subst (λ (z : KeyEntry). EndsOk (IsWritten new) (answer_of (next_entry now e)) (rows.write_over old m name now cas object z)) is
+    (subst (λ r. EndsOk (IsWritten new) (answer_of (next_entry now e)) (r >>= (λ _. Ok (rows.written old m name now object e)))) passed
+    (refl, refl, left ∙ ap (λ n. with_version old name e n now object) kept))
 
 -- ---- the broker, from the rows
 
@@ -64,7 +68,7 @@ module _ {X Y Z : Type 0} (P : X → Y → Type 0) (Q : X → Z → Type 0) wher
   ends_tested (Err r) y z result keeps h = ends_refused r result h
 
 entry_or_new : (now : ℕ) (o : Option Key) → unwrap_or (option_map key_entry o) (new_entry now) ≡ key_entry (key_or_new now o)
-entry_or_new now None = refl
+entry_or_new now None = λ i. record (new_entry now) { custom_metadata = sym entries-empty i }
 entry_or_new now (Some k) = refl
 
 module _ (forms : Forms) (b : Broker) (sound : SoundSecrets forms b.secrets) (mounts : SoundMounts b.mounts) (t new : Table) (told : Tells of_secrets t b)
@@ -75,19 +79,7 @@ module _ (forms : Forms) (b : Broker) (sound : SoundSecrets forms b.secrets) (mo
   abbrev over : Key
   over = key_or_new b.clock (get b.secrets name)
 
-  -- the key has no settings of its own, and no version 0
-  no_cas : over.cas_required ≡ false
-  no_cas = elim (get b.secrets name) as (λ o. get b.secrets name ≡ o → (key_or_new b.clock o).cas_required ≡ false) [
-    | None ↦ λ _. refl
-    | Some k ↦ λ is. (sound name k is).no_settings.cas_required
-  ] refl
-
-  no_limit : over.max_versions ≡ 0
-  no_limit = elim (get b.secrets name) as (λ o. get b.secrets name ≡ o → (key_or_new b.clock o).max_versions ≡ 0) [
-    | None ↦ λ _. refl
-    | Some k ↦ λ is. (sound name k is).no_settings.max_versions
-  ] refl
-
+  -- the key has no version 0
   no_first : version_of (get b.secrets name) 0 ≡ None
   no_first = elim (get b.secrets name) as (λ o. get b.secrets name ≡ o → version_of o 0 ≡ None) [
     | None ↦ λ _. refl
@@ -101,36 +93,34 @@ module _ (forms : Forms) (b : Broker) (sound : SoundSecrets forms b.secrets) (mo
   entry_is = entry_or_new b.clock (get b.secrets name)
 
   module _ (m : Mount) (some : get b.mounts mount ≡ Some m) where
-    same_test : checked m.cas_required entry.current cas ≡ checked (over.cas_required || m.cas_required) over.current cas
-    same_test = ap (λ (e : KeyEntry). checked m.cas_required e.current cas) entry_is
-        ∙ sym (ap (λ r. checked (r || m.cas_required) over.current cas) no_cas)
+    same_test : checked (entry.cas_required || m.cas_required) entry.current cas ≡ checked (over.cas_required || m.cas_required) over.current cas
+    same_test = ap (λ (e : KeyEntry). checked (e.cas_required || m.cas_required) e.current cas) entry_is
 
-    same_limit : or_if_zero m.max_versions 10 ≡ versions_kept m over
-    same_limit = sym (ap (λ n. or_if_zero n (or_if_zero m.max_versions 10)) no_limit)
+    same_limit : or_if_zero entry.max_versions (or_if_zero m.max_versions 10) ≡ versions_kept m over
+    same_limit = ap (λ (e : KeyEntry). or_if_zero e.max_versions (or_if_zero m.max_versions 10)) entry_is
 
-    after_write : checked (over.cas_required || m.cas_required) over.current cas ≡ Ok tt → (v : WrittenVersion)
-        → IsWritten new v (rows.written t m name b.clock object entry)
-        → (v.number ≡ (written b m name object over).number) × Tells of_secrets new (written b m name object over).next
+    after_write : checked (over.cas_required || m.cas_required) over.current cas ≡ Ok tt → (v : WriteAnswer)
+        → IsWritten new v (rows.written t m name b.clock object entry) → IsToldAs new v (written b m name object over)
     after_write passed v h =
         let is_name : IsSecretName name = is_secret_name mount path (mounts mount m some).mount_name is_path in
-        let left = h.1 ∙ (λ i. with_version t name (entry_is i) (same_limit i) b.clock object) in (
+        let left = h.2 ∙ (λ i. with_version t name (entry_is i) (same_limit i) b.clock object) in (
           h.0 ∙ ap (λ (e : KeyEntry). e.current + 1) entry_is,
+          h.1 ∙ ap (λ (e : KeyEntry). e.custom_metadata) entry_is,
           subst (λ (t : Table). Tells of_secrets t (written b m name object over).next) (sym left)
               (written_told t b m name object told laws (name_lacks laws name is_name) (room _ over.current cas passed) no_first),
         )
 
   -- the write ends as its definition does on the broker
-  pub write_told : (result : Result WrittenVersion RequestError)
+  pub write_told : (result : Result WriteAnswer RequestError)
       → Ends (IsWritten new) ⊤ result (rows.write t (get b.mounts mount) (option_map key_entry (get b.secrets name)) name b.clock cas object)
-      → Ends (λ (v : WrittenVersion) (w : Written). (v.number ≡ w.number) × Tells of_secrets new w.next) ⊤ result (write b mount path cas object)
+      → Ends (IsToldAs new) ⊤ result (write b mount path cas object)
   write_told result h =
       elim (get b.mounts mount) as (λ o. get b.mounts mount ≡ o
       → Ends (IsWritten new) ⊤ result (rows.write t o (option_map key_entry (get b.secrets name)) name b.clock cas object)
-      → Ends (λ (v : WrittenVersion) (w : Written). (v.number ≡ w.number) × Tells of_secrets new w.next) ⊤ result (some_or refusal.NotFound o >>=
-      (λ m. write_over b m name cas object over))) [
-        | None ↦ λ _ z. ends_refused (IsWritten new) (λ (v : WrittenVersion) (w : Written). (v.number ≡ w.number) × Tells of_secrets new w.next) refusal.NotFound result z
+      → Ends (IsToldAs new) ⊤ result (some_or refusal.NotFound o >>= (λ m. write_over b m name cas object over))) [
+        | None ↦ λ _ z. ends_refused (IsWritten new) (IsToldAs new) refusal.NotFound result z
         | Some m ↦ λ some z.
-            ends_tested (IsWritten new) (λ (v : WrittenVersion) (w : Written). (v.number ≡ w.number) × Tells of_secrets new w.next)
+            ends_tested (IsWritten new) (IsToldAs new)
             (checked (over.cas_required || m.cas_required) over.current cas) (rows.written t m name b.clock object entry) (written b m name object over)
             result (λ passed v k. after_write m some passed v k)
             (subst (λ c. Ends (IsWritten new) ⊤ result (c >>= (λ _. Ok (rows.written t m name b.clock object entry)))) (same_test m some) z)

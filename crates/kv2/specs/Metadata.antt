@@ -3,6 +3,7 @@
 use Rattle.std.specs.Prelude.{ℕ, List, [], ◌∷◌, nat_lt, map, Bool, is_none, if◌then◌else◌}
 use Rattle.std.specs.FinMap as fin
 use Rattle.broker_types.specs.Secret.{Key, Version}
+use Rattle.broker_types.specs.Text.{Text}
 use Rattle.records.specs.KeyEntry.{KeyEntry, key_entry}
 use Rattle.kv2.specs.declared.secret_metadata.VersionMetadata.{VersionMetadata}
 
@@ -22,18 +23,21 @@ pub record Metadata : Type 0 where
   pub cas_required : Bool
   pub created : ℕ
   pub current : ℕ
+  -- names and values, by name
+  pub custom_metadata : List (Text × Text)
   pub max_versions : ℕ
   pub oldest : ℕ
   pub updated : ℕ
   pub versions : List VersionMetadata
 
--- the metadata of a key with these settings and these versions, in the order of their numbers
-abbrev pub metadata_with : Bool → ℕ → KeyEntry → List (ℕ × Version) → Metadata
-metadata_with cas_required max_versions k vs = record {
-  cas_required = cas_required;
+-- the metadata of a key with these versions, in the order of their numbers
+abbrev pub metadata_with : KeyEntry → List (ℕ × Version) → Metadata
+metadata_with k vs = record {
+  cas_required = k.cas_required;
   created = k.created;
   current = k.current;
-  max_versions = max_versions;
+  custom_metadata = k.custom_metadata;
+  max_versions = k.max_versions;
   oldest = oldest_of (map version_metadata vs);
   updated = k.updated;
   versions = map version_metadata vs;
@@ -41,4 +45,4 @@ metadata_with cas_required max_versions k vs = record {
 
 -- the metadata of a key
 abbrev pub metadata_of : Key → Metadata
-metadata_of k = metadata_with k.cas_required k.max_versions (key_entry k) (fin.entries k.versions)
+metadata_of k = metadata_with (key_entry k) (fin.entries k.versions)

@@ -1,6 +1,6 @@
 -- Versioned secrets as rows: a key has one at its name, and each version one at the name, a line feed and twenty digits
 -- (this project's row format).
-use Rattle.std.specs.Prelude.{◌≡◌, ◌<◌, ◌+◌, ◌-◌, ◌^◌, ◌&&◌, ◌==◌, ◌++◌, ℕ, List, [], ◌∷◌, nat_lt, Bool, true, false}
+use Rattle.std.specs.Prelude.{◌≡◌, ◌<◌, ◌+◌, ◌-◌, ◌^◌, ◌&&◌, ◌||◌, ◌==◌, ◌++◌, ℕ, List, [], ◌∷◌, nat_lt, Bool, true, false}
 use Rattle.std.specs.Prelude.{◌≢◌, if◌then◌else◌, Option, Some, None, option_map, unwrap_or, Result, Ok}
 use Rattle.std.specs.Prelude.{◌≤◌, map, All}
 use Rattle.std.specs.List.{list_any}
@@ -27,8 +27,7 @@ use Rattle.records.specs.Splits.{line_feed}
 use Rattle.records.specs.Transaction.{Rows, rows_under}
 use Rattle.records.specs.Table.{Table, table_of, with_row, without_row, without_under, has_prefix, is_at}
 use Rattle.kv2.specs.Metadata.{Metadata, metadata_with}
-use Rattle.kv2.specs.declared.secret_version.FoundVersion.{FoundVersion}
-use Rattle.kv2.specs.Versions.{asked_number, numbered, or_if_zero, checked, new_version, is_among}
+use Rattle.kv2.specs.Versions.{Found, asked_number, numbered, or_if_zero, checked, new_version, is_among}
 
 -- ---- what is at a key
 
@@ -91,14 +90,14 @@ KeepsOtherMounts name old new = (k : Kind) (q : Text) → is_at kind.Mount name 
 -- ---- reading
 
 -- what is read of a key that is there or not
-abbrev pub IsReadOf : Table → Text → ℕ → Option KeyEntry → Option FoundVersion → Type 0
+abbrev pub IsReadOf : Table → Text → ℕ → Option KeyEntry → Option Found → Type 0
 IsReadOf rows name n None o = o ≡ None
 IsReadOf rows name n (Some k) o =
     let asked = asked_number k.current n in
-    (v : Option Version) × HasVersion rows name asked v × (o ≡ option_map (numbered asked) v)
+    (v : Option Version) × HasVersion rows name asked v × (o ≡ option_map (numbered k.custom_metadata asked) v)
 
 -- what is read at a name: the version that is asked for with its number, if its rows are there
-abbrev pub IsRead : Table → Text → ℕ → Option FoundVersion → Type 0
+abbrev pub IsRead : Table → Text → ℕ → Option Found → Type 0
 IsRead rows name n o = (k : Option KeyEntry) × HasKey rows name k × IsReadOf rows name n k o
 
 -- ---- versions listed
@@ -130,9 +129,9 @@ AreVersions rows name vs = AreEntriesOf name (rows_under rows kind.KvVersion (ve
 abbrev pub IsMetadataOf : Rows → Text → Option KeyEntry → Option Metadata → Type 0
 IsMetadataOf rows name None o = o ≡ None
 IsMetadataOf rows name (Some k) o =
-    (vs : List (ℕ × Version)) × AreVersions rows name vs × (o ≡ Some (metadata_with false 0 k vs))
+    (vs : List (ℕ × Version)) × AreVersions rows name vs × (o ≡ Some (metadata_with k vs))
 
--- the metadata at a name, if its rows are there; a key has no settings of its own so far
+-- the metadata at a name, if its rows are there
 abbrev pub IsMetadata : Rows → Text → Option Metadata → Type 0
 IsMetadata rows name o = (k : Option KeyEntry) × HasKey (table_of rows) name k × IsMetadataOf rows name k o
 
@@ -156,13 +155,20 @@ pruned rows name v limit =
     if nat_lt limit v then without_upto rows kind.KvVersion (versions_prefix name) (version_key name (v - limit))
     else rows
 
--- a key without versions
+-- a key without versions and settings
 abbrev pub new_entry : ℕ → KeyEntry
-new_entry now = record { current = 0; created = now; updated = now }
+new_entry now = record {
+  current = 0;
+  created = now;
+  updated = now;
+  cas_required = false;
+  max_versions = 0;
+  custom_metadata = [];
+}
 
 -- the key after one more version
 abbrev pub next_entry : ℕ → KeyEntry → KeyEntry
-next_entry now k = record { current = k.current + 1; created = k.created; updated = now }
+next_entry now k = record k { current = k.current + 1; updated = now }
 
 -- the table with one more version of a name, and without those that the limit does not leave
 abbrev pub with_version : Table → Text → KeyEntry → ℕ → ℕ → Text → Table
@@ -171,24 +177,31 @@ with_version rows name k limit now object =
     (version_row (new_version now object))) kind.KvKey name (key_entry_row (next_entry now k)))
     name (k.current + 1) limit
 
--- the number that a write gave, and the next rows
+-- the number that a write gave, the custom metadata of the key, by name, and the next rows
 pub record WrittenRows : Type 0 where
   pub number : ℕ
+  pub custom_metadata : List (Text × Text)
   pub rows : Table
 
 -- one more version of a key
 abbrev pub written : Table → Mount → Text → ℕ → Text → KeyEntry → WrittenRows
 written rows m name now object k = record {
   number = k.current + 1;
-  rows = with_version rows name k (or_if_zero m.max_versions 10) now object;
+  custom_metadata = k.custom_metadata;
+  rows = with_version rows name k (or_if_zero k.max_versions (or_if_zero m.max_versions 10)) now object;
 }
+
+-- a write over a key that is there or new
+abbrev pub write_over : Table → Mount → Text → ℕ → Option ℕ → Text → KeyEntry → Result WrittenRows Refusal
+write_over rows m name now cas object k = do
+  passed ← checked (k.cas_required || m.cas_required) k.current cas
+  Ok (written rows m name now object k)
 
 -- the object as the next version of a name, for what the rows have of the mount and of the key
 abbrev pub write : Table → Option Mount → Option KeyEntry → Text → ℕ → Option ℕ → Text → Result WrittenRows Refusal
 write rows mount key name now cas object = do
   m ← some_or refusal.NotFound mount
-  passed ← checked m.cas_required (unwrap_or key (new_entry now)).current cas
-  Ok (written rows m name now object (unwrap_or key (new_entry now)))
+  write_over rows m name now cas object (unwrap_or key (new_entry now))
 
 -- ---- deletion
 

@@ -5,7 +5,7 @@ use Rattle.std.specs.Prelude.{option_and_then, Result, Ok}
 use Rattle.std.specs.List.{starts_with}
 use Rattle.std.specs.FinMap as fin
 use Rattle.broker_types.specs.Text.{Text}
-use Rattle.broker_types.specs.Map.{get, put, without, keep, keys, change}
+use Rattle.broker_types.specs.Map.{get, put, without, keep, keys, entries, change}
 use Rattle.broker_types.specs.Refuse.{◌>>=◌, some_or}
 use Rattle.broker_types.specs.Secret.{Key, Version}
 use Rattle.broker_types.specs.Broker.{Broker, Mount}
@@ -14,9 +14,8 @@ use Rattle.broker_types.specs.declared.refusal.Refusal.TheVariants as refusal
 use Rattle.records.specs.Children.{folder, children}
 use Rattle.records.specs.Splits.{slash}
 use Rattle.kv2.specs.Metadata.{Metadata, metadata_of}
-use Rattle.kv2.specs.declared.secret_version.FoundVersion.{FoundVersion}
-use Rattle.kv2.specs.Versions.{asked_number, numbered, versions_kept, checked, key_or_new, with_version, with_changed}
-use Rattle.kv2.specs.Versions.{soft_deleted, restored, destroyed}
+use Rattle.kv2.specs.Versions.{Found, asked_number, numbered, versions_kept, checked, key_or_new, with_version}
+use Rattle.kv2.specs.Versions.{with_changed, soft_deleted, restored, destroyed}
 
 -- the name of a secret among those of all mounts
 abbrev pub secret_name : Text → Text → Text
@@ -47,9 +46,9 @@ set_config b mount cas_required max_versions =
 -- ---- reading
 
 -- a version that is kept, with its number, also if it is deleted or destroyed; 0 asks for the current one
-abbrev pub read : Broker → Text → Text → ℕ → Option FoundVersion
+abbrev pub read : Broker → Text → Text → ℕ → Option Found
 read b mount path n =
-    option_and_then (λ (k : Key). option_map (numbered (asked_number k.current n))
+    option_and_then (λ (k : Key). option_map (numbered (entries k.custom_metadata) (asked_number k.current n))
     (fin.get k.versions (asked_number k.current n))) (key_at b mount path)
 
 -- what is told of a secret besides its texts
@@ -62,15 +61,17 @@ list b mount path = children (secret_name mount (folder path)) (keys b.secrets)
 
 -- ---- writing
 
--- the number that a write gave, and the next broker
+-- the number that a write gave, the custom metadata of the key, by name, and the next broker
 pub record Written : Type 0 where
   pub number : ℕ
+  pub custom_metadata : List (Text × Text)
   pub next : Broker
 
 -- one more version of a key
 abbrev pub written : Broker → Mount → Text → Text → Key → Written
 written b m name object k = record {
   number = k.current + 1;
+  custom_metadata = entries k.custom_metadata;
   next = record b { secrets = put b.secrets name (with_version b.clock (versions_kept m k) object k) };
 }
 

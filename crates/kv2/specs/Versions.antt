@@ -15,7 +15,6 @@ use Rattle.broker_types.specs.declared.refusal.Refusal.{Refusal}
 use Rattle.broker_types.specs.declared.refusal.Refusal.TheVariants as refusal
 use Rattle.broker_types.specs.declared.refusal.Reason.TheVariants as reason
 use Rattle.broker_types.specs.declared.refusal.Field.TheVariants as field
-use Rattle.kv2.specs.declared.secret_version.FoundVersion.{FoundVersion}
 
 -- versions by number
 abbrev pub Versions : Type 0
@@ -31,11 +30,22 @@ version_of o n = option_and_then (λ (k : Key). fin.get k.versions n) o
 abbrev pub asked_number : ℕ → ℕ → ℕ
 asked_number current n = if n == 0 then current else n
 
--- a version with its number
-abbrev pub numbered : ℕ → Version → FoundVersion
-numbered n v = record { number = n; version = v }
+-- a version that is read: its number, what is kept of it, and the custom metadata of its key, by name
+pub record Found : Type 0 where
+  pub number : ℕ
+  pub version : Version
+  pub custom_metadata : List (Text × Text)
+
+-- a version of a key with this custom metadata, with its number
+abbrev pub numbered : List (Text × Text) → ℕ → Version → Found
+numbered custom_metadata n v = record { number = n; version = v; custom_metadata = custom_metadata }
 
 -- ---- writing
+
+-- what a write answers: the number that it gave, and the custom metadata of its key, by name
+pub record WriteAnswer : Type 0 where
+  pub number : ℕ
+  pub custom_metadata : List (Text × Text)
 
 -- the first number, or the second if the first is 0
 abbrev pub or_if_zero : ℕ → ℕ → ℕ

@@ -133,7 +133,7 @@ fn change_current<T: RecordsTx>(
         → IfErr result IsMemoryOrStorage }
     ensures call { IsCall (T.seen tx.old) (T.seen tx.new) result IsNotBadStart }
 {
-    let Some(key) = find_key(tx, name)? else {
+    let Some(key) = find_key(alloc, tx, name)? else {
         return Ok(());
     };
     change_version(alloc, tx, name, key.current, change)

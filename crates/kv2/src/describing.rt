@@ -138,27 +138,28 @@ fn oldest_of(versions: &[VersionMetadata]) -> u64
     }
 }
 
-/// A key with its versions. It has no settings of its own.
-fn with_versions(key: &KeyRecord, versions: Vec<VersionMetadata>) -> SecretMetadata
+/// A key with its versions.
+fn with_versions(key: KeyRecord, versions: Vec<VersionMetadata>) -> SecretMetadata
     ensures told { (vs : List (ℕ × Version)) → versions.items ≡ map spec.version_metadata vs
-        → result ≡ spec.metadata_with false 0 key.now vs }
-    ensures in_range { IsKeyInRange key.now → AreToldInRange versions.items → IsMetadataInRange result }
+        → result ≡ spec.metadata_with key vs }
+    ensures in_range { IsKeyInRange key → AreToldInRange versions.items → IsMetadataInRange result }
 {
     SecretMetadata {
-        cas_required: false,
+        cas_required: key.cas_required,
         created: key.created,
         current: key.current,
-        max_versions: 0,
+        custom_metadata: key.custom_metadata,
+        max_versions: key.max_versions,
         oldest: oldest_of(&versions),
         updated: key.updated,
         versions,
     }
 }
 
-/// The secret at a path of a mount without its texts, if it is there: its own settings, of which it has none so
-/// far, its times and its versions in the order of their numbers. It fails as `Damaged` if a row that it reads is
-/// not one of a key or of a version, and also if memory runs out or the storage fails (Vault's documentation, "KV
-/// secrets engine - version 2 (API)", read secret metadata).
+/// The secret at a path of a mount without its texts, if it is there: its own settings, its times and its versions
+/// in the order of their numbers. It fails as `Damaged` if a row that it reads is not one of a key or of a version,
+/// and also if memory runs out or the storage fails (Vault's documentation, "KV secrets engine - version 2 (API)",
+/// read secret metadata).
 pub fn metadata<T: RecordsTx>(
     alloc: Global,
     tx: &mut T,
@@ -179,9 +180,9 @@ pub fn metadata<T: RecordsTx>(
 {
     versions_have_keys();
     let name = secret_name(alloc, mount, path)?;
-    let Some(key) = find_key(tx, name.as_str())? else {
+    let Some(key) = find_key(alloc, tx, name.as_str())? else {
         return Ok(None);
     };
     let versions = find_versions(alloc, tx, name.as_str())?;
-    Ok(Some(with_versions(&key, versions)))
+    Ok(Some(with_versions(key, versions)))
 }

@@ -13,6 +13,7 @@ ghost use Rattle.kv2.specs.SecretRows.{HasKey, HasMount};
 
 use broker_types::Fault;
 use records::{KeyRecord, Kind, MountRecord, RecordsTx, read_key, read_mount};
+use std::alloc::Global;
 
 /// The mount of a name, if there is one. It fails as `Damaged` if the row is not one of a mount, and also if
 /// memory runs out or the storage fails.
@@ -35,7 +36,11 @@ pub(crate) fn find_mount<T: RecordsTx>(
 
 /// The key of a name without its versions, if there is one. It fails as `Damaged` if the row is not one of a
 /// key, and also if memory runs out or the storage fails.
-pub(crate) fn find_key<T: RecordsTx>(tx: &mut T, name: &str) -> Result<Option<KeyRecord>, Fault>
+pub(crate) fn find_key<T: RecordsTx>(
+    alloc: Global,
+    tx: &mut T,
+    name: &str,
+) -> Result<Option<KeyRecord>, Fault>
     ensures found { IsHonest (T.seen tx.new) → (k : Option KeyEntry)
         → HasKey (table (T.seen tx.old)) name.now k → IfOk result (λ o. o ≡ k) }
     ensures exact { IsHonest (T.seen tx.new) → IfOk result (HasKey (table (T.seen tx.old)) name.now) }
@@ -47,5 +52,5 @@ pub(crate) fn find_key<T: RecordsTx>(tx: &mut T, name: &str) -> Result<Option<Ke
     let Some(kept) = tx.get(Kind::KvKey, name)? else {
         return Ok(None);
     };
-    Ok(Some(read_key(&kept)?))
+    Ok(Some(read_key(alloc, &kept)?))
 }

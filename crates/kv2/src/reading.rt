@@ -13,32 +13,30 @@ ghost use Rattle.records.specs.Reading.{IsSomeIn};
 ghost use Rattle.records.specs.Table.{table};
 ghost use Rattle.records.specs.Transaction.{IsHonest};
 ghost use Rattle.kv2.specs.SecretRows.{HasVersion, IsRead};
-ghost use Rattle.kv2.specs.declared.secret_version.FoundVersion.{FoundVersion};
 ghost use Rattle.kv2.specs.Secrets as secrets;
 ghost use Rattle.kv2.specs.Versions as versions;
+ghost use Rattle.kv2.specs.Versions.{Found};
 
 use crate::finding::find_key;
 use crate::keys::{secret_name, version_key};
 use crate::secret_version::{FoundVersion, SecretVersion};
-use broker_types::Fault;
+use broker_types::{Fault, TextBuf};
 use records::{Kind, RecordsTx, read_version, versions_have_keys};
 use std::alloc::Global;
 
-/// A version of the secret of a name, if there is one. It fails as `Damaged` if the row is not one of a
+/// What is kept of a version of the secret of a name, if there is one. It fails as `Damaged` if the row is not one of a
 /// version, and also if memory runs out or the storage fails.
 fn find_version<T: RecordsTx>(
     alloc: Global,
     tx: &mut T,
     name: &str,
     number: u64,
-) -> Result<Option<FoundVersion>, Fault>
+) -> Result<Option<SecretVersion>, Fault>
     ensures found { IsHonest (T.seen tx.new) → (v : Option Version)
-        → HasVersion (table (T.seen tx.old)) name.now number v
-        → IfOk result (λ o. o ≡ option_map (versions.numbered number) v) }
-    ensures exact { IsHonest (T.seen tx.new) → IfOk result (λ o. (v : Option Version)
-        × HasVersion (table (T.seen tx.old)) name.now number v
-        × (o ≡ option_map (versions.numbered number) v)) }
-    ensures in_range { IfOk result (IsSomeIn (λ v. IsVersionInRange v.version)) }
+        → HasVersion (table (T.seen tx.old)) name.now number v → IfOk result (λ o. o ≡ v) }
+    ensures exact { IsHonest (T.seen tx.new)
+        → IfOk result (HasVersion (table (T.seen tx.old)) name.now number) }
+    ensures in_range { IfOk result (IsSomeIn IsVersionInRange) }
     ensures faults { IsHonest (T.seen tx.new) → (v : Option Version)
         → HasVersion (table (T.seen tx.old)) name.now number v → IfErr result IsMemoryOrStorage }
     ensures call { IsReading (T.seen tx.old) (T.seen tx.new) result IsNotBadStart }
@@ -49,7 +47,26 @@ fn find_version<T: RecordsTx>(
     };
     let found = read_version(&kept)?;
     let version = SecretVersion::copied(alloc, &found)?;
-    Ok(Some(FoundVersion { number, version }))
+    Ok(Some(version))
+}
+
+/// The version of a secret with this custom metadata, with its number, if there is one.
+fn numbered(
+    custom_metadata: Vec<(TextBuf, TextBuf)>,
+    number: u64,
+    found: Option<SecretVersion>,
+) -> Option<FoundVersion>
+    ensures value { result ≡ option_map (versions.numbered custom_metadata.items number) found }
+    ensures in_range { IsSomeIn IsVersionInRange found → IsSomeIn (λ v. IsVersionInRange v.version) result }
+{
+    match found {
+        None => None,
+        Some(version) => Some(FoundVersion {
+            number,
+            version,
+            custom_metadata,
+        }),
+    }
 }
 
 /// The number that is asked for; 0 is the current one.
@@ -59,8 +76,8 @@ fn asked_number(current: u64, number: u64) -> u64
     if number == 0 { current } else { number }
 }
 
-/// A version of the secret at a path of a mount with its number, also if it is deleted or destroyed; 0 asks
-/// for the current one. There is none if the secret or the version is not there. It fails as `Damaged` if a row
+/// A version of the secret at a path of a mount with its number, also if it is deleted or destroyed, and with the
+/// secret's custom metadata; 0 asks for the current one. There is none if the secret or the version is not there. It fails as `Damaged` if a row
 /// that it reads is not one of a key or of a version, and also if memory runs out or the storage fails (Vault's
 /// documentation, "KV secrets engine - version 2 (API)", read secret version).
 pub fn read<T: RecordsTx>(
@@ -76,7 +93,7 @@ pub fn read<T: RecordsTx>(
         → Tells of_secrets (table (T.seen tx.old)) b
         → IfOk result (λ o. o ≡ secrets.read b mount.now path.now number) }
     ensures in_range { IfOk result (IsSomeIn (λ v. IsVersionInRange v.version)) }
-    ensures faults { IsHonest (T.seen tx.new) → (o : Option FoundVersion)
+    ensures faults { IsHonest (T.seen tx.new) → (o : Option Found)
         → IsRead (table (T.seen tx.old)) (secrets.secret_name mount.now path.now) number o
         → IfErr result IsMemoryOrStorage }
     ensures wants { IsHonest (T.seen tx.new) → (forms : Forms) (b : Broker) → SoundSecrets forms b.secrets
@@ -85,11 +102,12 @@ pub fn read<T: RecordsTx>(
 {
     versions_have_keys();
     let name = secret_name(alloc, mount, path)?;
-    let Some(key) = find_key(tx, name.as_str())? else {
+    let Some(key) = find_key(alloc, tx, name.as_str())? else {
         return Ok(None);
     };
     let asked = asked_number(key.current, number);
-    find_version(alloc, tx, name.as_str(), asked)
+    let found = find_version(alloc, tx, name.as_str(), asked)?;
+    Ok(numbered(key.custom_metadata, asked, found))
 }
 
 /// Whether a secret is at a path of a mount, also if its versions are deleted or destroyed. The row of its key tells

@@ -1,3 +1,4 @@
+use broker_types::TextBuf;
 use std::marker::Model;
 
 /// A version of a secret without its text (Vault's documentation, "KV secrets engine - version 2"). Moments are
@@ -24,6 +25,8 @@ pub struct SecretMetadata {
     pub created: u64,
     /// The last version written.
     pub current: u64,
+    /// Names and values, by name.
+    pub custom_metadata: Vec<(TextBuf, TextBuf)>,
     /// How many versions it keeps; 0 if its mount says that.
     pub max_versions: u64,
     /// The oldest version that is kept, if it is above 1; else 0.
@@ -43,6 +46,7 @@ impl Model for SecretMetadata {
       cas_required = m.cas_required;
       created = m.created;
       current = m.current;
+      custom_metadata = m.custom_metadata.items;
       max_versions = m.max_versions;
       oldest = m.oldest;
       updated = m.updated;

@@ -48,11 +48,35 @@ pub struct FoundVersion {
     pub number: u64,
     /// What is kept of it.
     pub version: SecretVersion,
+    /// The names and values of the secret's custom metadata, by name.
+    pub custom_metadata: Vec<(TextBuf, TextBuf)>,
+}
+
+impl Model for FoundVersion {
+    ghost use Rattle.kv2.specs.Versions.{Found};
+
+    ghost Value = { Found };
+
+    ghost view = { λ v. record {
+      number = v.number;
+      version = v.version;
+      custom_metadata = v.custom_metadata.items;
+    } };
 }
 
 /// A version of a secret that was written.
-#[derive(Clone, Copy, Debug, PartialEq, Eq)]
+#[derive(Drop)]
 pub struct WrittenVersion {
     /// Its number, from 1 on.
     pub number: u64,
+    /// The names and values of the secret's custom metadata, by name.
+    pub custom_metadata: Vec<(TextBuf, TextBuf)>,
+}
+
+impl Model for WrittenVersion {
+    ghost use Rattle.kv2.specs.Versions.{WriteAnswer};
+
+    ghost Value = { WriteAnswer };
+
+    ghost view = { λ v. record { number = v.number; custom_metadata = v.custom_metadata.items } };
 }

@@ -1,14 +1,17 @@
 //! Secrets, written.
 
-ghost use Rattle.std.specs.Prelude.{◌≡◌, ◌≢◌, ◌<◌, ◌^◌, Option, None, unwrap_or, length, OnOk, ⊤};
+ghost use Rattle.std.specs.Prelude.{◌≡◌, ◌≢◌, ◌<◌, ◌^◌, ◌||◌, Option, None, unwrap_or, length, IfOk, OnOk};
+ghost use Rattle.std.specs.Prelude.{⊤};
 ghost use Rattle.broker_types.specs.Broker.{Broker, Mount};
 ghost use Rattle.broker_types.specs.Fault.{IsMemoryOrStorage, IsNotBadStart};
 ghost use Rattle.broker_types.specs.Limits.{greatest_version};
 ghost use Rattle.broker_types.specs.RequestError.{Ends};
-ghost use Rattle.broker_types.specs.Sound.{Forms, SoundSecrets, SoundMounts, IsPathText};
+ghost use Rattle.broker_types.specs.Sound.{Forms, SoundSecrets, SoundMounts, IsPathText, IsMoment};
 ghost use Rattle.records.specs.Calls.{OnAnswer, OnRefused, IsCall, IsRequestChange};
 ghost use Rattle.records.specs.KeyEntry.{KeyEntry};
 ghost use Rattle.records.specs.Parts.{of_secrets, of_mounts, Tells};
+ghost use Rattle.records.specs.Ranges.{IsKeyInRange};
+ghost use Rattle.records.specs.Reading.{IsSomeIn};
 ghost use Rattle.records.specs.Table.{table};
 ghost use Rattle.records.specs.Transaction.{IsHonest};
 ghost use Rattle.kv2.specs.SecretRows as rows;
@@ -31,9 +34,10 @@ use std::alloc::Global;
 /// How many versions of a secret are kept if no setting says it.
 const VERSIONS_KEPT: u64 = 10;
 
-/// The key, or a new one without versions.
-fn key_or_new(found: Option<KeyRecord>, now: u64) -> KeyRecord
-    ensures { result ≡ unwrap_or found (rows.new_entry now) }
+/// The key, or a new one without versions and settings. No memory is taken.
+fn key_or_new(alloc: Global, found: Option<KeyRecord>, now: u64) -> KeyRecord
+    ensures key { result ≡ unwrap_or found (rows.new_entry now) }
+    ensures in_range { IsMoment now → IsSomeIn IsKeyInRange found → IsKeyInRange result }
 {
     match found {
         Some(key) => key,
@@ -41,6 +45,9 @@ fn key_or_new(found: Option<KeyRecord>, now: u64) -> KeyRecord
             current: 0,
             created: now,
             updated: now,
+            cas_required: false,
+            max_versions: 0,
+            custom_metadata: Vec::new(alloc),
         },
     }
 }
@@ -69,31 +76,44 @@ fn check(required: bool, current: u64, cas: Option<u64>) -> Result<(), Refusal>
     Ok(())
 }
 
-/// How many versions a mount keeps of a secret.
-fn versions_kept(mount: &MountRecord) -> u64
-    ensures { result ≡ versions.or_if_zero mount.now.max_versions 10 }
+/// Whether a write must say which version it follows, as the secret or its mount says.
+fn is_required(mount: &MountRecord, key: &KeyRecord) -> bool
+    ensures { result ≡ (key.now.cas_required || mount.now.cas_required) }
 {
-    if mount.max_versions == 0 {
+    key.cas_required || mount.cas_required
+}
+
+/// How many versions are kept of a secret: as it says itself, else as its mount says.
+fn versions_kept(mount: &MountRecord, key: &KeyRecord) -> u64
+    ensures { result ≡ versions.or_if_zero key.now.max_versions (versions.or_if_zero mount.now.max_versions 10) }
+{
+    if key.max_versions != 0 {
+        key.max_versions
+    } else if mount.max_versions == 0 {
         VERSIONS_KEPT
     } else {
         mount.max_versions
     }
 }
 
-/// Puts one more version and the key, and removes the versions that the limit does not leave.
+/// Puts one more version and the key, and removes the versions that the limit does not leave. It answers the key as
+/// it is then.
 fn put_version<T: RecordsTx>(
     alloc: Global,
     tx: &mut T,
     name: &str,
-    key: &KeyRecord,
+    key: KeyRecord,
     limit: u64,
     now: u64,
     object: &str,
-) -> Result<(), Fault>
-    requires room { key.now.current < greatest_version }
+) -> Result<KeyRecord, Fault>
+    requires room { key.current < greatest_version }
+    requires kept { IsKeyInRange key }
+    requires moment { IsMoment now }
     requires short { length object.now < 2 ^ 32 }
     ensures rows { IsHonest (T.seen tx.new) → OnOk result (table (T.seen tx.new)
-        ≡ rows.with_version (table (T.seen tx.old)) name.now key.now limit now object.now) }
+        ≡ rows.with_version (table (T.seen tx.old)) name.now key limit now object.now) }
+    ensures answer { IfOk result (λ k. k ≡ rows.next_entry now key) }
     ensures call { IsCall (T.seen tx.old) (T.seen tx.new) result IsMemoryOrStorage }
 {
     let number = key.current + 1;
@@ -106,13 +126,17 @@ fn put_version<T: RecordsTx>(
         current: number,
         created: key.created,
         updated: now,
+        cas_required: key.cas_required,
+        max_versions: key.max_versions,
+        custom_metadata: key.custom_metadata,
     };
     let place = version_key(alloc, name, number)?;
     let version_row = write_version(alloc, &version)?;
     let key_row = write_key(alloc, &next)?;
     tx.put(Kind::KvVersion, place.as_str(), version_row)?;
     tx.put(Kind::KvKey, name, key_row)?;
-    prune(alloc, tx, name, number, limit)
+    prune(alloc, tx, name, number, limit)?;
+    Ok(next)
 }
 
 /// The write of an object at a moment, in seconds since 1970-01-01T00:00:00Z, over the rows of a mount and of a
@@ -126,11 +150,13 @@ fn write_named<T: RecordsTx>(
     cas: Option<u64>,
     object: &str,
 ) -> Result<WrittenVersion, RequestError>
-    requires { length object.now < 2 ^ 32 }
+    requires moment { IsMoment now }
+    requires short { length object.now < 2 ^ 32 }
     ensures rows { IsHonest (T.seen tx.new) → (m : Option Mount) (k : Option KeyEntry)
         → HasMount (table (T.seen tx.old)) mount.now m
         → (m ≢ None → HasKey (table (T.seen tx.old)) name.now k)
-        → Ends (λ v w. (v.number ≡ w.number) × (table (T.seen tx.new) ≡ w.rows)) ⊤ result
+        → Ends (λ v w. (v.number ≡ w.number) × (v.custom_metadata ≡ w.custom_metadata)
+        × (table (T.seen tx.new) ≡ w.rows)) ⊤ result
         (rows.write (table (T.seen tx.old)) m k name.now now cas object.now) }
     ensures refused { IsHonest (T.seen tx.new) → OnRefused result ((T.seen tx.new).rows ≡ (T.seen tx.old).rows) }
     ensures readable { IsHonest (T.seen tx.new)
@@ -140,19 +166,21 @@ fn write_named<T: RecordsTx>(
     let Some(settings) = find_mount(tx, mount)? else {
         return Err(RequestError::Refused(Refusal::NotFound));
     };
-    let found = find_key(tx, name)?;
-    let key = key_or_new(found, now);
-    check(settings.cas_required, key.current, cas)?;
-    let limit = versions_kept(&settings);
-    put_version(alloc, tx, name, &key, limit, now, object)?;
+    let found = find_key(alloc, tx, name)?;
+    let key = key_or_new(alloc, found, now);
+    let required = is_required(&settings, &key);
+    check(required, key.current, cas)?;
+    let limit = versions_kept(&settings, &key);
+    let next = put_version(alloc, tx, name, key, limit, now, object)?;
     Ok(WrittenVersion {
-        number: key.current + 1,
+        number: next.current,
+        custom_metadata: next.custom_metadata,
     })
 }
 
 /// Writes the compact text of an object as the next version of the secret at a path of a mount, and answers that
-/// version. `cas` is the version that the write follows, 0 for a secret without versions. It is
-/// refused, in this order, if the mount is not there, if `cas` is missing though the mount requires it, if it is
+/// version, with the secret's custom metadata. `cas` is the version that the write follows, 0 for a secret without versions. It is
+/// refused, in this order, if the mount is not there, if `cas` is missing though the secret or the mount requires it, if it is
 /// not the current version, and if there is no number for one more version. It fails as `Damaged` if a row
 /// that it reads is not one of a mount or of a key, and also if memory runs out or the storage fails (Vault's
 /// documentation, "KV secrets engine - version 2 (API)", create/update secret).
@@ -169,12 +197,14 @@ pub fn write<T: RecordsTx>(
     ensures rows { IsHonest (T.seen tx.new) → (m : Option Mount) (k : Option KeyEntry)
         → HasMount (table (T.seen tx.old)) mount.now m
         → (m ≢ None → HasKey (table (T.seen tx.old)) (secrets.secret_name mount.now path.now) k)
-        → Ends (λ v w. (v.number ≡ w.number) × (table (T.seen tx.new) ≡ w.rows)) ⊤ result
+        → Ends (λ v w. (v.number ≡ w.number) × (v.custom_metadata ≡ w.custom_metadata)
+        × (table (T.seen tx.new) ≡ w.rows)) ⊤ result
         (rows.write (table (T.seen tx.old)) m k (secrets.secret_name mount.now path.now) now cas object.now) }
     ensures told { IsHonest (T.seen tx.new) → (forms : Forms) (b : Broker) → SoundSecrets forms b.secrets
         → SoundMounts b.mounts → Tells of_secrets (table (T.seen tx.old)) b
         → Tells of_mounts (table (T.seen tx.old)) b → now ≡ b.clock → IsPathText path.now
-        → Ends (λ v w. (v.number ≡ w.number) × Tells of_secrets (table (T.seen tx.new)) w.next) ⊤ result
+        → Ends (λ v w. (v.number ≡ w.number) × (v.custom_metadata ≡ w.custom_metadata)
+        × Tells of_secrets (table (T.seen tx.new)) w.next) ⊤ result
         (secrets.write b mount.now path.now cas object.now) }
     ensures refused { IsHonest (T.seen tx.new) → OnRefused result ((T.seen tx.new).rows ≡ (T.seen tx.old).rows) }
     // Whatever the rows are: with a damaged row there is no answer, and no refusal.

@@ -5,7 +5,7 @@ use Rattle.std.specs.FinMap as fin
 use Rattle.std.specs.FinMap.{is_sorted}
 use Rattle.std.specs.Int.{to_be_bytes, w128}
 use Rattle.std.specs.List.{list_all}
-use Rattle.std.proofs.Common.{refl, sym, ap, subst, lit<, inl, inr, lt_of_le_of_lt}
+use Rattle.std.proofs.Common.{refl, sym, ◌∙◌, ap, subst, lit<, inl, inr, lt_of_le_of_lt}
 use Rattle.std.proofs.Math.Nat.{le_trans}
 use Rattle.std.proofs.lemmas.Bool.{and_parts, or_cases, leb-true, eqb-true, false≢true}
 use Rattle.std.proofs.lemmas.List.Elements.{All-cons, All-nil}
@@ -15,6 +15,7 @@ use Rattle.uuid.specs.Text.{lower}
 use Rattle.uuid.proofs.TextLemmas.{hyphenated_ascii}
 use Rattle.broker_types.specs.Text.{Text, text_cmp}
 use Rattle.broker_types.specs.Map.{entries, get}
+use Rattle.broker_types.specs.MapLaws.{entries-empty}
 use Rattle.broker_types.specs.Identifier.{id}
 use Rattle.broker_types.specs.IdentifierLaws.{id-length}
 use Rattle.broker_types.specs.Name.{is_name, is_name_byte}
@@ -164,7 +165,15 @@ lease_in_range lease_id l s =
 
 -- the row of each sound key
 pub key_in_range : (forms : Forms) (q : Text) (k : Key) → IsSoundKey forms q k → IsKeyInRange (key_entry k)
-key_in_range forms q k s = record { current = s.current; created = s.created; updated = s.updated }
+key_in_range forms q k s =
+    record {
+      current = s.current;
+      created = s.created;
+      updated = s.updated;
+      cas_required = s.no_settings.cas_required;
+      max_versions = s.no_settings.max_versions;
+      custom_metadata = ap entries s.no_settings.custom_metadata ∙ entries-empty;
+    }
 
 -- of each sound version
 pub version_in_range : (forms : Forms) (k : Key) (n : ℕ) (v : Version) → IsSoundVersion forms k n v

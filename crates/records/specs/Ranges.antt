@@ -1,6 +1,6 @@
 -- Which records of the broker rows can keep: numbers that no printer must test again, and texts short enough for the
 -- length in their row (this project's row format).
-use Rattle.std.specs.Prelude.{◌≢◌, ◌<◌, ◌≤◌, ◌^◌, [], Some}
+use Rattle.std.specs.Prelude.{◌≡◌, ◌≢◌, ◌<◌, ◌≤◌, ◌^◌, [], false, Some}
 use Rattle.broker_types.specs.Limits.{longest_ttl, greatest_version}
 use Rattle.broker_types.specs.Duration.{longest_duration}
 use Rattle.broker_types.specs.Sound.{IsMoment, IsEnd, IsShortText}
@@ -34,11 +34,14 @@ pub record IsLeaseInRange (l : Lease) : Type 0 where
   pub renewed : IsSomeIn IsMoment l.renewed
   pub credential : IsShortText l.credential
 
--- a key that a row can hold
+-- a key that a row can hold: in format 1, one that has no settings of its own
 pub record IsKeyInRange (k : KeyEntry) : Type 0 where
   pub current : k.current ≤ greatest_version
   pub created : IsMoment k.created
   pub updated : IsMoment k.updated
+  pub cas_required : k.cas_required ≡ false
+  pub max_versions : k.max_versions ≡ 0
+  pub custom_metadata : k.custom_metadata ≡ []
 
 -- a version that a row can hold
 pub record IsVersionInRange (v : Version) : Type 0 where

@@ -23,8 +23,9 @@ type KeyForm = ((UpTo<999_999_999_999_999_999>, At), At);
 /// Created, deleted, whether it is destroyed, secret.
 type VersionForm<'r> = (((At, Option<At>), bool), ShortText<'r>);
 
-/// The key in a row, without its versions. It fails as `Damaged` if the row is not one of a key.
-pub fn read_key(kept: &Row) -> Result<KeyRecord, Fault>
+/// The key in a row, without its versions; a row has no settings of its own. It fails as `Damaged` if the row is
+/// not one of a key. No memory is taken.
+pub fn read_key(alloc: Global, kept: &Row) -> Result<KeyRecord, Fault>
     ensures { Reads IsKeyInRange key_entry_row kept.now result }
 {
     let ((current, created), updated) = read_lone::<(), KeyForm>((), kept)?;
@@ -32,11 +33,15 @@ pub fn read_key(kept: &Row) -> Result<KeyRecord, Fault>
         current,
         created,
         updated,
+        cas_required: false,
+        max_versions: 0,
+        custom_metadata: Vec::new(alloc),
     })
 }
 
-/// The row of a key. The only error is running out of memory.
+/// The row of a key, which has no settings of its own. The only error is running out of memory.
 pub fn write_key(alloc: Global, key: &KeyRecord) -> Result<Row, AllocError>
+    requires { IsKeyInRange key.now }
     ensures { IfOk result (λ kept. kept ≡ key_entry_row key.now) }
 {
     let fields = ((key.current, key.created), key.updated);

@@ -23,8 +23,7 @@ use Rattle.kv2.specs.Secrets as secrets
 use Rattle.kv2.specs.SecretRows.{KeepsOtherNames}
 use Rattle.kv2.specs.Secrets.{Written}
 use Rattle.kv2.specs.SoundLaws.{write_is, write_sound}
-use Rattle.kv2.specs.declared.secret_version.FoundVersion.{FoundVersion}
-use Rattle.kv2.specs.declared.secret_version.WrittenVersion.{WrittenVersion}
+use Rattle.kv2.specs.Versions.{Found, WriteAnswer}
 use Rattle.broker_model.specs.Forms.{forms}
 use Rattle.broker_model.specs.parts.Place.{Place}
 use Rattle.broker_model.specs.parts.SecretReplies.{object_left, version_reply, version_answered, written_reply}
@@ -49,27 +48,27 @@ acts_changed b who old new secrets st sound tells keeps = (refl, represents-secr
 -- ---- a write
 
 -- what holds of an error of a write holds of the same error of another call
-pub on_written : (P : Type 0) (e : RequestError) → OnAnswer {A = WrittenVersion} (Err e) P → OnAnswer {A = Code.Answered} (Err e) P
+pub on_written : (P : Type 0) (e : RequestError) → OnAnswer {A = WriteAnswer} (Err e) P → OnAnswer {A = Code.Answered} (Err e) P
 on_written P (Refused r) p = p
 on_written P (Fault f) p = p
 
 -- the version that the code answers is the one that the definition has written, and the rows tell the next broker
-abbrev pub IsWrittenAs : Rows → WrittenVersion → Written → Type 0
-IsWrittenAs new v w = (v.number ≡ w.number) × Tells of_secrets (table_of new) w.next
+abbrev pub IsWrittenAs : Rows → WriteAnswer → Written → Type 0
+IsWrittenAs new v w = (v.number ≡ w.number) × (v.custom_metadata ≡ w.custom_metadata) × Tells of_secrets (table_of new) w.next
 
 module _ (b : Broker) (who : Option Text) (old new : Rows) (names : Names) (p : Place) (asked : SecretWrite) (st : Represents who old b) where
   abbrev outcome : Result Written Refusal
   outcome = secrets.write b p.mount p.path asked.cas asked.object
 
   abbrev shown : Result Written Refusal → Result Done Refusal
-  shown m = m >>= (λ w. Ok (plainly (reply (written_reply names.request b.clock w.number) None) w.next))
+  shown m = m >>= (λ w. Ok (plainly (reply (written_reply names.request b.clock w.custom_metadata w.number) None) w.next))
 
   -- one that is refused leaves the broker as it was
-  pub acts_not_written : (e : RequestError) → EndsErr ⊤ e outcome → OnRefused {A = WrittenVersion} (Err e) (new ≡ old)
+  pub acts_not_written : (e : RequestError) → EndsErr ⊤ e outcome → OnRefused {A = WriteAnswer} (Err e) (new ≡ old)
       → ActsAs who b new (Err e) (write b names p asked)
   acts_not_written e ends same = by e outcome ends same
     where
-      by : (e : RequestError) (m : Result Written Refusal) → EndsErr ⊤ e m → OnRefused {A = WrittenVersion} (Err e) (new ≡ old)
+      by : (e : RequestError) (m : Result Written Refusal) → EndsErr ⊤ e m → OnRefused {A = WriteAnswer} (Err e) (new ≡ old)
           → ActsAs who b new (Err e) (shown m)
       by (Refused r) (Ok w) h same = absurd h
       by (Refused r) (Err x) h same = (h.0, still_represented b old new same st)
@@ -87,17 +86,17 @@ module _ (b : Broker) (who : Option Text) (old new : Rows) (names : Names) (p : 
         (represents-secrets b old new st _ (subst (λ (z : Written). Sound forms who z.next) x.3 sound)
         (subst (λ (z : Written). Tells of_secrets (table_of new) z.next) x.3 tells) inside)
 
-    pub acts_written : (v : WrittenVersion) (now : ℕ) (x : Code.Answered) → now ≡ b.clock → EndsOk (IsWrittenAs new) v outcome
-        → answered_of x ≡ reply (written_reply names.request now v.number) None → ActsAs who b new (Ok x) (write b names p asked)
+    pub acts_written : (v : WriteAnswer) (now : ℕ) (x : Code.Answered) → now ≡ b.clock → EndsOk (IsWrittenAs new) v outcome
+        → answered_of x ≡ reply (written_reply names.request now v.custom_metadata v.number) None → ActsAs who b new (Ok x) (write b names p asked)
     acts_written v now x clock ends answered = by outcome refl ends
       where
         by : (m : Result Written Refusal) → outcome ≡ m → EndsOk (IsWrittenAs new) v m → ActsAs who b new (Ok x) (shown m)
         by (Err r) is h = absurd h
-        by (Ok w) is h = (answered ∙ (λ i. reply (written_reply names.request (clock i) (h.0 i)) None), represents-written w is h.1)
+        by (Ok w) is h = (answered ∙ (λ i. reply (written_reply names.request (clock i) (h.1 i) (h.0 i)) None), represents-written w is h.2)
 
 -- ---- a version that is read
 
-module _ (request : Text) (v : FoundVersion) (r : Reply) (is : r ≡ version_reply request v) where
+module _ (request : Text) (v : Found) (r : Reply) (is : r ≡ version_reply request v) where
   abbrev answer : Bool → Answered
   answer left = if left then reply (version_reply request v) None else missing (version_reply request v)
 

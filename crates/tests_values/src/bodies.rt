@@ -480,12 +480,11 @@ fn prints(printed: Result<TextBuf, AllocError>, want: &str) -> Result<bool, Allo
 #[test]
 fn printed_secrets(rt: HostRuntime) -> Result<(), Fail> {
     let alloc = rt.alloc();
-    let printed = version_object(alloc, &version(1, None)?);
-    let want =
-        "{\"created_time\":\"1970-01-01T00:16:40Z\",\"custom_metadata\":null,\"deletion_time\":\"\",\
-        \"destroyed\":false,\"version\":1}";
+    let printed = version_object(alloc, one_pair(alloc)?.as_slice(), &version(1, None)?);
+    let want = "{\"created_time\":\"1970-01-01T00:16:40Z\",\"custom_metadata\":{\"a\\\"\":\"1\"},\
+        \"deletion_time\":\"\",\"destroyed\":false,\"version\":1}";
     assert!(rt; prints(printed, want)?);
-    let printed = secret_object(alloc, &None, &version(1, Moment::new(1000))?);
+    let printed = secret_object(alloc, &None, &[], &version(1, Moment::new(1000))?);
     let want =
         "{\"data\":null,\"metadata\":{\"created_time\":\"1970-01-01T00:16:40Z\",\"custom_metadata\":null,\
         \"deletion_time\":\"1970-01-01T00:16:40Z\",\"destroyed\":false,\"version\":1}}";
@@ -506,6 +505,7 @@ fn two_versions(alloc: Global) -> Result<KeyObject, Fail> {
         cas_required: false,
         created: moment(1000)?,
         current_version: 10,
+        custom_metadata: one_pair(alloc)?,
         max_versions: 0,
         oldest_version: 2,
         updated: moment(2000)?,
@@ -519,7 +519,7 @@ fn printed_keys(rt: HostRuntime) -> Result<(), Fail> {
     let printed = key_object(alloc, &two_versions(alloc)?);
     let want =
         "{\"cas_required\":false,\"created_time\":\"1970-01-01T00:16:40Z\",\"current_version\":10,\
-        \"custom_metadata\":null,\"delete_version_after\":\"0s\",\"max_versions\":0,\"oldest_version\":2,\
+        \"custom_metadata\":{\"a\\\"\":\"1\"},\"delete_version_after\":\"0s\",\"max_versions\":0,\"oldest_version\":2,\
         \"updated_time\":\"1970-01-01T00:33:20Z\",\"versions\":{\"10\":{\"created_time\":\"1970-01-01T00:16:40Z\",\
         \"deletion_time\":\"\",\"destroyed\":false},\"2\":{\"created_time\":\"1970-01-01T00:16:40Z\",\
         \"deletion_time\":\"1970-01-01T00:16:40Z\",\"destroyed\":false}}}";

@@ -40,7 +40,7 @@ read b names p n = do
 abbrev pub write : Broker → Names → Place → SecretWrite → Result Done Refusal
 write b names p asked = do
   w ← secrets.write b p.mount p.path asked.cas asked.object
-  Ok (plainly (reply (written_reply names.request b.clock w.number) None) w.next)
+  Ok (plainly (reply (written_reply names.request b.clock w.custom_metadata w.number) None) w.next)
 
 -- ---- metadata and lists
 

@@ -38,7 +38,7 @@ pub(super) fn show<T: RecordsTx>(
     let Some(found) = kv2::metadata(alloc, tx, mount, path)? else {
         return Err(RequestError::Refused(Refusal::NotFound));
     };
-    let told = secret_told(alloc, &found)?;
+    let told = secret_told(alloc, found)?;
     let object = key_object(alloc, &told)?;
     Ok(Answered::shown(alloc, context, object)?)
 }

@@ -3,12 +3,11 @@
 ghost use Rattle.std.specs.Prelude.{◌≡◌, IfOk, map};
 ghost use Rattle.broker_types.specs.Names.{names_of};
 ghost use Rattle.kv2.specs.InRange.{IsMetadataInRange, AreToldInRange};
-ghost use Rattle.kv2.specs.Versions.{numbered};
 ghost use Rattle.records.specs.Ranges.{IsVersionInRange};
 ghost use Rattle.broker_model.specs.parts.SecretReplies as part;
 ghost use Rattle.broker_rows.specs.Done.{answered_of};
 
-use api_json::{KeyObject, VersionObject, Versions, plain_reply, secret_object};
+use api_json::{KeyObject, Pairs, VersionObject, Versions, plain_reply, secret_object};
 use broker_rows::{Answered, Context, moment, moment_or_none};
 use broker_types::{TextBuf, id_text};
 use kv2::{FoundVersion, SecretMetadata, SecretVersion, VersionMetadata};
@@ -28,7 +27,7 @@ pub(super) fn version_answered(
     let metadata = version_shown(found.number, &found.version);
     let object = object_left(found.version);
     let is_left = object.is_some();
-    let payload = secret_object(alloc, &object, &metadata)?;
+    let payload = secret_object(alloc, &object, found.custom_metadata.as_slice(), &metadata)?;
     let request = id_text(alloc, context.words.request())?;
     let reply = plain_reply(alloc, request.as_str(), payload)?;
     if is_left {
@@ -41,7 +40,7 @@ pub(super) fn version_answered(
 /// The metadata of a version with its number.
 fn version_shown(number: u64, version: &SecretVersion) -> VersionObject
     requires { IsVersionInRange version.now }
-    ensures { result ≡ part.version_shown (numbered number version.now) }
+    ensures { result ≡ part.version_shown number version.now }
 {
     VersionObject {
         created: moment(version.created),
@@ -62,14 +61,15 @@ fn object_left(version: SecretVersion) -> Option<TextBuf>
 }
 
 /// A secret as metadata show it.
-pub(super) fn secret_told(alloc: Global, secret: &SecretMetadata) -> Result<KeyObject, AllocError>
-    requires { IsMetadataInRange secret.now }
-    ensures { IfOk result (λ told. told ≡ part.secret_told secret.now) }
+pub(super) fn secret_told(alloc: Global, secret: SecretMetadata) -> Result<KeyObject, AllocError>
+    requires { IsMetadataInRange secret }
+    ensures { IfOk result (λ told. told ≡ part.secret_told secret) }
 {
     Ok(KeyObject {
         cas_required: secret.cas_required,
         created: moment(secret.created),
         current_version: secret.current,
+        custom_metadata: Pairs::new(secret.custom_metadata),
         max_versions: secret.max_versions,
         oldest_version: secret.oldest,
         updated: moment(secret.updated),

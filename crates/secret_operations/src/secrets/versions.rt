@@ -80,6 +80,6 @@ pub(super) fn write<T: RecordsTx>(
         destroyed: false,
         version: written.number,
     };
-    let object = version_object(alloc, &made)?;
+    let object = version_object(alloc, written.custom_metadata.as_slice(), &made)?;
     Ok(Answered::shown(alloc, context, object)?)
 }

@@ -1,8 +1,8 @@
-use Rattle.std.proofs.Common.{ap, sym, subst, ◌∙◌, Some, option_map}
+use Rattle.std.proofs.Common.{ap, sym, subst, ◌∙◌, Some, option_map, false}
 use Rattle.std.proofs.lemmas.Option.{same_Some}
 use Rattle.std.proofs.lemmas.Result.{err_from_is_err_and}
 use Rattle.broker_types.specs.Map.{get}
-use Rattle.records.specs.CallLaws.{honest_before}
+use Rattle.records.specs.CallLaws.{honest_before, goes_further}
 use Rattle.records.specs.KeyEntry.{key_entry}
 use Rattle.records.specs.Table.{table_of}
 use Rattle.records.specs.Transaction.{IsHonest, Rows}
@@ -85,3 +85,16 @@ pub returns-clause-in_range : goal.returns-clause-in_range
 returns-clause-in_range g c x is =
     subst IsMetadataInRange (same_Some _ _ is)
     (c.with_versions.ensures.in_range (c.in_ok-key.ensures.in_range c.in-Some.key c.in-Some.is) c.in_ok-versions.ensures.in_range)
+
+pub returns-clause-call : goal.returns-clause-call
+returns-clause-call g c =
+    let seen = g.T.RecordsTx.seen in
+    record {
+      same = λ honest.
+          let first : IsHonest (seen c.find_key.new.tx) = honest_before _ _ _ c.find_versions.ensures.call.goes_on honest in
+          c.in_ok-versions.ensures.call.same honest ∙ c.in_ok-key.ensures.call.same first;
+      faults = tt;
+      goes_on =
+          goes_further (seen c.args.tx.now) (seen c.find_key.new.tx) (seen c.find_versions.new.tx) false c.in_ok-key.ensures.call.goes_on
+          c.in_ok-versions.ensures.call.goes_on;
+    }

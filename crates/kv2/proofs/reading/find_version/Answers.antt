@@ -1,10 +1,10 @@
-use Rattle.std.proofs.Common.{ap, sym, ◌∙◌, Some}
+use Rattle.std.proofs.Common.{ap, sym, subst, ◌∙◌, Some}
 use Rattle.records.specs.declared.kind.Kind.TheVariants as kind
 use Rattle.records.specs.Ranges.{IsVersionInRange}
 use Rattle.records.specs.RowForms.{version_row}
 use Rattle.records.specs.Rows.{version_key}
 use Rattle.records.specs.Table.{table_of}
-use Rattle.kv2.specs.Versions.{numbered}
+use Rattle.kv2.specs.SecretRows.{HasVersion}
 use Rattle.kv2.proofs.Found.{some_read}
 use Rattle.kv2.proofs.reading.find_version.Goals as goal
 
@@ -14,8 +14,6 @@ returns-clause-exact g c honest =
     let name = c.args.name.now in
     let number = c.args.number in
     let at = ap (old kind.KvVersion) (sym (c.as_str.ensures.value ∙ c.in_ok-key.ensures)) ∙ sym (c.in_ok-kept.ensures.found honest) ∙ c.in-Some.is in
-    let read = c.in_ok-found.ensures.exact in (
-      Some c.in_ok-found.found,
-      some_read IsVersionInRange version_row (old kind.KvVersion (version_key name number)) c.in-Some.kept c.in_ok-found.found at read.0 read.1,
-      ap (λ v. Some (numbered number v)) c.in_ok-version.ensures,
-    )
+    let read = c.in_ok-found.ensures.exact in
+    subst (λ v. HasVersion old name number (Some v)) (sym c.in_ok-version.ensures)
+    (some_read IsVersionInRange version_row (old kind.KvVersion (version_key name number)) c.in-Some.kept c.in_ok-found.found at read.0 read.1)

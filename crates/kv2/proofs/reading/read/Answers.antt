@@ -1,12 +1,12 @@
 use Rattle.std.proofs.Common.{◌<◌, ◌^◌, ap, sym, subst, ◌∙◌, arith, option_map}
-use Rattle.std.proofs.lemmas.Result.{IfOk-weaker, err_from_is_err_and}
+use Rattle.std.proofs.lemmas.Result.{err_from_is_err_and}
 use Rattle.records.specs.CallLaws.{honest_before}
 use Rattle.records.specs.KeyEntry.{KeyEntry}
 use Rattle.records.specs.Table.{table_of}
 use Rattle.records.specs.Transaction.{IsHonest}
 use Rattle.records.specs.ValueLaws.{none_of}
 use Rattle.kv2.specs.SecretRows.{HasVersion}
-use Rattle.kv2.specs.Versions.{asked_number}
+use Rattle.kv2.specs.Versions.{asked_number, numbered}
 use Rattle.kv2.proofs.Digits.{KeyLaws}
 use Rattle.broker_types.specs.Map.{get}
 use Rattle.records.specs.KeyEntry.{key_entry}
@@ -35,10 +35,12 @@ returns-clause-told g c honest forms b sound told =
     let r = read_some forms b sound old told c.args.mount.now c.args.path.now c.as_str.result.now (c.as_str.ensures.value ∙ c.in_ok-name.ensures) c.args.number
     laws c.in_ok-key.field-0 c.in-Some.key (λ k has. c.in_ok-key.ensures.found first k has) c.in-Some.is c.asked_number-asked.result
     (c.asked_number-asked.ensures ∙ ap (λ (e : KeyEntry). asked_number e.current c.args.number) c.key.view_is) small in
-    IfOk-weaker c.find_version.result _ _ (λ o e. e ∙ r.2)
-    (c.find_version.ensures.found honest r.0
+    let version = c.in_ok-found.ensures.found honest r.0
     (subst (λ q. HasVersion q c.as_str-2.result.now c.asked_number-asked.result r.0) (ap table_of (sym (c.in_ok-key.ensures.call.same first)))
-    (subst (λ q. HasVersion old q c.asked_number-asked.result r.0) (c.as_str.ensures.value ∙ sym c.as_str-2.ensures.value) r.1)))
+    (subst (λ q. HasVersion old q c.asked_number-asked.result r.0) (c.as_str.ensures.value ∙ sym c.as_str-2.ensures.value) r.1)) in
+    c.numbered.ensures.value
+    ∙ (λ i. option_map (numbered (c.key.view_is i).custom_metadata c.asked_number-asked.result) (version i))
+    ∙ r.2
 
 pub returns-in_err-key-clause-wants : goal.returns-in_err-key-clause-wants
 returns-in_err-key-clause-wants g c honest forms b sound told =
@@ -47,8 +49,8 @@ returns-in_err-key-clause-wants g c honest forms b sound told =
     rw (p.1, p.2) (c.in_err-key.ensures.faults honest (option_map key_entry (get b.secrets (secret_name c.args.mount.now c.args.path.now)))
     (its_key forms b sound old told c.args.mount.now c.args.path.now c.as_str.result.now (c.as_str.ensures.value ∙ c.in_ok-name.ensures) c.args.number))
 
-pub returns-clause-wants : goal.returns-clause-wants
-returns-clause-wants g c honest forms b sound told =
+pub returns-in_err-found-clause-wants : goal.returns-in_err-found-clause-wants
+returns-in_err-found-clause-wants g c honest forms b sound told =
     let seen = g.T.RecordsTx.seen in
     let first : IsHonest (seen c.find_key.new.tx) = honest_before _ _ _ c.find_version.ensures.call.goes_on honest in
     let old = table_of (seen c.args.tx.now).rows in
@@ -62,6 +64,7 @@ returns-clause-wants g c honest forms b sound told =
     let r = read_some forms b sound old told c.args.mount.now c.args.path.now c.as_str.result.now (c.as_str.ensures.value ∙ c.in_ok-name.ensures) c.args.number
     laws c.in_ok-key.field-0 c.in-Some.key (λ k has. c.in_ok-key.ensures.found first k has) c.in-Some.is c.asked_number-asked.result
     (c.asked_number-asked.ensures ∙ ap (λ (e : KeyEntry). asked_number e.current c.args.number) c.key.view_is) small in
-    c.find_version.ensures.faults honest r.0
+    let p = err_from_is_err_and c.from_residual-in_err-found.result c.from_residual-in_err-found.ensures.1 in
+    rw (p.1, p.2) (c.in_err-found.ensures.faults honest r.0
     (subst (λ q. HasVersion q c.as_str-2.result.now c.asked_number-asked.result r.0) (ap table_of (sym (c.in_ok-key.ensures.call.same first)))
-    (subst (λ q. HasVersion old q c.asked_number-asked.result r.0) (c.as_str.ensures.value ∙ sym c.as_str-2.ensures.value) r.1))
+    (subst (λ q. HasVersion old q c.asked_number-asked.result r.0) (c.as_str.ensures.value ∙ sym c.as_str-2.ensures.value) r.1)))

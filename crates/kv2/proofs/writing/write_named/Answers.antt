@@ -5,11 +5,11 @@ use Rattle.records.specs.CallLaws.{honest_before}
 use Rattle.records.specs.KeyEntry.{KeyEntry}
 use Rattle.records.specs.Table.{Table, table, table_of}
 use Rattle.records.specs.Transaction.{Rows, IsHonest}
-use Rattle.kv2.specs.SecretRows.{HasKey, KeepsOtherNames, new_entry, with_version}
+use Rattle.kv2.specs.SecretRows.{HasKey, KeepsOtherNames, new_entry, next_entry, with_version}
 use Rattle.kv2.specs.SecretRows as rows
 use Rattle.kv2.specs.Versions.{checked}
 use Rattle.kv2.proofs.Others.{written_keeps}
-use Rattle.kv2.proofs.WriteCalls.{IsWritten, next_version, rows_written}
+use Rattle.kv2.proofs.WriteCalls.{IsWritten, answer_of, rows_written}
 use Rattle.kv2.proofs.writing.write_named.Goals as goal
 
 pub returns-clause-rows : goal.returns-clause-rows
@@ -29,13 +29,14 @@ returns-clause-rows g c honest m k has_mount has_key =
     let some = sym c.in-Some.is ∙ c.in_ok-settings.ensures.found first m has_mount in
     let there : m ≢ None = λ none. none-some _ (sym (some ∙ none)) in
     let found = c.in_ok-found.ensures.found second k (subst (λ (r : Rows). HasKey (table_of r) name k) (sym same) (has_key there)) in
-    subst (λ (e : KeyEntry). EndsOk (IsWritten new) (next_version e) (rows.write old m k name now cas object)) (sym c.key.view_is)
-    (subst (λ o. EndsOk (IsWritten new) (next_version e) (rows.write old o k name now cas object)) some
+    subst (λ (z : KeyEntry). EndsOk (IsWritten new) (answer_of z) (rows.write old m k name now cas object))
+    (sym (c.next.view_is ∙ c.in_ok-next.ensures.answer))
+    (subst (λ o. EndsOk (IsWritten new) (answer_of (next_entry now e)) (rows.write old o k name now cas object)) some
     (rows_written old new c.in-Some.settings k name object now limit cas e
-    (c.key_or_new-key.ensures ∙ ap (λ o. unwrap_or o (new_entry now)) found)
-    (c.in_ok-check.ensures.checked ∙ (λ i. checked (c.settings.view_is i).cas_required (c.key.view_is i).current cas))
+    (c.key_or_new-key.ensures.key ∙ ap (λ o. unwrap_or o (new_entry now)) found)
+    (c.in_ok-check.ensures.checked ∙ (λ i. checked (c.is_required-required.ensures i) (c.key.view_is i).current cas))
     c.versions_kept-limit.ensures
-    (c.in_ok-put_version.ensures.rows honest
+    (c.in_ok-next.ensures.rows honest
     ∙ (λ i. with_version (table_of ((c.in_ok-found.ensures.call.same second ∙ same) i)) name e limit now object))))
 
 pub returns-clause-call : goal.returns-clause-call
@@ -50,7 +51,7 @@ returns-clause-call g c =
           let second : IsHonest (seen c.find_key.new.tx) = honest_before _ _ _ c.put_version.ensures.call.goes_on honest in
           let first : IsHonest (seen c.find_mount.new.tx) = honest_before _ _ _ c.find_key.ensures.call.goes_on second in
           let same = c.in_ok-settings.ensures.call.same first in
-          subst (λ (t : Table). KeepsOtherNames name old t) (sym (c.in_ok-put_version.ensures.rows honest
+          subst (λ (t : Table). KeepsOtherNames name old t) (sym (c.in_ok-next.ensures.rows honest
           ∙ (λ i. with_version (table_of ((c.in_ok-found.ensures.call.same second ∙ same) i)) name e limit c.args.now c.args.object.now)))
           (written_keeps name old e limit c.args.now c.args.object.now);
       faults = tt;

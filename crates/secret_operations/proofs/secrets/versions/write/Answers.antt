@@ -1,6 +1,7 @@
 use Rattle.std.proofs.Common.{None, Err, ap, sym, subst, ◌∙◌}
 use Rattle.std.specs.Prelude.{IsUtf8, ⊤}
 use Rattle.std.proofs.lemmas.Result.{err_from_is_err_and}
+use Rattle.api_json.specs.Objects.{version_object}
 use Rattle.api_json.specs.Reply.{plain_reply}
 use Rattle.broker_types.specs.Names.{names_of}
 use Rattle.broker_types.specs.Operation.{reply}
@@ -9,9 +10,10 @@ use Rattle.records.specs.Parts.{of_secrets, of_mounts}
 use Rattle.records.specs.Table.{table_of}
 use Rattle.kv2.specs.SecretRows.{AreReadableToWrite}
 use Rattle.kv2.specs.Secrets as secrets
-use Rattle.kv2.specs.declared.secret_version.WrittenVersion.{WrittenVersion}
+use Rattle.kv2.specs.Versions.{WriteAnswer}
 use Rattle.broker_model.specs.Forms.{forms}
 use Rattle.broker_model.specs.parts.Place.{at}
+use Rattle.broker_model.specs.parts.SecretReplies.{version_made, written_reply}
 use Rattle.broker_rows.specs.Context.{Context}
 use Rattle.broker_rows.specs.declared.answered.Answered.{Answered}
 use Rattle.broker_rows.specs.RepresentingLaws.{tells_part}
@@ -57,7 +59,10 @@ returns-clause-told g c good who honest b starts fresh =
     (record { object = kept.object; short = record { utf8 = subst IsUtf8 text c.as_str-text.utf8; short = kept.short } })
     (c.in_ok-written.ensures.call.others honest) c.in_ok-written.written c.context.inside.clock c.in_ok-shown.field-0 clock
     (subst (λ object. EndsOk (IsWrittenAs new) c.in_ok-written.written (secrets.write b mount path asked.cas object)) text ends)
-    (c.in_ok-shown.ensures ∙ ap (λ o. reply (plain_reply names.request o) None) c.in_ok-object.ensures)
+    (c.in_ok-shown.ensures
+    ∙ ap (λ o. reply (plain_reply names.request o) None)
+    (c.in_ok-object.ensures ∙ ap (λ m. version_object m (version_made c.context.inside.clock c.written.inside.number)) c.as_slice.ensures.value)
+    ∙ ap (λ (v : WriteAnswer). reply (written_reply names.request c.context.inside.clock v.custom_metadata v.number) None) c.written.view_is)
 
 pub returns-in_err-written-clause-readable : goal.returns-in_err-written-clause-readable
 returns-in_err-written-clause-readable g c honest =
@@ -73,7 +78,7 @@ returns-in_err-written-clause-rows g c honest =
     let seen = g.T.RecordsTx.seen in
     let p = err_from_is_err_and c.from_residual.result c.from_residual.ensures.1 in
     rw (p.1 ∙ ap Err p.2)
-    (unchanged_if_refused of_secrets (seen c.args.tx.now).rows (seen c.write.new.tx).rows Answered WrittenVersion
+    (unchanged_if_refused of_secrets (seen c.args.tx.now).rows (seen c.write.new.tx).rows Answered WriteAnswer
     c.in_err-written.field-0.0 (c.in_err-written.ensures.refused honest))
 
 pub returns-clause-rows : goal.returns-clause-rows
