@@ -77,9 +77,9 @@ fn asked_number(current: u64, number: u64) -> u64
 }
 
 /// A version of the secret at a path of a mount with its number, also if it is deleted or destroyed, and with the
-/// secret's custom metadata; 0 asks for the current one. There is none if the secret or the version is not there. It fails as `Damaged` if a row
-/// that it reads is not one of a key or of a version, and also if memory runs out or the storage fails (Vault's
-/// documentation, "KV secrets engine - version 2 (API)", read secret version).
+/// secret's custom metadata; 0 asks for the current one. There is none if the secret or the version is not there. It
+/// fails as `Damaged` if a row that it reads is not one of a key or of a version, and also if memory runs out or the
+/// storage fails (Vault's documentation, "KV secrets engine - version 2 (API)", read secret version).
 pub fn read<T: RecordsTx>(
     alloc: Global,
     tx: &mut T,
