@@ -8,8 +8,8 @@ broker has told. Each connection also writes numbers to an object of its own, an
 is stopped by SIGKILL after each period, 1,800 seconds if not given, while it is asked, and started again over the same
 file: each connection finds the last number that was answered, or the one in progress. What is wrong: a reply that is
 none, a status that no drawn request has, another number, a connection that has written none, a program that ends, and a
-broker that does not know its root token. Memory and the size of the file are printed; both grow with what the broker
-keeps, which has every identifier that it issued.
+broker that does not know its root token. Memory and the size of the file are printed each minute; both grow with what
+the broker keeps, which has every identifier that it issued.
 
 The last line is 'N passed, M failed'.
 """
@@ -192,6 +192,13 @@ def kilobytes(process):
     return int(re.search(r"VmRSS:\s*(\d+)", status).group(1))
 
 
+def tell_sizes(process, file, peers):
+    """Prints how much memory the program takes, and its file."""
+    size = sum(Path(it).stat().st_size for it in (file, f"{file}-wal") if Path(it).exists()) // 1024
+    replies = sum(sum(peer.statuses.values()) for peer in peers)
+    print(f"{replies} replies so far; the program takes {kilobytes(process)} kB, the file {size} kB", flush=True)
+
+
 def prepare(port, token):
     """Sends the requests that all others build upon."""
     for path, body in FIRST:
@@ -219,14 +226,16 @@ def period(program, file, peers, known, until, found):
         threads = [threading.Thread(target=peer.run, args=(broker.port, is_over)) for peer in peers]
         for thread in threads:
             thread.start()
+        seconds = 0
         while time.monotonic() < until and broker.process.poll() is None and not any(peer.wrong for peer in peers):
+            if seconds % 60 == 0:
+                tell_sizes(broker.process, file, peers)
             time.sleep(1)
+            seconds += 1
         if broker.process.poll() is not None:
             found.append(f"the program has ended with status {broker.process.returncode}")
         else:
-            memory = (kilobytes(broker.process), sum(Path(it).stat().st_size for it in (file, f"{file}-wal")) // 1024)
-            print(f"{sum(sum(peer.statuses.values()) for peer in peers)} replies so far; the program takes {memory[0]} "
-                  f"kB, the file {memory[1]} kB", flush=True)
+            tell_sizes(broker.process, file, peers)
             if broker.ask("GET", "auth/token/lookup-self")[0] != 200:
                 found.append("the root token is not known")
         broker.process.kill()
