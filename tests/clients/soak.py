@@ -124,7 +124,7 @@ class Peer:
             except OSError:
                 self.lost += 1
                 time.sleep(0.05)
-            except (ValueError, LookupError, TypeError) as error:
+            except Exception as error:  # in another thread it would be lost
                 self.wrong.append(f"a reply that is none: {error!r}")
 
     def ask_something(self, connection):
