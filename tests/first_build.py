@@ -32,6 +32,7 @@ touch "$BEGUN"
 echo 'rt: tiny proved'
 mkdir -p crates/tiny/out
 printf '#!/bin/sh\\necho "tiny $*"\\n' > crates/tiny/out/tiny
+cp crates/tiny/out/tiny crates/tiny/out/tiny.by-rattle
 chmod +x crates/tiny/out/tiny
 echo '2 passed, 0 failed'
 """
@@ -99,6 +100,8 @@ def builds_and_runs(checkout):
     yield "what is being proved", any("1 of 5 crates proved; now tiny" in line for line in told)
     yield "no long silence", silent < 15 and any("now tiny" in line for line in told[3:])
     yield "the end", told[-1].startswith("tiny: built in ")
+    by_rattle, made = (checkout.top / f"crates/tiny/out/{name}" for name in ("tiny.by-rattle", "tiny"))
+    yield "the program of the other compiler", by_rattle.stat().st_mtime == made.stat().st_mtime
     yield "no second build", checkout.run("tiny", "c") == (0, "tiny c\n", "")
     old = time.time() + 5
     os.utime(checkout.top / "crates/other/src/main.rt", (old, old))

@@ -9,8 +9,8 @@ limits, line ends, fields, targets, members and levels of bodies, what is UTF-8 
 on several connections. The same seed makes the same runs. With `--minutes` there is one round of N events after
 another, each with a seed of its own, until the time is over.
 
-In the N events of the first round each status and each text of a refusal in docs/API.md has to be met, the latter at
-each route that names it; that is only asked of 10,000 events and more. A run on which a program differs is made short,
+Each status and each text of a refusal in docs/API.md has to be met, the latter at each route that names it; that is
+only asked of 10,000 events and more. A run on which a program differs is made short,
 printed, and written to the folder, which is out/fuzz if not given. The last line is `N passed, M failed`; the status is
 0 if nothing failed.
 """
@@ -151,25 +151,23 @@ def main():
     arguments = parser.parse_args()
     commands = [shlex.split(command) for command in arguments.commands] or [built(*it.split()) for it in PROGRAMS]
     until = time.monotonic() + 60 * arguments.minutes
-    passed, missing, found, rounds = 0, [], Found(), 0
+    found, rounds = Found(), 0
     with concurrent.futures.ProcessPoolExecutor(min(SHARES, os.cpu_count())) as pool:
         while rounds == 0 or time.monotonic() < until:
             seed = arguments.seed if rounds == 0 else f"{arguments.seed}.{rounds}"
             made = try_round(seed, arguments.events, commands, arguments.keep.resolve(), pool)
             for difference in made.differences:
                 print(difference, flush=True)
-            if rounds == 0 and arguments.events >= ENOUGH:
-                missing, wanted = judge(made)
-                passed += wanted - len(missing)
             found.add(made)
             rounds += 1
+    missing, wanted = judge(found) if found.events >= ENOUGH else ([], 0)
     for line in missing:
         print(line)
     statuses = ", ".join(f"{status} {count}" for status, count in sorted(found.statuses.items()))
     print(f"{found.events} events in {found.runs} runs, seed {arguments.seed}: {sum(found.statuses.values())} replies "
           f"of {len(found.kinds)} kinds ({statuses}); of {found.changed} changed requests {found.asking} were asked of "
           f"the broker, and {found.served} were served; {len(found.differences)} differences")
-    passed += len(commands) * found.runs - len(found.differences)
+    passed = len(commands) * found.runs - len(found.differences) + wanted - len(missing)
     failed = len(found.differences) + len(missing)
     print(f"{passed} passed, {failed} failed")
     return 1 if failed else 0

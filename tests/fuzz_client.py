@@ -318,6 +318,13 @@ class Found:
         self.turned = Counter()
         self.wrong = []
 
+    def add(self, other):
+        """Adds what came of other replies."""
+        self.right, self.read, self.changed = self.right + other.right, self.read + other.read, self.changed + other.changed
+        self.met += other.met
+        self.turned += other.turned
+        self.wrong += other.wrong
+
     def note(self, data, is_changed, answer):
         """Judges what the client has answered."""
         wanted, why = RULE.judge(data)
@@ -374,17 +381,20 @@ def main():
         subprocess.run([TOP / "bin/client", "--help"], stdout=subprocess.DEVNULL)
     program = os.path.abspath(arguments.program or TOP / "crates/client/out/client")
     until = time.monotonic() + 60 * arguments.minutes
-    passed = failed = rounds = 0
+    found, rounds = Found(), 0
     while rounds == 0 or time.monotonic() < until:
-        found = try_replies(program, arguments.seed if rounds == 0 else f"{arguments.seed}.{rounds}", arguments.replies)
-        missing, wanted = judge(found) if rounds == 0 and arguments.replies >= REPLIES else ([], 0)
-        print("".join(f"{line}\n" for line in found.wrong + missing), end="")
-        passed, failed = passed + found.right + wanted - len(missing), failed + len(found.wrong) + len(missing)
+        seed = arguments.seed if rounds == 0 else f"{arguments.seed}.{rounds}"
+        made = try_replies(program, seed, arguments.replies)
+        print("".join(f"{line}\n" for line in made.wrong), end="", flush=True)
+        found.add(made)
         rounds += 1
-        met = ", ".join(f"{what} {count}" for what, count in sorted(found.met.items()))
-        print(f"{sum(found.met.values())} replies ({met}); of {found.changed} changed ones {found.read} were read",
-              flush=True)
-    print(f"{passed} passed, {failed} failed")
+    missing, wanted = judge(found) if arguments.replies >= REPLIES else ([], 0)
+    print("".join(f"{line}\n" for line in missing), end="")
+    met = ", ".join(f"{what} {count}" for what, count in sorted(found.met.items()))
+    print(f"{sum(found.met.values())} replies, seed {arguments.seed} ({met}); of {found.changed} changed ones "
+          f"{found.read} were read")
+    failed = len(found.wrong) + len(missing)
+    print(f"{found.right + wanted - len(missing)} passed, {failed} failed")
     return 1 if failed else 0
 
 

@@ -5,8 +5,8 @@
 
 Each change is made in a copy of tests/reference. The copy is given the runs that `tests/fuzz.py` makes with the same
 seed and number of events, and has to differ from the unchanged reference on one of them; the unchanged copy must not.
-With names, only these changes are tried. For each change it prints in which run and after how many events the first
-difference was. The last line is `N passed, M failed`; the status is 0 if nothing failed.
+With names, only these changes are tried. For each change it prints in which run the first difference was. The last line
+is `N passed, M failed`; the status is 0 if nothing failed.
 """
 
 import argparse
@@ -108,6 +108,8 @@ def main():
     parser.add_argument("--seed", default="1")
     parser.add_argument("names", nargs="*", metavar="NAME")
     arguments = parser.parse_args()
+    if not {*arguments.names} <= {name for name, *_ in CHANGES}:
+        parser.error("a name is that of no change")
     changes = [change for change in CHANGES if not arguments.names or change[0] in arguments.names]
     passed = failed = 0
     with tempfile.TemporaryDirectory() as name, concurrent.futures.ThreadPoolExecutor(os.cpu_count()) as pool:
@@ -122,6 +124,8 @@ def main():
         is_right = (run is None) == (what == "nothing changed")
         passed, failed = passed + is_right, failed + (not is_right)
         print(f"{what}: {'no difference' if run is None else f'run {run}'}" + ("" if is_right else ", which is wrong"))
+    told = sum(run is not None for run in found[1:])
+    print(f"{told} of {len(changes)} changes were told in {arguments.events} events, seed {arguments.seed}")
     print(f"{passed} passed, {failed} failed")
     return 1 if failed else 0
 

@@ -37,6 +37,7 @@ PATIENCE = 20.0  # seconds for a reply
 IDLE = 0.2  # seconds after which the program may have closed a connection between two requests
 SILENCE = 4.0  # seconds after which the program may close a connection in the midst of a request
 LEAST_OPEN = 3  # connections at once in the middle of a run
+LEAST_REPLIED = 0.25  # of the events are replied to
 # A list whose order is that of the identifiers.
 ACCESSORS = re.compile(rb'"keys":\["' + IDENTIFIER.pattern + rb'"[^]]*')
 NOBODY = b"00000000-0000-0000-0000-000000000000"
@@ -253,6 +254,9 @@ def main():
             runs += 1
     if found["most open"] < LEAST_OPEN:
         wrong.append(f"at most {found['most open']} connections were open at once")
+        print(wrong[-1])
+    if found["replies"] < LEAST_REPLIED * found["events"]:
+        wrong.append("too few events are replied to")
         print(wrong[-1])
     statuses = ", ".join(f"{status} {count}" for status, count in sorted(share.corpus.statuses.items()))
     print(f"{found['events']} events in {runs} runs, seed {arguments.seed}: {found['replies']} replies ({statuses}), "

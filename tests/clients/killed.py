@@ -7,7 +7,8 @@ Each time it writes versions of secrets, makes tokens and children of them, revo
 some, until a random moment. Every fourth start is stopped too, before it is asked anything, and made again. Then each
 write that was answered is there, with its version; each token that was answered works, and no token that was revoked
 does, nor a child of it; each response that waits is looked up, and is handed out once. The request in progress was done
-wholly or not at all. The last line is 'N passed, M failed'.
+wholly or not at all. Each kind of request has to be answered, and 20 requests for each kill. The last line is
+'N passed, M failed'.
 """
 
 import json
@@ -25,6 +26,8 @@ from broker import Broker, connect, reply, request
 SECRETS = 10
 KEPT = 10  # versions of a secret
 MOST = 5  # tokens, and responses, that are left before some are ended
+LEAST = 20  # requests that are answered before a kill, on average
+KINDS = ("write", "create", "revoke", "wrap", "unwrap")
 REMEMBERED = 50  # tokens that were ended, and are asked with once more
 
 
@@ -265,9 +268,11 @@ def main():
             except (AssertionError, Stopped) as error:
                 failed += 1
                 print(f"start {turn}: {error or 'it stopped while it was asked what it has'}")
-    told = ", ".join(f"{count} of {kind}" for kind, count in sorted(known.answered.items()))
-    print(f"{times} kills; requests that were answered: {told}")
-    print(f"{times + 1 - failed} passed, {failed} failed")
+    told = ", ".join(f"{known.answered[kind]} of {kind}" for kind in KINDS)
+    is_enough = sum(known.answered.values()) >= LEAST * times and all(known.answered[kind] > 0 for kind in KINDS)
+    print(f"{times} kills; requests that were answered: {told}{'' if is_enough else ', which are too few'}")
+    failed += not is_enough
+    print(f"{times + 2 - failed} passed, {failed} failed")
     sys.exit(failed != 0)
 
 

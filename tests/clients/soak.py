@@ -5,10 +5,11 @@
 
 The requests are those of `tests/drawn_requests.py`, with tokens, accessors, leases, credentials and responses that this
 broker has told. Each connection also writes numbers to an object of its own, and reads each of them back. The program
-is stopped by SIGKILL after each period, 1,800 seconds if not given, and started again over the same file: each
-connection finds the last number that was answered. What is wrong: a reply that is none, a status that no drawn request
-has, another number, a program that ends, and a broker that does not know its root token. Memory and the size of the
-file are printed; both grow with what the broker keeps, which has every identifier that it issued.
+is stopped by SIGKILL after each period, 1,800 seconds if not given, while it is asked, and started again over the same
+file: each connection finds the last number that was answered, or the one in progress. What is wrong: a reply that is
+none, a status that no drawn request has, another number, a connection that has written none, a program that ends, and a
+broker that does not know its root token. Memory and the size of the file are printed each minute; both grow with what
+the broker keeps, which has every identifier that it issued.
 
 The last line is 'N passed, M failed'.
 """
@@ -18,6 +19,7 @@ import json
 import os
 import random
 import re
+import socket
 import sys
 import tempfile
 import threading
@@ -104,22 +106,26 @@ class Peer:
         self.path = f"cubbyhole/soak-{number}"
         self.known = known
         self.drawer = LiveDrawer(f"{seed} {number}", known)
-        self.written = 0
+        self.possible = (0,)  # the number that the object has; two while a write is not answered
         self.statuses = Counter()
         self.lost = 0
         self.wrong = []
 
-    def run(self, port, until):
-        """Asks until the time is over."""
-        while time.monotonic() < until and not self.wrong:
+    def run(self, port, is_over):
+        """Asks until it is over."""
+        while not is_over.is_set() and not self.wrong:
             try:
-                with connect(port) as connection:
+                with connect(port, 0.0) as connection:
                     for _ in range(REQUESTS_OF_A_CONNECTION):
-                        if time.monotonic() > until or not self.ask_something(connection):
+                        if is_over.is_set() or not self.ask_something(connection):
                             break
+            except socket.timeout:
+                self.wrong.append("no reply in a minute")
             except OSError:
                 self.lost += 1
                 time.sleep(0.05)
+            except Exception as error:  # in another thread it would be lost
+                self.wrong.append(f"a reply that is none: {error!r}")
 
     def ask_something(self, connection):
         """A drawn request, or those for the own object. False if the broker has closed the connection."""
@@ -148,29 +154,27 @@ class Peer:
         return status, found
 
     def write_and_read(self, connection):
-        """Writes the next number, and reads it."""
-        number = self.written + 1
-        status, _ = self.ask(connection, request("PUT", self.path, self.known.root, json.dumps({"n": number})))
-        if status == 0:
-            return self.find_again(connection, number)
-        self.written = number
-        return status == 204 and self.read_back(connection)
-
-    def find_again(self, connection, number):
-        """The write in progress was done, or not: the next read tells."""
-        self.written = (self.written, number)
-        return False
+        """Writes the next number, and reads it. After a write that was not answered it reads alone."""
+        if len(self.possible) == 1:
+            number = self.possible[0] + 1
+            self.possible = (*self.possible, number)
+            status, _ = self.ask(connection, request("PUT", self.path, self.known.root, json.dumps({"n": number})))
+            if status == 0:
+                return False
+            if status != 204:
+                self.wrong.append(f"{self.path}: status {status} to a write")
+            self.possible = (number,)
+        return self.read_back(connection)
 
     def read_back(self, connection):
-        """Reads the own object, which has the last number that was answered."""
+        """Reads the own object, which has the last number that was answered, or the one after it."""
         status, found = self.ask(connection, request("GET", self.path, self.known.root))
         if status == 0:
             return False
-        possible = self.written if isinstance(self.written, tuple) else (self.written,)
         number = found["data"]["n"] if status == 200 else 0
-        if number not in possible:
-            self.wrong.append(f"{self.path} has {number} in place of {possible}")
-        self.written = number
+        if number not in self.possible:
+            self.wrong.append(f"{self.path} has {number} in place of {self.possible}")
+        self.possible = (number,)
         return True
 
     def check(self, port):
@@ -188,6 +192,13 @@ def kilobytes(process):
     return int(re.search(r"VmRSS:\s*(\d+)", status).group(1))
 
 
+def tell_sizes(process, file, peers):
+    """Prints how much memory the program takes, and its file."""
+    size = sum(Path(it).stat().st_size for it in (file, f"{file}-wal") if Path(it).exists()) // 1024
+    replies = sum(sum(peer.statuses.values()) for peer in peers)
+    print(f"{replies} replies so far; the program takes {kilobytes(process)} kB, the file {size} kB", flush=True)
+
+
 def prepare(port, token):
     """Sends the requests that all others build upon."""
     for path, body in FIRST:
@@ -196,32 +207,41 @@ def prepare(port, token):
             reply(connection)
 
 
+def check(program, file, peers, known):
+    """Each connection looks at its object after a start."""
+    with Broker(program, "--db", file, token=known.root) as broker:
+        for peer in peers:
+            peer.check(broker.port)
+
+
 def period(program, file, peers, known, until, found):
     """One start of the program, requests until the time is over, and what memory it took."""
+    is_over = threading.Event()
     with Broker(program, "--db", file, token=known and known.root) as broker:
         if known is None:
             known = Known(broker.token)
             prepare(broker.port, broker.token)
             for peer in peers:
                 peer.known = peer.drawer.known = known
-        else:
-            for peer in peers:
-                peer.check(broker.port)
-        threads = [threading.Thread(target=peer.run, args=(broker.port, until)) for peer in peers]
+        threads = [threading.Thread(target=peer.run, args=(broker.port, is_over)) for peer in peers]
         for thread in threads:
             thread.start()
-        while any(thread.is_alive() for thread in threads):
-            threads[0].join(10)
-            if broker.process.poll() is not None:
-                found.append(f"the program has ended with status {broker.process.returncode}")
-                break
-            memory = (kilobytes(broker.process), sum(Path(it).stat().st_size for it in (file, f"{file}-wal")) // 1024)
+        seconds = 0
+        while time.monotonic() < until and broker.process.poll() is None and not any(peer.wrong for peer in peers):
+            if seconds % 60 == 0:
+                tell_sizes(broker.process, file, peers)
+            time.sleep(1)
+            seconds += 1
+        if broker.process.poll() is not None:
+            found.append(f"the program has ended with status {broker.process.returncode}")
+        else:
+            tell_sizes(broker.process, file, peers)
+            if broker.ask("GET", "auth/token/lookup-self")[0] != 200:
+                found.append("the root token is not known")
+        broker.process.kill()
+        is_over.set()
         for thread in threads:
             thread.join()
-        if broker.process.poll() is None and broker.ask("GET", "auth/token/lookup-self")[0] != 200:
-            found.append("the root token is not known")
-        print(f"{sum(sum(peer.statuses.values()) for peer in peers)} replies so far; the program takes {memory[0]} kB, "
-              f"the file {memory[1]} kB", flush=True)
     return known
 
 
@@ -241,7 +261,9 @@ def main():
         while not found and (starts == 0 or time.monotonic() < end) and not any(peer.wrong for peer in peers):
             until = min(end, time.monotonic() + arguments.period)
             known = period(program, f"{name}/broker.db", peers, known, until, found)
+            check(program, f"{name}/broker.db", peers, known)
             starts += 1
+    found += [f"connection {number} has written nothing" for number, peer in enumerate(peers) if peer.possible == (0,)]
     found += [f"connection {number}: {line}" for number, peer in enumerate(peers) for line in peer.wrong]
     print("".join(f"soak: {line}\n" for line in found[:MOST_SHOWN]), end="")
     statuses = sum((peer.statuses for peer in peers), Counter())

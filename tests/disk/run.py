@@ -70,9 +70,9 @@ def try_hours(trial, jobs, seed, hours, parts):
     """Rounds until the time is over."""
     end, found, draw = time.monotonic() + 3600 * hours, Sum(), random.Random(seed)
     while True:
-        for name, part in hour_parts(trial, jobs, draw):
-            if parts and name not in parts:
-                continue
+        wanted = [each for each in hour_parts(trial, jobs, draw) if not parts or each[0] in parts]
+        draw.shuffle(wanted)  # so that each part has its turn, however short the time is
+        for name, part in wanted:
             began = time.monotonic()
             if began > end:
                 return found
@@ -97,6 +97,8 @@ def main():
     parser.add_argument("--seed", type=int, default=1)
     parser.add_argument("--jobs", type=int, default=os.cpu_count())
     arguments = parser.parse_intermixed_args()
+    if not {*arguments.parts} <= {*GATE, *(("recoveries", "small disks") if arguments.hours is not None else ())}:
+        parser.error(f"a part is none: {' '.join(arguments.parts)}")
     with temporary_folder() as folder:
         trial = Trial(arguments.program, folder)
         if arguments.hours is None:
@@ -104,9 +106,9 @@ def main():
         else:
             began = time.monotonic()
             found = try_hours(trial, arguments.jobs, arguments.seed, arguments.hours, arguments.parts)
-            print(f"in {(time.monotonic() - began) / 60:.0f} minutes with the seed {arguments.seed}:")
-            for name, counts in found.counts.items():
-                print(f"  {name}: " + ", ".join(f"{count} {what}" for what, count in counts.items()))
+            print(f"{(time.monotonic() - began) / 60:.0f} minutes; " + "; ".join(
+                f"{name}: " + ", ".join(f"{count} {what}" for what, count in counts.items())
+                for name, counts in found.counts.items()))
     print(f"{found.passed} passed, {found.failed} failed")
     return 1 if found.failed else 0
 

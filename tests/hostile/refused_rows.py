@@ -45,7 +45,7 @@ SECONDS = 1200  # for a run with its child processes
 NUMBERS = itertools.count()  # of runs
 
 # The fewest allocations of an event on average, without the start, and the fewest runs of a hundred with an allocation
-# after the start refused in which the request has to be sent once more.
+# after the start refused in which the request has to be sent once more; in one run it may be otherwise.
 ALLOCATIONS = {"list": 50, "sql": 150}
 SENT = {"list": 95, "sql": 95}
 FAULTS = {"list": "1", "sql": "12"}
@@ -263,7 +263,8 @@ class Judge:
             sent, after = self.kinds["again"], tried - self.kinds["started"]
             self.expect(after * self.way.step >= ALLOCATIONS[store] * self.events,
                         f"{self.name}: {after} allocations of the events were refused")
-            self.expect(100 * sent >= SENT[store] * after, f"{self.name}: sent once more in {sent} of {after} runs")
+            is_enough = 100 * sent >= SENT[store] * after or after - sent == 1
+            self.expect(is_enough, f"{self.name}: sent once more in {sent} of {after} runs")
             for event in range(1, self.events + 1):
                 self.expect(self.sent[event] > 0, f"{self.name}: event {event} was never sent once more")
 
