@@ -45,7 +45,7 @@ TEXTS = {
     "count": ("0", "1", "2", "3", '"2"', "5", "10", '"30"'),
     "meta": ('{"team":"db"}', "{}", "null"),
     "kind": ('"service"', '""', '"service"'),
-    "period": ("0", '""', '"0s"'),
+    "period": ("0", '""', "600", '"20m"', '"90"', "5000", '"769h"'),
     "never": ('"0s"', '"0s"', "null"),
     "value": ('"v"', "null", '[1,{"x":null}]', '"\\u00e9\\n"'),
     "secret": ('{"user":"app","password":"old"}', '{"text":"a \\"quoted\\" line\\nand é"}', "{}",

@@ -5,6 +5,7 @@ The last line is 'N passed, M failed'.
 """
 
 import os
+import re
 import shutil
 import signal
 import subprocess
@@ -15,12 +16,17 @@ from pathlib import Path
 
 TOP = Path(__file__).resolve().parent.parent
 
-# In place of the toolchain: it proves `below`, takes its time over `tiny`, and then builds it, or fails.
+# In place of the toolchain: it proves `below`, takes its time over `tiny`, and then builds it, or fails. As a kit that
+# keeps nothing it takes no names of crates.
 RT = """#!/bin/bash
+[ "$1" = version ] && { echo "$KIT logic 0"; exit; }
 [ "$1" = ci ] || exit 2
+[ $# = 1 ] || [ "$KIT" = rattle-kit-13f ] || { echo 'usage: rt ci'; exit 2; }
 [ ! -e crates/other ] && [ ! -e crates/tiny/must-fail ] || exit 3
+echo "${RT_JOBS:-any}: $*" >> "$RUNS"
 echo 'rt: below proved'
 touch "$BEGUN"
+[ $# = 1 ] || exit 0
 "$(dirname "$0")/rattle" check --crate-name tiny src/main.rt
 [ -e "$FAILS" ] && { echo 'fn tiny::main: not proved'; echo '1 passed, 1 failed'; exit 1; }
 echo 'rt: tiny proved'
@@ -31,21 +37,31 @@ echo '2 passed, 0 failed'
 """
 
 
+CRATES = """# layers
+below:
+left: below
+middle: below
+right: below
+other: below
+tiny: left middle right below
+"""
+
+
 def heed_interrupts():
     """A shell lets what it runs in the background ignore SIGINT."""
     signal.signal(signal.SIGINT, signal.SIG_DFL)
 
 
 class Checkout:
-    """A repository with the programs `tiny` and `other`, and a PATH with that `rt`."""
+    """A repository with the programs `tiny`, over three crates over `below`, and `other`; and a PATH with that `rt`."""
 
     def __init__(self, room, seconds):
-        self.top, self.begun, self.fails = room / "top", room / "begun", room / "fails"
-        for name in ("below", "tiny", "other"):
+        self.top, self.begun, self.fails, self.runs = (room / name for name in ("top", "begun", "fails", "runs"))
+        for name in ("below", "left", "middle", "right", "tiny", "other"):
             (self.top / f"crates/{name}/src").mkdir(parents=True)
             (self.top / f"crates/{name}/src/main.rt").write_text("// a source\n")
         (self.top / "crates/tiny/must-fail").mkdir()
-        (self.top / "crates.txt").write_text("# layers\nbelow:\nother: below\ntiny: below\n")
+        (self.top / "crates.txt").write_text(CRATES)
         (self.top / "HANDLES").write_text("Handles allowed: none.\n")
         shutil.copytree(TOP / "bin", self.top / "bin", ignore=shutil.ignore_patterns("__pycache__"))
         (room / "tools").mkdir()
@@ -53,7 +69,8 @@ class Checkout:
             (room / "tools" / name).write_text(text)
             (room / "tools" / name).chmod(0o755)
         self.environment = {**os.environ, "PATH": f"{room}/tools:{os.environ['PATH']}", "BEGUN": str(self.begun),
-                            "FAILS": str(self.fails)}
+                            "FAILS": str(self.fails), "RUNS": str(self.runs), "KIT": "rattle-kit-13f"}
+        self.environment.pop("RT_JOBS", None)
 
     def start(self, *words, environment=None):
         return subprocess.Popen([sys.executable, self.top / "bin/run-program", *words], stdin=subprocess.DEVNULL,
@@ -76,8 +93,10 @@ def builds_and_runs(checkout):
     output = ran.stdout.read()
     silent = max(after - before for before, after in zip(times, times[1:]))
     yield "the program's output", ran.wait() == 0 and output == "tiny a b\n"
-    yield "the number of crates", "2 crates" in told[0]
-    yield "what is being proved", any("1 of 2 crates proved; now tiny" in line for line in told)
+    yield "the number of crates", "5 crates" in told[0]
+    ran_ci = re.sub(r"(?m)^[1-9][0-9]*:", "N:", checkout.runs.read_text())
+    yield "a run for the widest level", ran_ci == "any: ci below\nN: ci below left middle right\nany: ci\n"
+    yield "what is being proved", any("1 of 5 crates proved; now tiny" in line for line in told)
     yield "no long silence", silent < 15 and any("now tiny" in line for line in told[3:])
     yield "the end", told[-1].startswith("tiny: built in ")
     yield "no second build", checkout.run("tiny", "c") == (0, "tiny c\n", "")
@@ -90,7 +109,7 @@ def builds_again(checkout):
     """A source that was changed, also while the program was built, is built; and of two that ask for it one builds."""
     source = checkout.top / "crates/below/src/main.rt"
     ran = checkout.start("tiny")
-    while not checkout.begun.is_file():
+    while not checkout.begun.is_file() and ran.poll() is None:
         time.sleep(0.05)
     time.sleep(0.2)
     source.write_text("// changed meanwhile\n")
@@ -117,16 +136,25 @@ def fails(checkout):
     yield "the whole log", log.is_file() and "rt: below proved" in log.read_text()
 
 
-def stops(checkout):
-    """A signal ends it, and it says that what was proved is kept."""
+def keeps_nothing(checkout):
+    """With a kit that keeps nothing there is one run, and when it is stopped it says that nothing is kept."""
+    checkout.environment["KIT"] = "rattle-kit-13b"
+    yield from stops(checkout, "this kit keeps nothing, and the next start begins from nothing")
+    checkout.runs.write_text("")
+    yield "one run: the program's output", checkout.run("tiny", "a")[:2] == (0, "tiny a\n")
+    yield "one run", checkout.runs.read_text() == "any: ci\n"
+
+
+def stops(checkout, what="what was proved is kept, and the next start goes on from there"):
+    """A signal ends it, and it says whether what was proved is kept."""
     for number in (signal.SIGINT, signal.SIGTERM):
         checkout.begun.unlink(missing_ok=True)
         ran = checkout.start("tiny")
-        while not checkout.begun.is_file():
+        while not checkout.begun.is_file() and ran.poll() is None:
             time.sleep(0.05)
         ran.send_signal(number)
         _, told = ran.communicate(timeout=60)
-        yield f"{number.name}: what it says", ran.returncode == 1 and "the next start goes on from there" in told
+        yield f"{number.name}: what it says", ran.returncode == 1 and f"stopped; {what}\n" in told
         yield f"{number.name}: no program", not (checkout.top / "crates/tiny/out/tiny").exists()
 
 
@@ -142,7 +170,8 @@ def lacks_the_toolchain(checkout):
 
 def main():
     passed, failed = 0, 0
-    for case, seconds in ((builds_and_runs, 20), (builds_again, 2), (fails, 1), (stops, 5), (lacks_the_toolchain, 1)):
+    cases = ((builds_and_runs, 20), (builds_again, 2), (fails, 1), (stops, 5), (keeps_nothing, 5), (lacks_the_toolchain, 1))
+    for case, seconds in cases:
         with tempfile.TemporaryDirectory() as room:
             for name, well in case(Checkout(Path(room), seconds)):
                 passed, failed = passed + well, failed + (not well)

@@ -180,6 +180,23 @@ def an_orphan_is_created(result):
     return result["login"]["auth"]["orphan"] and result["login"]["auth"]["num_uses"] == 3
 
 
+@task(module("vault_token_create", policies=["default"], period="1h", ttl="1m"), "periodic")
+def a_periodic_token_is_created(result):
+    return result["login"]["auth"]["lease_duration"] == 3600
+
+
+@task(module("vault_write", path="auth/token/renew-self", data={"increment": 60},
+             token="{{ periodic.login.auth.client_token }}"))
+def a_periodic_token_renews_itself(result):
+    return result["data"]["auth"]["lease_duration"] == 3600
+
+
+@task(module("vault_read", path="auth/token/lookup-self", token="{{ periodic.login.auth.client_token }}"))
+def a_periodic_token_looks_itself_up(result):
+    data = result["data"]["data"]
+    return data["period"] == 3600 and data["creation_ttl"] == 3600
+
+
 @task(lookup("vault_token_create", "policies=['default']"))
 def a_token_is_created_by_a_lookup(result):
     return result["msg"]["auth"]["policies"] == ["default"]
@@ -246,11 +263,6 @@ def a_list_with_a_capital_letter_is_a_read(result):
 @task(lookup("vault_list", "'cubbyhole'"))
 def a_list_by_a_lookup_is_a_read_too(result):
     return result["failed"] and "unsupported operation" in said(result)
-
-
-@task(module("vault_token_create", policies=["default"], period="1h"))
-def no_periodic_token_is_created(result):
-    return result["failed"] and "invalid field: period" in said(result)
 
 
 @task(module("vault_token_create", policies=["default"], type="batch"))

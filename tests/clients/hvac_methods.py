@@ -24,6 +24,7 @@ except ImportError:
     hvac = None
 
 POLICY = '{"path":{"secret/data/team/*":{"capabilities":["read"]}}}'
+CREATOR = '{"path":{"auth/token/create":{"capabilities":["update"]}}}'
 CALLS = []
 
 
@@ -126,6 +127,51 @@ def an_orphan_is_created(client):
     made = client.auth.token.create_orphan(policies=["app"], ttl="1h")
     expect_same(made, answer(auth=token_in_auth(["app", "default"], orphan=True)))
     client.auth.token.revoke(made["auth"]["client_token"])
+
+
+def try_periodic(client, made, **members):
+    """A new periodic token that lasts for an hour renews itself, whatever increment it names."""
+    auth = token_in_auth(["app", "default"], **members)
+    expect_same(made, answer(auth=auth))
+    child = client_of(client, made["auth"]["client_token"])
+    expect_same(child.auth.token.renew_self(), answer(auth={**auth, "client_token": child.token}))
+    expect_same(child.auth.token.renew_self(increment=60), answer(auth=auth))
+    expect_same(client.auth.token.renew(token=child.token, increment="2h"), answer(auth=auth))
+    data = token_in_data(["app", "default"], id=child.token, period=3600, **members)
+    expect_same(child.auth.token.lookup_self(), answer(data=data))
+    expect_same(client.auth.token.lookup(token=child.token), answer(data=data))
+    child.auth.token.revoke_self()
+
+
+@calls("auth.token.create", "auth.token.renew_self")
+def a_periodic_token_is_created(client):
+    try_periodic(client, client.auth.token.create(policies=["app"], period="1h"))
+    try_periodic(client, client.auth.token.create(policies=["app"], period="1h", ttl="1m"))
+    root = client.auth.token.create(period="1h")["auth"]
+    expect_same(root, token_in_auth(["root"]))
+    client.auth.token.revoke(root["client_token"])
+
+
+@calls("auth.token.create_orphan", "auth.token.renew_self")
+def a_periodic_orphan_is_created(client):
+    try_periodic(client, client.auth.token.create_orphan(policies=["app"], period="1h"), orphan=True)
+
+
+@calls("write", "auth.token.renew_self")
+def a_periodic_orphan_is_created_by_a_write(client):
+    """As with an hvac that has no method for it."""
+    try_periodic(client, client.write("auth/token/create-orphan", policies=["app"], period="1h"), orphan=True)
+
+
+@calls("auth.token.create")
+def a_period_needs_sudo(client):
+    caller = client_of(client, client.auth.token.create(policies=["default"], ttl="1m")["auth"]["client_token"])
+    expect_refused("Forbidden", caller.auth.token.create, period="1h")  # by its policy
+    client.adapter.put("/v1/sys/policies/acl/creator", json={"policy": CREATOR})
+    caller = client_of(client, client.auth.token.create(policies=["creator"], ttl="1m")["auth"]["client_token"])
+    expect_refused("InvalidRequest", caller.auth.token.create, period="1h")
+    expect_same(caller.auth.token.create(ttl="1h")["auth"], token_in_auth(["creator", "default"]))
+    client.adapter.delete("/v1/sys/policies/acl/creator")
 
 
 @calls("auth.token.lookup")

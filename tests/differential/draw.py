@@ -36,8 +36,8 @@ from secret_themes import (asked_versions, check_and_set, deletions, folders, fo
                            old_versions, refused_secrets, secret_callers, secret_moments, secret_routes, secret_writes,
                            settings, version_lists)
 from token_themes import (accessors, children, creations, cubbyhole_lists, ends, families, given_twice,
-                          lenient_creations, look_ups, mixed_tokens, other_cubbyholes, refused_creations, renewals,
-                          revocations, sudo_paths, token_routes, uses)
+                          lenient_creations, look_ups, mixed_tokens, other_cubbyholes, periods, refused_creations,
+                          renewals, revocations, sudo_paths, token_routes, uses)
 from wrapping_themes import (mixed_wrapping, open_requests, revoked_responses, rewraps, spent_wrapping_tokens,
                              times_of_responses, wrap_ttls, wrapped_creations, wrapped_credentials, wrapped_replies,
                              wrapping_callers, wrapping_routes, wrapping_words)
@@ -56,7 +56,7 @@ THEMES = {
     connections: 2, closing: 2, moments: 2, spellings: 2, lines: 4, changed_lines: 2, large: 1, mixed: 4, queries: 2,
     limits: 2, escapes: 4, authorizations: 3, hex_and_lists: 2,
     creations: 2, lenient_creations: 4, refused_creations: 4, children: 4, families: 4, look_ups: 4, accessors: 2,
-    renewals: 4, ends: 4, uses: 4, revocations: 4, sudo_paths: 4, given_twice: 2, other_cubbyholes: 2,
+    renewals: 4, periods: 8, ends: 4, uses: 4, revocations: 4, sudo_paths: 4, given_twice: 2, other_cubbyholes: 2,
     cubbyhole_lists: 4, token_routes: 2, mixed_tokens: 4,
     secret_writes: 2, check_and_set: 4, old_versions: 3, asked_versions: 4, deletions: 4, version_lists: 3,
     refused_secrets: 4, settings: 4, folders: 4, forgotten_secrets: 2, secret_callers: 5, secret_routes: 4,
@@ -67,8 +67,8 @@ THEMES = {
     refusals_in_order: 5, policy_routes: 3, mixed_policies: 4,
     mounts_enabled: 4, mounts_of_secrets: 4, roles: 4, credentials: 6, lives_of_leases: 6, ends_of_leases: 7,
     lease_routes: 4, mixed_leases: 5,
-    wrapped_replies: 24, wrap_ttls: 14, times_of_responses: 16, rewraps: 14, open_requests: 24,
-    spent_wrapping_tokens: 12, revoked_responses: 14, wrapped_creations: 14, wrapping_callers: 16, wrapping_words: 12,
+    wrapped_replies: 22, wrap_ttls: 13, times_of_responses: 15, rewraps: 13, open_requests: 22,
+    spent_wrapping_tokens: 12, revoked_responses: 14, wrapped_creations: 14, wrapping_callers: 15, wrapping_words: 12,
     wrapped_credentials: 12, wrapping_routes: 8, mixed_wrapping: 14,
     unserved_routes: 2,
 }

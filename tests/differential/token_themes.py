@@ -219,6 +219,32 @@ def renewals(run):
             run.look(made, moment=moment)
 
 
+def periods(run):
+    """Periodic tokens of several callers, renewed again and again, with maxima and increments beside the period."""
+    with_callers(run)
+    period = run.pick(5, 60, 3600, 2764799, 2764800, 4294967295)
+    life = min(period, 2764800)
+    beside = {"ttl": (0, 1, life * 2), "explicit_max_ttl": (0, life - 1, life + 2, life * 2, 4294967295),
+              "num_uses": (0, 9), "no_parent": (True, False)}
+    while run.room() > 0:
+        if not run.made or run.chance(3):
+            times = {"period": run.pick(period, period, str(period), f"{period}s", run.pick(0, "1d", -1)),
+                     **asked(run, beside, 0, 2)}
+            maker = run.pick(None, run.made[-1][0]) if run.made else None
+            run.make({"policies": run.pick(["a"], ["a"], ["root"], []), **times}, maker,
+                     run.pick("create", "create", "create-orphan"), moment=run.moment)
+            continue
+        token = run.pick(run.made[0], run.made[-1])[0]
+        increment = run.pick({}, {}, {"increment": run.pick(0, 1, "5s", life * 2, "768h", "", -1, "1d")})
+        way = run.random.randrange(5)
+        if way < 3:
+            run.moment = min(run.moment + run.pick(0, life // 3, life // 3, life - 1, life), GREATEST_MOMENT)
+            run.ask(*run.pick(("renew-self", increment, token), ("renew", {"token": token, **increment})),
+                    moment=run.moment)
+        else:
+            run.look(token, moment=run.moment)
+
+
 def ends(run):
     """Tokens and their children at the moments around their ends, and moments that go back."""
     with_callers(run)

@@ -248,17 +248,13 @@ def read_by_sqlite(file, files):
 
 
 def reference_of(rows):
-    """The reference broker that has these rows, or None if they are those of no broker: also where a token has a period
-    and none is served yet, since the reference broker would tell it."""
+    """The reference broker that has these rows, or None if they are those of no broker."""
     try:
         server = Server(0, range(8))
         server.broker = broker_of(in_all_parts(rows))
     except Exception:
         return None
-    has_period = any(token.period for token in server.broker.tokens.values())
-    if (has_period and "periods" not in TODAY) or rows_of(server.broker, TODAY) != rows:
-        return None
-    return server
+    return server if rows_of(server.broker, TODAY) == rows else None
 
 
 def reference_replies(rows, questions, replies):

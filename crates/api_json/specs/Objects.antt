@@ -1,6 +1,6 @@
 -- The objects that replies have: the members are in the order of the bytes of their names, times are texts (RFC 3339),
 -- and lengths of time are seconds.
-use Rattle.std.specs.Prelude.{ℕ, [], ◌∷◌, List, Bool, true, codes, Option, Some, None, is_some, map}
+use Rattle.std.specs.Prelude.{ℕ, [], ◌∷◌, ◌==◌, List, Bool, true, codes, Option, Some, None, is_some, map, if◌then◌else◌}
 use Rattle.broker_types.specs.Text.{Text}
 use Rattle.api_json.specs.Names.{◌⟼◌}
 use Rattle.api_json.specs.Printing.{quoted, whole_number, object_of, null_text, bool_text, or_null, time, time_or}
@@ -33,6 +33,19 @@ auth_object a =
     ∷ name.TokenType ⟼ quoted (codes "service")
     ∷ [])
 
+-- the period of a token, if it is periodic, before other members
+abbrev pub with_period : ℕ → List (Text × Text) → List (Text × Text)
+with_period n ms = if n == 0 then ms else name.Period ⟼ whole_number n ∷ ms
+
+-- the members of a token that come behind its period
+abbrev pub behind_period : TokenObject → List (Text × Text)
+behind_period t =
+    name.Policies ⟼ texts t.policies
+    ∷ name.Renewable ⟼ bool_text (is_some t.ends)
+    ∷ name.Ttl ⟼ whole_number t.ttl
+    ∷ name.TypeName ⟼ quoted (codes "service")
+    ∷ []
+
 -- a token that is looked up
 unfoldable pub token_object : TokenObject → Text
 token_object t =
@@ -47,11 +60,7 @@ token_object t =
     ∷ name.Meta ⟼ pairs t.meta
     ∷ name.NumUses ⟼ whole_number t.num_uses
     ∷ name.Orphan ⟼ bool_text t.orphan
-    ∷ name.Policies ⟼ texts t.policies
-    ∷ name.Renewable ⟼ bool_text (is_some t.ends)
-    ∷ name.Ttl ⟼ whole_number t.ttl
-    ∷ name.TypeName ⟼ quoted (codes "service")
-    ∷ [])
+    ∷ with_period t.period (behind_period t))
 
 -- ---- secrets (Vault's documentation, "KV secrets engine - version 2 (API)")
 

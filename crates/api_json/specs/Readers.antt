@@ -20,10 +20,6 @@ use Rattle.api_json.specs.declared.issued_bodies.RoleSettings.{RoleSettings}
 
 -- ---- tokens (Vault's documentation, "Token auth method (API)")
 
--- a period is not served
-abbrev pub is_no_period : Option ℕ → Bool
-is_no_period o = unwrap_or o 0 == 0
-
 -- the token can be renewed; one that cannot is not served
 abbrev pub is_renewable : Option Bool → Bool
 is_renewable o = unwrap_or o true
@@ -37,7 +33,7 @@ abbrev pub is_service : Option Text → Bool
 is_service o = is_empty o || same (unwrap_or o []) (codes "service")
 
 -- The members of a new token. An absent list is empty, an absent number 0 and an absent truth value false; only
--- `renewable` is true if it is absent. The last four are refused unless they say what their absence says.
+-- `renewable` is true if it is absent. The last three are refused unless they say what their absence says.
 unfoldable pub token_creation : Members → Result TokenCreation Refusal
 token_creation ms = do
   policies ← optional kind.as_texts field.Policies ms
@@ -48,7 +44,6 @@ token_creation ms = do
   no_parent ← optional kind.as_flag field.NoParent ms
   no_default_policy ← optional kind.as_flag field.NoDefaultPolicy ms
   period ← optional kind.as_duration field.Period ms
-  _ ← unless (is_no_period period) (invalid field.Period)
   renewable ← optional kind.as_flag field.Renewable ms
   _ ← unless (is_renewable renewable) (invalid field.Renewable)
   id ← optional kind.as_text field.Id ms
@@ -63,6 +58,7 @@ token_creation ms = do
     num_uses = unwrap_or num_uses 0;
     no_parent = unwrap_or no_parent false;
     no_default_policy = unwrap_or no_default_policy false;
+    period = unwrap_or period 0;
   })
 
 -- the token that a body names: the member `token`, which must be there

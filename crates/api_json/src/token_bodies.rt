@@ -6,7 +6,7 @@ ghost use Rattle.api_json.specs.Kept.{IsKeptCreation};
 ghost use Rattle.api_json.specs.Parsed.{members_of};
 ghost use Rattle.api_json.specs.Reads.{IsRead};
 ghost use Rattle.api_json.specs.Readers as reader;
-ghost use Rattle.api_json.specs.Readers.{is_no_period, is_empty, is_service};
+ghost use Rattle.api_json.specs.Readers.{is_empty, is_service};
 
 use crate::lists::{Pairs, Texts};
 use crate::members::{optional, required, unless};
@@ -31,12 +31,14 @@ pub struct TokenCreation {
     pub no_parent: bool,
     /// Whether it lacks the policy `default`.
     pub no_default_policy: bool,
+    /// For how long each renewal makes it last; 0 if it is not periodic.
+    pub period: Seconds,
 }
 
 /// Reads what a body asks of a new token. The first bad member is refused with 400 `invalid field: NAME`, in the order
 /// `policies`, `meta`, `ttl`, `explicit_max_ttl`, `num_uses`, `no_parent`, `no_default_policy`, `period`, `renewable`,
-/// `id`, `type`; so are a period above 0, a token that cannot be renewed, an id, and a type other than `service`. The
-/// only fault is running out of memory.
+/// `id`, `type`; so are a token that cannot be renewed, an id, and a type other than `service`. The only fault is running
+/// out of memory.
 #[tactic(auto, unfolding(crate::specs::Readers::token_creation))]
 pub fn token_creation(alloc: Global, body: &Body) -> Result<TokenCreation, RequestError>
     ensures reads { IsRead (reader.token_creation (members_of body.now)) result }
@@ -52,7 +54,6 @@ pub fn token_creation(alloc: Global, body: &Body) -> Result<TokenCreation, Reque
     let no_parent: Option<bool> = optional(alloc, members, Field::NoParent)?;
     let no_default_policy: Option<bool> = optional(alloc, members, Field::NoDefaultPolicy)?;
     let period: Option<Seconds> = optional(alloc, members, Field::Period)?;
-    unless(is_no_period(period), Field::Period)?;
     let renewable: Option<bool> = optional(alloc, members, Field::Renewable)?;
     unless(renewable.unwrap_or(true), Field::Renewable)?;
     let id: Option<TextBuf> = optional(alloc, members, Field::Id)?;
@@ -67,16 +68,8 @@ pub fn token_creation(alloc: Global, body: &Body) -> Result<TokenCreation, Reque
         num_uses: num_uses.unwrap_or(0),
         no_parent: no_parent.unwrap_or(false),
         no_default_policy: no_default_policy.unwrap_or(false),
+        period: period.unwrap_or(Seconds::new(0)),
     })
-}
-
-fn is_no_period(period: Option<Seconds>) -> bool
-    ensures { result ≡ is_no_period period }
-{
-    match period {
-        None => true,
-        Some(seconds) => seconds.count() == 0,
-    }
 }
 
 fn is_empty(text: &Option<TextBuf>) -> bool

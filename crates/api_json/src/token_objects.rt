@@ -1,6 +1,7 @@
 //! The objects that replies about tokens have (Vault's documentation, "Token auth method (API)").
-ghost use Rattle.std.specs.Prelude.{◌≡◌, IfOk, option_map};
-ghost use Rattle.api_json.specs.Objects.{auth_object, token_object};
+ghost use Rattle.std.specs.Prelude.{◌≡◌, ◌++◌, ◌∷◌, [], IfOk, fold, option_map};
+ghost use Rattle.api_json.specs.Objects.{auth_object, token_object, with_period, behind_period};
+ghost use Rattle.api_json.specs.Printing.{with_member};
 
 use crate::end_time::EndTime;
 use crate::lists::{Pairs, Texts};
@@ -71,6 +72,8 @@ pub struct TokenObject {
     pub num_uses: u64,
     /// Whether it has no parent.
     pub orphan: bool,
+    /// For how many seconds each renewal makes it last; 0 if it is not periodic, and then it does not print.
+    pub period: u64,
     /// In the order in which they print.
     pub policies: Texts,
     /// Seconds to its end; 0 without one.
@@ -82,7 +85,7 @@ pub struct TokenObject {
 pub fn token_object(alloc: Global, token: &TokenObject) -> Result<TextBuf, AllocError>
     ensures { IfOk result (λ t. t ≡ token_object token.now) }
 {
-    ObjectText::new(alloc)?
+    let begun = ObjectText::new(alloc)?
         .text(Name::Accessor, token.accessor.as_str())?
         .number(Name::CreationTime, token.issued.seconds())?
         .number(Name::CreationTtl, token.creation_ttl)?
@@ -92,7 +95,27 @@ pub fn token_object(alloc: Global, token: &TokenObject) -> Result<TextBuf, Alloc
         .time(Name::IssueTime, token.issued)?
         .pairs(Name::Meta, token.meta.as_slice())?
         .number(Name::NumUses, token.num_uses)?
-        .flag(Name::Orphan, token.orphan)?
+        .flag(Name::Orphan, token.orphan)?;
+    periodic(begun, token)
+}
+
+/// The object with the period, if the token is periodic, and what comes behind it.
+fn periodic(begun: ObjectText, token: &TokenObject) -> Result<TextBuf, AllocError>
+    ensures { IfOk result (λ t. t
+        ≡ fold with_member begun (with_period token.now.period (behind_period token.now)) ++ 125 ∷ []) }
+{
+    if token.period == 0 {
+        finished(begun, token)
+    } else {
+        finished(begun.number(Name::Period, token.period)?, token)
+    }
+}
+
+/// The object with what comes behind the period.
+fn finished(begun: ObjectText, token: &TokenObject) -> Result<TextBuf, AllocError>
+    ensures { IfOk result (λ t. t ≡ fold with_member begun (behind_period token.now) ++ 125 ∷ []) }
+{
+    begun
         .texts(Name::Policies, token.policies.as_slice())?
         .flag(Name::Renewable, token.ends.is_some())?
         .number(Name::Ttl, token.ttl)?

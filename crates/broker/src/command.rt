@@ -166,8 +166,8 @@ pub(crate) fn needed_identifiers(
     if !is_wrapped(ask, command) {
         return Ok(needed);
     }
-    let token = identifier(alloc, words.0[5])?;
-    let accessor = identifier(alloc, words.0[6])?;
+    let token = identifier(alloc, words.wrapping_token())?;
+    let accessor = identifier(alloc, words.wrapping_accessor())?;
     needed.insert(0, accessor)?;
     needed.insert(0, token)?;
     Ok(needed)

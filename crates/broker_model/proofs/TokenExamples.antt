@@ -60,7 +60,12 @@ asked policies ttl explicit_max_ttl no_parent no_default_policy =
       num_uses = 0;
       no_parent = no_parent;
       no_default_policy = no_default_policy;
+      period = 0;
     }
+
+-- a body that asks for a periodic token
+periodic : ℕ → ℕ → ℕ → TokenCreation
+periodic period ttl explicit_max_ttl = record (asked [] ttl explicit_max_ttl false false) { period = period }
 
 abbrev accessor : Text
 accessor = codes "00000000-0000-0000-0000-000000000012"
@@ -88,6 +93,33 @@ renewed_at_most = refl
 
 left : seconds_left 1060 (Some 1150) ≡ 90
 left = refl
+
+-- root makes a token at 1000 with a period of 60, and renews it at 1050 by 5
+of_period : ℕ → ℕ → Token
+unfolding periodic asked
+of_period period explicit_max_ttl =
+    new_token 1000 (Some (codes "hvs.r")) accessor (codes "root" ∷ []) (periodic period 10 explicit_max_ttl)
+
+first_period : (of_period 60 0).ends ≡ Some 1060
+unfolding of_period periodic asked same
+first_period = refl
+
+next_period : new_end 1050 (token_entry (of_period 60 0)) 5 ≡ 1110
+unfolding of_period periodic asked same
+next_period = refl
+
+last_period : new_end 1050 (token_entry (of_period 60 100)) 5 ≡ 1100
+unfolding of_period periodic asked same
+last_period = refl
+
+-- a period of 800 hours is cut to 32 days, and goes on beyond 32 days after the issue
+longest_period : (of_period 2880000 0).period ≡ 2764800
+unfolding of_period periodic asked same
+longest_period = refl
+
+beyond_the_longest : new_end 2001000 (token_entry (of_period 2880000 0)) 0 ≡ 4765800
+unfolding of_period periodic asked same
+beyond_the_longest = refl
 
 -- a root token has no end if the body names no time, and a token of no times lasts for 32 days
 endless : (new_token 1000 None accessor (codes "root" ∷ []) (asked [] 0 0 false false)).ends ≡ None
@@ -143,6 +175,10 @@ by_its_own_route = refl
 expiring : refused true OfCaller (caller (codes "root" ∷ []) None (Some 1100)) (codes "root" ∷ []) (asked [] 0 0 false false) reason.ExpiringRoot
 unfolding asked caller same
 expiring = refl
+
+no_period : refused false OfCaller (caller default_and_n None (Some 2765800)) default_and_n (periodic 60 0 0) reason.PeriodNeedsSudo
+unfolding periodic asked caller same
+no_period = refl
 
 -- ---- policies
 

@@ -34,7 +34,7 @@ impl Answered {
         ensures { IfOk result (λ a. answered_of a
             ≡ operation.reply (plain_reply (names_of context.now.words).request object) None) }
     {
-        let request = id_text(alloc, context.words.0[0])?;
+        let request = id_text(alloc, context.words.request())?;
         Ok(Answered::Given(plain_reply(alloc, request.as_str(), object)?))
     }
 }

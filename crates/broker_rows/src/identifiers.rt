@@ -1,12 +1,11 @@
 //! The identifiers that a request gives out.
 
 ghost use Rattle.std.specs.Prelude.{◌≡◌, ◌∷◌, [], Option, IfOk, OnOk};
-ghost use Rattle.std.specs.List.{list_any};
 ghost use Rattle.broker_types.specs.Broker.{Broker};
 ghost use Rattle.broker_types.specs.Fault.{IsMemoryOrStorage};
 ghost use Rattle.broker_types.specs.Identifier.{id};
 ghost use Rattle.broker_types.specs.Sound.{IsIdentifier};
-ghost use Rattle.broker_types.specs.Text.{Text, same};
+ghost use Rattle.broker_types.specs.Text.{Text};
 ghost use Rattle.broker_types.specs.TokenText.{token_text};
 ghost use Rattle.broker_types.specs.Used as model;
 ghost use Rattle.records.specs.RowForms.{used_row};
@@ -18,7 +17,7 @@ ghost use Rattle.broker_rows.specs.Marks.{are_unmarked};
 ghost use Rattle.broker_rows.specs.Operating.{ArePrinted};
 ghost use Rattle.broker_rows.specs.Representing.{Represents};
 
-use broker_types::{Fault, TextBuf, id_text};
+use broker_types::{Fault, TextBuf, id_text, is_among};
 use records::{Kind, RecordsTx, write_used};
 use std::alloc::{AllocError, Global};
 
@@ -76,21 +75,6 @@ fn are_unmarked<T: RecordsTx>(tx: &mut T, identifiers: &[TextBuf]) -> Result<boo
         later = rest;
     }
     Ok(true)
-}
-
-/// Whether a text is among others.
-fn is_among(texts: &[TextBuf], text: &str) -> bool
-    ensures { result ≡ list_any (same text.now) texts.now }
-{
-    texts.iter().any(|other| is_same(text, other.as_str()))
-}
-
-/// Whether two texts are one.
-#[tactic(auto, unfolding(broker_types::specs::Text::same))]
-fn is_same(a: &str, b: &str) -> bool
-    ensures { result ≡ same a.now b.now }
-{
-    a == b
 }
 
 /// Marks an identifier as given out.

@@ -1,7 +1,6 @@
 //! A store in a database.
 
 ghost use Rattle.std.specs.Prelude.{◌≡◌, ◌≢◌, ◌⊎◌, ◌≤◌, IsTrue, IfOk, IfErr, OnOk, OnErr, Err, None, false};
-ghost use Rattle.std.specs.Prelude.{slice_index};
 ghost use Rattle.std.specs.FinMap as map;
 ghost use Rattle.sqlite.specs.Files.{over_files};
 ghost use Rattle.broker_types.specs.Answer.{HasRoom, response_of};
@@ -9,7 +8,7 @@ ghost use Rattle.broker_types.specs.Broker.{Broker};
 ghost use Rattle.broker_types.specs.Fault.{IsMemoryOrStorage};
 ghost use Rattle.broker_types.specs.First.{first_broker};
 ghost use Rattle.broker_types.specs.Identifier.{id};
-ghost use Rattle.broker_types.specs.Names.{names_of};
+ghost use Rattle.broker_types.specs.Names.{names_of, token_word, accessor_word};
 ghost use Rattle.broker_types.specs.TokenText.{token_text};
 ghost use Rattle.records.specs.Transaction.{is_storage};
 ghost use Rattle.broker_model.specs.Listed.{IsListed};
@@ -67,17 +66,17 @@ impl<S: Alter> SqlStore<S> {
     pub fn start(&mut self, moment: Moment, words: &Words) -> Result<TokenText, Fault>
         ensures told { IsHonestStore (sql_kept S.Store self.new)
             → OnOk result (Represents None (sql_kept S.Store self.new).rows
-            (first_broker moment (slice_index words.now.0 1) (slice_index words.now.0 2))) }
-        ensures token { IfOk result (λ t. t ≡ token_text (id (slice_index words.now.0 1))) }
+            (first_broker moment (token_word words.now) (accessor_word words.now))) }
+        ensures token { IfOk result (λ t. t ≡ token_text (id (token_word words.now))) }
         ensures empty { IsHonestStore (sql_kept S.Store self.new)
             → OnOk result ((sql_kept S.Store self.old).rows ≡ map.empty) }
-        ensures differ { OnOk result (slice_index words.now.0 1 ≢ slice_index words.now.0 2) }
+        ensures differ { OnOk result (token_word words.now ≢ accessor_word words.now) }
         ensures bad_start { IsHonestStore (sql_kept S.Store self.new) → result ≡ Err Fault.BadStart
             → ((sql_kept S.Store self.old).rows ≢ map.empty)
-            ⊎ (slice_index words.now.0 1 ≡ slice_index words.now.0 2) }
+            ⊎ (token_word words.now ≡ accessor_word words.now) }
 
         // Equal words are refused whatever the storage does; rows, once it has shown them (`empty`).
-        ensures refused { slice_index words.now.0 1 ≡ slice_index words.now.0 2 → result ≡ Err Fault.BadStart }
+        ensures refused { token_word words.now ≡ accessor_word words.now → result ≡ Err Fault.BadStart }
         ensures faults { IfErr result (λ fault. IsMemoryOrStorage fault ⊎ (fault ≡ Fault.BadStart)) }
         ensures kept { IsHonestStore (sql_kept S.Store self.new) → IsTrue (sql_kept S.Store self.new).is_open
             → OnErr result ((sql_kept S.Store self.new).rows ≡ (sql_kept S.Store self.old).rows) }
@@ -87,10 +86,10 @@ impl<S: Alter> SqlStore<S> {
             → (sql_kept S.Store self.new).is_open ≡ (sql_kept S.Store self.old).is_open }
         ensures failed { result ≡ Err Fault.Storage → IsTrue (sql_kept S.Store self.new).has_failed }
     {
-        if words.0[1] == words.0[2] {
+        if words.token() == words.accessor() {
             return Err(Fault::BadStart);
         }
-        match self.write_start(moment, words.0[1], words.0[2]) {
+        match self.write_start(moment, words.token(), words.accessor()) {
             Ok(token) => Ok(token),
             Err(Fault::Storage) => Err(Fault::Storage),
             Err(fault) => {

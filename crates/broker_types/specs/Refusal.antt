@@ -60,6 +60,7 @@ reason_opening reason.RootByRootAlone = codes "only a root token can create root
 reason_opening reason.PoliciesBeyondParent = codes "child policies must be subset of parent"
 reason_opening reason.OrphanNeedsSudo = codes "root or sudo privileges required to create orphan token"
 reason_opening reason.ExpiringRoot = codes "expiring root tokens cannot create non-expiring root tokens"
+reason_opening reason.PeriodNeedsSudo = codes "root or sudo privileges required to create periodic token"
 reason_opening reason.TokenNotRenewable = codes "lease is not renewable"
 reason_opening reason.InvalidAccessor = codes "invalid accessor"
 reason_opening reason.UnsupportedPolicy = codes "unsupported policy"

@@ -38,7 +38,7 @@ pub use reply::Reply;
 pub use request_error::RequestError;
 pub use seconds::Seconds;
 pub use status::{Methods, Status};
-pub use text::{Bytes, CowBytes, CowText, TextBuf};
+pub use text::{Bytes, CowBytes, CowText, TextBuf, is_among, is_same};
 pub use time::time_text;
 pub use token::{Accessor, TokenText};
 pub use words::Words;

@@ -107,6 +107,8 @@ pub enum Reason {
     OrphanNeedsSudo,
     /// A root token that ends creates one that does not.
     ExpiringRoot,
+    /// A caller without `sudo` creates a periodic token.
+    PeriodNeedsSudo,
     /// A token or a lease that cannot be renewed is renewed.
     TokenNotRenewable,
     /// An accessor that no token has.
@@ -155,6 +157,7 @@ impl Reason {
             Reason::PoliciesBeyondParent => "child policies must be subset of parent",
             Reason::OrphanNeedsSudo => "root or sudo privileges required to create orphan token",
             Reason::ExpiringRoot => "expiring root tokens cannot create non-expiring root tokens",
+            Reason::PeriodNeedsSudo => "root or sudo privileges required to create periodic token",
             Reason::TokenNotRenewable => "lease is not renewable",
             Reason::InvalidAccessor => "invalid accessor",
             Reason::UnsupportedPolicy => "unsupported policy",

@@ -1,5 +1,7 @@
-ghost use Rattle.std.specs.Prelude.{◌≡◌, IfOk, string_bytes};
+ghost use Rattle.std.specs.Prelude.{◌≡◌, IfOk, option_map, string_bytes};
 ghost use Rattle.std.specs.Cow.{cow_str_bytes, cow_slice_items};
+ghost use Rattle.std.specs.List.{list_any};
+ghost use Rattle.broker_types.specs.Text.{same};
 
 use std::alloc::{AllocError, Global};
 use std::borrow::{CowSlice, CowStr};
@@ -36,6 +38,16 @@ impl TextBuf {
         })
     }
 
+    /// A copy of a text, if there is one. It fails only when out of memory.
+    pub fn copied_if_some(alloc: Global, text: Option<&str>) -> Result<Option<TextBuf>, AllocError>
+        ensures { IfOk result (λ copy. copy ≡ option_map (λ t. t.now) text.entry) }
+    {
+        match text {
+            None => Ok(None),
+            Some(text) => Ok(Some(TextBuf::copied(alloc, text)?)),
+        }
+    }
+
     /// The text.
     pub fn as_str(&self) -> &str
         ensures { result.now ≡ self.now }
@@ -50,6 +62,21 @@ impl TextBuf {
         let TextBuf { text } = self;
         text
     }
+}
+
+/// Whether two texts are one.
+#[tactic(auto, unfolding(crate::specs::Text::same))]
+pub fn is_same(a: &str, b: &str) -> bool
+    ensures { result ≡ same a.now b.now }
+{
+    a == b
+}
+
+/// Whether a text is one of the list.
+pub fn is_among(list: &[TextBuf], text: &str) -> bool
+    ensures { result ≡ list_any (same text.now) list.now }
+{
+    list.iter().any(|other| is_same(text, other.as_str()))
 }
 
 /// Bytes that contracts see as their list.

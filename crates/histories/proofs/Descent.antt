@@ -84,6 +84,7 @@ module _ (a : Asking) where
     pub accessor : x.accessor ≡ earlier.accessor
     pub policies : x.policies ≡ earlier.policies
     pub issued : x.issued ≡ earlier.issued
+    pub period : x.period ≡ earlier.period
     pub other_uses : (IsClient a q → ⊥) → x.uses_left ≡ earlier.uses_left
     pub uses : IsClient a q → x.uses_left ≡ option_map (λ n. n - 1) earlier.uses_left
 
@@ -107,6 +108,7 @@ module _ (a : Asking) where
     accessor = refl;
     policies = refl;
     issued = refl;
+    period = refl;
     other_uses = λ _. refl;
     uses = λ client. absurd (no_client asked q client);
   }
@@ -121,6 +123,7 @@ module _ (a : Asking) where
           accessor = ap (λ (z : Token). z.accessor) is;
           policies = ap (λ (z : Token). z.policies) is;
           issued = ap (λ (z : Token). z.issued) is;
+          period = ap (λ (z : Token). z.period) is;
           other_uses = λ other. absurd (other (subst (IsClient a) (sym (same_true q t at)) client));
           uses = λ _. ap (λ (z : Token). z.uses_left) is;
         }
@@ -131,6 +134,7 @@ module _ (a : Asking) where
           accessor = ap (λ (z : Token). z.accessor) is;
           policies = ap (λ (z : Token). z.policies) is;
           issued = ap (λ (z : Token). z.issued) is;
+          period = ap (λ (z : Token). z.period) is;
           other_uses = λ _. ap (λ (z : Token). z.uses_left) is;
           uses = λ it. absurd (false≢true (sym apart ∙ ap (same q) (same_Some _ _ (sym client.token ∙ it.token)) ∙ same_self q));
         }
@@ -167,6 +171,7 @@ module _ (a : Asking) (sound : Sound forms None a.broker) where
     accessor = refl;
     policies = refl;
     issued = refl;
+    period = refl;
     other_uses = λ _. refl;
     uses = λ client. absurd (apart client);
   }
@@ -213,6 +218,7 @@ module _ (a : Asking) (sound : Sound forms None a.broker) where
           accessor = x.accessor;
           policies = x.policies;
           issued = x.issued;
+          period = x.period;
           other_uses = x.other_uses;
           uses = λ client. (x.uses client, unspent start q y client e);
         }
@@ -270,6 +276,7 @@ module _ (a : Asking) (sound : Sound forms None a.broker) where
             accessor = s.rest.accessor ∙ x.accessor;
             policies = s.rest.policies ∙ x.policies;
             issued = s.rest.issued ∙ x.issued;
+            period = s.rest.period ∙ x.period;
             other_uses = λ other. s.rest.uses ∙ x.other_uses other;
             uses = λ client. (s.rest.uses ∙ x.uses client, unspent (counted v.done) q y client e);
           }

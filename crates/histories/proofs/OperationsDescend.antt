@@ -78,10 +78,11 @@ pub record Remains (x y : Token) : Type 0 where
   pub accessor : y.accessor ≡ x.accessor
   pub policies : y.policies ≡ x.policies
   pub issued : y.issued ≡ x.issued
+  pub period : y.period ≡ x.period
   pub uses : y.uses_left ≡ x.uses_left
 
 remains_self : (x : Token) → Remains x x
-remains_self x = record { accessor = refl; policies = refl; issued = refl; uses = refl }
+remains_self x = record { accessor = refl; policies = refl; issued = refl; period = refl; uses = refl }
 
 -- each of the tokens us was one of ts, and has its parent
 abbrev pub AllRemain : Tokens → Tokens → Type 0
@@ -163,7 +164,7 @@ placed_self b = all_same b.tokens b.tokens refl
 -- ---- cubbyholes
 
 cubbyhole_edits : (edit : Map Text → Map Text) → Edits (cubbyhole.with_cubbyhole edit)
-cubbyhole_edits edit = record { parent = λ x. refl; rest = λ x. record { accessor = refl; policies = refl; issued = refl; uses = refl } }
+cubbyhole_edits edit = record { parent = λ x. refl; rest = λ x. record { accessor = refl; policies = refl; issued = refl; period = refl; uses = refl } }
 
 cubbyhole_edited : (b : Broker) (c : Text) (edit : Map Text → Map Text) → AllRemain b.tokens (cubbyhole.edited b c edit).tokens
 cubbyhole_edited b c edit = one_value b.tokens c (cubbyhole.with_cubbyhole edit) (cubbyhole_edits edit)
@@ -230,7 +231,7 @@ on_policies b names name of_policy.Remove d e =
 
 leases_edited : (b : Broker) (edit : Text → Map Lease → Map Lease) → AllRemain b.tokens (leases.edited b edit).tokens
 leases_edited b edit = all_values b.tokens (λ t (x : Token). leases.with_leases (edit t x.leases) x)
-    (λ t. record { parent = λ x. refl; rest = λ x. record { accessor = refl; policies = refl; issued = refl; uses = refl } })
+    (λ t. record { parent = λ x. refl; rest = λ x. record { accessor = refl; policies = refl; issued = refl; period = refl; uses = refl } })
 
 on_leases : (b : Broker) (names : Names) (prefix : Text) (command : LeaseCommand) (d : Done) → act_on_leases b names prefix command ≡ Ok d
     → Tells b d
@@ -329,7 +330,7 @@ renew_tells b names t increment d e =
     let next = new_end b.clock (token_entry x.0) increment in
     subst (Tells b) (ok_inj ending.2)
     (one_value b.tokens t (tree.with_end next)
-    (record { parent = λ x. refl; rest = λ x. record { accessor = refl; policies = refl; issued = refl; uses = refl } }))
+    (record { parent = λ x. refl; rest = λ x. record { accessor = refl; policies = refl; issued = refl; period = refl; uses = refl } }))
 
 revoke_tells : (b : Broker) (t : Text) → Tells b (revoke b t)
 revoke_tells b t = all_fewer b.tokens (λ q. not (is_under b.tokens q t))
@@ -365,7 +366,7 @@ alone_descends b c names t q y e =
           answered = refl;
         })
       ];
-      rest = subst (Remains x.0) (sym x.2) (record { accessor = refl; policies = refl; issued = refl; uses = refl });
+      rest = subst (Remains x.0) (sym x.2) (record { accessor = refl; policies = refl; issued = refl; period = refl; uses = refl });
     })
 
 on_tokens : (b : Broker) (c : Text) (names : Names) (command : TokenCommand) (d : Done) → act_on_tokens b c names command ≡ Ok d

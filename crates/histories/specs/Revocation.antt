@@ -171,7 +171,7 @@ pub record IsOrphaned (a : Asking) (x y : Token) : Type 0 where
   pub none : y.parent ≡ None
 
 -- The token q was there at the request's clock, and y is what it became: with the same parent, unless that was revoked
--- alone, the same accessor and the same policies. If it was the client token of a request that is not open, it has one
+-- alone, the same accessor, policies and period. If it was the client token of a request that is not open, it has one
 -- use less, and one left; else it has as many as before.
 pub record WasToken (a : Asking) (q : Text) (y : Token) : Type 0 where
   pub earlier : Token
@@ -180,6 +180,7 @@ pub record WasToken (a : Asking) (q : Text) (y : Token) : Type 0 where
   pub accessor : y.accessor ≡ earlier.accessor
   pub policies : y.policies ≡ earlier.policies
   pub issued : y.issued ≡ earlier.issued
+  pub period : y.period ≡ earlier.period
   pub other_uses : (IsClient a q → ⊥) → y.uses_left ≡ earlier.uses_left
   pub uses : IsClient a q → (y.uses_left ≡ option_map (λ n. n - 1) earlier.uses_left) × (y.uses_left ≢ Some 0)
 

@@ -1,5 +1,5 @@
-ghost use Rattle.std.specs.Prelude.{◌≡◌, ◌≢◌, ◌≤◌, ◌⊎◌, [], length, Ok, Err, IfErr, IfOk, OnErr, MatchResult};
-ghost use Rattle.std.specs.Prelude.{IsTrue};
+ghost use Rattle.std.specs.Prelude.{◌≡◌, ◌≢◌, ◌≤◌, ◌⊎◌, [], length, Ok, Err, IfErr, IfOk, OnErr, OnOk};
+ghost use Rattle.std.specs.Prelude.{IsTrue, MatchResult};
 ghost use Rattle.std.specs.Io.KnownBytes.{Appends, Consumes, IsAtEnd};
 ghost use Rattle.broker.specs.Kept.{IsHonestStore};
 ghost use Rattle.hub.specs.Feeding.{IsLater};
@@ -77,6 +77,10 @@ pub fn take_turn<S: Store, R: NowSource, W: NowSink, C: Clock, D: WordSource>(
     ensures gone { OnErr result ((all : Connections) → ConnectionsRepresent hub.new all
         → IsGone all (number_of link.new)) }
 
+    // No failure of an end is passed over.
+    ensures heard { OnOk result ((R.has_failed reader.new ≡ R.has_failed reader.old)
+        × (W.has_failed writer.new ≡ W.has_failed writer.old)) }
+
     // On a broker's rows its faults are of memory or storage alone. A fault of reading comes only if the source failed,
     // one of writing only if the sink failed, and one of storage only if the store failed.
     ensures wants { IsHonestStore (hub_store S.seen hub.new) → (w : World) → HubRepresents S.seen hub.old w
@@ -116,6 +120,7 @@ fn send_rest<W: NowSink>(link: &mut Link, writer: &mut W) -> Result<Turn, Failed
     ensures failed { MatchResult result (λ turn. (turn ≡ Turn.WentOn) ⊎ (turn ≡ Turn.NeedsRoom))
         (λ _. IsTrue (W.has_failed writer.new)) }
     ensures room { IfOk result (λ turn. turn ≡ Turn.NeedsRoom → unsent link.new ≡ unsent link.old) }
+    ensures heard { OnOk result (W.has_failed writer.new ≡ W.has_failed writer.old) }
 {
     match writer.push_now(link.unsent()) {
         Ok(0) => Ok(Turn::NeedsRoom),
@@ -148,6 +153,7 @@ fn feed_piece<S: Store, W: NowSink, C: Clock, D: WordSource>(
     ensures same { number_of link.new ≡ number_of link.old }
     ensures room { result ≢ Ok Turn.NeedsRoom }
     ensures turns { IfOk result (λ turn. (turn ≡ Turn.WentOn) ⊎ (turn ≡ Turn.Answered)) }
+    ensures heard { OnOk result (W.has_failed writer.new ≡ W.has_failed writer.old) }
     ensures others { (all : Connections) → ConnectionsRepresent hub.old all
         → LeavesOthers (number_of link.old) all hub.new }
     ensures gone { OnErr result ((all : Connections) → ConnectionsRepresent hub.new all
@@ -206,6 +212,8 @@ fn read_piece<S: Store, R: NowSource, W: NowSink, C: Clock, D: WordSource>(
     ensures room { result ≢ Ok Turn.NeedsRoom }
     ensures gone { OnErr result ((all : Connections) → ConnectionsRepresent hub.new all
         → IsGone all (number_of link.new)) }
+    ensures heard { OnOk result ((R.has_failed reader.new ≡ R.has_failed reader.old)
+        × (W.has_failed writer.new ≡ W.has_failed writer.old)) }
     ensures wants { IsHonestStore (hub_store S.seen hub.new) → (w : World) → HubRepresents S.seen hub.old w
         → IfErr result IsAllowed }
     ensures read { result ≡ Err Read → IsTrue (R.has_failed reader.new) }

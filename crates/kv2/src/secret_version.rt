@@ -33,14 +33,10 @@ impl SecretVersion {
     ) -> Result<SecretVersion, AllocError>
         ensures { IfOk result (λ v. v ≡ version.now) }
     {
-        let secret = match version.secret {
-            None => None,
-            Some(text) => Some(TextBuf::copied(alloc, text)?),
-        };
         Ok(SecretVersion {
             created: version.created,
             deleted: version.deleted,
-            secret,
+            secret: TextBuf::copied_if_some(alloc, version.secret)?,
         })
     }
 }

@@ -1,5 +1,6 @@
 -- How a replay ends (this project's definition).
-use Rattle.std.specs.Prelude.{◌≡◌, ◌⊎◌, Bool, IsTrue, Option, Some, None, slice_index, ⊤}
+use Rattle.std.specs.Prelude.{◌≡◌, ◌⊎◌, Bool, IsTrue, Option, Some, None, ⊤}
+use Rattle.broker_types.specs.Names.{token_word, accessor_word}
 use Rattle.replay.specs.Lines.{Told}
 use Rattle.replay.specs.declared.replaying.Exit.{Exit}
 use Rattle.replay.specs.declared.replaying.Exit.TheVariants.{Done, Faulted, BadLine}
@@ -7,7 +8,7 @@ use Rattle.replay.specs.declared.replaying.Exit.TheVariants.{Done, Faulted, BadL
 -- words 1 and 2 of the start are equal: no root token is made of these
 abbrev pub HasEqualWords : Option Told → Type 0
 HasEqualWords None = ⊥
-HasEqualWords (Some t) = slice_index t.start.words.0 1 ≡ slice_index t.start.words.0 2
+HasEqualWords (Some t) = token_word t.start.words ≡ accessor_word t.start.words
 
 -- its fault, if it has one: memory ran out, the storage failed, the words of the start are equal, or a write failed
 abbrev pub EndsBy : Type 0 → Type 0 → Bool → Exit → Type 0

@@ -1,11 +1,12 @@
 -- What a replay answers (this project's definition).
 use Rattle.std.specs.Prelude.{◌≡◌, ◌≢◌, ◌⊎◌, ◌+◌, ◌<◌, ℕ, List, [], Option, Some, None, Vec, IsTrue, ⊤, length, take}
-use Rattle.std.specs.Prelude.{slice_index, if◌then◌else◌}
+use Rattle.std.specs.Prelude.{if◌then◌else◌}
 use Rattle.std.specs.Io.KnownBytes.{Appends}
 use Rattle.std.specs.List.{concat}
 use Rattle.std.specs.declared.alloc.Global.{Global}
 use Rattle.broker_types.specs.Fault.{fault_number}
 use Rattle.broker_types.specs.First.{first_broker}
+use Rattle.broker_types.specs.Names.{token_word, accessor_word}
 use Rattle.broker_types.specs.declared.fault.Fault.{Fault}
 use Rattle.broker.specs.Kept.{Kept, IsHonestStore}
 use Rattle.hub.specs.Representing.{ConnectionsRepresent, HubRepresents, hub_store}
@@ -43,7 +44,7 @@ pub record Ran (before : World) (events : List Event) (old new : Option (List �
 -- the world of the first broker of a start, with no connection seen
 abbrev pub started : Start → World
 started start =
-    new_world (first_broker start.moment (slice_index start.words.0 1) (slice_index start.words.0 2))
+    new_world (first_broker start.moment (token_word start.words) (accessor_word start.words))
 
 -- the events were answered from the first broker of the start, with no connection seen, and the replies were written
 abbrev pub Replayed : Start → List Event → Option (List ℕ) → Option (List ℕ) → Type 0

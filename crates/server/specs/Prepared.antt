@@ -1,9 +1,10 @@
 -- What a store is made ready as (this project's definition).
-use Rattle.std.specs.Prelude.{◌≡◌, ◌≢◌, ◌≤◌, ℕ, Option, Some, None, slice_index}
+use Rattle.std.specs.Prelude.{◌≡◌, ◌≢◌, ◌≤◌, ℕ, Option, Some, None}
 use Rattle.std.specs.FinMap as map
 use Rattle.sqlite_trees.specs.declared.store.Store as store
 use Rattle.broker_types.specs.First.{first_broker}
 use Rattle.broker_types.specs.Identifier.{id}
+use Rattle.broker_types.specs.Names.{token_word, accessor_word}
 use Rattle.broker_types.specs.Text.{Text}
 use Rattle.broker_types.specs.TokenText.{token_text}
 use Rattle.broker_types.specs.declared.words.Words.{Words}
@@ -22,9 +23,9 @@ pub record IsOpened (before after : Rows) : Type 0 where
 -- the first broker, where there was no row, with the root token of word 1
 pub record IsStarted (moment : ℕ) (words : Words) (before after : Rows) (token : Text) : Type 0 where
   pub empty : before ≡ map.empty
-  pub differ : slice_index words.0 1 ≢ slice_index words.0 2
-  pub broker : Represents None after (first_broker moment (slice_index words.0 1) (slice_index words.0 2))
-  pub root : token ≡ token_text (id (slice_index words.0 1))
+  pub differ : token_word words ≢ accessor_word words
+  pub broker : Represents None after (first_broker moment (token_word words) (accessor_word words))
+  pub root : token ≡ token_text (id (token_word words))
 
 -- no token is told of a broker that was there before
 abbrev pub IsPrepared : ℕ → Words → Rows → Rows → Option Text → Type 0
@@ -34,7 +35,7 @@ IsPrepared moment words before after (Some token) = IsStarted moment words befor
 -- Words 1 and 2 are equal, and there is no row: they would be those of the first broker. The records have shown that
 -- before they were let go: it holds, if the storage has returned what was written as they were then.
 pub record CannotStart {S : Type 0} (g : store.Ghosts S) (records : SqlRecords S g) (words : Words) : Type 0 where
-  pub equal : slice_index words.0 1 ≡ slice_index words.0 2
+  pub equal : token_word words ≡ accessor_word words
   pub last : SqlRecords S g
   pub mismatches : (kept_records g records).mismatches ≤ (kept_records g last).mismatches
   pub told : IsHonestStore (kept_records g last) → (kept_records g records).rows ≡ map.empty

@@ -92,10 +92,7 @@ fn token_meant(
 fn client_token(alloc: Global, client: &Option<CowText<'_>>) -> Result<Option<TextBuf>, AllocError>
     ensures { IfOk result (λ token. token ≡ client.now) }
 {
-    match client {
-        None => Ok(None),
-        Some(token) => Ok(Some(TextBuf::copied(alloc, token.as_str())?)),
-    }
+    TextBuf::copied_if_some(alloc, client.as_ref().map(|token| token.as_str()))
 }
 
 /// The identifiers that a command on responses needs, which have to be new: those of a wrapping token that it makes and
@@ -109,7 +106,11 @@ pub fn wrapping_identifiers(
     ensures { IfOk result (λ own. ArePrinted own.items ((wrapping_traits command.now).own (names_of words.now))) }
 {
     match command {
-        WrappingCommand::Rewrap(_) => printed(alloc, words.0[5], words.0[6]),
+        WrappingCommand::Rewrap(_) => printed(
+            alloc,
+            words.wrapping_token(),
+            words.wrapping_accessor(),
+        ),
         _ => Ok(Vec::new(alloc)),
     }
 }
@@ -201,13 +202,13 @@ fn rewrap<T: RecordsTx>(
     ensures refused { IsHonest (T.seen tx.new) → OnRefused result ((T.seen tx.new).rows ≡ (T.seen tx.old).rows) }
     ensures call { IsRequestCall (T.seen tx.old) (T.seen tx.new) result IsNotBadStart }
 {
-    let new_token = TokenText::of_word(alloc, context.words.0[5])?;
+    let new_token = TokenText::of_word(alloc, context.words.wrapping_token())?;
     let Some(response) = move_response(alloc, tx, context, own, token, new_token.as_str())? else {
         return Err(NOT_WAITING);
     };
     let token = TextBuf::copied(alloc, new_token.as_str())?;
     let info = wrap_info(alloc, token, response, context.clock)?;
-    let request = id_text(alloc, context.words.0[0])?;
+    let request = id_text(alloc, context.words.request())?;
     Ok(Answered::Given(wrap_reply(alloc, request.as_str(), info)?))
 }
 

@@ -129,7 +129,7 @@ fn renew<T: RecordsTx>(
         asked.increment,
     )?;
     let seconds = seconds_left(context.clock, ends);
-    let request = id_text(alloc, context.words.0[0])?;
+    let request = id_text(alloc, context.words.request())?;
     Ok(Answered::Given(lease_reply(alloc, request.as_str(), asked.lease_id, seconds, None)?))
 }
 

@@ -162,7 +162,7 @@ fn kinds_of_members(rt: HostRuntime) -> Result<(), Fail> {
                 Route::Creation,
                 Field::Period,
                 "{\"period\":@}",
-                ".iiiii.iiii.ii.iiiiiiiiiiii",
+                ".iiiii..iii.ii..i..iiiiiiii",
             ),
             (
                 Route::Creation,
@@ -564,9 +564,8 @@ fn printed_auths(rt: HostRuntime) -> Result<(), Fail> {
     Ok(())
 }
 
-#[test]
-fn printed_tokens(rt: HostRuntime) -> Result<(), Fail> {
-    let alloc = rt.alloc();
+/// Whether an orphan with this period prints so. The text has the member `period`, if it has one, and a comma.
+fn prints_token(alloc: Global, period: u64, member: &str) -> Result<bool, Fail> {
     let token = TokenObject {
         accessor: text(alloc, "00000000-0000-0000-0000-000000000002")?,
         issued: moment(1000)?,
@@ -577,15 +576,24 @@ fn printed_tokens(rt: HostRuntime) -> Result<(), Fail> {
         meta: Pairs::new(Vec::new(alloc)),
         num_uses: 0,
         orphan: true,
+        period,
         policies: Texts::new(Vec::new(alloc)),
         ttl: 2764800,
     };
-    let want =
-        "{\"accessor\":\"00000000-0000-0000-0000-000000000002\",\"creation_time\":1000,\"creation_ttl\":0,\
+    let want = format!(in alloc;
+        "{{\"accessor\":\"00000000-0000-0000-0000-000000000002\",\"creation_time\":1000,\"creation_ttl\":0,\
         \"expire_time\":\"1970-02-02T00:16:40Z\",\"explicit_max_ttl\":0,\
         \"id\":\"hvs.00000000-0000-0000-0000-000000000001\",\"issue_time\":\"1970-01-01T00:16:40Z\",\"meta\":null,\
-        \"num_uses\":0,\"orphan\":true,\"policies\":[],\"renewable\":true,\"ttl\":2764800,\"type\":\"service\"}";
-    assert!(rt; prints(token_object(alloc, &token), want)?);
+        \"num_uses\":0,\"orphan\":true,{member}\"policies\":[],\"renewable\":true,\"ttl\":2764800,\
+        \"type\":\"service\"}}"
+    )?;
+    Ok(prints(token_object(alloc, &token), want.as_str())?)
+}
+
+#[test]
+fn printed_tokens(rt: HostRuntime) -> Result<(), Fail> {
+    assert!(rt; prints_token(rt.alloc(), 0, "")?);
+    assert!(rt; prints_token(rt.alloc(), 60, "\"period\":60,")?);
     Ok(())
 }
 

@@ -180,12 +180,15 @@ fn refusals(rt: HostRuntime) -> Result<(), Fail> {
     };
     let bad = Refusal::BadRequest(Reason::MalformedRequest);
     let missing = Refusal::BadRequest(Reason::MissingField(Field::LeaseId));
+    let periodic = Refusal::BadRequest(Reason::PeriodNeedsSudo);
     let denied = Refusal::Forbidden(Denial::BadToken);
     let unsupported = Refusal::MethodNotAllowed(methods);
     let body = "{\"errors\":[\"malformed request\"]}\n";
     assert!(rt; is_refusal(alloc, bad, 400, body)?);
     let body = "{\"errors\":[\"missing field: lease_id\"]}\n";
     assert!(rt; is_refusal(alloc, missing, 400, body)?);
+    let body = "{\"errors\":[\"root or sudo privileges required to create periodic token\"]}\n";
+    assert!(rt; is_refusal(alloc, periodic, 400, body)?);
     assert!(rt; is_refusal(alloc, denied, 403, "{\"errors\":[\"bad token\"]}\n")?);
     assert!(rt; is_refusal(alloc, Refusal::NotFound, 404, "{\"errors\":[]}\n")?);
     let body = "{\"errors\":[\"unsupported operation\"]}\n";

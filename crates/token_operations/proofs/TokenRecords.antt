@@ -2,6 +2,7 @@
 use Rattle.std.specs.Prelude.{◌≡◌, ◌≢◌, ◌≤◌, ◌+◌, ◌==◌, ℕ, List, [], Bool, true, false, if◌then◌else◌, Option, Some, None}
 use Rattle.std.specs.List.{list_all}
 use Rattle.std.proofs.Common.{refl, ap, subst, arith}
+use Rattle.std.proofs.Math.Nat.{min-le_right}
 use Rattle.std.proofs.lemmas.List.Elements.{All-weaker}
 use Rattle.std.proofs.lemmas.Option.{none-some, same_Some}
 use Rattle.broker_types.specs.Text.{Text}
@@ -61,7 +62,7 @@ new_in_range now parent accessor ps asked within named good are range =
       ends = ends (has_no_end ps asked);
       ttl = ttl (has_no_end ps asked);
       explicit_max_ttl = range.explicit_max_ttl;
-      period = omega arith;
+      period = min-le_right asked.period longest_ttl;
       uses_left = uses (asked.num_uses == 0);
       meta = record {
         members = record {

@@ -1,6 +1,6 @@
 -- What the rules of creation come to: a caller without privileges passes on no policy that it has not, no token makes a
 -- child that its limits forbid.
-use Rattle.std.specs.Prelude.{◌≡◌, ◌||◌, List, [], ◌∷◌, filter, codes, Bool, true, false, not, if◌then◌else◌, None}
+use Rattle.std.specs.Prelude.{◌≡◌, ◌==◌, ◌||◌, List, [], ◌∷◌, filter, codes, Bool, true, false, not, if◌then◌else◌, None}
 use Rattle.std.specs.Prelude.{is_none, Ok, ⊤}
 use Rattle.std.specs.List.{list_all}
 use Rattle.std.proofs.Common.{refl, sym, ◌∙◌, ap, inl, inr}
@@ -37,6 +37,7 @@ pub record IsAllowed (privileged : Bool) (making : Making) (x : Token) (ps : Lis
   pub had : (privileged || list_all (has x.policies) asked.policies) ≡ true
   pub parted : (privileged || (makes_orphans making || not asked.no_parent)) ≡ true
   pub ends : (is_none x.ends || not (has_no_end ps asked)) ≡ true
+  pub period : (privileged || asked.period == 0) ≡ true
 
 module _ (privileged : Bool) (making : Making) (x : Token) (ps : List Text) (asked : TokenCreation) where
   -- a creation that is not refused passed them all
@@ -49,13 +50,15 @@ module _ (privileged : Bool) (making : Making) (x : Token) (ps : List Text) (ask
       let four =
       ok_step (unless (privileged || list_all (has x.policies) asked.policies) (refusal.BadRequest reason.PoliciesBeyondParent)) _ u three.2 in
       let five = ok_step (unless (privileged || (makes_orphans making || not asked.no_parent)) (refusal.BadRequest reason.OrphanNeedsSudo)) _ u four.2 in
+      let six = ok_step (unless (is_none x.ends || not (has_no_end ps asked)) (refusal.BadRequest reason.ExpiringRoot)) _ u five.2 in
       record {
         unlimited = is_nothing x.uses_left (passed _ one.0 _ one.1);
         named = passed _ two.0 _ two.1;
         root = passed _ three.0 _ three.1;
         had = passed _ four.0 _ four.1;
         parted = passed _ five.0 _ five.1;
-        ends = passed _ u _ five.2;
+        ends = passed _ six.0 _ six.1;
+        period = passed _ u _ six.2;
       }
 
 -- ---- policies

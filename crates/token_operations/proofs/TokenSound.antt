@@ -27,7 +27,7 @@ use Rattle.records.specs.ValueLaws.{ok_inj}
 use Rattle.token_tree.specs.Tokens.{MayBeMade}
 use Rattle.broker_model.specs.declared.making.Making.{Making}
 use Rattle.broker_model.specs.parts.TokenCreation.{makes_orphans}
-use Rattle.broker_model.specs.parts.TokenCreation.{new_token, new_parent, or_longest, asked_ttl, has_no_end, use_limit}
+use Rattle.broker_model.specs.parts.TokenCreation.{new_token, new_parent, or_longest, asked_time, asked_ttl, has_no_end, use_limit}
 use Rattle.broker_model.specs.parts.Tokens.{known}
 use Rattle.broker_model.specs.parts.TokenCommands.{token_names}
 use Rattle.token_operations.specs.TokenRanges.{IsInRange, AreTokenNames}
@@ -46,7 +46,7 @@ known_is b t x e = by (get b.tokens t) refl e
 
 pub ttl_short : (asked : TokenCreation) → asked_ttl asked ≤ longest_ttl
 ttl_short asked =
-    le_trans (min-le_right (or_longest asked.ttl) (min longest_ttl (or_longest asked.explicit_max_ttl)))
+    le_trans (min-le_right (asked_time asked) (min longest_ttl (or_longest asked.explicit_max_ttl)))
     (min-le_left longest_ttl (or_longest asked.explicit_max_ttl))
 
 pub end_near : (now ttl : ℕ) → now ≤ greatest_moment → ttl ≤ longest_ttl → IsEnd (now + ttl)
@@ -67,7 +67,7 @@ module _ (forms : Forms) (names : Names) (good : AreTokenNames names) (now : ℕ
         ends = ends (has_no_end ps asked);
         ttl = ttl (has_no_end ps asked);
         explicit_max_ttl = range.explicit_max_ttl;
-        period = omega arith;
+        period = min-le_right asked.period longest_ttl;
         uses_left = uses (asked.num_uses == 0);
         few_meta = lt_of_le_of_lt (few_listed asked.meta) range.kept.meta.few;
         meta = each_listed (λ name value. IsShortText name × IsShortText value) asked.meta texts;

@@ -12,7 +12,8 @@ use std::alloc::{AllocError, Global};
 pub(crate) fn copied_token(alloc: Global, token: &TokenRecord) -> Result<TokenRecord, AllocError>
     ensures { IfOk result (λ copy. copy ≡ token.now) }
 {
-    let parent = copied_name(alloc, &token.parent)?;
+    let parent = token.parent.as_ref().map(|parent| parent.as_str());
+    let parent = TextBuf::copied_if_some(alloc, parent)?;
     let accessor = TextBuf::copied(alloc, token.accessor.as_str())?;
     let mut policies = Vec::new(alloc);
     copy_each(alloc, &mut policies, &token.policies)?;
@@ -29,14 +30,4 @@ pub(crate) fn copied_token(alloc: Global, token: &TokenRecord) -> Result<TokenRe
         uses_left: token.uses_left,
         meta,
     })
-}
-
-/// A copy of a text, if there is one.
-fn copied_name(alloc: Global, name: &Option<TextBuf>) -> Result<Option<TextBuf>, AllocError>
-    ensures { IfOk result (λ copy. copy ≡ name.now) }
-{
-    match name {
-        None => Ok(None),
-        Some(name) => Ok(Some(TextBuf::copied(alloc, name.as_str())?)),
-    }
 }

@@ -106,7 +106,7 @@ fn put<T: RecordsTx>(
     ensures call { IsRequestCall (T.seen tx.old) (T.seen tx.new) result IsNotBadStart }
 {
     let text = token_text(alloc, identifier)?;
-    let request = id_text(alloc, context.words.0[0])?;
+    let request = id_text(alloc, context.words.request())?;
     let accessor = TextBuf::copied(alloc, token.accessor.as_str())?;
     create_token(alloc, tx, text.as_str(), &token)?;
     use_up(alloc, tx, accessor.as_str())?;

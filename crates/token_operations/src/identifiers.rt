@@ -21,7 +21,7 @@ pub fn own_identifiers(
     ensures { IfOk result (λ own. ArePrinted own.items (own_names command.now (names_of words.now))) }
 {
     match command {
-        TokenCommand::Create(_, _) => printed(alloc, words.0[1], words.0[2]),
+        TokenCommand::Create(_, _) => printed(alloc, words.token(), words.accessor()),
         _ => Ok(Vec::new(alloc)),
     }
 }

@@ -10,11 +10,10 @@ ghost use Rattle.token_operations.specs.TokenEntries.{token_told};
 ghost use Rattle.token_operations.specs.TokenSets as sets;
 
 use api_json::TokenCreation;
-use broker_types::TextBuf;
+use broker_types::{TextBuf, is_among};
 use records::TokenRecord;
 use std::alloc::{AllocError, Global};
 use std::collections::BTreeSet;
-use token_tree::is_among;
 
 /// The policies of a new token, ascending by bytes, each once; with `root` among them it is `root` alone.
 pub(crate) fn new_policies(

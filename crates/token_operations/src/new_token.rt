@@ -1,6 +1,6 @@
 //! Which token is made, and the reasons to make none.
 
-ghost use Rattle.std.specs.Prelude.{◌≡◌, ◌≤◌, ◌<◌, ◌+◌, ◌^◌, ◌||◌, None, Some, is_none, not, IfOk, if◌then◌else◌};
+ghost use Rattle.std.specs.Prelude.{◌≡◌, ◌==◌, ◌≤◌, ◌<◌, ◌+◌, ◌^◌, ◌||◌, None, Some, is_none, not, IfOk, if◌then◌else◌};
 ghost use Rattle.std.specs.List.{list_all};
 ghost use Rattle.broker_types.specs.Moment.{greatest_moment};
 ghost use Rattle.broker_types.specs.Limits.{longest_ttl};
@@ -16,10 +16,9 @@ ghost use Rattle.token_operations.specs.TokenEntries.{token_told, new_entry};
 use crate::LONGEST_TTL;
 use api_json::TokenCreation;
 use broker_model::Making;
-use broker_types::{Moment, Reason, Refusal, Seconds, TextBuf, is_name};
+use broker_types::{Moment, Reason, Refusal, Seconds, TextBuf, is_among, is_name};
 use records::{Due, TokenRecord};
 use std::alloc::{AllocError, Global};
-use token_tree::is_among;
 
 /// Whether the caller may make the token: the first reason that it may not is 400.
 pub(crate) fn check(
@@ -42,7 +41,8 @@ pub(crate) fn check(
         is_parted(privileged, making, asked),
         Reason::OrphanNeedsSudo,
     )?;
-    unless(is_end_kept(caller, policies, asked), Reason::ExpiringRoot)
+    unless(is_end_kept(caller, policies, asked), Reason::ExpiringRoot)?;
+    unless(may_be_periodic(privileged, asked), Reason::PeriodNeedsSudo)
 }
 
 /// Whether the uses of the caller have no limit.
@@ -84,6 +84,13 @@ fn is_end_kept(caller: &TokenRecord, policies: &[TextBuf], asked: &TokenCreation
         None => true,
         Some(_) => !has_no_end(policies, asked),
     }
+}
+
+/// Whether the caller may make a periodic token, if it is asked for.
+fn may_be_periodic(privileged: bool, asked: &TokenCreation) -> bool
+    ensures { result ≡ (privileged || asked.now.period == 0) }
+{
+    privileged || asked.period.count() == 0
 }
 
 /// Refuses with 400, unless it is so.
@@ -132,7 +139,10 @@ fn are_among(list: &[TextBuf], texts: &[TextBuf]) -> bool
 fn has_no_end(policies: &[TextBuf], asked: &TokenCreation) -> bool
     ensures { result ≡ part.has_no_end policies.now asked.now }
 {
-    is_among(policies, "root") && asked.ttl.count() == 0 && asked.explicit_max_ttl.count() == 0
+    is_among(policies, "root")
+        && asked.ttl.count() == 0
+        && asked.explicit_max_ttl.count() == 0
+        && asked.period.count() == 0
 }
 
 /// The row of the new token. What it brings can be kept: the clauses but the first tell it.
@@ -161,7 +171,7 @@ pub(crate) fn new_record(
         ends: new_end(endless, now, ttl),
         ttl: new_ttl(endless, ttl),
         explicit_max_ttl: seconds_of(asked.explicit_max_ttl),
-        period: 0,
+        period: asked_period(asked),
         uses_left: use_limit(asked.num_uses),
         meta,
     })
@@ -246,7 +256,25 @@ fn asked_ttl(asked: &TokenCreation) -> u64
     ensures is { result ≡ part.asked_ttl asked.now }
     ensures short { result ≤ longest_ttl }
 {
-    or_longest(asked.ttl).min(LONGEST_TTL.min(or_longest(asked.explicit_max_ttl)))
+    asked_time(asked).min(LONGEST_TTL.min(or_longest(asked.explicit_max_ttl)))
+}
+
+/// The time that is asked for: the period of a periodic token.
+fn asked_time(asked: &TokenCreation) -> u64
+    ensures { result ≡ part.asked_time asked.now }
+{
+    if asked.period.count() == 0 {
+        or_longest(asked.ttl)
+    } else {
+        or_longest(asked.period)
+    }
+}
+
+/// The period of the token, of 32 days at most; 0 if it is not periodic.
+fn asked_period(asked: &TokenCreation) -> u64
+    ensures { result ≡ part.asked_period asked.now }
+{
+    u64::from(asked.period.count()).min(LONGEST_TTL)
 }
 
 /// A length of time; 0 is the longest.

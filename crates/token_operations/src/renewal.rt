@@ -5,6 +5,7 @@ ghost use Rattle.broker_types.specs.Broker.{Broker};
 ghost use Rattle.broker_types.specs.Fault.{IsNotBadStart};
 ghost use Rattle.broker_types.specs.Map.{get};
 ghost use Rattle.broker_types.specs.Names.{names_of};
+ghost use Rattle.broker_types.specs.Sound.{IsEnd};
 ghost use Rattle.broker_types.specs.Text.{Text};
 ghost use Rattle.records.specs.Parts.{of_tokens};
 ghost use Rattle.records.specs.Ranges.{IsTokenInRange};
@@ -111,14 +112,41 @@ fn renew_found<T: RecordsTx>(
     }
     let ends = new_end(context.clock, &found, increment);
     let renewed = renew_token(alloc, tx, token, found, ends)?;
-    let request = id_text(alloc, context.words.0[0])?;
+    let request = id_text(alloc, context.words.request())?;
     Ok(Answered::Given(auth_reply(alloc, request.as_str(), context.clock, token, renewed)?))
 }
 
 /// The new end of a token that has one.
 fn new_end(now: Moment, token: &TokenRecord, increment: Seconds) -> Due
     requires { IsTokenInRange token.now }
-    ensures { result ≡ part.new_end now token.now increment }
+    ensures is { result ≡ part.new_end now token.now increment }
+    ensures near { IsEnd result }
+{
+    if token.period == 0 {
+        prolonged_end(now, token, increment)
+    } else {
+        periodic_end(now, token)
+    }
+}
+
+/// The new end of a periodic token: the increment counts for nothing.
+fn periodic_end(now: Moment, token: &TokenRecord) -> Due
+    requires { IsTokenInRange token.now }
+    ensures is { result ≡ part.periodic_end now token.now }
+    ensures near { IsEnd result }
+{
+    let next = now.seconds() + token.period;
+    match token.explicit_max_ttl {
+        0 => Due::at(next),
+        seconds => Due::at(next.min(token.issued + seconds)),
+    }
+}
+
+/// The new end of a token that is not periodic.
+fn prolonged_end(now: Moment, token: &TokenRecord, increment: Seconds) -> Due
+    requires { IsTokenInRange token.now }
+    ensures is { result ≡ part.prolonged_end now token.now increment }
+    ensures near { IsEnd result }
 {
     let asked = match increment.count() {
         0 => token.ttl,

@@ -33,6 +33,7 @@ pub(crate) fn looked_up(
         meta: Pairs::new(token.meta),
         num_uses: token.uses_left.unwrap_or(0),
         orphan: token.parent.is_none(),
+        period: token.period,
         policies: Texts::new(token.policies),
         ttl: seconds_left(now, token.ends),
     })

@@ -2,36 +2,15 @@
 
 ghost use Rattle.std.specs.Prelude.{◌≡◌, ◌++◌, filter, not, IfOk, OnOk};
 ghost use Rattle.broker_types.specs.Fault.{IsMemoryOrStorage};
-ghost use Rattle.broker_types.specs.Text.{same};
 ghost use Rattle.records.specs.Calls.{IsReading};
-ghost use Rattle.records.specs.Children.{has};
 ghost use Rattle.records.specs.Transaction.{IsHonest};
 ghost use Rattle.token_tree.specs.Starts.{starts};
 ghost use Rattle.token_tree.specs.Walks.{children, AreStarted, AreDescending};
 
 use crate::start::Start;
-use broker_types::{Fault, TextBuf};
+use broker_types::{Fault, is_same};
 use records::{Entry, Kind, RecordsTx};
 use std::alloc::{AllocError, Global};
-
-/// Whether two texts are one.
-pub(crate) fn is_same(a: &str, b: &str) -> bool
-    ensures { result ≡ same a.now b.now }
-{
-    a == b
-}
-
-/// Whether the text is one of the list.
-pub fn is_among(list: &[TextBuf], text: &str) -> bool
-    ensures { result ≡ has list.now text.now }
-{
-    for item in list {
-        if is_same(text, item.as_str()) {
-            return true;
-        }
-    }
-    false
-}
 
 /// Whether a token ends by itself.
 fn begins(start: &Start<'_>, entry: &Entry) -> bool

@@ -12,7 +12,6 @@ mod start;
 mod sweeping;
 
 pub use by_accessor::{accessors, find_accessor};
-pub use descending::is_among;
 pub use laws::{
     accessors_name_their_tokens, edits_evolve, edits_keep_soundness, revoked_tokens_are_not_found,
     tokens_end_as_defined,

@@ -13,9 +13,8 @@ ghost use Rattle.token_tree.specs.Orphaned.{without_parent};
 ghost use Rattle.token_tree.specs.TokenRows.{IsDamagedToken};
 ghost use Rattle.token_tree.specs.Tokens.{RepresentsTokens, AreEnded};
 
-use crate::descending::is_same;
 use crate::ending::remove_token;
-use broker_types::{Fault, TextBuf};
+use broker_types::{Fault, TextBuf, is_same};
 use records::{Entry, Kind, RecordsTx};
 use std::alloc::Global;
 

@@ -338,6 +338,19 @@ def periodic_token(r):
     r.whoami("hvs.#11", at=1110).refused(403, DENIED)
 
 
+@row("A service renews a periodic token for longer than 32 days (`examples/periods.replay`)", "tokens", "periods",
+     start=1700000000)
+def life_of_a_service(r):
+    r.post("auth/token/create-orphan", {"policies": ["app"], "period": "240h"}).is_(200).has(
+        "auth", client_token="hvs.#11", policies=["app", "default"], lease_duration=864000, orphan=True)
+    for days in (9, 18, 27):
+        r.post("auth/token/renew-self", None, token="hvs.#11", at=1700000000 + days * 86400).is_(200).has(
+            "auth", lease_duration=864000)
+    r.whoami("hvs.#11", at=1703110400).is_(200).has(
+        "data", creation_ttl=864000, period=864000, ttl=86400, expire_time="2023-12-21T22:13:20Z")
+    r.whoami("hvs.#11", at=1703196800).refused(403, DENIED)
+
+
 @row("A periodic token with an explicit maximum", "tokens", "periods")
 def periodic_token_with_maximum(r):
     r.post("auth/token/create", {"period": 60, "ttl": 10, "explicit_max_ttl": 100}).is_(200).has(

@@ -189,7 +189,7 @@ fn told(
         ttl: response.ttl,
         wrapped_accessor: made,
     };
-    let request = id_text(alloc, context.words.0[0])?;
+    let request = id_text(alloc, context.words.request())?;
     let info = wrap_object(alloc, &wrap)?;
     Ok(Answered::Given(wrap_reply(alloc, request.as_str(), info)?))
 }

@@ -1,6 +1,6 @@
 -- A token that is made: who may make it, its policies and its ttl (Vault's documentation, "Token auth method (API)",
--- create token; "Tokens", token hierarchies and orphan tokens, root tokens, use limits, explicit max TTLs; the order of
--- the refusals, and what `sudo` allows, are this project's).
+-- create token; "Tokens", token hierarchies and orphan tokens, root tokens, use limits, explicit max TTLs, periodic
+-- tokens; the order of the refusals, and what `sudo` allows, are this project's).
 use Rattle.std.specs.Prelude.{ℕ, ◌+◌, ◌==◌, min, List, [], ◌∷◌, filter, Bool, true, false, not, ◌&&◌, ◌||◌, ⊤, codes}
 use Rattle.std.specs.Prelude.{Option, Some, None, is_none, Result, if◌then◌else◌}
 use Rattle.std.specs.FinMap.{from_entries}
@@ -72,21 +72,30 @@ new_policies privileged x asked =
 abbrev pub or_longest : ℕ → ℕ
 or_longest n = if n == 0 then longest_ttl else n
 
--- the seconds that the body asks for: 32 days if it names none, and no more than 32 days or than the longest that it
--- allows itself
+-- the period that the body asks for, of 32 days at most; 0 for a token that is not periodic
+abbrev pub asked_period : TokenCreation → ℕ
+asked_period asked = min asked.period longest_ttl
+
+-- the time that the body asks for: its period, if it asks for one, and else its ttl; 0 is the longest
+abbrev pub asked_time : TokenCreation → ℕ
+asked_time asked = or_longest (if asked.period == 0 then asked.ttl else asked.period)
+
+-- the seconds that the token is made for: the time that the body asks for, and no more than 32 days or than the longest
+-- that it allows itself
 abbrev pub asked_ttl : TokenCreation → ℕ
-asked_ttl asked = min (or_longest asked.ttl) (min longest_ttl (or_longest asked.explicit_max_ttl))
+asked_ttl asked = min (asked_time asked) (min longest_ttl (or_longest asked.explicit_max_ttl))
 
 -- whether a new token with these policies has no end: a root token, if the body asks for none
 abbrev pub has_no_end : List Text → TokenCreation → Bool
-has_no_end policies asked = have_root policies && (asked.ttl == 0 && asked.explicit_max_ttl == 0)
+has_no_end policies asked =
+    have_root policies && (asked.ttl == 0 && (asked.explicit_max_ttl == 0 && asked.period == 0))
 
 -- ---- refusals
 
 -- The first reason that holds against the caller x is 400: its uses are limited; a name is no name of a policy; `root`
 -- is asked for, which it has not; it is not privileged, and asks for a policy that it has not; or it is not, and asks
 -- for a token without parent on the route that makes children too; it has an end, and the new token, which would have
--- these policies, would have none.
+-- these policies, would have none; or it is not privileged, and asks for a periodic token.
 abbrev pub may_make : Bool → Making → Token → List Text → TokenCreation → Result ⊤ Refusal
 may_make privileged making x policies asked = do
   unlimited ← unless (is_none x.uses_left) (refusal.BadRequest reason.RestrictedToken)
@@ -95,7 +104,8 @@ may_make privileged making x policies asked = do
   had ← unless (privileged || list_all (has x.policies) asked.policies) (refusal.BadRequest reason.PoliciesBeyondParent)
   parted ← unless (privileged || (makes_orphans making || not asked.no_parent))
       (refusal.BadRequest reason.OrphanNeedsSudo)
-  unless (is_none x.ends || not (has_no_end policies asked)) (refusal.BadRequest reason.ExpiringRoot)
+  ending ← unless (is_none x.ends || not (has_no_end policies asked)) (refusal.BadRequest reason.ExpiringRoot)
+  unless (privileged || asked.period == 0) (refusal.BadRequest reason.PeriodNeedsSudo)
 
 -- ---- the new token
 
@@ -119,7 +129,7 @@ new_token now parent accessor policies asked =
       ends = if endless then None else Some (now + asked_ttl asked);
       ttl = if endless then 0 else asked_ttl asked;
       explicit_max_ttl = asked.explicit_max_ttl;
-      period = 0;
+      period = asked_period asked;
       uses_left = use_limit asked.num_uses;
       meta = from_entries asked.meta;
       cubbyhole = empty;

@@ -88,12 +88,22 @@ all_accessors b names =
 
 -- ---- renewal
 
--- The new end of the token x: after the increment, or after the time that it was made for if that is 0; and no later
--- than 32 days, or its own longest time, after its issue.
-abbrev pub new_end : ℕ → TokenEntry → ℕ → ℕ
-new_end now x increment =
+-- The new end of the token x that is not periodic: after the increment, or after the time that it was made for if that
+-- is 0; and no later than 32 days, or its own longest time, after its issue.
+abbrev pub prolonged_end : ℕ → TokenEntry → ℕ → ℕ
+prolonged_end now x increment =
     min (now + (if increment == 0 then x.ttl else increment))
     (x.issued + min longest_ttl (or_longest x.explicit_max_ttl))
+
+-- the new end of the periodic token x: after its period, and no later than its own longest time, if it has one, after
+-- its issue
+abbrev pub periodic_end : ℕ → TokenEntry → ℕ
+periodic_end now x =
+    if x.explicit_max_ttl == 0 then now + x.period else min (now + x.period) (x.issued + x.explicit_max_ttl)
+
+-- the new end of the token x; of a periodic one, whatever the increment is
+abbrev pub new_end : ℕ → TokenEntry → ℕ → ℕ
+new_end now x increment = if x.period == 0 then prolonged_end now x increment else periodic_end now x
 
 -- the token t is renewed; one without an end is 400 `lease is not renewable`
 abbrev pub renew : Broker → Names → Text → ℕ → Result Done Refusal

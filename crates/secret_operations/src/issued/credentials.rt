@@ -108,7 +108,7 @@ fn given(
     ensures { IfOk result (λ a. answered_of a ≡ operation.reply (lease_reply (names_of context.now.words).request
         lease.0 lease.1 (Some (credential_object credential.now))) None) }
 {
-    let request = id_text(alloc, context.words.0[0])?;
+    let request = id_text(alloc, context.words.request())?;
     let object = credential_object(alloc, credential)?;
     let reply = lease_reply(
         alloc,

@@ -21,7 +21,7 @@ pub fn own_identifiers(
     ensures { IfOk result (λ own. ArePrinted own.items (own_names command.now (names_of words.now))) }
 {
     match command {
-        IssuedCommand::Issue => printed(alloc, words.0[3], words.0[4]),
+        IssuedCommand::Issue => printed(alloc, words.lease(), words.credential()),
         _ => Ok(Vec::new(alloc)),
     }
 }

@@ -29,7 +29,7 @@ pub(super) fn version_answered(
     let object = object_left(found.version);
     let is_left = object.is_some();
     let payload = secret_object(alloc, &object, &metadata)?;
-    let request = id_text(alloc, context.words.0[0])?;
+    let request = id_text(alloc, context.words.request())?;
     let reply = plain_reply(alloc, request.as_str(), payload)?;
     if is_left {
         Ok(Answered::Given(reply))

@@ -107,6 +107,29 @@ fn renew_self_limits(rt: HostRuntime) -> Result<(), Fail> {
     }
 }
 
+/// A periodic token is renewed by its period.
+#[test]
+fn periodic_token(rt: HostRuntime) -> Result<(), Fail> {
+    expect! { &rt, 1000;
+        (1, 1000, 0x10), (1, 1050, 0x20), (1, 1110, 0x30);
+        "#001 POST auth/token/create {'period':60,'ttl':10}" => "200 made 011 012 60 0 false ['root']";
+        "#011 POST auth/token/renew-self {'increment':5}" => "200 made 011 012 60 0 false ['root']";
+        "#011 GET auth/token/lookup-self" => "403 permission denied";
+    }
+}
+
+/// A period needs root or `sudo`.
+#[test]
+fn period_needs_sudo(rt: HostRuntime) -> Result<(), Fail> {
+    expect! { &rt, 1000;
+        "#001 POST sys/policies/acl/c {'policy':'{`path`:{`auth/token/create`:{`capabilities`:[`update`]}}}'}"
+            => "204";
+        "#001 POST auth/token/create {'policies':['c']}" => "200 made 021 022 2764800 0 false ['c','default']";
+        "#021 POST auth/token/create {'period':60}"
+            => "400 root or sudo privileges required to create periodic token";
+    }
+}
+
 /// A token without an end is not renewed.
 #[test]
 fn root_not_renewable(rt: HostRuntime) -> Result<(), Fail> {

@@ -1,7 +1,6 @@
 use Rattle.std.specs.Prelude.{Ok, Some, is_some, not}
 use Rattle.std.proofs.Common.{refl, sym, ap, ◌∙◌, subst}
 use Rattle.broker_types.specs.Names.{names_of}
-use Rattle.broker_types.specs.Sound.{IsEnd}
 use Rattle.records.specs.TokenEntry.{TokenEntry}
 use Rattle.broker_model.specs.Forms.{forms}
 use Rattle.broker_model.specs.parts.TokenReplies.{auth_reply}
@@ -10,7 +9,7 @@ use Rattle.broker_rows.specs.Context.{Context}
 use Rattle.broker_rows.specs.Operating.{ActsAs}
 use Rattle.broker_rows.specs.declared.answered.Answered.TheVariants.{Given}
 use Rattle.broker_rows.specs.RepresentingLaws.{represents_tokens}
-use Rattle.token_operations.proofs.TokenRenewals.{acts_endless, acts_renewed, new_end_near}
+use Rattle.token_operations.proofs.TokenRenewals.{acts_endless, acts_renewed}
 use Rattle.token_operations.proofs.TokenTables.{represents-renewed}
 use Rattle.token_operations.proofs.TokenUses.{renewed_keep}
 use Rattle.token_operations.proofs.renewal.renew_found.Goals as goal
@@ -36,17 +35,16 @@ returns-clause-told g c honest who b starts here =
     (acts_renewed b new who t (names_of c.context.inside.words.now) asked (Some c.args.found) here
     c.as_str.result.now now ends c.args.found c.in_ok-auth_reply.field-0
     (sym (c.as_str.ensures.value ∙ c.in_ok-request.ensures)) (starts.clock ∙ sym (ap (λ (x : Context). x.clock) c.context.view_is)) refl
-    (ap (λ (e : TokenEntry). is_some e.ends) (sym c.found.view_is) ∙ c.is_none.ensures ∙ ap not c.if-is_none.false) c.new_end-ends.ensures
+    (ap (λ (e : TokenEntry). is_some e.ends) (sym c.found.view_is) ∙ c.is_none.ensures ∙ ap not c.if-is_none.false) c.new_end-ends.ensures.is
     (c.in_ok-auth_reply.ensures
     ∙ ap (auth_reply c.as_str.result.now now t) c.in_ok-renewed.ensures.renewed)
     (represents-renewed b t ends old new st
-    (subst IsEnd (sym c.new_end-ends.ensures) (new_end_near now asked c.args.found c.requires))
+    c.new_end-ends.ensures.near
     (c.in_ok-renewed.ensures.told honest forms b (represents_tokens b old st) here)
     (c.in_ok-renewed.ensures.call.others honest)))
 
 pub returns-clause-uses : goal.returns-clause-uses
 returns-clause-uses g c honest at =
     let seen = g.T.RecordsTx.seen in
-    let near = new_end_near c.context.inside.clock c.args.increment c.args.found c.requires in
     renewed_keep (seen c.args.tx.now).rows (seen c.renew.new.tx).rows c.args.token.now c.args.found c.new_end-ends.result
-    (subst IsEnd (sym c.new_end-ends.ensures) near) at (c.in_ok-renewed.ensures.rows honest)
+    c.new_end-ends.ensures.near at (c.in_ok-renewed.ensures.rows honest)
