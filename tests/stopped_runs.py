@@ -11,6 +11,7 @@ The last line is 'N passed, M failed'; the status is 0 if nothing failed.
 """
 
 import concurrent.futures
+import os
 import pathlib
 import re
 import subprocess
@@ -71,7 +72,7 @@ def run(name, disk):
     """What was met at each step of a row over a disk, and in how many images; none if the program failed."""
     row = (HERE / f"rows/{name}.replay").read_bytes()
     command = [HERE / "trial_restarts", "stopped", disk]
-    done = subprocess.run(command, input=row, capture_output=True, text=False, timeout=1200, check=False)
+    done = subprocess.run(command, input=row, capture_output=True, timeout=1200, check=False)
     *lines, last = done.stdout.decode().splitlines() or [""]
     found = [STEP.fullmatch(line) for line in lines]
     images = IMAGES.fullmatch(last)
@@ -103,7 +104,7 @@ def judge(name, disk, steps, images):
 
 def main():
     cases = [(name, disk) for name in ROWS for disk in DISKS]
-    with concurrent.futures.ThreadPoolExecutor() as pool:
+    with concurrent.futures.ThreadPoolExecutor(os.cpu_count()) as pool:
         found = dict(zip(cases, pool.map(lambda case: run(*case), cases)))
     syncs = {case: judge(*case, *found[case]) for case in cases if found[case][0]}
     for name in ROWS:
