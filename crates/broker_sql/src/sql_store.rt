@@ -86,10 +86,12 @@ impl<S: Alter> SqlStore<S> {
             → (sql_kept S.Store self.new).is_open ≡ (sql_kept S.Store self.old).is_open }
         ensures failed { result ≡ Err Fault.Storage → IsTrue (sql_kept S.Store self.new).has_failed }
     {
-        if words.token() == words.accessor() {
+        let token_word = words.token();
+        let accessor_word = words.accessor();
+        if token_word == accessor_word {
             return Err(Fault::BadStart);
         }
-        match self.write_start(moment, words.token(), words.accessor()) {
+        match self.write_start(moment, token_word, accessor_word) {
             Ok(token) => Ok(token),
             Err(Fault::Storage) => Err(Fault::Storage),
             Err(fault) => {

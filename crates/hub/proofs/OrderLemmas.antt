@@ -1,5 +1,5 @@
 -- Turns on many lines, in any order.
-use Rattle.std.proofs.Common.{◌≡◌, ◌≢◌, ◌∙◌, ◌<◌, ℕ, Bool, true, false, cond, List, [], ◌∷◌, ◌++◌, length, nat_eq, get_or, set, Option, Some, None, Result, Ok, Err, MatchResult}
+use Rattle.std.proofs.Common.{◌≡◌, ◌≢◌, ◌∙◌, ◌<◌, ℕ, Bool, true, false, cond, List, [], ◌∷◌, ◌++◌, length, nat_eq, get_or, set, Option, Some, None, Result, Ok, Err, MatchResult, OnOk}
 use Rattle.std.proofs.Common.{IsTrue, is_some, refl, sym, ap, subst, append_assoc, append-nil, eq-eqb, ne_eqb, eqb-true, arith}
 use Rattle.std.proofs.lemmas.Bool.{eqb-false, false≢true}
 use Rattle.std.proofs.lemmas.List.{get_or_default, get_or-set_same, get_or-set_other}
@@ -91,6 +91,9 @@ stop_ends conn Write last answers is all = (answers, closed conn, all, tt, ap (�
 
 -- ---- one line
 
+some_is_none : {fault : ConnectionFault} → Some fault ≡ None → ⊥
+some_is_none e = cc
+
 -- nothing was done
 untouched : {R W : Type 0} (left : R → Option (List ℕ)) (written : W → Option (List ℕ)) (read_failed : R → Bool) (write_failed : W → Bool) (o : Line R W) → IsServedLine left written read_failed write_failed [] o o
 untouched left written read_failed write_failed o = record {
@@ -99,6 +102,7 @@ untouched left written read_failed write_failed o = record {
   sends = passes_nothing (written o.writer) (unsent o.link) (unsent o.link) refl;
   ends = λ none. subst (λ (f : Option ConnectionFault). EndsBy f []) (sym none) (All-nil IsAnswer);
   caused = λ none. subst (λ (f : Option ConnectionFault). IsCaused f (read_failed o.reader) (write_failed o.writer)) (sym none) tt;
+  heard = λ none. (refl, refl);
   stays = λ fault is. (refl, refl);
 }
 
@@ -140,6 +144,16 @@ caused_on left written read_failed write_failed ss ts a b c p q none None is = q
 caused_on {R} {W} left written read_failed write_failed ss ts a b c p q none (Some fault) is =
     subst (λ (l : Line R W). IsCaused l.fault (read_failed l.reader) (write_failed l.writer)) (sym (q.stays fault is).1) (p.caused none)
 
+heard_on : {R W : Type 0} (left : R → Option (List ℕ)) (written : W → Option (List ℕ)) (read_failed : R → Bool) (write_failed : W → Bool) (ss ts : List Step)
+    (a b c : Line R W) → IsServedLine left written read_failed write_failed ss a b → IsServedLine left written read_failed write_failed ts b c
+    → c.fault ≡ None → (f : Option ConnectionFault) → b.fault ≡ f
+    → (read_failed c.reader ≡ read_failed a.reader) × (write_failed c.writer ≡ write_failed a.writer)
+heard_on left written read_failed write_failed ss ts a b c p q none None is =
+    let first = p.heard is in
+    let second = q.heard none in (second.0 ∙ first.0, second.1 ∙ first.1)
+heard_on {R} {W} left written read_failed write_failed ss ts a b c p q none (Some fault) is =
+    absurd (some_is_none (sym is ∙ sym (ap (λ (l : Line R W). l.fault) (q.stays fault is).1) ∙ none))
+
 -- a line that was served, and then served again
 served_on : {R W : Type 0} (left : R → Option (List ℕ)) (written : W → Option (List ℕ)) (read_failed : R → Bool) (write_failed : W → Bool) (ss ts : List Step) (a b c : Line R W)
     → IsServedLine left written read_failed write_failed ss a b → IsServedLine left written read_failed write_failed ts b c → IsServedLine left written read_failed write_failed (ss ++ ts) a c
@@ -152,6 +166,7 @@ served_on {R} {W} left written read_failed write_failed ss ts a b c p q = record
       (replies_in ts) p.sends q.sends);
   ends = λ none. ends_on left written read_failed write_failed ss ts a b c p q none b.fault refl;
   caused = λ none. caused_on left written read_failed write_failed ss ts a b c p q none b.fault refl;
+  heard = λ none. heard_on left written read_failed write_failed ss ts a b c p q none b.fault refl;
   stays = λ fault is.
       let first = p.stays fault is in
       let second = q.stays fault (ap (λ (l : Line R W). l.fault) first.1 ∙ is) in
@@ -182,21 +197,19 @@ caused_by f (Err (Broker fault)) x y is read write = subst (λ (o : Option Conne
 caused_by f (Err Read) x y is read write = subst (λ (o : Option ConnectionFault). IsCaused o x y) (sym is) (read refl)
 caused_by f (Err Write) x y is read write = subst (λ (o : Option ConnectionFault). IsCaused o x y) (sym is) (write refl)
 
-some_is_none : {fault : ConnectionFault} → Some fault ≡ None → ⊥
-some_is_none e = cc
-
 pub line_turned : {S R W : Type 0} (seen : S → Kept) (left : R → Option (List ℕ)) (written : W → Option (List ℕ)) (read_failed : R → Bool) (write_failed : W → Bool) (X : List Event → Type 0)
     (o : Line R W) (link : Link) (reader : R) (writer : W) (f : Option ConnectionFault) (r : Result Turn ConnectionFault) (old new : Hub S)
     → o.fault ≡ None → f ≡ result_err r → number_of link ≡ number_of o.link → IsLater (hub_store seen old) (hub_store seen new)
     → ((all : Connections) → ConnectionsRepresent old all → LeavesOthers (number_of o.link) all new)
     → (r ≡ Err Read → IsTrue (read_failed reader)) → (r ≡ Err Write → IsTrue (write_failed writer))
+    → OnOk r ((read_failed reader ≡ read_failed o.reader) × (write_failed writer ≡ write_failed o.writer))
     → MatchResult r
     (λ turn. TakesTurn seen turn (number_of o.link) (Consumes (left o.reader) (left reader))
     (Passes (Appends (written o.writer) (written writer)) (unsent o.link) (unsent link)) X old new)
     (λ fault. TurnStops seen (number_of o.link) (Consumes (left o.reader) (left reader))
     (Passes (Appends (written o.writer) (written writer)) (unsent o.link) (unsent link)) X fault old new)
     → TurnsLine seen left written read_failed write_failed X o (record { link = link; reader = reader; writer = writer; fault = f }) old new
-line_turned seen left written read_failed write_failed X o link reader writer f (Ok turn) old new going is same later others read write t =
+line_turned seen left written read_failed write_failed X o link reader writer f (Ok turn) old new going is same later others read write heard t =
     let conn = number_of o.link in
     let p = t.on in
     let es = p.exchange.events in
@@ -212,11 +225,12 @@ line_turned seen left written read_failed write_failed X o link reader writer f 
             (sym (answers_replies es rs p.exchange.each)) p.writes;
         ends = λ none. subst (λ (x : Option ConnectionFault). EndsBy x (answers_of es rs)) (sym is) (answers_are es rs);
         caused = λ none. caused_by f (Ok turn) (read_failed reader) (write_failed writer) is read write;
+        heard = λ none. heard;
         stays = λ fault had. absurd (some_is_none (sym had ∙ going));
       };
       others = others;
     }
-line_turned seen left written read_failed write_failed X o link reader writer f (Err fault) old new going is same later others read write t =
+line_turned seen left written read_failed write_failed X o link reader writer f (Err fault) old new going is same later others read write heard t =
     let conn = number_of o.link in
     let s = t.stops in
     let es = s.exchange.events in
@@ -235,6 +249,7 @@ line_turned seen left written read_failed write_failed X o link reader writer f 
         ends = λ none. subst (λ (x : Option ConnectionFault). EndsBy x steps) (sym is)
             (stop_ends conn fault s.last (answers_of es rs) s.unanswered (answers_are es rs));
         caused = λ none. caused_by f (Err fault) (read_failed reader) (write_failed writer) is read write;
+        heard = λ none. absurd (some_is_none (sym is ∙ none));
         stays = λ had at. absurd (some_is_none (sym at ∙ going));
       };
       others = others;

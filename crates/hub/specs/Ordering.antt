@@ -63,7 +63,8 @@ IsCaused (Some Write) has_read_failed has_write_failed = IsTrue has_write_failed
 
 -- A line was served by its own steps. It has the number that it had. What it read are the pieces of their events; and
 -- what was not sent before, and then the replies, are what it sent, and then what is not sent now. They end by its
--- fault, which has its cause. A line that had a fault before has no steps, and is as it was.
+-- fault, which has its cause; without a fault none of its ends failed. A line that had a fault before has no steps, and
+-- is as it was.
 pub record IsServedLine {R W : Type 0} (left : R → Option (List ℕ)) (written : W → Option (List ℕ))
     (read_failed : R → Bool) (write_failed : W → Bool) (own : List Step) (old new : Line R W) : Type 0 where
   pub same : number_of new.link ≡ number_of old.link
@@ -72,6 +73,8 @@ pub record IsServedLine {R W : Type 0} (left : R → Option (List ℕ)) (written
       (replies_in own)
   pub ends : old.fault ≡ None → EndsBy new.fault own
   pub caused : old.fault ≡ None → IsCaused new.fault (read_failed new.reader) (write_failed new.writer)
+  pub heard : new.fault ≡ None → (read_failed new.reader ≡ read_failed old.reader)
+      × (write_failed new.writer ≡ write_failed old.writer)
   pub stays : (fault : ConnectionFault) → old.fault ≡ Some fault → (own ≡ []) × (new ≡ old)
 
 -- one turn on a line

@@ -1,5 +1,6 @@
 use Rattle.std.specs.Prelude.{List, ◌∷◌}
 use Rattle.std.proofs.Common.{◌≡◌, true, sym, ap, ◌∙◌, subst}
+use Rattle.broker_types.specs.Identifier.{id}
 use Rattle.broker_types.specs.Names.{names_of}
 use Rattle.broker_types.specs.Sound.{IsIdentifier}
 use Rattle.broker_types.specs.Text.{Text}
@@ -19,9 +20,11 @@ returns c =
     let wraps : is_wrapped ask command ≡ true = sym c.is_wrapped.ensures ∙ c.if-not-is_wrapped.false in
     let token = c.in_ok-token.ensures in
     let accessor = c.in_ok-accessor.ensures in
+    let token_is = token.value ∙ ap id c.wrapping_token.ensures in
+    let accessor_is = accessor.value ∙ ap id c.wrapping_accessor.ensures in
     let items : c.insert-2.new.self.items ≡ names.wrapping_token ∷ names.wrapping_accessor ∷ own =
     c.in_ok-insert-2.ensures.items ∙ ap (λ (rest : List Text). c.in_ok-token.token ∷ rest) c.in_ok-insert.ensures.items
-    ∙ (λ i. token.value i ∷ accessor.value i ∷ own) in
+    ∙ (λ i. token_is i ∷ accessor_is i ∷ own) in
     subst (λ (needed : List Text). ArePrinted needed (needed_by ask names command)) (sym items)
-    (needed_printed ask names command wraps own c.in_ok-needed.ensures (subst IsIdentifier token.value token.good)
-    (subst IsIdentifier accessor.value accessor.good))
+    (needed_printed ask names command wraps own c.in_ok-needed.ensures (subst IsIdentifier token_is token.good)
+    (subst IsIdentifier accessor_is accessor.good))

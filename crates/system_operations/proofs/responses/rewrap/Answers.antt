@@ -2,6 +2,7 @@ use Rattle.std.specs.Prelude.{◌≡◌, Err, None}
 use Rattle.std.proofs.Common.{ap, subst, sym, ◌∙◌}
 use Rattle.std.proofs.lemmas.Option.{none-some}
 use Rattle.std.proofs.lemmas.Result.{err_from_is_err_and}
+use Rattle.broker_types.specs.Identifier.{id}
 use Rattle.api_json.specs.Reply.{wrap_reply}
 use Rattle.broker_types.specs.Names.{names_of}
 use Rattle.broker_types.specs.Operation.{reply}
@@ -20,7 +21,7 @@ use Rattle.system_operations.proofs.responses.rewrap.Goals as goal
 pub move_response-requires-clause-named : goal.move_response-requires-clause-named
 unfolding names_of
 move_response-requires-clause-named g c =
-    c.as_str.ensures ∙ c.in_ok-new_token.ensures
+    c.as_str.ensures ∙ c.in_ok-new_token.ensures ∙ ap (λ w. token_text (id w)) c.wrapping_token.ensures
     ∙ ap (λ (x : Context). token_text (names_of x.words).wrapping_token) c.context.view_is
 
 pub returns-in_err-response-clause-told : goal.returns-in_err-response-clause-told
@@ -45,9 +46,9 @@ returns-clause-told g c who honest b starts fresh =
     let t = c.args.token.now in
     let is = subst (IsMoved who new b names t) c.in-Some.is (c.in_ok-response.ensures.told who honest b starts fresh) in
     let clock : c.context.inside.clock ≡ b.clock = ap (λ (x : Context). x.clock) c.context.view_is ∙ sym starts.clock in
-    let request = c.as_str-3.ensures.value ∙ c.in_ok-request.ensures
+    let request = c.as_str-3.ensures.value ∙ c.in_ok-request.ensures ∙ ap id c.request.ensures
     ∙ ap (λ (x : Context). (names_of x.words).request) c.context.view_is in
-    let token = c.in_ok-token.ensures ∙ c.as_str-2.ensures ∙ c.in_ok-new_token.ensures
+    let token = c.in_ok-token.ensures ∙ c.as_str-2.ensures ∙ c.in_ok-new_token.ensures ∙ ap (λ w. token_text (id w)) c.wrapping_token.ensures
     ∙ ap (λ (x : Context). token_text (names_of x.words).wrapping_token) c.context.view_is in
     let entry : record c.in-Some.response { created = c.context.inside.clock }
     ≡ moved names.wrapping_accessor b.clock is.0 = (λ i. record (is.2 i) { created = clock i }) in

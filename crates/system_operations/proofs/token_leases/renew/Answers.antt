@@ -1,6 +1,7 @@
 use Rattle.std.specs.Prelude.{◌≡◌, ◌-◌, [], Err, None, Ok}
 use Rattle.std.proofs.Common.{ap, refl, subst, sym, ◌∙◌}
 use Rattle.std.proofs.lemmas.Result.{err_from_is_err_and}
+use Rattle.broker_types.specs.Identifier.{id}
 use Rattle.api_json.specs.Reply.{lease_reply}
 use Rattle.broker_types.specs.Names.{names_of}
 use Rattle.broker_types.specs.RequestError.{EndsErr}
@@ -52,7 +53,7 @@ returns-clause-told g c who =
     (c.in_ok-ends.ensures.call.others honest)
     (c.in_ok-lease_reply.ensures
     ∙ ap (λ request. lease_reply request asked.lease_id c.seconds_left-seconds.result None)
-    (c.as_str-2.ensures.value ∙ c.in_ok-request.ensures)
+    (c.as_str-2.ensures.value ∙ c.in_ok-request.ensures ∙ ap id c.request.ensures)
     ∙ ap (λ seconds. lease_reply names.request asked.lease_id seconds None) c.seconds_left-seconds.ensures
     ∙ ap (λ now. lease_reply names.request asked.lease_id (ends - now) None) (sym starts.clock)))
 

@@ -1,4 +1,5 @@
 use Rattle.std.proofs.Common.{◌≡◌, Ok, sym, ◌∙◌, ap, subst}
+use Rattle.broker_types.specs.Identifier.{id}
 use Rattle.broker_types.specs.Evolves.{IsNew}
 use Rattle.broker_types.specs.Names.{names_of}
 use Rattle.broker_types.specs.Places.{token_identifier}
@@ -34,7 +35,7 @@ returns-clause-told g c who is =
     let made = honest_before (seen c.create.new.tx) (seen c.use_up.new.tx) _ c.in_ok-use_up.ensures.call.goes_on once in
     let identifier : c.args.identifier.now ≡ names.token = is ∙ ap (λ (x : Context). (names_of x.words).token) (sym c.context.view_is) in
     let text : c.as_str-2.result.now ≡ token_text names.token = c.as_str-2.ensures ∙ c.in_ok-text.ensures ∙ ap token_text identifier in
-    let request : c.as_str-4.result.now ≡ names.request = c.as_str-4.ensures.value ∙ c.in_ok-request.ensures in
+    let request : c.as_str-4.result.now ≡ names.request = c.as_str-4.ensures.value ∙ c.in_ok-request.ensures ∙ ap id c.request.ensures in
     let shown : c.as_str-5.result.now ≡ token_text names.token = c.as_str-5.ensures ∙ c.in_ok-text.ensures ∙ ap token_text identifier in
     let given : c.in_ok-accessor.accessor ≡ y.accessor = c.in_ok-accessor.ensures ∙ c.as_str.ensures
     ∙ ap (λ (e : TokenEntry). e.accessor) (c.token.view_is ∙ sym entry) in

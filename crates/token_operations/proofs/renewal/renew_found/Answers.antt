@@ -1,5 +1,6 @@
 use Rattle.std.specs.Prelude.{Ok, Some, is_some, not}
 use Rattle.std.proofs.Common.{refl, sym, ap, ◌∙◌, subst}
+use Rattle.broker_types.specs.Identifier.{id}
 use Rattle.broker_types.specs.Names.{names_of}
 use Rattle.records.specs.TokenEntry.{TokenEntry}
 use Rattle.broker_model.specs.Forms.{forms}
@@ -34,7 +35,7 @@ returns-clause-told g c honest who b starts here =
     subst (λ (x : Context). ActsAs who b new (Ok (Given c.in_ok-auth_reply.field-0)) (renew b (names_of x.words) t asked)) c.context.view_is
     (acts_renewed b new who t (names_of c.context.inside.words.now) asked (Some c.args.found) here
     c.as_str.result.now now ends c.args.found c.in_ok-auth_reply.field-0
-    (sym (c.as_str.ensures.value ∙ c.in_ok-request.ensures)) (starts.clock ∙ sym (ap (λ (x : Context). x.clock) c.context.view_is)) refl
+    (sym (c.as_str.ensures.value ∙ c.in_ok-request.ensures ∙ ap id c.request.ensures)) (starts.clock ∙ sym (ap (λ (x : Context). x.clock) c.context.view_is)) refl
     (ap (λ (e : TokenEntry). is_some e.ends) (sym c.found.view_is) ∙ c.is_none.ensures ∙ ap not c.if-is_none.false) c.new_end-ends.ensures.is
     (c.in_ok-auth_reply.ensures
     ∙ ap (auth_reply c.as_str.result.now now t) c.in_ok-renewed.ensures.renewed)

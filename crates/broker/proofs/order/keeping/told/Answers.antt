@@ -1,4 +1,5 @@
 use Rattle.std.proofs.Common.{None, ap, sym, ◌∙◌}
+use Rattle.broker_types.specs.Identifier.{id}
 use Rattle.api_json.specs.Objects.{wrap_object}
 use Rattle.api_json.specs.Reply.{wrap_reply}
 use Rattle.broker_types.specs.Broker.{Waiting}
@@ -10,7 +11,7 @@ use Rattle.broker.proofs.order.keeping.told.Goals as goal
 pub returns : goal.returns
 unfolding names_of
 returns c =
-    let request = c.as_str.ensures.value ∙ c.in_ok-request.ensures
+    let request = c.as_str.ensures.value ∙ c.in_ok-request.ensures ∙ ap id c.request.ensures
     ∙ ap (λ (x : Context). (names_of x.words).request) c.context.view_is in
     let accessor = c.in_ok-copied.ensures ∙ ap (λ (w : Waiting). w.accessor) c.response.view_is in
     let path = c.in_ok-copied-2.ensures ∙ ap (λ (w : Waiting). w.path) c.response.view_is in

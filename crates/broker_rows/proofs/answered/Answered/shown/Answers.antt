@@ -1,5 +1,6 @@
 use Rattle.std.specs.Prelude.{None}
 use Rattle.std.proofs.Common.{ap, ◌∙◌}
+use Rattle.broker_types.specs.Identifier.{id}
 use Rattle.api_json.specs.Reply.{plain_reply}
 use Rattle.broker_types.specs.Names.{names_of}
 use Rattle.broker_types.specs.Operation.{reply}
@@ -10,5 +11,5 @@ pub returns : goal.returns
 unfolding names_of
 returns c =
     ap (λ r. reply r None)
-    (c.in_ok-plain_reply.ensures ∙ ap (λ q. plain_reply q c.args.object) (c.as_str.ensures.value ∙ c.in_ok-request.ensures)
+    (c.in_ok-plain_reply.ensures ∙ ap (λ q. plain_reply q c.args.object) (c.as_str.ensures.value ∙ c.in_ok-request.ensures ∙ ap id c.request.ensures)
     ∙ ap (λ (x : Context). plain_reply (names_of x.words).request c.args.object) c.context.view_is)

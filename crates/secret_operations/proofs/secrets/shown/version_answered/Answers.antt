@@ -1,4 +1,5 @@
 use Rattle.std.proofs.Common.{sym, ap, ◌∙◌, is_some}
+use Rattle.broker_types.specs.Identifier.{id}
 use Rattle.api_json.specs.Objects.{secret_object}
 use Rattle.api_json.specs.Reply.{plain_reply}
 use Rattle.broker_types.specs.Names.{names_of}
@@ -11,7 +12,7 @@ unfolding names_of
 returns-then-is_left c =
     answered_left (names_of c.args.context.now.words).request c.args.found c.in_ok-reply.reply
     (c.in_ok-reply.ensures
-    ∙ (λ i. plain_reply ((c.as_str.ensures.value ∙ c.in_ok-request.ensures ∙ ap (λ (x : Context). (names_of x.words).request) c.context.view_is) i)
+    ∙ (λ i. plain_reply ((c.as_str.ensures.value ∙ c.in_ok-request.ensures ∙ ap id c.request.ensures ∙ ap (λ (x : Context). (names_of x.words).request) c.context.view_is) i)
     ((c.in_ok-payload.ensures ∙ (λ j. secret_object (c.object_left-object.ensures j) (c.version_shown-metadata.ensures j))) i)))
     (sym (c.is_some-is_left.ensures ∙ ap is_some c.object_left-object.ensures) ∙ c.if-is_left.true)
 
@@ -20,6 +21,6 @@ unfolding names_of
 returns c =
     answered_gone (names_of c.args.context.now.words).request c.args.found c.in_ok-reply.reply
     (c.in_ok-reply.ensures
-    ∙ (λ i. plain_reply ((c.as_str.ensures.value ∙ c.in_ok-request.ensures ∙ ap (λ (x : Context). (names_of x.words).request) c.context.view_is) i)
+    ∙ (λ i. plain_reply ((c.as_str.ensures.value ∙ c.in_ok-request.ensures ∙ ap id c.request.ensures ∙ ap (λ (x : Context). (names_of x.words).request) c.context.view_is) i)
     ((c.in_ok-payload.ensures ∙ (λ j. secret_object (c.object_left-object.ensures j) (c.version_shown-metadata.ensures j))) i)))
     (sym (c.is_some-is_left.ensures ∙ ap is_some c.object_left-object.ensures) ∙ c.if-is_left.false)
