@@ -1,7 +1,8 @@
 #!/bin/bash
-# Tries restarts: every row of tests/rows over files that are closed and opened again after each request, and four of
-# them over files that stop, at each call in turn. In a fifth the files stop while a response is unwrapped, and it is
-# unwrapped again from what is found. The last line is 'N passed, M failed'; the status is 0 if nothing failed.
+# Tries restarts, over a disk that mixes old and new bytes, as `brokerd serve --db` supposes, and over one that tears
+# writes: every row of tests/rows over files that are closed and opened again after each request, and six of them over
+# files that stop, at each call in turn. In one the files stop while a response is unwrapped, and it is unwrapped again
+# from what is found. The last line is 'N passed, M failed'; the status is 0 if nothing failed.
 set -u
 cd "$(dirname "$0")/.."
 
@@ -13,46 +14,33 @@ trap 'rm -rf "$found"' EXIT
 pass() { passed=$((passed + 1)); }
 fail() { echo "restarts, $1: $2"; failed=$((failed + 1)); }
 
-# Runs the rows over files that are opened again, and adds their counts.
-run_rows() {
-    tests/rows.sh tests/trial_restarts reopened > "$found/rows"
-    if [[ $(tail -n 1 "$found/rows") =~ ^([0-9]+)\ passed,\ ([0-9]+)\ failed$ ]]; then
+# Runs a script that ends with its own counts, and adds them: count NAME COMMAND..
+count() {
+    "${@:2}" > "$found/counted"
+    if [[ $(tail -n 1 "$found/counted") =~ ^([0-9]+)\ passed,\ ([0-9]+)\ failed$ ]]; then
         passed=$((passed + BASH_REMATCH[1]))
         failed=$((failed + BASH_REMATCH[2]))
-        sed '$d; s/^/restarts reopened, /' "$found/rows"
+        sed "\$d; s/^/restarts $1, /" "$found/counted"
     else
-        fail reopened "the rows did not end"
-    fi
-}
-
-# Stops a run at each call on each file. Each file has to meet a stop at least: stop ROW
-stop() {
-    tests/trial_restarts stopped < "tests/rows/$1.replay" > "$found/out" 2> "$found/err"
-    local status=$?
-    if [ "$status" -ne 0 ] || [ -s "$found/err" ]; then
-        fail "stopped, $1" "status $status: $(head -c 200 "$found/err")"
-    elif [[ $(cat "$found/out") =~ ^[1-9][0-9]*\ stops\ of\ the\ log,\ [1-9][0-9]*\ of\ the\ database$ ]]; then
-        pass
-    else
-        fail "stopped, $1" "another output: $(head -c 200 "$found/out")"
+        fail "$1" "it did not end"
     fi
 }
 
 # Stops a run of all events but the last at each call on each file, and sends the last one to the broker that is found.
 # There the step that was stopped was taken sometimes, and sometimes not. Without it the reply to the last event has to
-# be the last but one of the row, and with it the last one: again ROW
+# be the last but one of the row, and with it the last one: again ROW DISK
 again() {
-    tests/trial_restarts again < "tests/rows/$1.replay" > "$found/out" 2> "$found/err"
+    tests/trial_restarts again "$2" < "tests/rows/$1.replay" > "$found/out" 2> "$found/err"
     local status=$? times='[1-9][0-9]* times'
     head -n -1 "$found/out" > "$found/replies"
     awk -v events="$(wc -l < "tests/rows/$1.replay")" '/^HTTP\/1.1 / { count += 1 } count > events - 3' \
         "tests/rows/$1.out" > "$found/expected"
     if [ "$status" -ne 0 ] || [ -s "$found/err" ]; then
-        fail "again, $1" "status $status: $(head -c 200 "$found/err")"
+        fail "again $2, $1" "status $status: $(head -c 200 "$found/err")"
     elif ! [[ $(tail -n 1 "$found/out") =~ ^not\ taken\ $times,\ taken\ $times$ ]]; then
-        fail "again, $1" "another output: $(tail -n 1 "$found/out" | head -c 200)"
+        fail "again $2, $1" "another output: $(tail -n 1 "$found/out" | head -c 200)"
     elif ! cmp -s "$found/replies" "$found/expected"; then
-        fail "again, $1" "other replies: $(head -c 200 "$found/replies")"
+        fail "again $2, $1" "other replies: $(head -c 200 "$found/replies")"
     else
         pass
     fi
@@ -68,14 +56,15 @@ refuse() {
     fi
 }
 
-run_rows
-for row in first_run orphan_survives rewrapped_reply eleven_versions; do
-    stop "$row"
+for disk in mixed torn; do
+    count "reopened $disk" tests/rows.sh tests/trial_restarts reopened "$disk"
+    again wrapped_reply_once "$disk"
 done
-again wrapped_reply_once
+count stopped python3 tests/stopped_runs.py
 refuse
-refuse stop
-refuse reopened stopped
+refuse stopped
+refuse stop torn
+refuse reopened mixed torn
 
 echo "$passed passed, $failed failed"
 [ "$failed" -eq 0 ]

@@ -6,31 +6,29 @@ ghost use Rattle.std.specs.Prelude.{◌≡◌, IfOk};
 ghost use Rattle.std.specs.Process.{exit_status};
 ghost use Rattle.trial_restarts.specs.Ends.{status_after};
 
-mod again;
 mod ending;
-mod left;
-mod lent;
+mod found;
 mod opening;
 mod reading;
 mod reopened;
-mod rows;
 mod running;
 mod stopped;
 mod stops;
+mod tally;
 mod task;
 
-use again::run_again;
 use ending::End;
 use endpoints::{Reading, Writing};
 use reopened::replay_reopened;
 use replay::Exit;
-use std::io::Eprint;
+use std::io::{Eprint, Print};
 use std::process::ExitCode;
 use std::{env, io};
-use stopped::run_stopped;
+use stopped::{run_again, run_stopped};
+use tally::Tally;
 use task::{Task, task_of};
 
-const USAGE: &str = "usage: trial_restarts reopened | stopped | again";
+const USAGE: &str = "usage: trial_restarts reopened|stopped|again mixed|torn";
 
 fn main(rt: HostRuntime) -> anyhow::Result<ExitCode> {
     let alloc = rt.alloc();
@@ -43,34 +41,41 @@ fn main(rt: HostRuntime) -> anyhow::Result<ExitCode> {
         return Ok(ExitCode::from(2));
     };
     let mut reader = Reading::new(rt.reader());
+    let mut writer = Writing::new(io::writer(&rt));
     let end = match task {
-        Task::Reopened => {
-            let mut writer = Writing::new(io::writer(&rt));
-            End::Replayed(replay_reopened(alloc, &mut reader, &mut writer))
+        Task::Reopened(writes) => {
+            End::Replayed(replay_reopened(alloc, writes, &mut reader, &mut writer))
         }
-        Task::Stopped => match run_stopped(alloc, &mut reader) {
-            Ok((log, database)) => {
-                println!(rt; "{log} stops of the log, {database} of the database")?;
+        Task::Stopped(writes) => match run_stopped(alloc, writes, &mut reader) {
+            Ok(tally) => {
+                print_tally(&rt, &tally)?;
                 End::Replayed(Exit::Done)
             }
             Err(end) => end,
         },
-        Task::Again => {
-            let mut writer = Writing::new(io::writer(&rt));
-            match run_again(alloc, &mut reader, &mut writer) {
-                Ok((without, with)) => {
-                    println!(rt; "not taken {without} times, taken {with} times")?;
-                    End::Replayed(Exit::Done)
-                }
-                Err(end) => end,
+        Task::Again(writes) => match run_again(alloc, writes, &mut reader, &mut writer) {
+            Ok((without, with)) => {
+                println!(rt; "not taken {without} times, taken {with} times")?;
+                End::Replayed(Exit::Done)
             }
-        }
+            Err(end) => end,
+        },
         Task::Help => {
             println!(rt; "{USAGE}")?;
             End::Replayed(Exit::Done)
         }
     };
     tell(&rt, end)
+}
+
+/// Prints what was met at each step.
+fn print_tally<R: Print>(rt: &R, tally: &Tally) -> anyhow::Result<()> {
+    for (place, step) in tally.steps.iter().enumerate() {
+        println!(rt; "step {place}: {step}")?;
+    }
+    let images = tally.images;
+    println!(rt; "{images} images")?;
+    Ok(())
 }
 
 /// Says on standard error why the task did not end well, if so, and answers the status: 0, or 1 after a fault or at rows

@@ -1,27 +1,42 @@
-//! A run of a script, step by step: the start, and then each event.
+//! A run of a script, step by step: the start, then each event, and the close of the files.
 
-use crate::left::{Left, LeftFiles};
-use crate::lent::Lent;
-use crate::opening::{close, open};
-use crate::rows::Rows;
-use crate::stops::Part;
+use crate::opening::{Writes, close, open};
 use broker::Store;
 use broker_sql::SqlStore;
 use broker_types::Fault;
 use hub::{Event, Hub};
 use ram_disk::RamFile;
+use records_sql::SqlRecords;
 use replay::Script;
-use sqlite::{FileStore, Files};
-use sqlite_disk::{Disk, Fuse, Memory};
+use sqlite::{Alter, FileStore, Files};
+use sqlite_disk::Disk;
 use std::alloc::Global;
+use trial_disk::{Counts, Pair, Part};
+use trial_rows::Rows;
+
+/// How far a run came.
+#[derive(Clone, Copy, Debug, PartialEq, Eq)]
+pub(crate) struct Progress {
+    /// How many steps were answered.
+    pub(crate) answered: usize,
+    pub(crate) log: Counts,
+    pub(crate) database: Counts,
+}
+
+impl Progress {
+    pub(crate) const NONE: Progress = Progress {
+        answered: 0,
+        log: Counts::NONE,
+        database: Counts::NONE,
+    };
+}
 
 /// A run over two files.
 #[derive(Drop)]
 pub(crate) struct Run {
-    pub(crate) files: LeftFiles,
-    /// How many steps were answered.
-    pub(crate) answered: usize,
-    /// Whether the next step, or the close of the files after the last one, was stopped.
+    pub(crate) files: Pair,
+    pub(crate) progress: Progress,
+    /// Whether the next step was stopped.
     pub(crate) is_stopped: bool,
 }
 
@@ -31,44 +46,28 @@ impl Run {
     pub(crate) fn until_stop(
         alloc: Global,
         script: &Script,
+        writes: Writes,
         part: Part,
         calls: u64,
     ) -> Result<Run, Fault> {
-        let mut log = Memory::new(alloc);
-        let mut database = Memory::new(alloc);
+        let mut files = writes.new_files(alloc);
         let mut answered = 0;
-        let files = fused(&mut log, &mut database, part, calls);
-        let is_stopped = match run_over(alloc, files, script, &mut answered) {
+        let lent = files.lend_until(part, calls);
+        let is_stopped = match run_over(alloc, lent, writes, script, &mut answered) {
             Ok(()) => false,
             Err(Fault::Storage) => true,
             Err(fault) => return Err(fault),
         };
-        let files = LeftFiles {
-            log: Left::of(alloc, log)?,
-            database: Left::of(alloc, database)?,
+        let progress = Progress {
+            answered,
+            log: files.counts(Part::Log),
+            database: files.counts(Part::Database),
         };
         Ok(Run {
             files,
-            answered,
+            progress,
             is_stopped,
         })
-    }
-}
-
-/// The two files, one with a fuse that blows after so many calls.
-fn fused<'m>(
-    log: &'m mut Memory,
-    database: &'m mut Memory,
-    part: Part,
-    calls: u64,
-) -> Files<Fuse<Lent<'m, Memory>>> {
-    let (log_calls, database_calls) = match part {
-        Part::Log => (calls, u64::MAX),
-        Part::Database => (u64::MAX, calls),
-    };
-    Files {
-        log: Fuse::new(Lent::new(log), log_calls),
-        db: Fuse::new(Lent::new(database), database_calls),
     }
 }
 
@@ -76,11 +75,15 @@ fn fused<'m>(
 fn run_over<D: Disk + Drop>(
     alloc: Global,
     files: Files<D>,
+    writes: Writes,
     script: &Script,
     answered: &mut usize,
 ) -> Result<(), Fault> {
-    let mut store = open(alloc, files)?;
-    store.start(script.start.moment, &script.start.words)?;
+    let start = &script.start;
+    let (store, is_new) = open(alloc, files, writes, start.moment, &start.words)?;
+    if !is_new {
+        return Err(Fault::BadStart);
+    }
     *answered = 1;
     let mut hub = Hub::new(alloc, store);
     feed_all(&mut hub, script.events.as_slice(), answered)?;
@@ -106,20 +109,21 @@ pub(crate) fn feed<S: Store>(hub: &mut Hub<S>, event: &Event) -> Result<Vec<u8>,
     hub.feed(event.conn, piece, event.moment, &event.words)
 }
 
+/// All rows of a database.
+pub(crate) fn rows_of<S: Alter>(alloc: Global, records: &mut SqlRecords<S>) -> Result<Rows, Fault> {
+    let mut tx = records.begin()?;
+    Rows::of(alloc, &mut tx)
+}
+
 /// The rows before the start, after it, and after each event, of a broker in a database in memory.
 pub(crate) fn all_states(alloc: Global, script: &Script) -> Result<Vec<Rows>, Fault> {
     let mut states = Vec::new(alloc);
-    states.push(Rows::none(alloc))?;
+    states.push(rows_of(alloc, &mut SqlRecords::in_memory(alloc)?)?)?;
     for count in 0..=script.events.len() {
-        states.push(rows_after(alloc, script, &script.events[..count])?)?;
+        let hub = hub_after(alloc, script, &script.events[..count])?;
+        states.push(rows_of(alloc, &mut hub.into_store().into_records())?)?;
     }
     Ok(states)
-}
-
-/// The rows of a broker in a database in memory after the start and these events.
-pub(crate) fn rows_after(alloc: Global, script: &Script, events: &[Event]) -> Result<Rows, Fault> {
-    let hub = hub_after(alloc, script, events)?;
-    Rows::of(alloc, hub.into_store())
 }
 
 /// The reply to an event of a broker in a database in memory after the start and these events.

@@ -1,75 +1,199 @@
-//! A script over files that stop: after each stop the broker is found as it was before the step in progress, or as it
-//! is after it.
+//! A script over files that stop: after each stop, whatever a crash left, the broker is found as it was before the step
+//! in progress, or as it is after it.
 
 use crate::ending::End;
-use crate::left::LeftFiles;
-use crate::opening::open;
+use crate::found::{reply_found, rows_found};
+use crate::opening::Writes;
 use crate::reading::whole_script_of;
-use crate::rows::Rows;
-use crate::running::{Run, all_states};
-use crate::stops::{Loss, Part, Stop};
+use crate::running::{Run, all_states, reply_after};
+use crate::stops::Stop;
+use crate::tally::Tally;
 use broker_types::Fault;
-use endpoints::Source;
-use replay::Script;
+use endpoints::{Sink, Source};
+use hub::Event;
+use replay::{Exit, Script};
 use std::alloc::Global;
+use trial_disk::{Image, Part};
+use trial_rows::Rows;
+
+/// An event that is asked of what is found once the last step is in progress, and its replies.
+#[derive(Drop)]
+struct Asked {
+    event: Event,
+    /// That of a broker that did not take the last step.
+    without: Vec<u8>,
+    /// That of one that did.
+    with: Vec<u8>,
+}
+
+/// A script over files that stop.
+#[derive(Drop)]
+struct Trial {
+    alloc: Global,
+    writes: Writes,
+    script: Script,
+    /// The rows before the start, after it, and after each event.
+    states: Vec<Rows>,
+    asked: Option<Asked>,
+}
 
 /// Stops a run of the lines of the source at each call on the log in turn, and then at each on the database file, and
-/// answers how many stops there were of each. It fails with `Storage` if a run stops though each call is answered.
-pub(crate) fn run_stopped<R: Source>(alloc: Global, reader: &mut R) -> Result<(u64, u64), End> {
-    let script = whole_script_of(alloc, reader)?;
-    if Run::until_stop(alloc, &script, Part::Log, u64::MAX)?.is_stopped {
-        return Err(End::from(Fault::Storage));
-    }
-    let states = all_states(alloc, &script)?;
-    let log = stop_at_each(alloc, &script, states.as_slice(), Part::Log)?;
-    let database = stop_at_each(alloc, &script, states.as_slice(), Part::Database)?;
-    Ok((log, database))
-}
-
-/// Stops a run at each call on a file in turn, until a run meets no stop, and answers how many stops there were.
-fn stop_at_each(alloc: Global, script: &Script, states: &[Rows], part: Part) -> Result<u64, End> {
-    for calls in 0..u64::MAX {
-        let run = Run::until_stop(alloc, script, part, calls)?;
-        let found = find_each(alloc, &run, states)?;
-        if let Some(loss) = found {
-            return Err(End::Wrong(Stop { part, calls, loss }));
-        }
-        if !run.is_stopped {
-            return Ok(calls);
-        }
-    }
-    Ok(u64::MAX)
-}
-
-/// The first loss after which the files of a run do not have the rows before the step in progress, or after it.
-fn find_each(alloc: Global, run: &Run, states: &[Rows]) -> Result<Option<Loss>, Fault> {
-    for loss in Loss::ALL {
-        let Some(found) = rows_found(alloc, &run.files, loss)? else {
-            return Ok(Some(loss));
-        };
-        if !states
-            .iter()
-            .skip(run.answered)
-            .take(2)
-            .any(|state| state.are(&found))
-        {
-            return Ok(Some(loss));
-        }
-    }
-    Ok(None)
-}
-
-/// The rows that are found in files after a loss; none if the files are not those of a broker. The only error is
-/// `Memory`.
-pub(crate) fn rows_found(
+/// tells what was met. It fails with `Storage` if a run stops though each call is answered.
+pub(crate) fn run_stopped<R: Source>(
     alloc: Global,
-    files: &LeftFiles,
-    loss: Loss,
-) -> Result<Option<Rows>, Fault> {
-    let files = files.after(alloc, loss)?;
-    match open(alloc, files).and_then(|store| Rows::of(alloc, store)) {
-        Ok(rows) => Ok(Some(rows)),
-        Err(Fault::Memory) => Err(Fault::Memory),
-        Err(_) => Ok(None),
+    writes: Writes,
+    reader: &mut R,
+) -> Result<Tally, End> {
+    let script = whole_script_of(alloc, reader)?;
+    let trial = Trial::new(alloc, writes, script, None)?;
+    trial.run()
+}
+
+/// The same of all lines but the last, which asks what is found from the last step on. It answers how often that step
+/// had not been taken, and how often it had, and writes the reply to the last line of a broker that did not take that
+/// step, and of one that did.
+pub(crate) fn run_again<R: Source, W: Sink>(
+    alloc: Global,
+    writes: Writes,
+    reader: &mut R,
+    writer: &mut W,
+) -> Result<(u64, u64), End> {
+    let mut script = whole_script_of(alloc, reader)?;
+    let Some(event) = script.events.pop() else {
+        return Err(End::Replayed(Exit::BadLine(2)));
+    };
+    let asked = Asked::of(alloc, &script, event)?;
+    let written = writer.push(asked.without.as_slice());
+    if written.is_err() || writer.push(asked.with.as_slice()).is_err() {
+        return Err(End::Replayed(Exit::Faulted(6)));
+    }
+    let trial = Trial::new(alloc, writes, script, Some(asked))?;
+    Ok(trial.run()?.last_step())
+}
+
+impl Asked {
+    /// The replies to an event after the script without its last event, and after all of it.
+    fn of(alloc: Global, script: &Script, event: Event) -> Result<Asked, Fault> {
+        let all = script.events.as_slice();
+        let before = &all[..all.len().saturating_sub(1)];
+        Ok(Asked {
+            without: reply_after(alloc, script, before, &event)?,
+            with: reply_after(alloc, script, all, &event)?,
+            event,
+        })
+    }
+
+    /// Whether it is the reply of a broker that took the last step, or of one that did not.
+    fn is_reply(&self, reply: &[u8], is_taken: bool) -> bool {
+        let wanted = if is_taken { &self.with } else { &self.without };
+        wanted.as_slice() == reply
+    }
+}
+
+impl Trial {
+    fn new(
+        alloc: Global,
+        writes: Writes,
+        script: Script,
+        asked: Option<Asked>,
+    ) -> Result<Trial, Fault> {
+        let states = all_states(alloc, &script)?;
+        Ok(Trial {
+            alloc,
+            writes,
+            script,
+            states,
+            asked,
+        })
+    }
+
+    /// Stops runs at each call on either file, and tells what was met.
+    fn run(&self) -> Result<Tally, End> {
+        let whole = self.until_stop(Part::Log, u64::MAX)?;
+        if whole.is_stopped {
+            return Err(End::from(Fault::Storage));
+        }
+        let mut tally = Tally::new(self.alloc, self.states.len())?;
+        self.stop_at_each(Part::Log, &mut tally)?;
+        self.stop_at_each(Part::Database, &mut tally)?;
+        Ok(tally)
+    }
+
+    fn until_stop(&self, part: Part, calls: u64) -> Result<Run, Fault> {
+        Run::until_stop(self.alloc, &self.script, self.writes, part, calls)
+    }
+
+    /// Stops a run at each call on a file in turn, until a run meets no stop. Where a run came no further than the one
+    /// that stopped a call earlier, the files are the same.
+    fn stop_at_each(&self, part: Part, tally: &mut Tally) -> Result<(), End> {
+        let mut before = None;
+        for calls in 0..u64::MAX {
+            let mut run = self.until_stop(part, calls)?;
+            if run.is_stopped {
+                tally.count_stop(part, before, run.progress);
+            }
+            if before != Some(run.progress) && self.is_asked(&run) {
+                let wrong = self.first_wrong(&mut run, calls, tally)?;
+                if let Some(image) = wrong {
+                    return Err(End::Wrong(Stop { part, calls, image }));
+                }
+            }
+            if !run.is_stopped {
+                return Ok(());
+            }
+            before = Some(run.progress);
+        }
+        Ok(())
+    }
+
+    /// Whether the broker that is found after a run is to be looked at.
+    fn is_asked(&self, run: &Run) -> bool {
+        self.asked.is_none() || run.progress.answered >= self.script.events.len()
+    }
+
+    /// The first image in which the broker is not the one before the step in progress, or after it. A seed chooses the
+    /// images.
+    fn first_wrong(
+        &self,
+        run: &mut Run,
+        seed: u64,
+        tally: &mut Tally,
+    ) -> Result<Option<Image>, Fault> {
+        for image in run.files.images(seed)?.iter().copied() {
+            if !self.is_right(run, image, tally)? {
+                return Ok(Some(image));
+            }
+        }
+        Ok(None)
+    }
+
+    /// Whether what a crash leaves of a run is the broker before the step in progress, or after it; it is counted.
+    fn is_right(&self, run: &mut Run, image: Image, tally: &mut Tally) -> Result<bool, Fault> {
+        let files = run.files.left(image)?;
+        let states = self.states.as_slice();
+        let start = &self.script.start;
+        let Some(rows) = rows_found(self.alloc, files, self.writes, start, states)? else {
+            return Ok(false);
+        };
+        let step = run.progress.answered;
+        let mut is_before = is_state(states, step, &rows);
+        let mut is_after = is_state(states, step.saturating_add(1), &rows);
+        if let Some(asked) = &self.asked {
+            let files = run.files.left(image)?;
+            let reply = reply_found(self.alloc, files, self.writes, &asked.event)?;
+            let is_taken = step > self.script.events.len();
+            is_before = is_before && asked.is_reply(reply.as_slice(), is_taken);
+            is_after = is_after && asked.is_reply(reply.as_slice(), true);
+        }
+        tally.count_found(step, is_before, is_after);
+        Ok(is_before || is_after)
+    }
+}
+
+/// Whether these are the rows of the state at a place.
+fn is_state(states: &[Rows], place: usize, rows: &Rows) -> bool {
+    match states.get(place) {
+        Some(state) => state.are(rows),
+        None => false,
     }
 }
