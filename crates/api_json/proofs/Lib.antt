@@ -15,3 +15,4 @@ pub mod Lengths
 pub mod Nested
 pub mod KeptObjects
 pub mod KeptMeta
+pub mod KeptCustom

@@ -1,12 +1,14 @@
--- What is kept of bodies: objects, as compact texts (RFC 8259, section 4), and the metadata of tokens.
-use Rattle.std.specs.Prelude.{◌≡◌, ◌<◌, ◌^◌, ◌+◌, List, Bool, true, false, length, map, option_and_then, All}
+-- What is kept of bodies: objects, as compact texts (RFC 8259, section 4), and the metadata of tokens and of secrets.
+use Rattle.std.specs.Prelude.{◌≡◌, ◌<◌, ◌≤◌, ◌^◌, ◌+◌, List, Bool, true, false, length, map, Some, option_and_then, All}
 use Rattle.std.specs.Option.{option_map_or}
 use Rattle.serde_json.specs.Data.{object}
 use Rattle.serde_json.specs.Read.{read}
 use Rattle.serde_json.specs.Written.{compact_text}
-use Rattle.broker_types.specs.Sound.{is_ascending}
+use Rattle.broker_types.specs.Limits.{most_custom_metadata}
+use Rattle.broker_types.specs.Sound.{is_ascending, IsCustomPair}
 use Rattle.broker_types.specs.Text.{Text, same}
 use Rattle.api_json.specs.Json.{without_floats, members_in}
+use Rattle.api_json.specs.declared.secret_bodies.KeySettings.{KeySettings}
 use Rattle.api_json.specs.declared.token_bodies.TokenCreation.{TokenCreation}
 
 -- the compact text of an object without floats: it is read as the object that it is printed from
@@ -30,3 +32,13 @@ pub record IsKeptMeta (es : List (Text × Text)) : Type 0 where
 pub record IsKeptCreation (c : TokenCreation) : Type 0 where
   pub few_policies : length c.policies + 1 < 2 ^ 32
   pub meta : IsKeptMeta c.meta
+
+-- custom metadata that can be kept: few, each name and value in its limits, and the names ascend by bytes, each once
+pub record IsKeptCustom (es : List (Text × Text)) : Type 0 where
+  pub few : length es ≤ most_custom_metadata
+  pub each : All (λ e. IsCustomPair e.0 e.1) es
+  pub ascend : is_ascending (map (λ e. e.0) es) ≡ true
+
+-- what a body asks of one secret can be kept
+abbrev pub IsKeptSettings : KeySettings → Type 0
+IsKeptSettings asked = (es : List (Text × Text)) → asked.custom_metadata ≡ Some es → IsKeptCustom es

@@ -1,7 +1,9 @@
 -- What the body of each route brings, member by member: the first bad member is refused (this profile's members).
-use Rattle.std.specs.Prelude.{ℕ, List, [], ◌∷◌, ◌==◌, ◌||◌, Bool, true, false, length, Option, unwrap_or, codes}
-use Rattle.std.specs.Prelude.{Result, Ok, Err, if◌then◌else◌}
+use Rattle.std.specs.Prelude.{ℕ, List, [], ◌∷◌, ◌==◌, ◌||◌, ◌&&◌, Bool, true, false, length, nat_le, codes}
+use Rattle.std.specs.Prelude.{Option, Some, None, unwrap_or, Result, Ok, Err, if◌then◌else◌}
+use Rattle.std.specs.List.{list_all}
 use Rattle.serde_json.specs.Data.{Members}
+use Rattle.broker_types.specs.Limits.{most_custom_metadata, longest_custom_name, longest_custom_value}
 use Rattle.broker_types.specs.Text.{Text, same}
 use Rattle.broker_types.specs.declared.refusal.Refusal.{Refusal}
 use Rattle.broker_types.specs.declared.refusal.Field.TheVariants as field
@@ -14,6 +16,7 @@ use Rattle.api_json.specs.declared.token_bodies.TokenCreation.{TokenCreation}
 use Rattle.api_json.specs.declared.token_bodies.TokenRenewal.{TokenRenewal}
 use Rattle.api_json.specs.declared.secret_bodies.SecretWrite.{SecretWrite}
 use Rattle.api_json.specs.declared.secret_bodies.MountSettings.{MountSettings}
+use Rattle.api_json.specs.declared.secret_bodies.KeySettings.{KeySettings}
 use Rattle.api_json.specs.declared.mount_bodies.MountCreation.{MountCreation}
 use Rattle.api_json.specs.declared.lease_bodies.LeaseRenewal.{LeaseRenewal}
 use Rattle.api_json.specs.declared.issued_bodies.RoleSettings.{RoleSettings}
@@ -118,6 +121,26 @@ mount_settings ms = do
   max_versions ← optional kind.as_count field.MaxVersions ms
   _ ← optional kind.as_deletion_time field.DeleteVersionAfter ms
   Ok (record { cas_required = cas_required; max_versions = max_versions })
+
+-- a name and a value that are accepted as custom metadata: a name is not empty, and neither is too long
+abbrev pub is_custom_pair : Text × Text → Bool
+is_custom_pair e =
+    nat_le 1 (length e.0) && (nat_le (length e.0) longest_custom_name && nat_le (length e.1) longest_custom_value)
+
+-- custom metadata that are accepted: none, or not too many
+abbrev pub is_custom : Option (List (Text × Text)) → Bool
+is_custom None = true
+is_custom (Some es) = nat_le (length es) most_custom_metadata && list_all is_custom_pair es
+
+-- the settings of one secret; what is absent stays as it is
+unfoldable pub key_settings : Members → Result KeySettings Refusal
+key_settings ms = do
+  custom_metadata ← optional kind.as_pairs field.CustomMetadata ms
+  _ ← unless (is_custom custom_metadata) (invalid field.CustomMetadata)
+  max_versions ← optional kind.as_count field.MaxVersions ms
+  cas_required ← optional kind.as_flag field.CasRequired ms
+  _ ← optional kind.as_deletion_time field.DeleteVersionAfter ms
+  Ok (record { custom_metadata = custom_metadata; max_versions = max_versions; cas_required = cas_required })
 
 -- ---- policies (Vault's documentation, "/sys/policies")
 

@@ -46,7 +46,8 @@ pub use policy_objects::policy_object;
 pub use reading::read_body;
 pub use reply::{lease_reply, plain_reply, reply_text, wrap_reply};
 pub use secret_bodies::{
-    MountSettings, SecretWrite, mount_settings, secret_write, version_number, versions,
+    KeySettings, MountSettings, SecretWrite, key_settings, mount_settings, secret_write,
+    version_number, versions,
 };
 pub use secret_objects::{KeyObject, key_object, secret_object, settings_object, version_object};
 pub use token_bodies::{

@@ -1,25 +1,28 @@
 -- What stays of a key from one operation to the next.
 use Rattle.std.specs.Prelude.{◌≡◌, ◌≢◌, ◌≤◌, ◌+◌, ◌-◌, ◌==◌, ℕ, List, nat_lt, Bool, true, false, cond, if◌then◌else◌, Option, Some, None, option_map}
-use Rattle.std.specs.Prelude.{is_none, Ok, nat_eq, [], not}
+use Rattle.std.specs.Prelude.{is_none, Ok, nat_eq, [], not, map}
 use Rattle.std.specs.List.{starts_with}
 use Rattle.std.specs.Option.{option_map_or}
+use Rattle.std.specs.Ordering.{nat_cmp}
 use Rattle.std.specs.FinMap as fin
 use Rattle.std.proofs.Common.{refl, sym, ◌∙◌, ap, subst, arith}
 use Rattle.std.proofs.lemmas.Bool.{eqb-true}
 use Rattle.std.proofs.lemmas.Option.{none-some}
-use Rattle.broker_types.specs.Text.{Text, same}
+use Rattle.broker_types.specs.Text.{Text, text_cmp, same}
 use Rattle.broker_types.specs.TextLaws.{same_self}
-use Rattle.broker_types.specs.Map.{get}
-use Rattle.broker_types.specs.MapLaws.{get-put, get-put_self, get-change, get-without, get-keep}
+use Rattle.broker_types.specs.Map.{get, entries}
+use Rattle.broker_types.specs.MapLaws.{get-put, get-put_self, get-change, get-without, get-keep, entries-empty}
 use Rattle.broker_types.specs.OptionLaws.{mapped}
 use Rattle.broker_types.specs.Secret.{Key, Version}
 use Rattle.broker_types.specs.Broker.{Broker}
-use Rattle.broker_types.specs.Sound.{Forms, SoundSecrets}
-use Rattle.kv2.specs.Laws.{last_number, version_at, HasNoSecret}
-use Rattle.kv2.specs.Secrets.{Written, secret_name, key_at, with_key, write, remove_key, drop_mount}
+use Rattle.broker_types.specs.Sound.{Forms, SoundSecrets, is_ascending}
+use Rattle.kv2.specs.Laws.{last_number, version_at, HasNoSecret, custom_metadata_at}
+use Rattle.kv2.specs.MetadataLaws.{listed_entries}
+use Rattle.kv2.specs.Secrets.{Written, secret_name, key_at, with_key, write, set_metadata, remove_key, drop_mount}
 use Rattle.kv2.specs.SoundLaws.{write_is}
 use Rattle.kv2.specs.VersionLaws.{get-change_versions, next_versions}
-use Rattle.kv2.specs.Versions.{version_of, key_or_new, new_version, with_version, with_changed, is_among, versions_kept, soft_deleted, restored, destroyed}
+use Rattle.kv2.specs.Versions.{Settings, version_of, key_or_new, new_version, with_version, with_changed, is_among, versions_kept, described}
+use Rattle.kv2.specs.Versions.{soft_deleted, restored, destroyed}
 
 -- ---- changes of versions
 
@@ -66,6 +69,63 @@ module _ (b : Broker) (mount path : Text) (f : Version → Version) (numbers : K
             | true ↦ keeps x.0 gone
             | false ↦ gone
           ])
+
+  pub metadata_stay : custom_metadata_at next mount path ≡ custom_metadata_at b mount path
+  metadata_stay = ap (λ o. option_map_or (λ (k : Key). entries k.custom_metadata) o []) key_after ∙ inner (get b.secrets name)
+    where
+      inner : (o : Option Key) → option_map_or (λ (k : Key). entries k.custom_metadata) (option_map (λ k. with_changed f (numbers k) k) o) []
+          ≡ option_map_or (λ (k : Key). entries k.custom_metadata) o []
+      inner None = refl
+      inner (Some k) = refl
+
+-- ---- settings
+
+module _ (b : Broker) (mount path : Text) (given : Settings) where
+  abbrev own : Text
+  own = secret_name mount path
+
+  abbrev described_key : Key
+  described_key = described b.clock given (key_or_new b.clock (get b.secrets own))
+
+  there : key_at (set_metadata b mount path given) mount path ≡ Some described_key
+  there = get-put_self b.secrets own described_key
+
+  pub number_kept : last_number (set_metadata b mount path given) mount path ≡ last_number b mount path
+  number_kept = ap (λ o. option_map_or (λ (k : Key). k.current) o 0) there ∙ inner (get b.secrets own)
+    where
+      inner : (o : Option Key) → (key_or_new b.clock o).current ≡ option_map_or (λ (k : Key). k.current) o 0
+      inner None = refl
+      inner (Some k) = refl
+
+  pub others_kept : (q : Text) → same q own ≡ false → get (set_metadata b mount path given).secrets q ≡ get b.secrets q
+  others_kept q apart = get-put b.secrets own described_key q ∙ ap (λ v. cond v (Some described_key) (get b.secrets q)) apart
+
+  pub versions_kept_as_they_were : (n : ℕ) → version_at (set_metadata b mount path given) mount path n ≡ version_at b mount path n
+  versions_kept_as_they_were n = ap (λ o. version_of o n) there ∙ inner (get b.secrets own)
+    where
+      inner : (o : Option Key) → version_of (Some (described b.clock given (key_or_new b.clock o))) n ≡ version_of o n
+      inner None = fin.get-empty nat_cmp n
+      inner (Some k) = refl
+
+  pub nothing_brought_back : (n : ℕ) → HasNoSecret (version_at b mount path n) → HasNoSecret (version_at (set_metadata b mount path given) mount path n)
+  nothing_brought_back n h v e = h v (sym (versions_kept_as_they_were n) ∙ e)
+
+  pub metadata_replaced : (es : List (Text × Text)) → given.custom_metadata ≡ Some es → is_ascending (map (λ e. e.0) es) ≡ true
+      → custom_metadata_at (set_metadata b mount path given) mount path ≡ es
+  metadata_replaced es is ascend =
+      ap (λ o. option_map_or (λ (k : Key). entries k.custom_metadata) o []) there
+      ∙ ap (λ o. entries (option_map_or (fin.from_entries {R = text_cmp}) o (key_or_new b.clock (get b.secrets own)).custom_metadata)) is
+      ∙ listed_entries es ascend
+
+  pub metadata_kept : given.custom_metadata ≡ None → custom_metadata_at (set_metadata b mount path given) mount path ≡ custom_metadata_at b mount path
+  metadata_kept is =
+      ap (λ o. option_map_or (λ (k : Key). entries k.custom_metadata) o []) there
+      ∙ ap (λ o. entries (option_map_or (fin.from_entries {R = text_cmp}) o (key_or_new b.clock (get b.secrets own)).custom_metadata)) is
+      ∙ inner (get b.secrets own)
+    where
+      inner : (o : Option Key) → entries (key_or_new b.clock o).custom_metadata ≡ option_map_or (λ (k : Key). entries k.custom_metadata) o []
+      inner None = entries-empty
+      inner (Some k) = refl
 
 pub deleted_gone : (now : ℕ) (v : Version) → v.secret ≡ None → (soft_deleted now v).secret ≡ None
 deleted_gone now v e = elim (is_none v.deleted) as (λ p. (if p then record v { deleted = Some now } else v).secret ≡ None) [
@@ -116,6 +176,18 @@ module _ (b : Broker) (mount path : Text) (cas : Option ℕ) (object : Text) (w 
             ∙ ap (λ o. option_map_or (λ (k : Key). k.current) o 0) (get-put_self b.secrets at (with_version b.clock (versions_kept x.0 over) object over))
             ∙ sym (ap (λ (z : Written). z.number) x.3),
       )
+
+  pub metadata_stay_at_write : custom_metadata_at w.next mount path ≡ custom_metadata_at b mount path
+  metadata_stay_at_write =
+      let x = write_is b mount path cas object w is in
+      ap (λ (z : Written). custom_metadata_at z.next mount path) x.3
+      ∙ ap (λ o. option_map_or (λ (k : Key). entries k.custom_metadata) o [])
+      (get-put_self b.secrets at (with_version b.clock (versions_kept x.0 over) object over))
+      ∙ of_new (get b.secrets at)
+    where
+      of_new : (o : Option Key) → entries (key_or_new b.clock o).custom_metadata ≡ option_map_or (λ (k : Key). entries k.custom_metadata) o []
+      of_new None = entries-empty
+      of_new (Some k) = refl
 
   pub others_stay : (q : Text) → same q at ≡ false → get w.next.secrets q ≡ get b.secrets q
   others_stay q apart =

@@ -2,6 +2,7 @@ pub mod ChangeCalls
 pub mod ChangeLemmas
 pub mod Changed
 pub mod DescribeCalls
+pub mod Described
 pub mod Digits
 pub mod Edits
 pub mod EntryLists

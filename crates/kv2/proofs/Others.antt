@@ -1,5 +1,6 @@
 -- The rows that an edit of secrets leaves as they were.
 use Rattle.std.specs.Prelude.{◌≡◌, ◌==◌, ◌&&◌, ◌∷◌, ◌++◌, [], ◌+◌, ◌-◌, ℕ, List, nat_eq, nat_lt, Bool, true, false, if◌then◌else◌, Option, Some, None}
+use Rattle.std.specs.Prelude.{unwrap_or}
 use Rattle.std.specs.List.{starts_with}
 use Rattle.std.specs.Ordering.{is_le}
 use Rattle.std.proofs.Common.{refl, sym, ◌∙◌, ap}
@@ -19,8 +20,8 @@ use Rattle.records.specs.Splits.{line_feed}
 use Rattle.records.specs.SplitLaws.{eqb_self}
 use Rattle.records.specs.Table.{Table, with_row, is_at}
 use Rattle.kv2.specs.SecretRows.{AreChanged, KeepsOtherNames, KeepsOtherMounts, is_key_of, versions_prefix, with_version, without_key, without_names}
-use Rattle.kv2.specs.SecretRows.{with_settings, without_upto, next_entry}
-use Rattle.kv2.specs.Versions.{new_version}
+use Rattle.kv2.specs.SecretRows.{with_settings, without_upto, new_entry, next_entry, described_entry, with_description}
+use Rattle.kv2.specs.Versions.{Settings, new_version}
 use Rattle.kv2.proofs.Changed.{key_is_among}
 
 -- the keys of a name's versions begin with the name
@@ -61,6 +62,11 @@ module _ (name : Text) (t : Table) where
           ≡ before k q
       pruned_apart true = ap (λ b. if b && is_le (text_cmp q (version_key name (e.current + 1 - limit))) then None else before k q) apart
       pruned_apart false = refl
+
+  -- settings of a secret
+  pub described_keeps : (now : ℕ) (given : Settings) (o : Option KeyEntry) → KeepsOtherNames name t (with_description t name now given o)
+  described_keeps now given o k q not_key apart =
+      ap (λ b. if b then Some (key_entry_row (described_entry now given (unwrap_or o (new_entry now)))) else t k q) not_key
 
   -- a removal
   pub removed_keeps : KeepsOtherNames name t (without_key t name)

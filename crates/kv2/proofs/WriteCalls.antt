@@ -67,7 +67,7 @@ module _ {X Y Z : Type 0} (P : X → Y → Type 0) (Q : X → Z → Type 0) wher
   ends_tested (Ok u) y z result keeps h = ends_ok y z result (keeps refl) h
   ends_tested (Err r) y z result keeps h = ends_refused r result h
 
-entry_or_new : (now : ℕ) (o : Option Key) → unwrap_or (option_map key_entry o) (new_entry now) ≡ key_entry (key_or_new now o)
+pub entry_or_new : (now : ℕ) (o : Option Key) → unwrap_or (option_map key_entry o) (new_entry now) ≡ key_entry (key_or_new now o)
 entry_or_new now None = λ i. record (new_entry now) { custom_metadata = sym entries-empty i }
 entry_or_new now (Some k) = refl
 

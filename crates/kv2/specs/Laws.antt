@@ -1,18 +1,20 @@
 -- Laws of versioned secrets, as statements (this project's; Vault's documentation, "KV secrets engine - version 2").
-use Rattle.std.specs.Prelude.{◌≡◌, ◌≢◌, ◌<◌, ◌≤◌, ◌+◌, ◌^◌, ℕ, nat_eq, List, [], Bool, false, Option, Some, None, Ok}
+use Rattle.std.specs.Prelude.{◌≡◌, ◌≢◌, ◌<◌, ◌≤◌, ◌+◌, ◌^◌, ℕ, nat_eq, List, [], map, Bool, true, false, Ok}
+use Rattle.std.specs.Prelude.{Option, Some, None}
 use Rattle.std.specs.List.{starts_with}
 use Rattle.std.specs.FinMap as fin
 use Rattle.std.specs.Option.{option_map_or}
 use Rattle.broker_types.specs.Text.{Text, same}
-use Rattle.broker_types.specs.Map.{Map, get}
+use Rattle.broker_types.specs.Map.{Map, get, entries}
 use Rattle.broker_types.specs.Secret.{Key, Version}
 use Rattle.broker_types.specs.Broker.{Broker, Mount}
 use Rattle.broker_types.specs.Evolves.{Evolves}
-use Rattle.broker_types.specs.Sound.{Forms, Sound, SoundSecrets, IsPathText, IsObjectText}
+use Rattle.broker_types.specs.Sound.{Forms, Sound, SoundSecrets, IsPathText, IsObjectText, IsSecretName, is_ascending}
+use Rattle.kv2.specs.InRange.{AreWithinLimits}
 use Rattle.kv2.specs.Metadata.{metadata_of}
-use Rattle.kv2.specs.Secrets.{Written, secret_name, key_at, write, delete, delete_versions, undelete, destroy}
-use Rattle.kv2.specs.Secrets.{remove_key, drop_mount, set_config}
-use Rattle.kv2.specs.Versions.{version_of}
+use Rattle.kv2.specs.Secrets.{Written, secret_name, key_at, write, set_metadata, delete, delete_versions, undelete}
+use Rattle.kv2.specs.Secrets.{destroy, remove_key, drop_mount, set_config}
+use Rattle.kv2.specs.Versions.{Settings, version_of}
 
 -- ---- soundness is kept, whoever may have spent its last use
 
@@ -36,7 +38,14 @@ pub record RemovalsKeepSoundness (forms : Forms) (who : Option Text) (b : Broker
   pub removed : Sound forms who (remove_key b mount path)
   pub dropped : Sound forms who (drop_mount b mount)
 
--- and settings that are numbers of 64 bits
+-- settings of a secret that are within their limits
+abbrev pub MetadataKeepSoundness : Type 0
+MetadataKeepSoundness =
+    (forms : Forms) (who : Option Text) (b : Broker) (mount path : Text) (given : Settings)
+    → Sound forms who b → IsSecretName (secret_name mount path) → AreWithinLimits given
+    → Sound forms who (set_metadata b mount path given)
+
+-- and settings of a mount that are numbers of 64 bits
 abbrev pub SettingsKeepSoundness : Type 0
 SettingsKeepSoundness =
     (forms : Forms) (who : Option Text) (b : Broker) (mount : Text) (cas_required : Option Bool)
@@ -72,6 +81,7 @@ pub record NumbersStay (b : Broker) (mount path : Text) (ns : List ℕ) : Type 0
   pub versions_deleted : last_number (delete_versions b mount path ns) mount path ≡ last_number b mount path
   pub restored : last_number (undelete b mount path ns) mount path ≡ last_number b mount path
   pub destroyed : last_number (destroy b mount path ns) mount path ≡ last_number b mount path
+  pub described : (given : Settings) → last_number (set_metadata b mount path given) mount path ≡ last_number b mount path
 
 -- a write of one key changes no other
 abbrev pub OthersStay : Type 0
@@ -80,12 +90,13 @@ OthersStay =
     → write b mount path cas object ≡ Ok w → (q : Text) → same q (secret_name mount path) ≡ false
     → get w.next.secrets q ≡ get b.secrets q
 
--- nor does a change of versions, or the removal of a key, change the secret of another name
+-- nor does a change of versions or of settings, or the removal of a key, change the secret of another name
 pub record OthersAreKept (b : Broker) (mount path : Text) (ns : List ℕ) (q : Text) : Type 0 where
   pub deleted : get (delete b mount path).secrets q ≡ get b.secrets q
   pub versions_deleted : get (delete_versions b mount path ns).secrets q ≡ get b.secrets q
   pub restored : get (undelete b mount path ns).secrets q ≡ get b.secrets q
   pub destroyed : get (destroy b mount path ns).secrets q ≡ get b.secrets q
+  pub described : (given : Settings) → get (set_metadata b mount path given).secrets q ≡ get b.secrets q
   pub removed : get (remove_key b mount path).secrets q ≡ get b.secrets q
 
 -- a mount that is dropped takes no secret along whose name does not begin with its own
@@ -111,12 +122,42 @@ WriteRestoresNothing =
     → SoundSecrets forms b.secrets → write b mount path cas object ≡ Ok w → version_at b mount path n ≢ None
     → HasNoSecret (version_at b mount path n) → HasNoSecret (version_at w.next mount path n)
 
--- nor after a change of versions
+-- nor after a change of versions, or of settings
 pub record ChangesRestoreNothing (b : Broker) (mount path : Text) (ns : List ℕ) (n : ℕ) : Type 0 where
   pub deleted : HasNoSecret (version_at (delete b mount path) mount path n)
   pub versions_deleted : HasNoSecret (version_at (delete_versions b mount path ns) mount path n)
   pub restored : HasNoSecret (version_at (undelete b mount path ns) mount path n)
   pub destroyed : HasNoSecret (version_at (destroy b mount path ns) mount path n)
+  pub described : (given : Settings) → HasNoSecret (version_at (set_metadata b mount path given) mount path n)
+
+-- ---- custom metadata
+
+-- the custom metadata of the secret at a path, by name; none if it is not there
+abbrev pub custom_metadata_at : Broker → Text → Text → List (Text × Text)
+custom_metadata_at b mount path = option_map_or (λ (k : Key). entries k.custom_metadata) (key_at b mount path) []
+
+-- what is given stands, whatever was there; if none are given, those stay that were there; and no version changes
+pub record MetadataAreSet (b : Broker) (mount path : Text) (given : Settings) : Type 0 where
+  pub replaced : (es : List (Text × Text)) → given.custom_metadata ≡ Some es → is_ascending (map (λ e. e.0) es) ≡ true
+      → custom_metadata_at (set_metadata b mount path given) mount path ≡ es
+  pub kept : given.custom_metadata ≡ None
+      → custom_metadata_at (set_metadata b mount path given) mount path ≡ custom_metadata_at b mount path
+  pub versions : (n : ℕ) → version_at (set_metadata b mount path given) mount path n ≡ version_at b mount path n
+
+-- a write of a version changes no custom metadata
+abbrev pub MetadataStayAtWrites : Type 0
+MetadataStayAtWrites =
+    (b : Broker) (mount path : Text) (cas : Option ℕ) (object : Text) (w : Written)
+    → write b mount path cas object ≡ Ok w
+    → custom_metadata_at w.next mount path ≡ custom_metadata_at b mount path
+
+-- nor does a change of versions
+pub record MetadataStay (b : Broker) (mount path : Text) (ns : List ℕ) : Type 0 where
+  pub deleted : custom_metadata_at (delete b mount path) mount path ≡ custom_metadata_at b mount path
+  pub versions_deleted : custom_metadata_at (delete_versions b mount path ns) mount path
+      ≡ custom_metadata_at b mount path
+  pub restored : custom_metadata_at (undelete b mount path ns) mount path ≡ custom_metadata_at b mount path
+  pub destroyed : custom_metadata_at (destroy b mount path ns) mount path ≡ custom_metadata_at b mount path
 
 -- ---- the oldest version
 

@@ -27,7 +27,7 @@ use Rattle.records.specs.Splits.{line_feed}
 use Rattle.records.specs.Transaction.{Rows, rows_under}
 use Rattle.records.specs.Table.{Table, table_of, with_row, without_row, without_under, has_prefix, is_at}
 use Rattle.kv2.specs.Metadata.{Metadata, metadata_with}
-use Rattle.kv2.specs.Versions.{Found, asked_number, numbered, or_if_zero, checked, new_version, is_among}
+use Rattle.kv2.specs.Versions.{Found, Settings, asked_number, numbered, or_if_zero, checked, new_version, is_among}
 
 -- ---- what is at a key
 
@@ -202,6 +202,22 @@ abbrev pub write : Table → Option Mount → Option KeyEntry → Text → ℕ �
 write rows mount key name now cas object = do
   m ← some_or refusal.NotFound mount
   write_over rows m name now cas object (unwrap_or key (new_entry now))
+
+-- ---- settings of a key
+
+-- the key with the settings that are given, at a moment; the others stay
+abbrev pub described_entry : ℕ → Settings → KeyEntry → KeyEntry
+described_entry now given k = record k {
+  updated = now;
+  cas_required = unwrap_or given.cas_required k.cas_required;
+  max_versions = unwrap_or given.max_versions k.max_versions;
+  custom_metadata = unwrap_or given.custom_metadata k.custom_metadata;
+}
+
+-- the table with the settings that are given for a name, for what the rows have of its key
+abbrev pub with_description : Table → Text → ℕ → Settings → Option KeyEntry → Table
+with_description rows name now given k =
+    with_row rows kind.KvKey name (key_entry_row (described_entry now given (unwrap_or k (new_entry now))))
 
 -- ---- deletion
 

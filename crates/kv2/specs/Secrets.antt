@@ -14,8 +14,8 @@ use Rattle.broker_types.specs.declared.refusal.Refusal.TheVariants as refusal
 use Rattle.records.specs.Children.{folder, children}
 use Rattle.records.specs.Splits.{slash}
 use Rattle.kv2.specs.Metadata.{Metadata, metadata_of}
-use Rattle.kv2.specs.Versions.{Found, asked_number, numbered, versions_kept, checked, key_or_new, with_version}
-use Rattle.kv2.specs.Versions.{with_changed, soft_deleted, restored, destroyed}
+use Rattle.kv2.specs.Versions.{Found, Settings, asked_number, numbered, versions_kept, checked, key_or_new}
+use Rattle.kv2.specs.Versions.{described, with_version, with_changed, soft_deleted, restored, destroyed}
 
 -- the name of a secret among those of all mounts
 abbrev pub secret_name : Text → Text → Text
@@ -86,6 +86,15 @@ abbrev pub write : Broker → Text → Text → Option ℕ → Text → Result W
 write b mount path cas object = do
   m ← some_or refusal.NotFound (get b.mounts mount)
   write_over b m (secret_name mount path) cas object (key_or_new b.clock (key_at b mount path))
+
+-- ---- settings of a secret
+
+-- the settings that are given, for the secret at a path of a mount; one that is not there is made, without a version
+abbrev pub set_metadata : Broker → Text → Text → Settings → Broker
+set_metadata b mount path given = record b {
+  secrets = put b.secrets (secret_name mount path)
+      (described b.clock given (key_or_new b.clock (key_at b mount path)));
+}
 
 -- ---- deletion
 

@@ -1,7 +1,8 @@
 -- Operations on secrets leave a sound broker sound, and let it evolve.
 use Rattle.std.specs.Prelude.{◌≡◌, ◌<◌, ◌≤◌, ◌+◌, ◌-◌, ◌==◌, ◌||◌, ◌∷◌, [], ℕ, List, Bool, true, false, cond, nat_lt}
 use Rattle.std.specs.Prelude.{◌^◌, if◌then◌else◌, Option, Some, None, is_none, option_map, unwrap_or, Result, Ok, Err}
-use Rattle.std.specs.Prelude.{⊤}
+use Rattle.std.specs.Prelude.{⊤, length, All}
+use Rattle.std.specs.Option.{option_map_or}
 use Rattle.std.specs.Ordering.{nat_cmp}
 use Rattle.std.specs.FinMap as fin
 use Rattle.std.proofs.Common.{refl, sym, ◌∙◌, subst, append_assoc, zero-le, lit<}
@@ -12,7 +13,7 @@ use Rattle.std.proofs.lemmas.Option.{none-some, same_Some}
 use Rattle.broker_types.specs.Text.{Text, text_cmp, same}
 use Rattle.broker_types.specs.TextLaws.{same_true}
 use Rattle.broker_types.specs.Limits.{greatest_version, most_custom_metadata}
-use Rattle.broker_types.specs.Map.{Map, get, put, without, keep, change}
+use Rattle.broker_types.specs.Map.{Map, get, put, without, keep, change, len}
 use Rattle.broker_types.specs.MapLaws.{get-put, without_is, get-keep, valued_is}
 use Rattle.broker_types.specs.Name.{is_mount_name}
 use Rattle.broker_types.specs.Refuse.{◌>>=◌, some_or, unless}
@@ -22,18 +23,22 @@ use Rattle.broker_types.specs.Evolves.{Evolves}
 use Rattle.broker_types.specs.RefuseLaws.{no_ok}
 use Rattle.broker_types.specs.FieldLaws.{sound_with, evolves_with}
 use Rattle.broker_types.specs.Sound.{Forms, Sound, SoundSecrets, IsSoundKey, IsSoundVersion, IsSecretName, IsPathText}
-use Rattle.broker_types.specs.Sound.{IsMoment, IsObjectText, IsSoundMount}
+use Rattle.broker_types.specs.Sound.{IsMoment, IsObjectText, IsSoundMount, IsCustomPair}
 use Rattle.broker_types.specs.declared.refusal.Refusal.{Refusal}
 use Rattle.broker_types.specs.declared.refusal.Refusal.TheVariants as refusal
 use Rattle.broker_types.specs.declared.refusal.Reason.TheVariants as reason
 use Rattle.broker_types.specs.declared.refusal.Field.TheVariants as field
+use Rattle.records.specs.Reading.{IsSomeIn, IsWide}
 use Rattle.records.specs.Splits.{slash}
 use Rattle.records.specs.ValueLaws.{ok_inj}
+use Rattle.kv2.specs.InRange.{AreWithinLimits}
+use Rattle.kv2.specs.MetadataLaws.{few_listed, each_listed}
 use Rattle.kv2.specs.Secrets.{Written, secret_name, with_key, write, write_over, written, delete, delete_versions}
-use Rattle.kv2.specs.Secrets.{undelete, destroy, remove_key, drop_mount, set_config, with_settings}
+use Rattle.kv2.specs.Secrets.{undelete, destroy, remove_key, drop_mount, set_config, with_settings, set_metadata}
 use Rattle.kv2.specs.VersionLaws.{get-change_versions, next_versions}
 use Rattle.kv2.specs.Versions.{version_of, new_version, key_or_new, with_version, versions_kept, with_changed}
 use Rattle.kv2.specs.Versions.{is_among, soft_deleted, restored, destroyed, check_and_set, checked}
+use Rattle.kv2.specs.Versions.{Settings, described}
 
 -- ---- other secrets
 
@@ -294,6 +299,41 @@ module _ (forms : Forms) (name : Text) (now : ℕ) (is_name : IsSecretName name)
           metadata = s.metadata;
         }
 
+-- ---- settings of a secret
+
+module _ (forms : Forms) (name : Text) (now : ℕ) (moment : IsMoment now) (given : Settings)
+    (within : AreWithinLimits given) where
+  -- a key with settings that are within their limits
+  described_sound : (k : Key) → IsSoundKey forms name k → IsSoundKey forms name (described now given k)
+  described_sound k s = record {
+    name = s.name;
+    created = s.created;
+    updated = moment;
+    current = s.current;
+    versions = λ n v e. again n v (s.versions n v e);
+    max_versions = number given.max_versions within.max_versions;
+    few_metadata = few given.custom_metadata within.few_metadata;
+    metadata = each given.custom_metadata within.metadata;
+  }
+    where
+      again : (n : ℕ) (v : Version) → IsSoundVersion forms k n v → IsSoundVersion forms (described now given k) n v
+      again n v h =
+          record { first = h.first; last = h.last; created = h.created; deleted = h.deleted; secret = h.secret }
+
+      number : (o : Option ℕ) → IsSomeIn IsWide o → unwrap_or o k.max_versions < 2 ^ 64
+      number None wide = s.max_versions
+      number (Some n) wide = wide n refl
+
+      few : (o : Option (List (Text × Text))) → IsSomeIn (λ es. length es ≤ most_custom_metadata) o
+          → len (option_map_or fin.from_entries o k.custom_metadata) ≤ most_custom_metadata
+      few None h = s.few_metadata
+      few (Some es) h = le_trans (few_listed es) (h es refl)
+
+      each : (o : Option (List (Text × Text))) → IsSomeIn (λ es. All (λ e. IsCustomPair e.0 e.1) es) o
+          → (n v : Text) → get (option_map_or fin.from_entries o k.custom_metadata) n ≡ Some v → IsCustomPair n v
+      each None h = s.metadata
+      each (Some es) h = each_listed IsCustomPair es (h es refl)
+
 -- ---- the operations
 
 module _ (forms : Forms) (who : Option Text) (b : Broker) (sound : Sound forms who b) (mount path : Text) where
@@ -338,6 +378,17 @@ module _ (forms : Forms) (who : Option Text) (b : Broker) (sound : Sound forms w
 
   pub drop_mount_sound : Sound forms who (drop_mount b mount)
   drop_mount_sound = sound_with_secrets b _ forms who (keep_sound forms b.secrets sound.secrets _) sound
+
+  -- and settings of a secret that are within their limits
+  pub set_metadata_sound : (given : Settings) → IsSecretName (secret_name mount path) → AreWithinLimits given
+      → Sound forms who (set_metadata b mount path given)
+  set_metadata_sound given is_name within =
+      let name = secret_name mount path in
+      let o = get b.secrets name in
+      sound_with_secrets b _ forms who (put_sound forms b.secrets sound.secrets name
+      (described b.clock given (key_or_new b.clock o))
+      (described_sound forms name b.clock sound.clock given within (key_or_new b.clock o)
+      (over_sound forms name b.clock is_name sound.clock o (sound.secrets name)))) sound
 
 -- a write lets a broker evolve; the other operations do by `secrets_evolve`
 pub write_evolves : (b : Broker) (mount path : Text) (cas : Option ℕ) (object : Text) (w : Written)

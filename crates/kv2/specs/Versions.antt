@@ -2,6 +2,7 @@
 use Rattle.std.specs.Prelude.{ℕ, ◌+◌, ◌-◌, ◌==◌, nat_lt, List, map, Bool, true, false, if◌then◌else◌, Option, Some}
 use Rattle.std.specs.Prelude.{None, is_none, unwrap_or, option_and_then, Result, Ok, Err, ⊤}
 use Rattle.std.specs.List.{list_any}
+use Rattle.std.specs.Option.{option_map_or}
 use Rattle.std.specs.Ordering.{nat_cmp}
 use Rattle.std.specs.FinMap as fin
 use Rattle.std.specs.FinMap.{FinMap}
@@ -86,6 +87,26 @@ key_or_new now o = unwrap_or o (new_key now)
 -- a version that is just written
 abbrev pub new_version : ℕ → Text → Version
 new_version now object = record { created = now; deleted = None; secret = Some object }
+
+-- ---- settings of a key
+
+-- settings of a key that are given
+pub record Settings : Type 0 where
+  pub cas_required : Option Bool
+  pub max_versions : Option ℕ
+  -- names and values, by name
+  pub custom_metadata : Option (List (Text × Text))
+
+-- the key with the settings that are given, at a moment; the others stay, and so do its versions
+abbrev pub described : ℕ → Settings → Key → Key
+described now given k = record k {
+  updated = now;
+  cas_required = unwrap_or given.cas_required k.cas_required;
+  max_versions = unwrap_or given.max_versions k.max_versions;
+  custom_metadata = option_map_or fin.from_entries given.custom_metadata k.custom_metadata;
+}
+
+-- ---- one more version
 
 -- the versions above the oldest that a limit leaves under version v
 abbrev pub kept_under : ℕ → ℕ → Versions → Versions

@@ -5,11 +5,13 @@ ghost use Rattle.broker_types.specs.Text.{Text, same};
 ghost use Rattle.broker_types.specs.Broker.{Broker};
 ghost use Rattle.broker_types.specs.Sound.{Forms, Sound};
 ghost use Rattle.kv2.specs.Laws.{WriteKeepsSoundness, ChangesKeepSoundness, RemovalsKeepSoundness};
-ghost use Rattle.kv2.specs.Laws.{SettingsKeepSoundness, SecretsEvolve, SettingsEvolve};
+ghost use Rattle.kv2.specs.Laws.{MetadataKeepSoundness, SettingsKeepSoundness, SecretsEvolve, SettingsEvolve};
 ghost use Rattle.kv2.specs.Laws.{NumbersAreNew, NumbersStay, OthersStay, OthersAreKept, OtherMountsStay};
 ghost use Rattle.kv2.specs.Laws.{version_at, HasNoSecret};
 ghost use Rattle.kv2.specs.Laws.{WriteRestoresNothing, ChangesRestoreNothing, OldestIsSmallest};
+ghost use Rattle.kv2.specs.Laws.{MetadataAreSet, MetadataStayAtWrites, MetadataStay};
 ghost use Rattle.kv2.specs.Secrets.{secret_name};
+ghost use Rattle.kv2.specs.Versions.{Settings};
 
 /// A law: the operations leave a sound broker sound, whoever may have spent its last use.
 pub fn operations_keep_soundness()
@@ -18,6 +20,7 @@ pub fn operations_keep_soundness()
         → Sound forms who b → ChangesKeepSoundness forms who b mount path ns }
     ensures removed { (forms : Forms) (who : Option Text) (b : Broker) (mount path : Text) → Sound forms who b
         → RemovalsKeepSoundness forms who b mount path }
+    ensures described { MetadataKeepSoundness }
     ensures set { SettingsKeepSoundness }
 {}
 
@@ -48,6 +51,14 @@ pub fn destroyed_secrets_stay_away()
     ensures written { WriteRestoresNothing }
     ensures changed { (b : Broker) (mount path : Text) (ns : List ℕ) (n : ℕ)
         → HasNoSecret (version_at b mount path n) → ChangesRestoreNothing b mount path ns n }
+{}
+
+/// A law: the custom metadata of a secret are those that were given last, and to give them changes no version (Vault's
+/// documentation, "KV secrets engine - version 2 (API)", create/update metadata).
+pub fn custom_metadata_are_the_last_given()
+    ensures set { (b : Broker) (mount path : Text) (given : Settings) → MetadataAreSet b mount path given }
+    ensures written { MetadataStayAtWrites }
+    ensures changed { (b : Broker) (mount path : Text) (ns : List ℕ) → MetadataStay b mount path ns }
 {}
 
 /// A law: the oldest version that is told of a key is the smallest number that is kept, if that is above 1; else

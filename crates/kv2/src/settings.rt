@@ -35,7 +35,7 @@ pub fn config<T: RecordsTx>(tx: &mut T, mount: &str) -> Result<Option<MountRecor
 }
 
 /// The number that is given, or else the one that is kept.
-fn count_or(given: Option<u64>, kept: u64) -> u64
+pub(crate) fn count_or(given: Option<u64>, kept: u64) -> u64
     ensures value { result ≡ unwrap_or given kept }
     ensures wide { result < 2 ^ 64 }
 {

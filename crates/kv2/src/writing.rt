@@ -35,7 +35,7 @@ use std::alloc::Global;
 const VERSIONS_KEPT: u64 = 10;
 
 /// The key, or a new one without versions and settings. No memory is taken.
-fn key_or_new(alloc: Global, found: Option<KeyRecord>, now: u64) -> KeyRecord
+pub(crate) fn key_or_new(alloc: Global, found: Option<KeyRecord>, now: u64) -> KeyRecord
     ensures key { result ≡ unwrap_or found (rows.new_entry now) }
     ensures in_range { IsMoment now → IsSomeIn IsKeyInRange found → IsKeyInRange result }
 {
