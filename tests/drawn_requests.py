@@ -51,6 +51,7 @@ TEXTS = {
     "secret": ('{"user":"app","password":"old"}', '{"text":"a \\"quoted\\" line\\nand é"}', "{}",
                '{"n":18446744073709551615,"m":-1}', '{"list":[1,[],{"x":null}]}', '{"a":true,"a":false}'),
     "check": ('{"cas":0}', '{"cas":1}', '{"cas":"2"}', '{"cas":null}', "{}"),
+    "custom": ('{"team":"db","a":"é"}', '{"b":"2","a":"1"}', "{}", "null", '{"a":1}', '{"":"v"}'),
     "versions": ("[1]", "[1,2]", '"1,2"', '["2",3]', "[3,1,3]", "[9]", "[1,2,3,4,5]", "[]"),
     "type": ('"issued"', '"issued"', '"kv-v2"', '"kv"', '"pki"', '""'),
     "options": ('{"version":"2"}', '{"version":"2"}', "{}"),
@@ -101,6 +102,9 @@ REQUESTS = (
     (2, "caller", "DELETE", "<kv>/data/<path>", None),
     (7, "caller", "W", "<kv>/<change>/<path>", ('"versions":<versions>',)),
     (3, "caller", "GET", "<kv>/metadata/<path>", None),
+    (3, "caller", "W", "<kv>/metadata/<path>", (
+        '?"custom_metadata":<custom>', '?"max_versions":<count>', '??"cas_required":<mostly_false>',
+        '??"delete_version_after":<never>')),
     (4, "caller", "LIST", "<kv>/metadata<folder>", None),
     (1, "caller", "DELETE", "<kv>/metadata/<path>", None),
     (2, "caller", "GET", "<kv>/config", None),

@@ -90,6 +90,16 @@ def a_member_of_a_secret_is_looked_up(result):
     return result["msg"] == "new"
 
 
+@task(module("vault_write", path=f"secret/metadata/{FOLDER}/app", data={"custom_metadata": {"team": "db"}}))
+def custom_metadata_are_written(result):
+    return result["changed"]
+
+
+@task(module("vault_kv2_get", path=SECRET))
+def a_secret_is_read_with_custom_metadata(result):
+    return result["secret"] == {"user": "new"} and result["metadata"]["custom_metadata"] == {"team": "db"}
+
+
 @task(module("vault_kv2_delete", path=SECRET, versions=[1]))
 def a_version_is_deleted(result):
     return result["changed"]

@@ -309,6 +309,48 @@ def a_deleted_version_is_told_of(client):
     expect(found["data"]["metadata"]["deletion_time"], "the version is not deleted")
 
 
+@calls("secrets.kv.v2.update_metadata", "secrets.kv.v2.read_secret_metadata")
+def a_secret_is_configured(client):
+    """Before its first version: it is there then, and each write has to name the version that it follows."""
+    kv, path = client.secrets.kv.v2, fresh(client, "methods/f")
+    expect_done(kv.update_metadata(path=path, max_versions=1, cas_required=True, delete_version_after="0s"))
+    data = {"cas_required": True, "created_time": ANY, "current_version": 0, "custom_metadata": None,
+            "delete_version_after": "0s", "max_versions": 1, "oldest_version": 0, "updated_time": ANY, "versions": {}}
+    expect_same(kv.read_secret_metadata(path=path), answer(data=data))
+    expect_refused("InvalidRequest", kv.create_or_update_secret, path=path, secret={"k": "v"})
+    for number in (1, 2):
+        made = kv.create_or_update_secret(path=path, secret={"k": "v"}, cas=number - 1)
+        expect_same(made, answer(data=version(number)))
+    expect_refused("InvalidPath", kv.read_secret_version, path=path, version=1)
+    expect_done(kv.update_metadata(path=path, cas_required=False))
+    expect_same(kv.patch(path=path, secret={"k": "w"}), answer(data=version(3)))
+
+
+@calls("secrets.kv.v2.update_metadata", "secrets.kv.v2.read_secret_metadata", argument="custom_metadata")
+def a_secret_has_custom_metadata(client):
+    kv, path = client.secrets.kv.v2, fresh(client, "methods/g")
+    custom = {"owner": "app", "team": "db"}
+    kv.create_or_update_secret(path=path, secret={"k": "v"})
+    expect_done(kv.update_metadata(path=path, custom_metadata=custom))
+    expect_same(kv.read_secret_metadata(path=path)["data"]["custom_metadata"], custom)
+    expect_same(kv.read_secret_version(path=path)["data"]["metadata"], version(1, custom_metadata=custom))
+    made = kv.create_or_update_secret(path=path, secret={"k": "w"})
+    expect_same(made, answer(data=version(2, custom_metadata=custom)))
+    expect_done(kv.update_metadata(path=path, custom_metadata={"team": "app"}))
+    expect_same(kv.read_secret_metadata(path=path)["data"]["custom_metadata"], {"team": "app"})
+
+
+@calls("write", "secrets.kv.v2.read_secret_metadata")
+def custom_metadata_are_set_by_a_write(client):
+    """As with an hvac whose method does not take them."""
+    kv, path = client.secrets.kv.v2, fresh(client, "methods/h")
+    expect_done(client.write(f"secret/metadata/{path}", custom_metadata={"team": "db"}))
+    expect_same(kv.read_secret_metadata(path=path)["data"]["custom_metadata"], {"team": "db"})
+    expect_refused("InvalidRequest", client.write, f"secret/metadata/{path}", custom_metadata={"team": 1})
+    expect_done(client.write(f"secret/metadata/{path}", custom_metadata={}))
+    expect_same(kv.read_secret_metadata(path=path)["data"]["custom_metadata"], None)
+
+
 @calls("secrets.kv.v2.list_secrets", "secrets.kv.v2.delete_metadata_and_all_versions")
 def secrets_are_listed(client):
     kv = client.secrets.kv.v2

@@ -32,9 +32,6 @@ METHODS = {
     "nothing is left to tidy": """
         auth.token.tidy POST auth/token/tidy 404
         """,
-    "no settings of a single secret": """
-        secrets.kv.v2.update_metadata POST secret/metadata/PATH 405
-        """,
     "use `sys/policies/acl`": """
         get_policy GET sys/policy/NAME 404
         sys.create_or_update_policy PUT sys/policy/NAME 404

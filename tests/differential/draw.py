@@ -32,9 +32,9 @@ from request_themes import (authorizations, bodies, body_lengths, changed_heads,
                             methods, mixed, moments, numbers, paths, pipelines, queries, refused_bodies,
                             replaced_members, single_bytes, spellings, tokens, unserved_routes)
 from run import data_of
-from secret_themes import (asked_versions, check_and_set, deletions, folders, forgotten_secrets, mixed_secrets,
-                           old_versions, refused_secrets, secret_callers, secret_moments, secret_routes, secret_writes,
-                           settings, version_lists)
+from secret_themes import (asked_versions, check_and_set, deletions, folders, forgotten_secrets, key_settings,
+                           mixed_secrets, old_versions, refused_secrets, secret_callers, secret_moments, secret_routes,
+                           secret_writes, settings, version_lists)
 from token_themes import (accessors, children, creations, cubbyhole_lists, ends, families, given_twice,
                           lenient_creations, look_ups, mixed_tokens, other_cubbyholes, periods, refused_creations,
                           renewals, revocations, sudo_paths, token_routes, uses)
@@ -59,16 +59,16 @@ THEMES = {
     renewals: 4, periods: 8, ends: 4, uses: 4, revocations: 4, sudo_paths: 4, given_twice: 2, other_cubbyholes: 2,
     cubbyhole_lists: 4, token_routes: 2, mixed_tokens: 4,
     secret_writes: 2, check_and_set: 4, old_versions: 3, asked_versions: 4, deletions: 4, version_lists: 3,
-    refused_secrets: 4, settings: 4, folders: 4, forgotten_secrets: 2, secret_callers: 5, secret_routes: 4,
-    secret_moments: 1, mixed_secrets: 4,
+    refused_secrets: 4, settings: 4, key_settings: 8, folders: 4, forgotten_secrets: 2, secret_callers: 5,
+    secret_routes: 4, secret_moments: 1, mixed_secrets: 4,
     permissions: 7, exact_and_prefix: 7, denials: 7, list_patterns: 7, creating_or_updating: 7,
     cubbyhole_permissions: 5, stars_in_paths: 5, sudo_permissions: 7, policy_texts: 5, policy_names: 4,
     changing_policies: 7, policies_of_children: 5, policies_not_there: 4, policies_by_callers: 4,
     refusals_in_order: 5, policy_routes: 3, mixed_policies: 4,
     mounts_enabled: 4, mounts_of_secrets: 4, roles: 4, credentials: 6, lives_of_leases: 6, ends_of_leases: 7,
     lease_routes: 4, mixed_leases: 5,
-    wrapped_replies: 22, wrap_ttls: 13, times_of_responses: 15, rewraps: 13, open_requests: 22,
-    spent_wrapping_tokens: 12, revoked_responses: 14, wrapped_creations: 14, wrapping_callers: 15, wrapping_words: 12,
+    wrapped_replies: 20, wrap_ttls: 12, times_of_responses: 14, rewraps: 12, open_requests: 20,
+    spent_wrapping_tokens: 12, revoked_responses: 14, wrapped_creations: 14, wrapping_callers: 14, wrapping_words: 12,
     wrapped_credentials: 12, wrapping_routes: 8, mixed_wrapping: 14,
     unserved_routes: 2,
 }

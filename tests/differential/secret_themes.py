@@ -312,6 +312,55 @@ def settings(run):
             secrets.call("GET", "metadata", path)
 
 
+MANY = {f"k{number}": "v" for number in range(64)}
+GOOD_KEY_SETTINGS = {"custom_metadata": ({}, None, {"b": "2", "a": "1"}, {"b": "2", "a": "1"}, {"a": "3", "é": ""},
+                                         {"a": '"\\/\n', "B": "x"}, {"x" * 128: "y" * 512}, MANY),
+                     **GOOD_SETTINGS}
+ODD_KEY_SETTINGS = {"custom_metadata": ({"a": 1}, {"a": None}, {"a": "x", "b": {}}, [], "x", 1, True, {"": "v"},
+                                        {"x" * 129: "v"}, {"a": "y" * 513}, {"é" * 65: "v"}, {**MANY, "k": "v"}),
+                    **ODD_SETTINGS}
+
+
+def key_settings(run):
+    """Settings of single secrets, before their first version and after, and what is written, read and told then."""
+    longer(run)
+    secrets = Secrets(run, 2)
+    if run.chance(3):
+        secrets.settings(max_versions=run.pick(1, 3), cas_required=run.pick(True, False))
+    while run.room() > 0:
+        path = secrets.path()
+        names = run.random.sample(sorted(GOOD_KEY_SETTINGS), run.pick(0, 1, 1, 2, 3))
+        members = {name: run.pick(*GOOD_KEY_SETTINGS[name]) for name in names}
+        current = secrets.current[path]
+        way = run.random.randrange(16)
+        if way < 5:
+            secrets.ask("metadata", path, members)
+        elif way == 5:
+            name = run.pick("custom_metadata", *ODD_KEY_SETTINGS)
+            secrets.ask("metadata", path, {**members, name: run.pick(*ODD_KEY_SETTINGS[name])})
+        elif way == 6 and run.chance(2):
+            odd = run.random.sample(sorted(ODD_KEY_SETTINGS), 2)
+            secrets.ask("metadata", path, {**members, **{name: run.pick(*ODD_KEY_SETTINGS[name]) for name in odd}})
+        elif way == 6:
+            secrets.ask("metadata", path, run.pick(
+                None, "{}", "null", "[1]", "{", '{"max_versions":1.0}', '{"custom_metadata":{"a":"1","a":"2"}}',
+                '{"custom_metadata":{"a":1,"a":"2"}}', '{"custom_metadata":{"a":"1"},"custom_metadata":null}'))
+        elif way < 11:
+            secrets.write(path, options=run.pick(None, {"cas": current}, {"cas": current}, {"cas": current + 1}))
+        elif way < 13:
+            secrets.read(path, run.pick(None, None, secrets.number(path)))
+        elif way == 13:
+            secrets.call("GET", "metadata", path)
+        elif way == 14 and run.chance(2):
+            secrets.ask(run.pick(*DELETED), path, {"versions": secrets.numbers(path)})
+        elif way == 14 and run.chance(2):
+            secrets.forget(path)
+        else:
+            secrets.call(run.pick("LIST", "DELETE"), run.pick("metadata", "data"), run.pick("", path))
+        if way < 7 and run.chance(2):
+            secrets.call("GET", "metadata", path)
+
+
 def folders(run):
     """Lists of secrets and of folders, by LIST and by GET, at every place of the tree."""
     run.size = run.random.randrange(9, 17)
@@ -405,8 +454,8 @@ def secret_callers(run):
 
 
 ROUTES = (("config", "GET", "PUT"), ("data/P", "GET", "PUT", "DELETE"), ("delete/P", "PUT"), ("undelete/P", "PUT"),
-          ("destroy/P", "PUT"), ("metadata", "LIST"), ("metadata/P", "GET", "LIST", "DELETE"))
-GOOD_BODIES = {"config": '{"max_versions":2}', "data/P": '{"data":{}}'}
+          ("destroy/P", "PUT"), ("metadata", "LIST"), ("metadata/P", "GET", "LIST", "PUT", "DELETE"))
+GOOD_BODIES = {"config": '{"max_versions":2}', "data/P": '{"data":{}}', "metadata/P": '{"max_versions":2}'}
 
 
 def secret_routes(run):

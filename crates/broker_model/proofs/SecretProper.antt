@@ -68,5 +68,7 @@ module _ (b : Broker) (names : Names) (p : Place) where
   acts (command.Undelete ns) d e = subst (IsProper b []) (ok_inj e) (silent_proper b _ refl refl (secrets_evolve b _))
   acts (command.Destroy ns) d e = subst (IsProper b []) (ok_inj e) (silent_proper b _ refl refl (secrets_evolve b _))
   acts command.ShowMetadata d e = metadata_proper d e
+  acts (command.SetMetadata asked) d e =
+      subst (IsProper b []) (ok_inj e) (silent_proper b _ refl refl (secrets_evolve b _))
   acts command.Remove d e = subst (IsProper b []) (ok_inj e) (silent_proper b _ refl refl (secrets_evolve b _))
   acts command.List d e = listed_proper b names (secrets.list b p.mount p.path) d e

@@ -3,8 +3,8 @@
 
 use crate::making::Making;
 use api_json::{
-    Counts, LeaseRenewal, MountCreation, MountSettings, RoleSettings, SecretWrite, TokenCreation,
-    TokenRenewal,
+    Counts, KeySettings, LeaseRenewal, MountCreation, MountSettings, RoleSettings, SecretWrite,
+    TokenCreation, TokenRenewal,
 };
 use broker_types::{Seconds, TextBuf};
 
@@ -71,6 +71,8 @@ pub enum SecretCommand {
     Destroy(Counts),
     /// Shows the secret without its texts.
     ShowMetadata,
+    /// Changes the settings of the secret.
+    SetMetadata(KeySettings),
     /// Removes the secret with all its versions.
     Remove,
     /// Lists the secrets and folders of the folder.

@@ -118,6 +118,8 @@ AreReadableSecrets rows p (secret.Undelete ns) =
 AreReadableSecrets rows p (secret.Destroy ns) =
     kv2.AreReadableVersions (table_of rows) (secret_name p.mount p.path) ns
 AreReadableSecrets rows p secret.ShowMetadata = IsReadableWhole rows (secret_name p.mount p.path)
+AreReadableSecrets rows p (secret.SetMetadata asked) =
+    kv2.IsReadableKey (table_of rows) (secret_name p.mount p.path)
 AreReadableSecrets rows p secret.Remove = ⊤
 AreReadableSecrets rows p secret.List = ⊤
 

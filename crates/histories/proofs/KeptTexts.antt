@@ -108,6 +108,7 @@ on_secrets b names p (of_secret.Destroy ns) d e = told d e refl
 on_secrets b names p of_secret.ShowMetadata d e =
     let m = ok_step (some_or refusal.NotFound (secrets.metadata b p.mount p.path)) _ d e in
     told d m.2 refl
+on_secrets b names p (of_secret.SetMetadata asked) d e = told d e refl
 on_secrets b names p of_secret.Remove d e = told d e refl
 on_secrets b names p of_secret.List d e = listed_tells b names (secrets.list b p.mount p.path) d e
 

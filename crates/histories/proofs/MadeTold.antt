@@ -111,6 +111,7 @@ on_secrets b names p (of_secret.Destroy ns) d e = told names d e tt
 on_secrets b names p of_secret.ShowMetadata d e =
     let m = ok_step (some_or refusal.NotFound (secrets.metadata b p.mount p.path)) _ d e in
     told names d m.2 (inl refl)
+on_secrets b names p (of_secret.SetMetadata asked) d e = told names d e tt
 on_secrets b names p of_secret.Remove d e = told names d e tt
 on_secrets b names p of_secret.List d e = listed_tells b names (secrets.list b p.mount p.path) d e
 

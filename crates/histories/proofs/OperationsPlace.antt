@@ -131,6 +131,7 @@ on_secrets b names p (of_secret.Destroy ns) d e = elsewhere b d (ok_inj e) refl 
 on_secrets b names p of_secret.ShowMetadata d e =
     let m = ok_step (some_or refusal.NotFound (secrets.metadata b p.mount p.path)) _ d e in
     subst (Tells b) (ok_inj m.2) (placed_self b [])
+on_secrets b names p (of_secret.SetMetadata asked) d e = elsewhere b d (ok_inj e) refl refl
 on_secrets b names p of_secret.Remove d e = elsewhere b d (ok_inj e) refl refl
 on_secrets b names p of_secret.List d e = listed_tells b names (secrets.list b p.mount p.path) d e
 

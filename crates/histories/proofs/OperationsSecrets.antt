@@ -30,7 +30,8 @@ use Rattle.kv2.specs.Secrets as secrets
 use Rattle.kv2.specs.Secrets.{Written, secret_name}
 use Rattle.kv2.specs.SoundLaws.{write_is}
 use Rattle.kv2.specs.VersionLaws.{get-change_versions, next_versions}
-use Rattle.kv2.specs.Versions.{destroyed, is_among, key_or_new, new_version, restored, soft_deleted, versions_kept, with_changed, with_version}
+use Rattle.kv2.specs.Versions.{Settings, described, destroyed, is_among, key_or_new, new_version, restored, soft_deleted, versions_kept, with_changed}
+use Rattle.kv2.specs.Versions.{with_version}
 use Rattle.leases.specs.Leases as leases
 use Rattle.leases.specs.Roles as roles
 use Rattle.mounts.specs.Mounts.{enabled, disabled}
@@ -65,7 +66,7 @@ use Rattle.broker_model.specs.parts.Leases.{act_on_leases}
 use Rattle.broker_model.specs.parts.Lists.{are_none, listed}
 use Rattle.broker_model.specs.parts.Mounts.{act_on_mounts, without_kept}
 use Rattle.broker_model.specs.parts.Place.{Place}
-use Rattle.broker_model.specs.parts.Secrets.{act_on_secrets}
+use Rattle.broker_model.specs.parts.Secrets.{act_on_secrets, given}
 use Rattle.broker_model.specs.parts.TokenCreation.{is_privileged, making_path, may_make, new_policies}
 use Rattle.broker_model.specs.parts.Tokens.{act_on_tokens, create, holder, known, look_up, named, renew}
 use Rattle.broker_model.specs.parts.Wrappings.{act_on_wrappings, found}
@@ -158,6 +159,14 @@ module _ (now limit : ℕ) (object : Text) (k : Key) (given_ : AreGiven k) where
         (λ gone. absurd (none-some _ (sym gone ∙ other)));
   }
 
+-- settings leave all versions as they were
+described_stay : (now : ℕ) (settings : Settings) (k : Key) → VersionsStay k (described now settings k)
+described_stay now settings k = record {
+  current = omega (arith);
+  numbers = λ n there. inl there;
+  held = λ n v w one other. inl (ap (λ (x : Version). x.secret) (same_Some _ _ (sym other ∙ one)));
+}
+
 -- ---- secrets
 
 abbrev pub AllStay : Map Key → Map Key → Type 0
@@ -229,6 +238,17 @@ write_stays b given_ mount path cas object w e =
     (written_stay b.clock (versions_kept x.0 k) object k (given_ q k one))))
     (λ was. it_stays k m (same_Some _ _ (sym was ∙ one))))
 
+-- settings change no version, and none is there of a secret that is new
+metadata_stays : (b : Broker) (mount path : Text) (settings : Settings)
+    → AllStay b.secrets (secrets.set_metadata b mount path settings).secrets
+metadata_stays b mount path settings q k m one other =
+    let name = secret_name mount path in
+    put_is b.secrets name (described b.clock settings (key_or_new b.clock (get b.secrets name))) q m (VersionsStay k m) other
+    (λ at here.
+    let is : key_or_new b.clock (get b.secrets name) ≡ k = ap (key_or_new b.clock) (ap (get b.secrets) (sym at) ∙ one) in
+    subst (VersionsStay k) (sym here) (subst (λ z. VersionsStay k (described b.clock settings z)) (sym is) (described_stay b.clock settings k)))
+    (λ was. it_stays k m (same_Some _ _ (sym was ∙ one)))
+
 on_secrets : (b : Broker) → AllGiven b → (names : Names) (p : Place) (command : SecretCommand) (d : Done)
     → act_on_secrets b names p command ≡ Ok d → Tells b d
 on_secrets b given_ names p of_secret.ShowSettings d e =
@@ -256,6 +276,8 @@ on_secrets b given_ names p (of_secret.Destroy ns) d e =
 on_secrets b given_ names p of_secret.ShowMetadata d e =
     let m = ok_step (some_or refusal.NotFound (secrets.metadata b p.mount p.path)) _ d e in
     as_before b d (ok_inj m.2) refl
+on_secrets b given_ names p (of_secret.SetMetadata asked) d e =
+    subst (Tells b) (ok_inj e) (metadata_stays b p.mount p.path (given asked))
 on_secrets b given_ names p of_secret.Remove d e = subst (Tells b) (ok_inj e) (all_but b.secrets (secret_name p.mount p.path))
 on_secrets b given_ names p of_secret.List d e = listed_tells b names (secrets.list b p.mount p.path) d e
 

@@ -75,6 +75,7 @@ route_rows mount.Kv =
     ∷ on verb.List (codes "metadata") (Secrets secret.List)
     ∷ on verb.Get (codes "metadata/{*path}") (Secrets secret.ShowMetadata)
     ∷ on verb.List (codes "metadata/{*path}") (Secrets secret.List)
+    ∷ on verb.Write (codes "metadata/{*path}") (Secrets secret.SetMetadata)
     ∷ on verb.Delete (codes "metadata/{*path}") (Secrets secret.Remove)
     ∷ []
 route_rows mount.Issued =

@@ -87,6 +87,8 @@ pub enum SecretOperation {
     Destroy,
     /// A secret is shown without its texts.
     ShowMetadata,
+    /// Settings of a secret are set.
+    SetMetadata,
     /// A secret is removed with all its versions.
     Remove,
     /// The secrets and folders of a folder are listed.

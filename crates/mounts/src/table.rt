@@ -132,6 +132,11 @@ const KV: &[RouteRow] = &[
         Secrets(SecretOperation::ShowMetadata),
     ),
     RouteRow(List, "metadata/{*path}", Secrets(SecretOperation::List)),
+    RouteRow(
+        Write,
+        "metadata/{*path}",
+        Secrets(SecretOperation::SetMetadata),
+    ),
     RouteRow(Delete, "metadata/{*path}", Secrets(SecretOperation::Remove)),
 ];
 

@@ -1,5 +1,6 @@
 pub mod Changes
 pub mod CubbyholeAnswers
+pub mod GivenSettings
 pub mod IssuedAnswers
 pub mod IssuedRows
 pub mod Refusals

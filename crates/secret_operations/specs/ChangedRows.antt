@@ -32,6 +32,7 @@ ChangesSecrets (secret.Delete ns) old new = ChangesOnly of_secrets old new
 ChangesSecrets (secret.Undelete ns) old new = ChangesOnly of_secrets old new
 ChangesSecrets (secret.Destroy ns) old new = ChangesOnly of_secrets old new
 ChangesSecrets secret.ShowMetadata old new = new ≡ old
+ChangesSecrets (secret.SetMetadata asked) old new = ChangesOnly of_secrets old new
 ChangesSecrets secret.Remove old new = ChangesOnly of_secrets old new
 ChangesSecrets secret.List old new = new ≡ old
 

@@ -29,6 +29,7 @@ secrets_keep_uses (secret.Delete ns) old new others = uses_elsewhere of_secrets 
 secrets_keep_uses (secret.Undelete ns) old new others = uses_elsewhere of_secrets old new refl others
 secrets_keep_uses (secret.Destroy ns) old new others = uses_elsewhere of_secrets old new refl others
 secrets_keep_uses secret.ShowMetadata old new same = uses_same old new same
+secrets_keep_uses (secret.SetMetadata asked) old new others = uses_elsewhere of_secrets old new refl others
 secrets_keep_uses secret.Remove old new others = uses_elsewhere of_secrets old new refl others
 secrets_keep_uses secret.List old new same = uses_same old new same
 

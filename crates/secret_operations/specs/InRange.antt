@@ -1,8 +1,8 @@
--- Commands that fit into rows: a text that is kept is a short one, of an object, and a time that is kept no longer than
--- one that can be given (this project's row format).
+-- Commands that fit into rows: a text that is kept is a short one, of an object, custom metadata are few and short, and a
+-- time that is kept is no longer than one that can be given (this project's row format).
 use Rattle.std.specs.Prelude.{◌≤◌, Some, None, ⊤}
 use Rattle.broker_types.specs.Duration.{longest_duration}
-use Rattle.api_json.specs.Kept.{IsKept}
+use Rattle.api_json.specs.Kept.{IsKept, IsKeptSettings}
 use Rattle.api_json.specs.declared.issued_bodies.RoleSettings.{RoleSettings}
 use Rattle.broker_model.specs.declared.commands.CubbyholeCommand.{CubbyholeCommand}
 use Rattle.broker_model.specs.declared.commands.CubbyholeCommand.TheVariants as cubbyhole
@@ -19,9 +19,10 @@ IsCubbyholeCommandInRange cubbyhole.Delete = ⊤
 IsCubbyholeCommandInRange (cubbyhole.Write None) = ⊤
 IsCubbyholeCommandInRange (cubbyhole.Write (Some text)) = IsKept text
 
--- what is written as a version
+-- what is written as a version, or as settings of a secret
 abbrev pub IsSecretCommandInRange : SecretCommand → Type 0
 IsSecretCommandInRange (secret.Write asked) = IsKept asked.object
+IsSecretCommandInRange (secret.SetMetadata asked) = IsKeptSettings asked
 IsSecretCommandInRange _ = ⊤
 
 -- the times of a role

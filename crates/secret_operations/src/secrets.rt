@@ -47,8 +47,8 @@ pub fn act_on_secrets<T: RecordsTx>(
     ensures readable { IsHonest (T.seen tx.new)
         → OnAnswer result (AreReadableSecrets (T.seen tx.old).rows place.now command) }
 
-    // And what only reads changes no row, what sets settings only rows of mounts, and all else only rows of secrets and
-    // of versions.
+    // And what only reads changes no row, what sets settings of the mount only rows of mounts, and all else only rows of
+    // secrets and of versions.
     ensures rows { IsHonest (T.seen tx.new)
         → OnAnswer result (ChangesSecrets command (T.seen tx.old).rows (T.seen tx.new).rows) }
     ensures call { IsRequestCall (T.seen tx.old) (T.seen tx.new) result IsNotBadStart }
@@ -71,6 +71,7 @@ pub fn act_on_secrets<T: RecordsTx>(
             changes::destroy(alloc, tx, mount, path, numbers.as_slice())
         }
         SecretCommand::ShowMetadata => metadata::show(alloc, tx, context, mount, path),
+        SecretCommand::SetMetadata(asked) => metadata::set(alloc, tx, context, mount, path, asked),
         SecretCommand::Remove => changes::remove(alloc, tx, mount, path),
         SecretCommand::List => metadata::list(alloc, tx, context, mount, path),
     }

@@ -54,6 +54,7 @@ const OF_LISTS: &[(Verb, Operation)] = &[(List, Operation::Secrets(SecretOperati
 const OF_METADATA: &[(Verb, Operation)] = &[
     (Get, Operation::Secrets(SecretOperation::ShowMetadata)),
     (List, Operation::Secrets(SecretOperation::List)),
+    (Write, Operation::Secrets(SecretOperation::SetMetadata)),
     (Delete, Operation::Secrets(SecretOperation::Remove)),
 ];
 

@@ -3,8 +3,8 @@
 
 use broker_types::{Bytes, Fault, Moment, TextBuf};
 use kv2::{
-    FoundVersion, config, delete, delete_versions, destroy, drop_mount, is_there, list, metadata,
-    read, remove_key, set_config, undelete, write,
+    FoundVersion, SecretSettings, config, delete, delete_versions, destroy, drop_mount, is_there,
+    list, metadata, read, remove_key, set_config, set_metadata, undelete, write,
 };
 use records::{Engine, Kind, ListRecords, ListTx, MountRecord, RecordsTx, Row, write_mount};
 use std::test::Fail;
@@ -85,6 +85,62 @@ fn settings_and_metadata(rt: HostRuntime) -> Result<(), Fail> {
         return Err(Fail::from("no metadata"));
     };
     assert!(rt; (told.current, told.oldest, told.versions.len()) == (3, 2, 2));
+    Ok(())
+}
+
+/// The names and values of a text, as `a=1 b=2`.
+fn pairs(rt: &HostRuntime, text: &str) -> Result<Vec<(TextBuf, TextBuf)>, Fail> {
+    let alloc = rt.alloc();
+    let mut list = Vec::new(alloc);
+    for pair in text.split(' ') {
+        let (name, value) = pair.split_once('=').ok_or("no pair")?;
+        list.push((TextBuf::copied(alloc, name)?, TextBuf::copied(alloc, value)?))?;
+    }
+    Ok(list)
+}
+
+/// Whether the custom metadata of a secret are these.
+fn has_pairs(rt: &HostRuntime, tx: &mut ListTx, expected: &[(&str, &str)]) -> Result<bool, Fail> {
+    let Some(told) = metadata(rt.alloc(), tx, "secret", "x")? else {
+        return Ok(false);
+    };
+    Ok(
+        told.custom_metadata.len() == expected.len()
+            && told
+                .custom_metadata
+                .iter()
+                .zip(expected)
+                .all(|(kept, wanted)| kept.0.as_str() == wanted.0 && kept.1.as_str() == wanted.1),
+    )
+}
+
+#[test]
+fn a_secret_has_settings_of_its_own(rt: HostRuntime) -> Result<(), Fail> {
+    let alloc = rt.alloc();
+    let mut tx = started(&rt)?;
+    let first = SecretSettings {
+        cas_required: Some(true),
+        max_versions: Some(1),
+        custom_metadata: Some(pairs(&rt, "a=1 b=2")?),
+    };
+    set_metadata(alloc, &mut tx, moment(900)?, "secret", "x", first)?;
+    assert!(rt; has_pairs(&rt, &mut tx, &[("a", "1"), ("b", "2")])?);
+    assert!(rt; writes(&rt, &mut tx, "x", None).is_err());
+    assert!(rt; writes(&rt, &mut tx, "x", Some(0))? == 1);
+    assert!(rt; writes(&rt, &mut tx, "x", Some(1))? == 2);
+    assert!(rt; read(alloc, &mut tx, "secret", "x", 1)?.is_none());
+    let second = SecretSettings {
+        cas_required: Some(false),
+        max_versions: None,
+        custom_metadata: Some(pairs(&rt, "c=3")?),
+    };
+    set_metadata(alloc, &mut tx, moment(1100)?, "secret", "x", second)?;
+    assert!(rt; has_pairs(&rt, &mut tx, &[("c", "3")])?);
+    let Some(told) = metadata(alloc, &mut tx, "secret", "x")? else {
+        return Err(Fail::from("no metadata"));
+    };
+    assert!(rt; (told.created, told.updated, told.current, told.max_versions) == (900, 1100, 2, 1));
+    assert!(rt; reads(&rt, &mut tx, 2, (2, None, Some(ONE)))?);
     Ok(())
 }
 

@@ -1,13 +1,13 @@
 //! What bodies are read as, and what replies print as. The outcomes of the readers are those of a reference broker that
 //! was written apart from this one; the printed objects are those of its replies. What the readers make of bodies, and
-//! which of several bad members is refused, is in `lenient_members`, `forms_of_settings`, `forms_of_versions`,
-//! `members_refused` and `order_of_creation_refusals` of `tests/rows`.
+//! which of several bad members is refused, is in `lenient_members`, `forms_of_settings`, `forms_of_key_settings`,
+//! `forms_of_versions`, `members_refused` and `order_of_creation_refusals` of `tests/rows`.
 
 use api_json::{
     AuthObject, Body, EndTime, KeyObject, LeaseObject, MountObject, Pairs, Texts, TokenObject,
     Tree, VersionObject, Versions, WrapObject, accessor, auth_object, credential,
-    credential_object, increment, key_object, keys_object, lease_id, lease_object, lease_renewal,
-    lease_reply, mount_creation, mount_settings, mounts_object, plain_reply, policy_object,
+    credential_object, increment, key_object, key_settings, keys_object, lease_id, lease_object,
+    lease_renewal, lease_reply, mount_creation, mount_settings, mounts_object, plain_reply, policy_object,
     policy_text, read_body, reply_text, role_object, role_settings, secret_object, secret_write,
     settings_object, token, token_creation, token_object, token_renewal, valid_object,
     version_object, versions, waiting_object, wrap_object, wrap_reply, wrapping_token,
@@ -25,6 +25,7 @@ enum Route {
     Increment,
     TokenRenewal,
     Settings,
+    KeySettings,
     Secret,
     Versions,
     Policy,
@@ -45,6 +46,7 @@ fn refused(alloc: Global, route: Route, body: &Body) -> Option<RequestError> {
         Route::Increment => increment(alloc, body).err(),
         Route::TokenRenewal => token_renewal(alloc, body).err(),
         Route::Settings => mount_settings(alloc, body).err(),
+        Route::KeySettings => key_settings(alloc, body).err(),
         Route::Secret => secret_write(alloc, body).err(),
         Route::Versions => versions(alloc, body).err(),
         Route::Policy => policy_text(alloc, body).err(),
@@ -226,6 +228,30 @@ fn kinds_of_members(rt: HostRuntime) -> Result<(), Fail> {
             ),
             (
                 Route::Settings,
+                Field::DeleteVersionAfter,
+                "{\"delete_version_after\":@}",
+                ".iiiiiiiiiiiii.iiiiiiiiiiii",
+            ),
+            (
+                Route::KeySettings,
+                Field::CustomMetadata,
+                "{\"custom_metadata\":@}",
+                ".iiiiiiiiiiiiiiiiiiiiiii..i",
+            ),
+            (
+                Route::KeySettings,
+                Field::MaxVersions,
+                "{\"max_versions\":@}",
+                ".iiiii..i..iiiiii.iiiiiiiii",
+            ),
+            (
+                Route::KeySettings,
+                Field::CasRequired,
+                "{\"cas_required\":@}",
+                ".....iiiiiiiiiiiiiiiiiiiiii",
+            ),
+            (
+                Route::KeySettings,
                 Field::DeleteVersionAfter,
                 "{\"delete_version_after\":@}",
                 ".iiiiiiiiiiiii.iiiiiiiiiiii",

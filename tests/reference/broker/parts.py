@@ -26,7 +26,7 @@ ALL = frozenset(PARTS)
 
 # What `brokerd` serves today. This is the one place that says so: whoever lets it serve a further part adds its name.
 TODAY = frozenset({"cubbyholes", "tokens", "secrets", "queries", "limits", "policies", "decoding", "lines",
-                   "cubbyhole-lists", "mounts", "wrapping", "periods"})
+                   "cubbyhole-lists", "mounts", "wrapping", "periods", "key-settings"})
 
 
 def parts_of(text: str) -> frozenset:

@@ -29,6 +29,7 @@ secret_command operation.Delete version body = read_as reader.versions command.D
 secret_command operation.Undelete version body = read_as reader.versions command.Undelete body
 secret_command operation.Destroy version body = read_as reader.versions command.Destroy body
 secret_command operation.ShowMetadata version body = Ok command.ShowMetadata
+secret_command operation.SetMetadata version body = read_as reader.key_settings command.SetMetadata body
 secret_command operation.Remove version body = Ok command.Remove
 secret_command operation.List version body = Ok command.List
 

@@ -8,7 +8,9 @@ use Rattle.broker_types.specs.Refuse.{◌>>=◌, some_or}
 use Rattle.broker_types.specs.declared.refusal.Refusal.{Refusal}
 use Rattle.broker_types.specs.declared.refusal.Refusal.TheVariants as refusal
 use Rattle.kv2.specs.Secrets as secrets
+use Rattle.kv2.specs.Versions.{Settings}
 use Rattle.api_json.specs.declared.secret_bodies.SecretWrite.{SecretWrite}
+use Rattle.api_json.specs.declared.secret_bodies.KeySettings.{KeySettings}
 use Rattle.api_json.specs.declared.secret_bodies.MountSettings.{MountSettings}
 use Rattle.broker_model.specs.declared.commands.SecretCommand.{SecretCommand}
 use Rattle.broker_model.specs.declared.commands.SecretCommand.TheVariants as command
@@ -50,6 +52,18 @@ metadata b names p = do
   m ← some_or refusal.NotFound (secrets.metadata b p.mount p.path)
   Ok (plainly (reply (metadata_reply names.request m) None) b)
 
+-- the settings that a body gives for a secret
+abbrev pub given : KeySettings → Settings
+given asked = record {
+  cas_required = asked.cas_required;
+  max_versions = asked.max_versions;
+  custom_metadata = asked.custom_metadata;
+}
+
+-- the settings of the secret that the body gives; the others stay, and one that is not there is made
+abbrev pub set_metadata : Broker → Place → KeySettings → Done
+set_metadata b p asked = plainly nothing (secrets.set_metadata b p.mount p.path (given asked))
+
 -- the secrets and folders of the folder; none is 404
 abbrev pub list : Broker → Names → Place → Result Done Refusal
 list b names p = listed b names (secrets.list b p.mount p.path)
@@ -67,5 +81,6 @@ act_on_secrets b names p (command.Delete ns) = Ok (plainly nothing (secrets.dele
 act_on_secrets b names p (command.Undelete ns) = Ok (plainly nothing (secrets.undelete b p.mount p.path ns))
 act_on_secrets b names p (command.Destroy ns) = Ok (plainly nothing (secrets.destroy b p.mount p.path ns))
 act_on_secrets b names p command.ShowMetadata = metadata b names p
+act_on_secrets b names p (command.SetMetadata asked) = Ok (set_metadata b p asked)
 act_on_secrets b names p command.Remove = Ok (plainly nothing (secrets.remove_key b p.mount p.path))
 act_on_secrets b names p command.List = list b names p

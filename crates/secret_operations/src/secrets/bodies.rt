@@ -12,7 +12,9 @@ ghost use Rattle.secret_operations.specs.Bodies.{found_in};
 ghost use Rattle.secret_operations.specs.InRange.{IsSecretCommandInRange};
 ghost use Rattle.secret_operations.specs.Paths.{needs_path};
 
-use api_json::{Counts, mount_settings, read_body, secret_write, version_number, versions};
+use api_json::{
+    Counts, key_settings, mount_settings, read_body, secret_write, version_number, versions,
+};
 use broker_model::SecretCommand;
 use broker_types::RequestError;
 use mounts::SecretOperation;
@@ -44,12 +46,13 @@ pub fn read_secret_command(
         SecretOperation::Undelete => Ok(SecretCommand::Undelete(read_versions(alloc, body)?)),
         SecretOperation::Destroy => Ok(SecretCommand::Destroy(read_versions(alloc, body)?)),
         SecretOperation::ShowMetadata => Ok(SecretCommand::ShowMetadata),
+        SecretOperation::SetMetadata => read_metadata(alloc, body),
         SecretOperation::Remove => Ok(SecretCommand::Remove),
         SecretOperation::List => Ok(SecretCommand::List),
     }
 }
 
-/// Reads the settings that are given.
+/// Reads the settings of the mount that are given.
 fn read_settings(alloc: Global, body: &[u8]) -> Result<SecretCommand, RequestError>
     ensures reads { IsRead (read_as reader.mount_settings commands.SetSettings body.now) result }
     ensures in_range { IfOk result IsSecretCommandInRange }
@@ -70,6 +73,18 @@ fn read_write(alloc: Global, body: &[u8]) -> Result<SecretCommand, RequestError>
     let members = read_body(alloc, body)?;
     let asked = secret_write(alloc, &members)?;
     Ok(SecretCommand::Write(asked))
+}
+
+/// Reads the settings of the secret that are given.
+fn read_metadata(alloc: Global, body: &[u8]) -> Result<SecretCommand, RequestError>
+    requires { length body.now ≤ longest_body }
+    ensures reads { IsRead (read_as reader.key_settings commands.SetMetadata body.now) result }
+    ensures in_range { IfOk result IsSecretCommandInRange }
+    ensures path { IfOk result (λ c. needs_path c ≡ true) }
+{
+    let members = read_body(alloc, body)?;
+    let asked = key_settings(alloc, &members)?;
+    Ok(SecretCommand::SetMetadata(asked))
 }
 
 /// Reads the versions that are named.

@@ -1,21 +1,29 @@
-//! Secrets without their texts, shown and listed.
+//! Secrets without their texts, shown and listed, and their settings.
 
-ghost use Rattle.std.specs.Prelude.{[], Option};
+ghost use Rattle.std.specs.Prelude.{◌≡◌, [], Option, option_map, Ok, true};
 ghost use Rattle.broker_types.specs.Fault.{IsNotBadStart};
+ghost use Rattle.broker_types.specs.Name.{is_mount_name};
 ghost use Rattle.broker_types.specs.Names.{names_of};
+ghost use Rattle.broker_types.specs.Path.{is_path};
 ghost use Rattle.broker_types.specs.Text.{Text};
 ghost use Rattle.records.specs.Transaction.{IsHonest};
+ghost use Rattle.records.specs.Calls.{OnAnswer, IsRequestCall, IsRequestReading};
+ghost use Rattle.records.specs.Parts.{of_secrets};
+ghost use Rattle.records.specs.Table.{table};
+ghost use Rattle.api_json.specs.Kept.{IsKeptSettings};
+ghost use Rattle.kv2.specs.SecretRows.{IsReadableKey};
 ghost use Rattle.kv2.specs.Secrets.{secret_name};
-ghost use Rattle.records.specs.Calls.{OnAnswer, IsRequestReading};
 ghost use Rattle.broker_model.specs.parts.Place.{at};
 ghost use Rattle.broker_model.specs.parts.Secrets as part;
+ghost use Rattle.broker_rows.specs.Changed.{ChangesOnly};
 ghost use Rattle.broker_rows.specs.Operating.{Performs};
 ghost use Rattle.broker_rows.specs.Reads.{IsReadableWhole};
 
 use crate::secrets::shown::secret_told;
-use api_json::{key_object, keys_object};
+use api_json::{KeySettings, Pairs, key_object, keys_object};
 use broker_rows::{Answered, Context};
-use broker_types::{Refusal, RequestError};
+use broker_types::{Refusal, RequestError, TextBuf};
+use kv2::{SecretSettings, set_metadata};
 use records::RecordsTx;
 use std::alloc::Global;
 
@@ -41,6 +49,54 @@ pub(super) fn show<T: RecordsTx>(
     let told = secret_told(alloc, found)?;
     let object = key_object(alloc, &told)?;
     Ok(Answered::shown(alloc, context, object)?)
+}
+
+/// Sets those settings of a secret that are given. One that is not there is made, without a version.
+pub(super) fn set<T: RecordsTx>(
+    alloc: Global,
+    tx: &mut T,
+    context: &Context<'_>,
+    mount: &str,
+    path: &str,
+    asked: KeySettings,
+) -> Result<Answered, RequestError>
+    requires { IsKeptSettings asked }
+    ensures told { is_mount_name mount.now ≡ true → is_path path.now ≡ true
+        → (who : Option Text) → Performs who context.now [] (T.seen tx.old) (T.seen tx.new)
+        (λ b. Ok (part.set_metadata b (at mount.now path.now) asked)) result }
+
+    // Whatever the rows are: a change of settings over a damaged row is neither answered nor refused.
+    ensures readable { IsHonest (T.seen tx.new)
+        → OnAnswer result (IsReadableKey (table (T.seen tx.old)) (secret_name mount.now path.now)) }
+
+    // And only rows of secrets and of versions change.
+    ensures rows { IsHonest (T.seen tx.new)
+        → OnAnswer result (ChangesOnly of_secrets (T.seen tx.old).rows (T.seen tx.new).rows) }
+    ensures call { IsRequestCall (T.seen tx.old) (T.seen tx.new) result IsNotBadStart }
+{
+    set_metadata(alloc, tx, context.clock, mount, path, settings_given(asked))?;
+    Ok(Answered::Nothing)
+}
+
+/// The settings that a body gives.
+fn settings_given(asked: KeySettings) -> SecretSettings
+    ensures { result ≡ part.given asked }
+{
+    SecretSettings {
+        cas_required: asked.cas_required,
+        max_versions: asked.max_versions,
+        custom_metadata: metadata_given(asked.custom_metadata),
+    }
+}
+
+/// The custom metadata that a body gives.
+fn metadata_given(asked: Option<Pairs>) -> Option<Vec<(TextBuf, TextBuf)>>
+    ensures { option_map (λ es. es.items) result ≡ asked }
+{
+    match asked {
+        None => None,
+        Some(pairs) => Some(pairs.into_vec()),
+    }
 }
 
 /// Lists the secrets and folders of a folder.

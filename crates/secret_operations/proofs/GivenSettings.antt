@@ -1,0 +1,34 @@
+-- Settings of a secret that a body gives: a row can hold them, and a sound broker can.
+use Rattle.std.specs.Prelude.{◌≡◌, ◌<◌, ◌≤◌, ◌^◌, List, length, Some}
+use Rattle.std.proofs.Common.{lit<, lt_of_le_of_lt}
+use Rattle.broker_types.specs.Text.{Text}
+use Rattle.api_json.specs.Kept.{IsKeptCustom, IsKeptSettings}
+use Rattle.api_json.specs.declared.secret_bodies.KeySettings.{KeySettings}
+use Rattle.records.specs.Reading.{IsSomeIn, IsWide}
+use Rattle.records.specs.TokenEntry.{IsMeta}
+use Rattle.kv2.specs.InRange.{AreWithinLimits}
+use Rattle.broker_model.specs.parts.Secrets.{given}
+
+-- custom metadata that can be kept are short enough for the lengths in a row
+short_metadata : (es : List (Text × Text)) → IsKeptCustom es → IsMeta es
+short_metadata es kept = record {
+  members = record {
+    each = λ k d lt.
+        let e = kept.each k d lt in (
+          record { utf8 = e.name_utf8; short = lt_of_le_of_lt e.name_short (lit< tt) },
+          record { utf8 = e.value_utf8; short = lt_of_le_of_lt e.value_short (lit< tt) },
+        );
+    few = lt_of_le_of_lt kept.few (lit< tt);
+  };
+  ascend = kept.ascend;
+}
+
+pub metadata_in_range : (asked : KeySettings) → IsKeptSettings asked → IsSomeIn IsMeta (given asked).custom_metadata
+metadata_in_range asked kept es is = short_metadata es (kept es is)
+
+pub within_limits : (asked : KeySettings) → IsKeptSettings asked → IsSomeIn IsWide asked.max_versions → AreWithinLimits (given asked)
+within_limits asked kept wide = record {
+  max_versions = wide;
+  few_metadata = λ es is. (kept es is).few;
+  metadata = λ es is. (kept es is).each;
+}
