@@ -40,5 +40,5 @@ pub record IsKeptCustom (es : List (Text × Text)) : Type 0 where
   pub ascend : is_ascending (map (λ e. e.0) es) ≡ true
 
 -- what a body asks of one secret can be kept
-abbrev pub IsKeptSettings : KeySettings → Type 0
-IsKeptSettings asked = (es : List (Text × Text)) → asked.custom_metadata ≡ Some es → IsKeptCustom es
+pub record IsKeptSettings (asked : KeySettings) : Type 0 where
+  pub custom_metadata : (es : List (Text × Text)) → asked.custom_metadata ≡ Some es → IsKeptCustom es

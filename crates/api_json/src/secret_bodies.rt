@@ -134,7 +134,7 @@ pub fn key_settings(alloc: Global, body: &Body) -> Result<KeySettings, RequestEr
     unless(is_custom(&custom_metadata), Field::CustomMetadata)?;
     let max_versions: Option<u64> = optional(alloc, members, Field::MaxVersions)?;
     let cas_required: Option<bool> = optional(alloc, members, Field::CasRequired)?;
-    let _never: Option<DeletionTime> = optional(alloc, members, Field::DeleteVersionAfter)?;
+    let _no_deletion: Option<DeletionTime> = optional(alloc, members, Field::DeleteVersionAfter)?;
     Ok(KeySettings {
         custom_metadata,
         max_versions,

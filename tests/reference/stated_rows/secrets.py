@@ -3,8 +3,8 @@
 from .tools import row
 
 
-@row("A secret is written twice, read by version, deleted, undeleted and listed (`examples/secrets.replay`)",
-     "secrets", "queries", start=1700000000)
+@row("A secret is written twice, read by version, deleted, undeleted, listed and described (`examples/secrets.replay`)",
+     "secrets", "queries", "key-settings", start=1700000000)
 def life_of_a_secret(r):
     r.post("secret/data/team/db", {"data": {"password": "old"}, "options": {"cas": 0}}).is_(200).has("data", version=1)
     r.post("secret/data/team/db", {"data": {"password": "new"}}, at=1700086400).is_(200).has("data", version=2)
@@ -14,6 +14,9 @@ def life_of_a_secret(r):
     r.post("secret/undelete/team/db", {"versions": [2]}, at=1700086580).is_(204)
     r.get("secret/data/team/db", at=1700086580).is_(200).has("data", data={"password": "new"})
     r.list("secret/metadata/team", at=1700086640).is_(200, data={"keys": ["db"]})
+    owner = {"owner": "db team"}
+    r.post("secret/metadata/team/db", {"custom_metadata": owner, "max_versions": 3}, at=1700086700).is_(204)
+    r.get("secret/metadata/team/db", at=1700086700).is_(200).has("data", custom_metadata=owner, max_versions=3)
 
 
 @row("A soft deletion keeps the number of the current version, which check-and-set compares", "secrets")

@@ -7,8 +7,11 @@ use Rattle.api_json.proofs.KeptObjects.{given_members}
 use Rattle.api_json.proofs.secret_bodies.key_settings.Goals as goal
 
 pub returns-clause-kept : goal.returns-clause-kept
-returns-clause-kept c bytes fits is es given =
+returns-clause-kept c bytes fits is =
     let ms = members_of c.args.body.now in
     let accepted = passed c.is_custom.result (invalid field.CustomMetadata) _ c.in_ok-unless.ensures in
-    custom_kept bytes ms field.CustomMetadata c.in_ok-custom_metadata.custom_metadata es fits (given_members bytes ms is)
-    c.in_ok-custom_metadata.ensures given (sym c.is_custom.ensures.value ∙ accepted) (c.is_custom.ensures.accepted accepted es given)
+    record {
+      custom_metadata = λ es given.
+          custom_kept bytes ms field.CustomMetadata c.in_ok-custom_metadata.custom_metadata es fits (given_members bytes ms is)
+          c.in_ok-custom_metadata.ensures given (sym c.is_custom.ensures.value ∙ accepted) (c.is_custom.ensures.accepted accepted es given);
+    }
