@@ -10,14 +10,16 @@ use Rattle.broker_types.specs.Map.{Map, get, put, entries}
 use Rattle.broker_types.specs.MapLaws.{get-put}
 use Rattle.broker_types.specs.Secret.{Key}
 use Rattle.broker_types.specs.Broker.{Broker}
-use Rattle.broker_types.specs.Sound.{is_ascending}
+use Rattle.broker_types.specs.Sound.{IsMoment, is_ascending}
 use Rattle.records.specs.declared.kind.Kind.TheVariants as kind
 use Rattle.records.specs.KeyEntry.{KeyEntry, key_entry}
 use Rattle.records.specs.Parts.{of_secrets, Tells}
-use Rattle.records.specs.Reading.{IsSomeIn}
+use Rattle.records.specs.Ranges.{IsKeyInRange}
+use Rattle.records.specs.Reading.{IsSomeIn, IsWide}
 use Rattle.records.specs.RowForms.{key_row, key_entry_row, version_row}
 use Rattle.records.specs.Rows.{version_of_digits, version_row_of, version_at}
 use Rattle.records.specs.Table.{Table, with_row}
+use Rattle.records.specs.TokenEntry.{IsMeta}
 use Rattle.kv2.specs.MetadataLaws.{listed_entries}
 use Rattle.kv2.specs.SecretRows.{new_entry, described_entry, with_description}
 use Rattle.kv2.specs.Secrets.{secret_name, set_metadata}
@@ -48,6 +50,21 @@ module _ (now : ℕ) (given : Settings) (ascend : IsSomeIn Ascend given.custom_m
       ≡ key_row (described now given (key_or_new now o))
   row_described o =
       ap (λ e. key_entry_row (described_entry now given e)) (entry_or_new now o) ∙ ap key_entry_row (entry_described (key_or_new now o))
+
+-- it fits into its row if what is given does
+pub described_in_range : (now : ℕ) (given : Settings) (k : KeyEntry) → IsMoment now → IsKeyInRange k → IsSomeIn IsMeta given.custom_metadata
+    → IsWide (unwrap_or given.max_versions k.max_versions) → IsKeyInRange (described_entry now given k)
+described_in_range now given k moment range some wide = record {
+  current = range.current;
+  created = range.created;
+  updated = moment;
+  max_versions = wide;
+  custom_metadata = chosen given.custom_metadata some;
+}
+  where
+    chosen : (o : Option (List (Text × Text))) → IsSomeIn IsMeta o → IsMeta (unwrap_or o k.custom_metadata)
+    chosen None h = range.custom_metadata
+    chosen (Some es) h = h es refl
 
 -- ---- its versions
 

@@ -30,8 +30,7 @@ fn metadata_or(
     given: Option<Vec<(TextBuf, TextBuf)>>,
     kept: Vec<(TextBuf, TextBuf)>,
 ) -> Vec<(TextBuf, TextBuf)>
-    ensures value { result.items ≡ unwrap_or (option_map (λ es. es.items) given) kept.items }
-    ensures in_range { IsSomeIn IsMeta (option_map (λ es. es.items) given) → IsMeta kept.items → IsMeta result.items }
+    ensures { result.items ≡ unwrap_or (option_map (λ es. es.items) given) kept.items }
 {
     match given {
         None => kept,

@@ -38,10 +38,10 @@ pub returns-clause-readable : goal.returns-clause-readable
 returns-clause-readable g c honest =
     let seen = g.T.RecordsTx.seen in
     let first : IsHonest (seen c.find_key.new.tx) = honest_before _ _ _ c.put.ensures.call.goes_on honest in
-    let old = table_of (seen c.args.tx.now).rows in (
-      c.in_ok-found.found,
-      subst (λ (q : Text). HasKey old q c.in_ok-found.found) (c.as_str.ensures.value ∙ c.in_ok-name.ensures) (c.in_ok-found.ensures.exact first),
-    )
+    let old = table_of (seen c.args.tx.now).rows in
+    let found = c.in_ok-found.found in
+    let has = subst (λ (q : Text). HasKey old q found) (c.as_str.ensures.value ∙ c.in_ok-name.ensures) (c.in_ok-found.ensures.exact first) in
+    on_ok_weaker c.put.result (λ put. (found, has)) (c.put.ensures.rows honest)
 
 pub returns-clause-told : goal.returns-clause-told
 returns-clause-told g c honest forms b sound told at =
@@ -63,9 +63,21 @@ returns-clause-call g c =
     let name = secret_name c.args.mount.now c.args.path.now in
     record {
       others = λ honest.
-          let readable = returns-clause-readable g c honest in
-          on_ok_weaker c.put.result (λ rows. subst (λ (t : Table). KeepsOtherNames name old t) (sym rows) (described_keeps name old _ _ _))
-          (returns-clause-rows g c honest readable.0 readable.1);
+          let first : IsHonest (seen c.find_key.new.tx) = honest_before _ _ _ c.put.ensures.call.goes_on honest in
+          let found = c.in_ok-found.found in
+          let has = subst (λ (q : Text). HasKey old q found) (c.as_str.ensures.value ∙ c.in_ok-name.ensures) (c.in_ok-found.ensures.exact first) in
+          on_ok_weaker c.put.result (λ rows.
+          subst (λ (t : Table). KeepsOtherNames name old t) (sym rows) (described_keeps name old c.args.now c.args.given found))
+          (returns-clause-rows g c honest found has);
       faults = search rules;
       goes_on = search rules;
     }
+
+pub returns-in_err-found-clause-wants : goal.returns-in_err-found-clause-wants
+returns-in_err-found-clause-wants g c honest forms b sound told =
+    let old = table_of (g.T.RecordsTx.seen c.args.tx.now).rows in
+    let name = secret_name c.args.mount.now c.args.path.now in
+    let k = option_map key_entry (get b.secrets name) in
+    let p = err_from_is_err_and c.from_residual-in_err-found.result c.from_residual-in_err-found.ensures.1 in
+    rw (p.1, p.2) (c.in_err-found.ensures.faults honest k
+    (subst (λ (q : Text). HasKey old q k) (sym (c.as_str.ensures.value ∙ c.in_ok-name.ensures)) (has_key forms b sound old told name)))
