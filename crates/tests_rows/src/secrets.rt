@@ -94,7 +94,10 @@ fn pairs(rt: &HostRuntime, text: &str) -> Result<Vec<(TextBuf, TextBuf)>, Fail> 
     let mut list = Vec::new(alloc);
     for pair in text.split(' ') {
         let (name, value) = pair.split_once('=').ok_or("no pair")?;
-        list.push((TextBuf::copied(alloc, name)?, TextBuf::copied(alloc, value)?))?;
+        list.push((
+            TextBuf::copied(alloc, name)?,
+            TextBuf::copied(alloc, value)?,
+        ))?;
     }
     Ok(list)
 }
@@ -106,11 +109,9 @@ fn has_pairs(rt: &HostRuntime, tx: &mut ListTx, expected: &[(&str, &str)]) -> Re
     };
     Ok(
         told.custom_metadata.len() == expected.len()
-            && told
-                .custom_metadata
-                .iter()
-                .zip(expected)
-                .all(|(kept, wanted)| kept.0.as_str() == wanted.0 && kept.1.as_str() == wanted.1),
+            && told.custom_metadata.iter().zip(expected).all(|(kept, wanted)| kept.0.as_str()
+                == wanted.0
+                && kept.1.as_str() == wanted.1),
     )
 }
 

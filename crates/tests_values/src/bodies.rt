@@ -7,10 +7,11 @@ use api_json::{
     AuthObject, Body, EndTime, KeyObject, LeaseObject, MountObject, Pairs, Texts, TokenObject,
     Tree, VersionObject, Versions, WrapObject, accessor, auth_object, credential,
     credential_object, increment, key_object, key_settings, keys_object, lease_id, lease_object,
-    lease_renewal, lease_reply, mount_creation, mount_settings, mounts_object, plain_reply, policy_object,
-    policy_text, read_body, reply_text, role_object, role_settings, secret_object, secret_write,
-    settings_object, token, token_creation, token_object, token_renewal, valid_object,
-    version_object, versions, waiting_object, wrap_object, wrap_reply, wrapping_token,
+    lease_renewal, lease_reply, mount_creation, mount_settings, mounts_object, plain_reply,
+    policy_object, policy_text, read_body, reply_text, role_object, role_settings, secret_object,
+    secret_write, settings_object, token, token_creation, token_object, token_renewal,
+    valid_object, version_object, versions, waiting_object, wrap_object, wrap_reply,
+    wrapping_token,
 };
 use broker_types::{Field, Moment, Reason, Refusal, Reply, RequestError, TextBuf};
 use std::alloc::{AllocError, AllocGlobal, Global};
