@@ -1,11 +1,11 @@
 -- What a body brings as custom metadata of a secret can be kept.
-use Rattle.std.specs.Prelude.{◌≡◌, ◌≤◌, ◌<◌, ◌&&◌, ℕ, List, [], length, nat_le, Bool, true, false, Option, Some, Ok, unwrap_or, IsUtf8, ⊤}
+use Rattle.std.specs.Prelude.{◌≡◌, ◌≤◌, ℕ, List, [], length, nat_le, Bool, true, false, Option, Some, Ok, unwrap_or, ⊤}
 use Rattle.std.specs.List.{AllByRecursion, list_all}
-use Rattle.std.proofs.Common.{refl, sym, ap, ◌∙◌, subst, arith}
+use Rattle.std.proofs.Common.{refl, sym, ap, ◌∙◌, subst}
 use Rattle.std.proofs.lemmas.Bool.{and_parts, leb-true}
 use Rattle.std.proofs.lemmas.List.Elements.{All-from_recursion}
 use Rattle.serde_json.specs.Data.{Members}
-use Rattle.broker_types.specs.Limits.{longest_body, most_custom_metadata, longest_custom_name, longest_custom_value}
+use Rattle.broker_types.specs.Limits.{longest_body, most_custom_metadata}
 use Rattle.broker_types.specs.Sound.{IsCustomPair}
 use Rattle.broker_types.specs.Text.{Text}
 use Rattle.broker_types.specs.Refuse.{unless}
@@ -23,20 +23,6 @@ use Rattle.api_json.proofs.KeptMeta.{meta_kept}
 pub passed : (v : Bool) (r : Refusal) (u : ⊤) → unless v r ≡ Ok u → v ≡ true
 passed true r u e = refl
 passed false r u e = no_ok e
-
--- a name and a value that are accepted are as short as they must be
-pub custom_pair : (e : Text × Text) → IsUtf8 e.0 → IsUtf8 e.1 → is_custom_pair e ≡ true → IsCustomPair e.0 e.1
-custom_pair e name_utf8 value_utf8 passes =
-    let given = and_parts (nat_le 1 (length e.0)) (nat_le (length e.0) longest_custom_name && nat_le (length e.1) longest_custom_value) passes in
-    let short = and_parts (nat_le (length e.0) longest_custom_name) (nat_le (length e.1) longest_custom_value) given.1 in
-    let one : 1 ≤ length e.0 = leb-true 1 (length e.0) given.0 in
-    record {
-      name_utf8 = name_utf8;
-      value_utf8 = value_utf8;
-      name_given = omega (arith, one);
-      name_short = leb-true (length e.0) longest_custom_name short.0;
-      value_short = leb-true (length e.1) longest_custom_value short.1;
-    }
 
 -- accepted custom metadata are few, and their names ascend as those of all metadata that a body brings
 pub custom_kept : (body : List ℕ) (ms : Members) (f : Field) (o : Option (List (Text × Text))) (es : List (Text × Text))

@@ -1,9 +1,9 @@
 -- Settings of a secret: its rows are those of the next broker.
-use Rattle.std.specs.Prelude.{◌≡◌, ◌==◌, ◌&&◌, ℕ, List, map, Bool, true, false, cond, if◌then◌else◌, Option, Some, None, option_map, unwrap_or}
+use Rattle.std.specs.Prelude.{◌≡◌, ℕ, List, map, Bool, true, false, cond, if◌then◌else◌, Option, Some, None, option_map, unwrap_or}
 use Rattle.std.specs.Ordering.{nat_cmp}
 use Rattle.std.specs.FinMap as fin
 use Rattle.std.specs.Option.{option_map_or}
-use Rattle.std.proofs.Common.{refl, sym, ◌∙◌, ap, subst}
+use Rattle.std.proofs.Common.{refl, sym, ◌∙◌, ap}
 use Rattle.broker_types.specs.Text.{Text, text_cmp, same}
 use Rattle.broker_types.specs.TextLaws.{same_true}
 use Rattle.broker_types.specs.Map.{Map, get, put, entries}
@@ -18,7 +18,7 @@ use Rattle.records.specs.Ranges.{IsKeyInRange}
 use Rattle.records.specs.Reading.{IsSomeIn, IsWide}
 use Rattle.records.specs.RowForms.{key_row, key_entry_row, version_row}
 use Rattle.records.specs.Rows.{version_of_digits, version_row_of, version_at}
-use Rattle.records.specs.Table.{Table, with_row}
+use Rattle.records.specs.Table.{Table}
 use Rattle.records.specs.TokenEntry.{IsMeta}
 use Rattle.kv2.specs.MetadataLaws.{listed_entries}
 use Rattle.kv2.specs.SecretRows.{new_entry, described_entry, with_description}

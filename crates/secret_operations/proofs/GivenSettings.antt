@@ -1,5 +1,5 @@
 -- Settings of a secret that a body gives: a row can hold them, and a sound broker can.
-use Rattle.std.specs.Prelude.{◌≡◌, ◌<◌, ◌≤◌, ◌^◌, List, length, Some}
+use Rattle.std.specs.Prelude.{List}
 use Rattle.std.proofs.Common.{lit<, lt_of_le_of_lt}
 use Rattle.broker_types.specs.Text.{Text}
 use Rattle.api_json.specs.Kept.{IsKeptCustom, IsKeptSettings}

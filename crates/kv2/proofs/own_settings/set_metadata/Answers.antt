@@ -1,4 +1,4 @@
-use Rattle.std.proofs.Common.{◌≡◌, ap, sym, subst, ◌∙◌, option_map, unwrap_or, rules}
+use Rattle.std.proofs.Common.{ap, sym, subst, ◌∙◌, option_map, unwrap_or, rules}
 use Rattle.std.proofs.lemmas.Result.{on_ok_weaker, err_from_is_err_and}
 use Rattle.broker_types.specs.Map.{get}
 use Rattle.broker_types.specs.Text.{Text}
@@ -7,7 +7,7 @@ use Rattle.records.specs.CallLaws.{honest_before}
 use Rattle.records.specs.KeyEntry.{key_entry}
 use Rattle.records.specs.Parts.{of_secrets, Tells}
 use Rattle.records.specs.RowForms.{key_entry_row}
-use Rattle.records.specs.Table.{Table, table, table_of, with_row}
+use Rattle.records.specs.Table.{Table, table_of, with_row}
 use Rattle.records.specs.TableLaws.{table_of-insert}
 use Rattle.records.specs.Transaction.{IsHonest}
 use Rattle.kv2.specs.SecretRows.{HasKey, KeepsOtherNames, new_entry, described_entry, with_description}
