@@ -31,7 +31,7 @@ pub struct SecretMetadata {
     pub max_versions: u64,
     /// The oldest version that is kept, if it is above 1; else 0.
     pub oldest: u64,
-    /// When its last version was written.
+    /// When its last version or its settings were written.
     pub updated: u64,
     /// The versions that are kept, in the order of their numbers.
     pub versions: Vec<VersionMetadata>,
