@@ -63,7 +63,7 @@ pub struct KeyObject {
     pub max_versions: u64,
     /// The oldest version that is kept, if above 1; else 0.
     pub oldest_version: u64,
-    /// When its last version was written.
+    /// When its last version or its settings were written.
     pub updated: Moment,
     /// The versions that are kept.
     pub versions: Versions,
