@@ -81,8 +81,7 @@ impl<S: Alter> SqlStore<S> {
     {
         let mut tx = self.records.begin()?;
         upgrade_keys(self.alloc, &mut tx)?;
-        tx.commit()?;
-        Ok(())
+        tx.commit()
     }
 }
 

@@ -48,10 +48,10 @@ where
 
 /// Serves the broker that a file keeps, with its log beside it, or starts one in a file that is new, and prints its
 /// root token on standard output: so many connections to the address, or without an end, and at most `at_once` of them
-/// at once. A file that is not there is made, for its owner alone; one that has rows of keys in format 1 is upgraded. It
-/// fails as `serve_in_memory` does; and with `Storage` if the
-/// file cannot be opened, or has another table than that of a broker, with `BadStart` if it has rows and none of
-/// the clock, and with `Damaged` if a row cannot be read.
+/// at once. A file that is not there is made, for its owner alone; in one that is there, rows of keys in format 1 are
+/// rewritten in format 2. It fails as `serve_in_memory` does; and with `Storage` if the file cannot be opened, or has
+/// another table than that of a broker, with `BadStart` if it has rows and none of the clock, and with `Damaged` if a
+/// row cannot be read.
 pub fn serve_file(
     rt: &HostRuntime,
     path: &str,
