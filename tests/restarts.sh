@@ -2,7 +2,8 @@
 # Tries restarts, over a disk that mixes old and new bytes, as `brokerd serve --db` supposes, and over one that tears
 # writes: every row of tests/rows over files that are closed and opened again after each request, and six of them over
 # files that stop, at each call in turn. In one the files stop while a response is unwrapped, and it is unwrapped again
-# from what is found. The last line is 'N passed, M failed'; the status is 0 if nothing failed.
+# from what is found. Files whose keys have rows of format 1 stop while they are opened, which rewrites these rows. The
+# last line is 'N passed, M failed'; the status is 0 if nothing failed.
 set -u
 cd "$(dirname "$0")/.."
 
@@ -65,6 +66,7 @@ refuse
 refuse stopped
 refuse stop torn
 refuse reopened mixed torn
+refuse upgraded
 
 echo "$passed passed, $failed failed"
 [ "$failed" -eq 0 ]

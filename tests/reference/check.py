@@ -23,7 +23,8 @@ import draw  # noqa: E402  the stored runs are in the folder beside this one
 
 # Replays that are no rows: their lines and their replies.
 OTHER_REPLAYS = (("crates/brokerd/stdin", "crates/brokerd/stdout"),
-                 ("tests/hostile/tree_revoked.replay", "tests/hostile/tree_revoked.out"))
+                 ("tests/hostile/tree_revoked.replay", "tests/hostile/tree_revoked.out"),
+                 ("tests/restarts/twenty_keys.replay", "tests/restarts/twenty_keys.out"))
 SEEDS, EVENTS = 1, 200  # of the random runs
 
 

@@ -7,16 +7,26 @@ use broker_types::{
     Words, WrapTtl,
 };
 use ram_disk::RamFile;
-use records::{Kind, RecordsTx, Row};
+use records::{Kind, RecordsTx, Row, write_clock};
 use records_sql::SqlRecords;
 use server::prepare;
-use sqlite::FileStore;
+use sqlite::{FileStore, Unknown};
 use std::alloc::Global;
 use std::borrow::{CowSlice, CowStr};
 use std::mem::forget;
 use std::test::Fail;
 
 const ROOT: &str = "hvs.00000000-0000-0000-0000-000000000001";
+
+/// A key of two versions, created and updated at 1000, in format 1, and in format 2, in which it has no settings.
+const OLD_KEY: &[u8] = &[
+    1, 0, 0, 0, 0, 0, 0, 0, 2, 0, 0, 0, 0, 0, 0, 3, 0xe8, 0, 0, 0, 0, 0, 0, 3, 0xe8,
+];
+
+const KEY: &[u8] = &[
+    2, 0, 0, 0, 0, 0, 0, 0, 2, 0, 0, 0, 0, 0, 0, 3, 0xe8, 0, 0, 0, 0, 0, 0, 3, 0xe8, 0, 0, 0, 0, 0,
+    0, 0, 0, 0, 0, 0, 0, 0,
+];
 
 fn moment() -> Result<Moment, Fault> {
     Moment::new(1_000).ok_or(Fault::Damaged)
@@ -64,12 +74,11 @@ fn a_store_is_started_once(rt: HostRuntime) -> Result<(), Fail> {
     Ok(())
 }
 
-/// A row that nobody reads.
-fn row(alloc: Global) -> Result<Row, Fault> {
+fn row(alloc: Global, owner: &str, body: &[u8]) -> Result<Row, Fault> {
     Ok(Row {
-        owner: TextBuf::copied(alloc, ROOT)?,
+        owner: TextBuf::copied(alloc, owner)?,
         due: None,
-        body: Bytes::new(vec![in alloc; 1u8]?),
+        body: Bytes::new(body.to_vec(alloc)?),
     })
 }
 
@@ -78,10 +87,10 @@ fn row(alloc: Global) -> Result<Row, Fault> {
 fn refuses_rows_without_a_clock(alloc: Global) -> Result<bool, Fault> {
     let mut records = SqlRecords::in_memory(alloc)?;
     let mut forgotten = records.begin()?;
-    forgotten.put(Kind::Clock, "", row(alloc)?)?;
+    forgotten.put(Kind::Clock, "", row(alloc, ROOT, &[1])?)?;
     forget(forgotten);
     let mut tx = records.begin()?;
-    tx.put(Kind::Cubby, "a", row(alloc)?)?;
+    tx.put(Kind::Cubby, "a", row(alloc, ROOT, &[1])?)?;
     tx.commit()?;
     Ok(matches!(SqlStore::adopt(alloc, records), Err(Fault::BadStart)))
 }
@@ -107,4 +116,30 @@ fn prepares_once(alloc: Global) -> Result<bool, Fault> {
 fn a_broker_is_started_once(rt: HostRuntime) -> Result<(), Fail> {
     assert!(rt; prepares_once(rt.alloc())?);
     Ok(())
+}
+
+/// Whether opening makes the row of a key in format 1 that of the same key in format 2.
+fn upgrades(alloc: Global) -> Result<bool, Fault> {
+    let mut records = SqlRecords::in_memory(alloc)?;
+    let mut tx = records.begin()?;
+    tx.put(Kind::Clock, "", write_clock(alloc, moment()?)?)?;
+    tx.put(Kind::KvKey, "secret/x", row(alloc, "", OLD_KEY)?)?;
+    tx.commit()?;
+    let mut records = SqlStore::adopt(alloc, records)?.into_records();
+    let found = records.begin()?.get(Kind::KvKey, "secret/x")?;
+    Ok(found.is_some_and(|key| {
+        key.owner.as_str() == "" && key.due.is_none() && key.body.as_slice() == KEY
+    }))
+}
+
+#[test]
+fn keys_of_format_1_are_upgraded(rt: HostRuntime) -> Result<(), Fail> {
+    assert!(rt; upgrades(rt.alloc())?);
+    Ok(())
+}
+
+#[test]
+fn a_store_in_memory_is_no_file(rt: HostRuntime) {
+    let opened = SqlStore::open_from(&rt, ":memory:", Unknown);
+    assert!(rt; matches!(opened, Err(Fault::Storage)));
 }

@@ -9,6 +9,8 @@ mod damaged;
 #[cfg(test)]
 mod leases_and_roles;
 #[cfg(test)]
+mod old_keys;
+#[cfg(test)]
 mod permissions;
 #[cfg(test)]
 mod routes;

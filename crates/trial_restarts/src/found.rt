@@ -22,8 +22,8 @@ struct Found {
     prepared: Rows,
 }
 
-/// The rows that are found in files; none if the files have no table of rows, or if other than a start over no rows is
-/// made of them. The states begin with no rows, and the rows after a start. The only error is `Memory`.
+/// The rows that are found in files; none if the files have no table of rows, or if anything else is made of them than the
+/// second state of the first one, and than a start over no rows. The only error is `Memory`.
 pub(crate) fn rows_found(
     alloc: Global,
     mut files: Pair,
@@ -31,7 +31,7 @@ pub(crate) fn rows_found(
     start: &Start,
     states: &[Rows],
 ) -> Result<Option<Rows>, Fault> {
-    let [none, started, ..] = states else {
+    let [first, second, ..] = states else {
         return Ok(None);
     };
     match prepared(alloc, files.lend(), writes, start) {
@@ -42,9 +42,8 @@ pub(crate) fn rows_found(
                 prepared,
             },
         ) => {
-            let had_none = rows.are(none);
-            let wanted = if had_none { started } else { &rows };
-            if is_new == had_none && prepared.are(wanted) {
+            let wanted = if rows.are(first) { second } else { &rows };
+            if is_new == rows.is_empty() && prepared.are(wanted) {
                 Ok(Some(rows))
             } else {
                 Ok(None)

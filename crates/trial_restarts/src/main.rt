@@ -16,6 +16,7 @@ mod stopped;
 mod stops;
 mod tally;
 mod task;
+mod upgraded;
 
 use ending::End;
 use endpoints::{Reading, Writing};
@@ -24,11 +25,11 @@ use replay::Exit;
 use std::io::{Eprint, Print};
 use std::process::ExitCode;
 use std::{env, io};
-use stopped::{run_again, run_stopped};
+use stopped::{run_again, run_stopped, run_upgraded};
 use tally::Tally;
 use task::{Task, task_of};
 
-const USAGE: &str = "usage: trial_restarts reopened|stopped|again mixed|torn";
+const USAGE: &str = "usage: trial_restarts reopened|stopped|again|upgraded mixed|torn";
 
 fn main(rt: HostRuntime) -> anyhow::Result<ExitCode> {
     let alloc = rt.alloc();
@@ -40,42 +41,52 @@ fn main(rt: HostRuntime) -> anyhow::Result<ExitCode> {
         eprintln!(rt; "{USAGE}")?;
         return Ok(ExitCode::from(2));
     };
-    let mut reader = Reading::new(rt.reader());
-    let mut writer = Writing::new(io::writer(&rt));
-    let end = match task {
-        Task::Reopened(writes) => {
-            End::Replayed(replay_reopened(alloc, writes, &mut reader, &mut writer))
-        }
-        Task::Stopped(writes) => match run_stopped(alloc, writes, &mut reader) {
-            Ok(tally) => {
-                print_tally(&rt, &tally)?;
-                End::Replayed(Exit::Done)
-            }
-            Err(end) => end,
-        },
-        Task::Again(writes) => match run_again(alloc, writes, &mut reader, &mut writer) {
-            Ok((without, with)) => {
-                println!(rt; "not taken {without} times, taken {with} times")?;
-                End::Replayed(Exit::Done)
-            }
-            Err(end) => end,
-        },
-        Task::Help => {
-            println!(rt; "{USAGE}")?;
-            End::Replayed(Exit::Done)
-        }
-    };
+    let end = run(&rt, task)?;
     tell(&rt, end)
 }
 
-/// Prints what was met at each step.
-fn print_tally<R: Print>(rt: &R, tally: &Tally) -> anyhow::Result<()> {
+/// Runs a task over standard input, and prints what it tells.
+fn run(rt: &HostRuntime, task: Task) -> anyhow::Result<End> {
+    let alloc = rt.alloc();
+    let mut reader = Reading::new(rt.reader());
+    let mut writer = Writing::new(io::writer(rt));
+    match task {
+        Task::Reopened(writes) => Ok(End::Replayed(replay_reopened(
+            alloc,
+            writes,
+            &mut reader,
+            &mut writer,
+        ))),
+        Task::Stopped(writes) => print_tally(rt, run_stopped(alloc, writes, &mut reader)),
+        Task::Again(writes) => match run_again(alloc, writes, &mut reader, &mut writer) {
+            Ok((without, with)) => {
+                println!(rt; "not taken {without} times, taken {with} times")?;
+                Ok(End::Replayed(Exit::Done))
+            }
+            Err(end) => Ok(end),
+        },
+        Task::Upgraded(writes) => {
+            print_tally(rt, run_upgraded(alloc, writes, &mut reader, &mut writer))
+        }
+        Task::Help => {
+            println!(rt; "{USAGE}")?;
+            Ok(End::Replayed(Exit::Done))
+        }
+    }
+}
+
+/// Prints what was met at each step, if the task ended well.
+fn print_tally<R: Print>(rt: &R, met: Result<Tally, End>) -> anyhow::Result<End> {
+    let tally = match met {
+        Ok(tally) => tally,
+        Err(end) => return Ok(end),
+    };
     for (place, step) in tally.steps.iter().enumerate() {
         println!(rt; "step {place}: {step}")?;
     }
     let images = tally.images;
     println!(rt; "{images} images")?;
-    Ok(())
+    Ok(End::Replayed(Exit::Done))
 }
 
 /// Says on standard error why the task did not end well, if so, and answers the status: 0, or 1 after a fault or at rows

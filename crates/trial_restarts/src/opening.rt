@@ -72,8 +72,8 @@ pub(crate) fn open<D: Disk + Drop>(
 }
 
 /// Copies the log into the database file, and closes both. The only error is `Storage`, if a file fails.
-pub(crate) fn close<D: Disk + Drop>(store: SqlStore<FileStore<D>>) -> Result<(), Fault> {
-    match store.into_records().into_connection().close() {
+pub(crate) fn close<D: Disk + Drop>(records: SqlRecords<FileStore<D>>) -> Result<(), Fault> {
+    match records.into_connection().close() {
         Ok(()) => Ok(()),
         Err(_) => Err(Fault::Storage),
     }

@@ -74,7 +74,7 @@ fn start<D: Disk + Drop>(
     if !is_new {
         return Err(Fault::BadStart);
     }
-    close(store)
+    close(store.into_records())
 }
 
 /// Answers one request over files. It fails with `BadStart` if there is no broker in them.
@@ -94,7 +94,7 @@ fn answer<D: Disk + Drop>(
         return Err(Fault::BadStart);
     }
     let answered = store.one(moment, words, ask)?;
-    close(store)?;
+    close(store.into_records())?;
     Ok(answered)
 }
 

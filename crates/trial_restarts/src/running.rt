@@ -23,14 +23,6 @@ pub(crate) struct Progress {
     pub(crate) database: Counts,
 }
 
-impl Progress {
-    pub(crate) const NONE: Progress = Progress {
-        answered: 0,
-        log: Counts::NONE,
-        database: Counts::NONE,
-    };
-}
-
 /// A run over two files.
 #[derive(Drop)]
 pub(crate) struct Run {
@@ -53,7 +45,18 @@ impl Run {
         let mut files = writes.new_files(alloc);
         let mut answered = 0;
         let lent = files.lend_until(part, calls);
-        let is_stopped = match run_over(alloc, lent, writes, script, &mut answered) {
+        let ended = run_over(alloc, lent, writes, script, &mut answered);
+        Run::over(files, answered, ended)
+    }
+
+    /// The run over files whose steps ended so after so many answers. It fails as they did, but for `Storage`, which is a
+    /// stop.
+    pub(crate) fn over(
+        files: Pair,
+        answered: usize,
+        ended: Result<(), Fault>,
+    ) -> Result<Run, Fault> {
+        let is_stopped = match ended {
             Ok(()) => false,
             Err(Fault::Storage) => true,
             Err(fault) => return Err(fault),
@@ -87,7 +90,7 @@ fn run_over<D: Disk + Drop>(
     *answered = 1;
     let mut hub = Hub::new(alloc, store);
     feed_all(&mut hub, script.events.as_slice(), answered)?;
-    close(hub.into_store())
+    close(hub.into_store().into_records())
 }
 
 /// Feeds the events in turn, and counts those that were answered.
@@ -138,7 +141,7 @@ pub(crate) fn reply_after(
 }
 
 /// A broker in a database in memory after the start and these events.
-fn hub_after(
+pub(crate) fn hub_after(
     alloc: Global,
     script: &Script,
     events: &[Event],

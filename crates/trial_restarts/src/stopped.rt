@@ -1,5 +1,5 @@
-//! A script over files that stop: after each stop, whatever a crash left, the broker is found as it was before the step
-//! in progress, or as it is after it.
+//! Steps over files that stop: after each stop, whatever a crash left, the broker is found as it was before the step in
+//! progress, or as it is after it.
 
 use crate::ending::End;
 use crate::found::{reply_found, rows_found};
@@ -8,6 +8,7 @@ use crate::reading::whole_script_of;
 use crate::running::{Run, all_states, reply_after};
 use crate::stops::Stop;
 use crate::tally::Tally;
+use crate::upgraded::{old_and_new, upgrade_until_stop};
 use broker_types::Fault;
 use endpoints::{Sink, Source};
 use hub::Event;
@@ -26,13 +27,23 @@ struct Asked {
     with: Vec<u8>,
 }
 
-/// A script over files that stop.
+/// What is done over the files.
+#[derive(Clone, Copy, Debug, PartialEq, Eq)]
+enum Steps {
+    /// The start, each event, and the close.
+    Script,
+    /// The opening after all of these, once the keys have rows of format 1, and the close.
+    Upgrade,
+}
+
+/// Steps over files that stop.
 #[derive(Drop)]
 struct Trial {
     alloc: Global,
     writes: Writes,
+    steps: Steps,
     script: Script,
-    /// The rows before the start, after it, and after each event.
+    /// The rows before the first step, and after each step but the close.
     states: Vec<Rows>,
     asked: Option<Asked>,
 }
@@ -45,7 +56,7 @@ pub(crate) fn run_stopped<R: Source>(
     reader: &mut R,
 ) -> Result<Tally, End> {
     let script = whole_script_of(alloc, reader)?;
-    let trial = Trial::new(alloc, writes, script, None)?;
+    let trial = Trial::new(alloc, writes, Steps::Script, script, None)?;
     trial.run()
 }
 
@@ -62,20 +73,44 @@ pub(crate) fn run_again<R: Source, W: Sink>(
     let Some(event) = script.events.pop() else {
         return Err(End::Replayed(Exit::BadLine(2)));
     };
-    let asked = Asked::of(alloc, &script, event)?;
+    let before = script.events.len().saturating_sub(1);
+    let asked = Asked::of(alloc, &script, before, event)?;
     let written = writer.push(asked.without.as_slice());
     if written.is_err() || writer.push(asked.with.as_slice()).is_err() {
         return Err(End::Replayed(Exit::Faulted(6)));
     }
-    let trial = Trial::new(alloc, writes, script, Some(asked))?;
+    let trial = Trial::new(alloc, writes, Steps::Script, script, Some(asked))?;
     Ok(trial.run()?.last_step())
 }
 
+/// Stops the opening of files, in which a run of all lines but the last left the rows, but those of the keys are of format
+/// 1; the last line asks what is found. It tells what was met, and writes the reply of a broker in memory to the last line.
+///
+/// An opening that rewrites no row, or one page of them, would end as wrong at the first stop of the log, after no call; one
+/// that rewrites each row in a transaction of its own, after one of its syncs, if there are several keys.
+pub(crate) fn run_upgraded<R: Source, W: Sink>(
+    alloc: Global,
+    writes: Writes,
+    reader: &mut R,
+    writer: &mut W,
+) -> Result<Tally, End> {
+    let mut script = whole_script_of(alloc, reader)?;
+    let Some(event) = script.events.pop() else {
+        return Err(End::Replayed(Exit::BadLine(2)));
+    };
+    let asked = Asked::of(alloc, &script, script.events.len(), event)?;
+    if writer.push(asked.with.as_slice()).is_err() {
+        return Err(End::Replayed(Exit::Faulted(6)));
+    }
+    let trial = Trial::new(alloc, writes, Steps::Upgrade, script, Some(asked))?;
+    trial.run()
+}
+
 impl Asked {
-    /// The replies to an event after the script without its last event, and after all of it.
-    fn of(alloc: Global, script: &Script, event: Event) -> Result<Asked, Fault> {
+    /// The replies to an event after so many events of the script, and after all of it.
+    fn of(alloc: Global, script: &Script, before: usize, event: Event) -> Result<Asked, Fault> {
         let all = script.events.as_slice();
-        let before = &all[..all.len().saturating_sub(1)];
+        let before = all.get(..before).unwrap_or(all);
         Ok(Asked {
             without: reply_after(alloc, script, before, &event)?,
             with: reply_after(alloc, script, all, &event)?,
@@ -94,13 +129,18 @@ impl Trial {
     fn new(
         alloc: Global,
         writes: Writes,
+        steps: Steps,
         script: Script,
         asked: Option<Asked>,
     ) -> Result<Trial, Fault> {
-        let states = all_states(alloc, &script)?;
+        let states = match steps {
+            Steps::Script => all_states(alloc, &script)?,
+            Steps::Upgrade => old_and_new(alloc, &script)?,
+        };
         Ok(Trial {
             alloc,
             writes,
+            steps,
             script,
             states,
             asked,
@@ -120,7 +160,16 @@ impl Trial {
     }
 
     fn until_stop(&self, part: Part, calls: u64) -> Result<Run, Fault> {
-        Run::until_stop(self.alloc, &self.script, self.writes, part, calls)
+        match self.steps {
+            Steps::Script => Run::until_stop(self.alloc, &self.script, self.writes, part, calls),
+            Steps::Upgrade => upgrade_until_stop(
+                self.alloc,
+                &self.script,
+                self.writes,
+                part,
+                calls,
+            ),
+        }
     }
 
     /// Stops a run at each call on a file in turn, until a run meets no stop. Where a run came no further than the one
@@ -148,7 +197,10 @@ impl Trial {
 
     /// Whether the broker that is found after a run is to be looked at.
     fn is_asked(&self, run: &Run) -> bool {
-        self.asked.is_none() || run.progress.answered >= self.script.events.len()
+        match (&self.asked, self.steps) {
+            (Some(_), Steps::Script) => run.progress.answered >= self.script.events.len(),
+            _ => true,
+        }
     }
 
     /// The first image in which the broker is not the one before the step in progress, or after it. A seed chooses the

@@ -9,6 +9,8 @@ pub(crate) enum Task {
     Stopped(Writes),
     /// Run all but the last over files that stop, and the last over what is found then.
     Again(Writes),
+    /// Open files in which their keys have rows of format 1, which stop, and run the last over what is found then.
+    Upgraded(Writes),
     /// Say which tasks there are.
     Help,
 }
@@ -28,6 +30,7 @@ fn task_over(word: &str, writes: Writes) -> Option<Task> {
         "reopened" => Some(Task::Reopened(writes)),
         "stopped" => Some(Task::Stopped(writes)),
         "again" => Some(Task::Again(writes)),
+        "upgraded" => Some(Task::Upgraded(writes)),
         _ => None,
     }
 }

@@ -38,6 +38,11 @@ impl Rows {
         Ok(Rows { entries })
     }
 
+    /// Whether there are none.
+    pub fn is_empty(&self) -> bool {
+        self.entries.is_empty()
+    }
+
     /// Whether they are the same rows.
     pub fn are(&self, others: &Rows) -> bool {
         if self.entries.len() != others.entries.len() {
