@@ -3,7 +3,6 @@
 
    KNOWN_ENTROPY=HEX  what `getentropy` gives, over and over: 64 hexadecimal digits
    KNOWN_CLOCK=SECONDS the wall clock begins there, and tells another second at each look; at some it goes back
-   KNOWN_MOMENT=SECONDS the wall clock stands there
    KNOWN_SPEED=TIMES  the monotonic clock runs so many times as fast
    KNOWN_LOG=FILE     a record for each connection that was accepted, each piece of bytes that was received, each look
                      at the wall clock, and each piece that is about to be sent, in their order */
@@ -89,10 +88,10 @@ static long next_second(const char *begin) {
 int clock_gettime(int clock, struct moment *time) {
     static int (*real)(int, struct moment *);
     static struct moment first;
-    const char *begin = getenv("KNOWN_CLOCK"), *stands = getenv("KNOWN_MOMENT"), *speed = getenv("KNOWN_SPEED");
+    const char *begin = getenv("KNOWN_CLOCK"), *speed = getenv("KNOWN_SPEED");
     real = real ? real : (int (*)(int, struct moment *))dlsym(NEXT, "clock_gettime");
-    if (clock == WALL && (begin || stands)) {
-        time->seconds = stands ? strtol(stands, 0, 10) : next_second(begin);
+    if (clock == WALL && begin) {
+        time->seconds = next_second(begin);
         time->nanoseconds = 0;
         note(TOLD, -1, time->seconds);
         return 0;

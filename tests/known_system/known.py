@@ -34,9 +34,9 @@ def library(folder):
 class Known:
     """What is known to a program, and what it did: `environment` is that of its process."""
 
-    def __init__(self, folder, seed=None, clock=None, speed=None, moment=None):
+    def __init__(self, folder, seed=None, clock=None, speed=None):
         self.log = Path(folder) / "log"
-        told = {"ENTROPY": seed and seed.hex(), "CLOCK": clock, "MOMENT": moment, "SPEED": speed, "LOG": self.log}
+        told = {"ENTROPY": seed and seed.hex(), "CLOCK": clock, "SPEED": speed, "LOG": self.log}
         self.environment = {**os.environ, "LD_PRELOAD": str(library(folder)),
                             **{f"KNOWN_{name}": str(value) for name, value in told.items() if value is not None}}
 

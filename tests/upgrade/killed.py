@@ -3,8 +3,8 @@
 
     python3 tests/upgrade/killed.py PROGRAM [--keys N] [--kills N] [--seed N]
 
-The standard library's SQLite writes the keys, each with a version, into the database of a new broker. A first start over
-a copy is watched: how long it takes, and how often it calls for the disk. Then the program is started over further
+The standard library's SQLite writes the keys, each with a version, into the database of a new broker. A first start
+over a copy is watched: how long it takes, and how often it calls for the disk. Then the program is started over further
 copies, and stopped: by turns at a random moment, and before one of these calls; and in the end once it has opened the
 file, before it listens. Each time the keys are all of format 1 or all of format 2, and no other row has changed; both
 have to be met. The next start serves: the keys are of format 2, and some secrets are read. The last line is

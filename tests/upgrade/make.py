@@ -4,10 +4,10 @@
     python3 tests/upgrade/make.py PROGRAM FOLDER
 
 PROGRAM is `brokerd` of commit 9e9a6c26, the last one that wrote keys in format 1. It has written, on 2026-11-27, the
-files `keys_of_format_1.db` and `keys_of_format_1.replies` beside this script, and writes the same bytes again, since its
-clock and its random words are known (known_system). The broker is started, stopped by SIGKILL, started once more after
-five days, and stopped; then SQLite moves the log into the database. The replies are those to `QUESTIONS`, which a copy
-is asked 20 days after the first start. Each line of their file is an object: a request and its reply.
+files `keys_of_format_1.db` and `keys_of_format_1.replies` beside this script. It writes the same bytes again, since its
+clock and its random words are known (known_system, hostile). The broker is started, stopped by SIGKILL, started once
+more after five days, and stopped; then SQLite moves the log into the database. The replies are those to `QUESTIONS`,
+which a copy is asked 20 days after the first start. Each line of their file is an object: a request and its reply.
 
 The reference broker has to answer each request with the same bytes, and to have the rows of the database in the end;
 else nothing is written.
@@ -19,9 +19,10 @@ import shutil
 import sys
 from pathlib import Path
 
-from upgraded import upgraded  # it sets the paths
+from upgraded import differing, formats_in, upgraded  # it sets the paths
 
-from asking import LOOK, TODAY, Request, Story, rows_of
+from asking import LOOK, Request, Story, rows_of
+from hostile import build, environment
 from known import Known
 from program import Running, expect
 from rows import close_log, rows_in
@@ -44,6 +45,13 @@ NAMED = ["team/db", "team/web", "team/web/tls", "team/Zürich", "app", "deleted"
 def seed_of(number):
     """The seed of the random words of a run."""
     return random.Random(number).randbytes(32)
+
+
+def standing(folder, seed, moment):
+    """The variables of a run whose random words are known, and whose clock stands at a moment."""
+    words = Known(folder, seed).environment
+    clock = environment(build(folder), f"clock_gettime:1+:set={moment}")
+    return {**words, **clock, "LD_PRELOAD": f"{words['LD_PRELOAD']} {clock['LD_PRELOAD']}"}
 
 
 def post(path, body=None, caller="root", wrap_ttl=None, **gives):
@@ -221,7 +229,8 @@ def make(program, folder, file):
     with Running(program, file, Known(folder, seed_of(2), clock=LATER).environment) as running:
         expect(story.run(running, FIVE_DAYS_LATER), "the program ends")
     close_log(file)
-    expect(rows_in(file) == rows_of(story.brokers[-1], TODAY - {"key-settings"}), "the rows are others")
+    expect(upgraded(rows_in(file)) == rows_of(story.brokers[-1]), differing(upgraded(rows_in(file)), rows_of(story.brokers[-1])))
+    expect(set(formats_in(file)) == {"01"}, "the program does not write keys in format 1")
     return story.going_on()
 
 
@@ -231,10 +240,9 @@ def main():
         file, copy = Path(place) / "broker.db", Path(place) / "copy.db"
         story = make(program, place, file)
         shutil.copy(file, copy)
-        with Running(program, copy, Known(place, seed_of(3), moment=ASKED).environment) as running:
+        with Running(program, copy, standing(place, seed_of(3), ASKED)) as running:
             found = list(asked(running, story, QUESTIONS))
-        expect(upgraded(rows_in(copy)) == rows_of(story.brokers[-1], TODAY | {"key-settings"}),
-               "the rows after the questions are others")
+        expect(upgraded(rows_in(copy)) == rows_of(story.brokers[-1]), "the rows after the questions are others")
         shutil.copy(file, target.with_suffix(".db"))
     with open(target.with_suffix(".replies"), "w", encoding="ascii") as lines:
         for text, reply in found:

@@ -4,26 +4,25 @@
     python3 tests/upgrade/rewritten.py PROGRAM
 
 A broker with 200 keys is made, asked for all of them, and stopped. Each case is a copy of its database in which rows of
-keys were changed: rewritten in format 1, all or some; few keys; keys beside each other; numbers at their bounds; and one
-row that is that of a key in neither format. The program is started over it. The replies are those of before, but for
-their request ids; each row of format 1 is rewritten in format 2, and no other row is changed. A row in neither format
-stays byte for byte, and the request that reads it ends the program with `fault 3`, after all others were answered. The
-last line is 'N passed, M failed'.
+keys were changed: rewritten in format 1, all or some; few keys; keys beside each other; numbers at their bounds; and a
+row that is in neither format. The program is started over it. The replies are those of before, but for their request
+ids; each row of format 1 is rewritten in format 2, and no other row is changed. A row in neither format stays byte for
+byte, and the request that reads it ends the program with `fault 3`, after all others were answered. The last line is
+'N passed, M failed'.
 """
 
 import re
 import sys
 from pathlib import Path
 
-from upgraded import (KEY, LAST_MOMENT, LAST_VERSION, NO_SETTINGS, NUMBERS, copied, differing, formats_in, keys_in,
+from upgraded import (KEY, LAST_MOMENT, LAST_VERSION, NO_SETTINGS, NUMBERS, apart, copied, differing, formats_in, keys_in,
                       left_in, old_body, upgraded)  # it sets the paths
 
 from asking import Reply, Request
 from hostile import Tally
-from known import Known
 from program import Running, Wrong, expect
 from rows import close_log, rows_in
-from trial import MOMENT, temporary_folder
+from trial import MOMENT, Trial, temporary_folder
 
 KEYS = 200
 UPDATE = "UPDATE broker_rows SET owner = ?, due = ?, body = ? WHERE kind = 8 AND key = ?"
@@ -82,7 +81,7 @@ class Made:
 
     def __init__(self, program, folder):
         self.program, self.folder = program, folder
-        self.variables = Known(folder, moment=MOMENT).environment
+        self.variables = Trial(program, folder).at(MOMENT)
         self.file = folder / "made.db"
         with self.running(self.file) as running:
             self.known = {"root": running.told_root()}
@@ -118,10 +117,10 @@ class Made:
             asked = [request for path in paths for request in reads(path)]
             for request in (*asked, *(LISTS if left is None else ())):
                 found, wanted = self.answer(running, request), self.replies[request.method, request.path]
-                expect(found == wanted, f"{request.method} {request.path}: {found[-160:]!r} in place of {wanted[-160:]!r}")
+                expect(found == wanted, f"the reply to {request.method} {request.path} is {apart(found, wanted)}")
             if damaged is not None:
                 found = self.answer(running, reads(damaged.removeprefix("secret/"))[0])
-                expect(found == b"", f"the reply to a request that reads the damaged row is {found[-160:]!r}")
+                expect(found == b"", f"the damaged row is read, and the reply is {found[-160:]!r}")
                 running.ends()
             running.connect()
             end = running.close()

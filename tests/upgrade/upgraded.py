@@ -1,6 +1,7 @@
 """Rows of keys in both formats (docs/STORAGE.md): what the scripts beside this one share."""
 
 import contextlib
+import os
 import shutil
 import sqlite3
 import struct
@@ -80,6 +81,12 @@ def open_alone(program, file, variables=None):
         expect(running.connect() is not None, "it does not open the file")
         end = running.close()
     expect(end.is_kill() and not end.printed, f"after it has opened the file: {end}, {end.printed!r}")
+
+
+def apart(found, wanted):
+    """Where bytes are not as they have to be, in words."""
+    at = max(0, len(os.path.commonprefix([found, wanted])) - 30)
+    return f"{found[at:at + 80]!r} in place of {wanted[at:at + 80]!r}"
 
 
 def differing(found, wanted):

@@ -1,7 +1,7 @@
 #!/usr/bin/env python3
 """Opens a database that an earlier program has written, with keys of format 1 (README.md).
 
-    python3 tests/upgrade/kept.py PROGRAM
+    python3 tests/upgrade/opened.py PROGRAM
 
 Once it is opened, each row of a key is that of the same key in format 2, and no other row has changed; a second start
 changes none. Over another copy each request of `keys_of_format_1.replies` gets the reply that is kept there, byte for
@@ -15,12 +15,11 @@ import sys
 from collections import Counter
 from pathlib import Path
 
-from upgraded import HERE, differing, keys_in, left_in, open_alone, upgraded  # it sets the paths
+from upgraded import HERE, apart, differing, keys_in, left_in, open_alone, upgraded  # it sets the paths
 
-from asking import TODAY, Reply, Server, rows_of
+from asking import Reply, Server, rows_of
 from hostile import Tally
-from known import Known
-from make import ASKED, seed_of
+from make import ASKED, seed_of, standing
 from program import Running, Wrong, expect
 from rows import rows_in
 from stored_broker import broker_of
@@ -59,17 +58,17 @@ def check_replies(program, folder, tally):
     shutil.copy(DATABASE, file)
     server = Server(0, range(8))
     server.broker = broker_of(upgraded(rows_in(file)))
-    with Running(program, file, Known(folder, seed_of(3), moment=ASKED).environment) as running:
+    with Running(program, file, standing(folder, seed_of(3), ASKED)) as running:
         for text, kept in pairs():
             line, reply = text.partition(b"\r\n")[0].decode(), Reply(kept)
             found = running.ask(text)
-            tally.expect(found == kept, f"{line} is answered {found[-200:]!r} in place of {kept[-200:]!r}")
+            tally.expect(found == kept, f"the reply to {line} is {apart(found, kept)}")
             expected = server.feed(1, text, reply.moment, reply.words())
-            tally.expect(expected == kept, f"{line}: the reference broker answers {expected[-200:]!r}")
+            tally.expect(expected == kept, f"the reference broker's reply to {line} is {apart(expected, kept)}")
             met[str(reply.status)] += found == kept
         end = running.close()
     expect(end.is_kill() and not end.printed, f"after all replies: {end}, {end.printed!r}")
-    rows, wanted = rows_in(file), rows_of(server.broker, TODAY | {"key-settings"})
+    rows, wanted = rows_in(file), rows_of(server.broker)
     tally.expect(rows == wanted, f"after all replies {differing(rows, wanted)}")
     return met
 
