@@ -1,9 +1,10 @@
 """Calls that fail, and calls that are cut short.
 
 Three runs are repeated for each call of the program on its files: one from nothing, one over a log that is so long that
-it is moved into the database, and one over keys in format 1, which are rewritten at the start. The call fails, by EIO or by ENOSPC, alone or with all such calls after it; or a
-read or a write moves one byte, or all but one. Then the program ends with `fault 2`, or it has answered as usual. After
-a start without faults the broker has all that was answered.
+it is moved into the database, and one over keys in format 1, which are rewritten at the start. The call fails, by EIO
+or by ENOSPC, alone or with all such calls after it; or a read or a write moves one byte, or all but one. Then the
+program ends with `fault 2`, or it has answered as usual. After a start without faults the broker has all that was
+answered.
 """
 
 import random

@@ -17,7 +17,7 @@ from trial import FAULT_OF_STORAGE, MOMENT, NOBODY, Run, Tally, check_found, sid
 PAGE = 4096
 STEP = 2 * PAGE
 BEYOND = 16384  # bytes beyond what the run needs, up to which the limits go
-MOST_ROOM = {"start": 700_000, "long log": 250_000, OLD_KEYS: 250_000}  # bytes of a small disk beyond what the files have at first
+MOST_ROOM = {"start": 700_000, "long log": 250_000, OLD_KEYS: 250_000}  # bytes of a small disk beyond the first files
 LEAST = {"limits": 100, "limits that were met": 90, "at a request": 30, "before any broker": 30, "served once more": 30,
          "refused once more": 30, "answered as usual": 1}
 

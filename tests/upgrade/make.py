@@ -229,7 +229,8 @@ def make(program, folder, file):
     with Running(program, file, Known(folder, seed_of(2), clock=LATER).environment) as running:
         expect(story.run(running, FIVE_DAYS_LATER), "the program ends")
     close_log(file)
-    expect(upgraded(rows_in(file)) == rows_of(story.brokers[-1]), differing(upgraded(rows_in(file)), rows_of(story.brokers[-1])))
+    rows, wanted = upgraded(rows_in(file)), rows_of(story.brokers[-1])
+    expect(rows == wanted, differing(rows, wanted))
     expect(set(formats_in(file)) == {"01"}, "the program does not write keys in format 1")
     return story.going_on()
 

@@ -15,8 +15,8 @@ import re
 import sys
 from pathlib import Path
 
-from upgraded import (KEY, LAST_MOMENT, LAST_VERSION, NO_SETTINGS, NUMBERS, apart, copied, differing, formats_in, keys_in,
-                      left_in, old_body, upgraded)  # it sets the paths
+from upgraded import (KEY, LAST_MOMENT, LAST_VERSION, NO_SETTINGS, NUMBERS, apart, copied, differing, formats_in,
+                      keys_in, left_in, old_body, upgraded)  # it sets the paths
 
 from asking import Reply, Request
 from hostile import Tally
