@@ -7,10 +7,11 @@ A broker with 200 keys is made, asked for all of them, and stopped. Each case is
 keys were changed: rewritten in format 1, all or some; few keys; keys beside each other; numbers at their bounds; and a
 row that is in neither format. The program is started over it. The replies are those of before, but for their request
 ids; each row of format 1 is rewritten in format 2, and no other row is changed. A row in neither format stays byte for
-byte, and the request that reads it ends the program with `fault 3`, after all others were answered. The last line is
-'N passed, M failed'.
+byte, and the request that reads it ends the program with `fault 3`, after all others were answered. A database that is
+refused is not changed at all. The last line is 'N passed, M failed'.
 """
 
+import functools
 import re
 import sys
 from pathlib import Path
@@ -51,6 +52,12 @@ DAMAGES = {
     "of format 1 with settings": lambda body: ("", None, body + NO_SETTINGS),
 }
 PLACES = (0, 15, 16, KEYS - 1)  # of the row in neither format: at the ends of the walk and of its first page
+# What makes a database one that is refused, and the fault.
+REFUSALS = {
+    "no clock": ("DELETE FROM broker_rows WHERE kind = 1", 4),
+    "a row of kind 14": ("INSERT INTO broker_rows VALUES (14, 'a', '', NULL, x'01')", 2),
+    "another table": ("CREATE TABLE a (b)", 2),
+}
 BOUNDS = [b"\x01" + NUMBERS.pack(*numbers) for numbers in (
     (0, 0, 0), (1, 0, 0), (0, 1, 0), (0, 0, 1), (LAST_VERSION, LAST_MOMENT, LAST_MOMENT))]
 
@@ -129,6 +136,17 @@ class Made:
         expect(rows == upgraded(before), differing(rows, upgraded(before)))
         expect("01" not in formats or damaged is not None, f"the formats are {formats}")
 
+    def try_refused(self, statement, fault):
+        """All keys in format 1, in a database that is refused. Raises Wrong."""
+        file = self.folder / "copy.db"
+        before = copied(self.file, file, [*self.old(*self.keys), (statement, ())])
+        with self.running(file) as running:
+            running.ends()
+            end = running.close()
+        rows, formats = left_in(file)
+        expect(end.is_fault(fault) and not end.printed, f"in place of fault {fault}: {end}")
+        expect(rows == before and formats == {"01": KEYS}, f"it was changed: {formats}, {differing(rows, before)}")
+
 
 def few_keys(made, count):
     """So many keys in format 1, and none besides."""
@@ -167,9 +185,11 @@ def main():
         made = Made(sys.argv[1], Path(folder))
         formats = formats_in(made.file)
         tally.expect(formats == {"02": KEYS}, f"the formats that the program writes are {formats}")
-        for name, case in cases(made):
+        tried = [(name, functools.partial(made.try_case, **case)) for name, case in cases(made)]
+        tried += [(name, functools.partial(made.try_refused, *case)) for name, case in REFUSALS.items()]
+        for name, task in tried:
             try:
-                made.try_case(**case)
+                task()
                 tally.expect(True, name)
             except Wrong as error:
                 tally.expect(False, f"{name}: {error}")
