@@ -6,7 +6,6 @@ import sqlite3
 from program import Wrong, expect
 from stored_broker import broker_of
 
-SECRET = 8
 ALL = "SELECT kind, key, owner, due, body FROM broker_rows"
 
 
