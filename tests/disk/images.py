@@ -11,11 +11,12 @@ from dataclasses import dataclass
 from asking import Reply, Story, looked
 from history import NAMES, instants_of
 from program import Running, Wrong, expect
-from rows import SECRET, put, rows_in, whole_rows_in
+from rows import put, rows_in, whole_rows_in
 from scenes import KEYS, OLD_KEYS, all_scenes
 from trial import MOMENT, Tally, check_found, side_by_side
 
 ALL, NONE = ("all",), ("none",)
+SECRET = 8  # the kind of a key's row
 MIXES = 6  # drawn mixes of a stretch in the gate
 TEARS = 3  # places in the gate at which a write is torn
 FORGOTTEN = 40  # synced writes that are left out
