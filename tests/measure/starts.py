@@ -8,9 +8,9 @@ runs. Each PROGRAM opens a copy twice: the first start rewrites the keys, unless
 second finds what the first has left, which was stopped by SIGKILL. It is done N times (3 if not given), each program in
 turn. FOLDER is that of other temporary files, if not given.
 
-It prints for each MANY and PROGRAM the medians of the seconds until it listened and of the most memory that it had
-until then (VmHWM), in brackets the least and the greatest; the bytes of the database and of its log after the first
-start; and how many keys are of which format then.
+It prints for each MANY and PROGRAM the medians of the seconds until it listened, of the processor seconds among them,
+and of the most memory that it had until then (VmHWM), in brackets the least and the greatest; the bytes of the database
+and of its log after the first start; and how many keys are of which format in the end.
 """
 
 import argparse
@@ -31,7 +31,7 @@ sys.path.insert(0, str(Path(__file__).resolve().parent.parent / "clients"))
 from broker import Broker  # noqa: E402
 
 FORMATS = "SELECT hex(substr(body, 1, 1)), count(*) FROM broker_rows WHERE kind = 8 GROUP BY 1"
-Start = namedtuple("Start", "seconds memory")
+Start = namedtuple("Start", "seconds processor memory")
 Run = namedtuple("Run", "first second database log formats")
 
 
@@ -48,7 +48,7 @@ def start(program, file, token):
     begin = time.monotonic()
     with Broker(program, "--db", file, token=token) as broker:
         seconds = time.monotonic() - begin
-        return Start(seconds, most_memory(broker.process.pid))
+        return Start(seconds, broker.processor(), most_memory(broker.process.pid))
 
 
 def formats_in(file):
@@ -78,9 +78,9 @@ def tell(program, many, runs):
     print(f"{many} secrets and tokens, {program}, {len(runs)} runs:")
     for name in ("first", "second"):
         starts = [getattr(each, name) for each in runs]
-        print(f"  {name} start: {spread([each.seconds for each in starts], 2)} s, "
-              f"{spread([each.memory for each in starts], 0)} MB")
-    print(f"  after the first: {runs[-1].database} bytes, and {runs[-1].log} in the log; then {runs[-1].formats}",
+        print(f"  {name} start: {spread([each.seconds for each in starts], 2)} s, of which the processor "
+              f"{spread([each.processor for each in starts], 2)} s, {spread([each.memory for each in starts], 0)} MB")
+    print(f"  after the first {runs[-1].database} bytes, and {runs[-1].log} in the log; in the end {runs[-1].formats}",
           flush=True)
 
 
