@@ -5,8 +5,8 @@
 
 The standard library's SQLite writes the keys, each with a version, into the database of a new broker. A first start
 over a copy is watched: how long it takes, and how often it calls for the disk. Then the program is started over further
-copies, and stopped: by turns at a random moment, and before one of these calls; and in the end once it has opened the
-file, before it listens. Each time the keys are all of format 1 or all of format 2, and no other row has changed; both
+copies, and stopped: by turns at a random moment, and before one of these calls, the last ones first; and in the end
+once it has opened the file, before it listens. Each time the keys are all of format 1 or all of format 2, and no other row has changed; both
 have to be met. The next start serves: the keys are of format 2, and some secrets are read. The last line is
 'N passed, M failed'.
 """
@@ -32,6 +32,7 @@ DISK = "pwrite,fsync,fdatasync,ftruncate"
 OPENED = "bind:1:kill"
 PATIENCE = 120  # seconds for a start
 READ = 5  # secrets that are read after a kill
+LAST = 6  # calls of a start before each of which it is stopped
 LEAST = {"kills at a moment": 2, "kills before a call": 2, "old": 2, "new": 1}
 
 
@@ -107,12 +108,14 @@ class Old:
 
 
 def kills(draw, calls, seconds, count):
-    """How each start is stopped: what is counted, a rule or None, and the seconds after which it is."""
+    """How each start is stopped: what is counted, a rule or None, and the seconds after which it is. The last calls are
+    those that write what was rewritten."""
     for turn in range(count - 1):
         if turn % 2:
             yield "kills at a moment", None, draw.uniform(0.1, 1.0) * seconds
         else:
-            yield "kills before a call", f"{DISK}:{draw.randint(1, calls)}:kill", None
+            number = calls - turn // 2 if turn < 2 * LAST else draw.randint(1, calls)
+            yield "kills before a call", f"{DISK}:{number}:kill", None
     yield "kills before it listens", OPENED, None
 
 
