@@ -6,9 +6,9 @@
 The standard library's SQLite writes the keys, each with a version, into the database of a new broker. A first start
 over a copy is watched: how long it takes, and how often it calls for the disk. Then the program is started over further
 copies, and stopped: by turns at a random moment, and before one of these calls, the last ones first; and in the end
-once it has opened the file, before it listens. Each time the keys are all of format 1 or all of format 2, and no other row has changed; both
-have to be met. The next start serves: the keys are of format 2, and some secrets are read. The last line is
-'N passed, M failed'.
+once it has opened the file, before it listens. Each time the keys are all of format 1 or all of format 2, and no other
+row has changed; both have to be met. The next start serves: the keys are of format 2, and some secrets are read. The
+last line is 'N passed, M failed'.
 """
 
 import argparse
@@ -30,7 +30,7 @@ from trial import temporary_folder
 
 DISK = "pwrite,fsync,fdatasync,ftruncate"
 OPENED = "bind:1:kill"
-PATIENCE = 120  # seconds for a start
+PATIENCE = 300  # seconds for a start
 READ = 5  # secrets that are read after a kill
 LAST = 6  # calls of a start before each of which it is stopped
 LEAST = {"kills at a moment": 2, "kills before a call": 2, "old": 2, "new": 1}
