@@ -1,9 +1,9 @@
 #!/bin/bash
 # Starts `brokerd serve` and asks it as its users do: by curl, by `client` if it is there, by Python's hvac and by
 # Ansible if they are installed, and on one connection 10,000 times; then by wrong command lines, over a file that is
-# opened again, by many peers at once, some of which are idle or slow, by drawn requests on 64 connections, and on
-# 100,000 connections. It takes some 90 seconds, and more with Ansible. BROKERD and CLIENT name other programs. The last
-# line is 'N passed, M failed'; the status is 0 if nothing failed.
+# opened again, over one that an earlier program wrote, by many peers at once, some of which are idle or slow, by drawn
+# requests on 64 connections, and on 100,000 connections. It takes some 90 seconds, and more with Ansible. BROKERD and
+# CLIENT name other programs. The last line is 'N passed, M failed'; the status is 0 if nothing failed.
 set -u
 cd "$(dirname "$0")/.."
 
@@ -334,6 +334,9 @@ serve_without_an_end
 keep_in_a_file
 count python3 tests/clients/databases.py "$program"
 count python3 tests/clients/damaged.py "$program"
+count python3 tests/upgrade/opened.py "$program"
+count python3 tests/upgrade/rewritten.py "$program"
+count python3 tests/upgrade/killed.py "$program" --keys 5000
 count_together many_peers.py slow_peers.py "slow_peers.py --alone" scarce_descriptors.py
 count python3 tests/clients/short_lives.py "$program" 4000
 count python3 tests/clients/fault_at_once.py "$program"

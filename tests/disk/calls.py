@@ -1,15 +1,16 @@
 """Calls that fail, and calls that are cut short.
 
-Two runs are repeated for each call of the program on its files: one from nothing, and one over a log that is so long
-that it is moved into the database. The call fails, by EIO or by ENOSPC, alone or with all such calls after it; or a
-read or a write moves one byte, or all but one. Then the program ends with `fault 2`, or it has answered as usual. After
-a start without faults the broker has all that was answered.
+Three runs are repeated for each call of the program on its files: one from nothing, one over a log that is so long that
+it is moved into the database, and one over keys in format 1, which are rewritten at the start. The call fails, by EIO
+or by ENOSPC, alone or with all such calls after it; or a read or a write moves one byte, or all but one. Then the
+program ends with `fault 2`, or it has answered as usual. After a start without faults the broker has all that was
+answered.
 """
 
 import random
 
 from program import Wrong, expect
-from scenes import both_scenes
+from scenes import all_scenes
 from trial import FAULT_OF_STORAGE, Tally, check_found, side_by_side
 
 FAILED = ("pread", "pwrite", "fsync", "fdatasync", "ftruncate")
@@ -69,10 +70,10 @@ def try_rule(trial, scene, rule):
 
 
 def try_calls(trial, jobs, seed=1, reads=READS, is_gate=True):
-    """All runs, with so many drawn reads; in the gate half of those over the long log."""
+    """All runs, with so many drawn reads; in the gate half of those that do not begin from nothing."""
     tally, draw = Tally("calls"), random.Random(seed)
     try:
-        for scene in both_scenes(trial):
+        for scene in all_scenes(trial):
             calls = usual_calls(trial, scene)
             tally.counts.update({f"calls of {name}": count for name, count in calls.items()})
             rules = list(all_rules(calls, draw, reads, is_gate and scene.story is not None))

@@ -11,13 +11,13 @@ import subprocess
 
 from asking import LOOK
 from program import Running, Wrong, expect
-from scenes import both_scenes
+from scenes import OLD_KEYS, all_scenes
 from trial import FAULT_OF_STORAGE, MOMENT, NOBODY, Run, Tally, check_found, side_by_side
 
 PAGE = 4096
 STEP = 2 * PAGE
 BEYOND = 16384  # bytes beyond what the run needs, up to which the limits go
-MOST_ROOM = {"start": 700_000, "long log": 250_000}  # bytes of a small disk beyond what the files have at first
+MOST_ROOM = {"start": 700_000, "long log": 250_000, OLD_KEYS: 250_000}  # bytes of a small disk beyond the first files
 LEAST = {"limits": 100, "limits that were met": 90, "at a request": 30, "before any broker": 30, "served once more": 30,
          "refused once more": 30, "answered as usual": 1}
 
@@ -106,8 +106,8 @@ def try_disk(trial, scene, size):
 
 
 def try_disks(trial, jobs, seed, count):
-    """So many small disks for a run from nothing, and for one over a long log. Where nothing can be mounted there is
-    none."""
+    """So many small disks for each run: from nothing, over a long log, and over keys in format 1. Where nothing can be
+    mounted there is none."""
     tally, draw = Tally("small disks"), random.Random(seed)
     try:
         with small_disk(trial.place(), PAGE):
@@ -115,7 +115,7 @@ def try_disks(trial, jobs, seed, count):
     except (OSError, subprocess.CalledProcessError) as error:
         tally.counts[f"small disks, since nothing can be mounted here ({error})"] = 0
         return tally
-    for scene in both_scenes(trial):
+    for scene in all_scenes(trial):
         taken = sum(len(data) for data in scene.files.values())
         sizes = [taken + draw.randrange(PAGE, MOST_ROOM[scene.name]) for _ in range(count)]
         for size, found, wrong in side_by_side(lambda size: try_disk(trial, scene, size), sizes, jobs):

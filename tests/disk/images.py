@@ -1,7 +1,8 @@
 """Crash images: what the two files may have after a crash at each instant of a recorded run.
 
 The program opens each image, and its rows have to be those of the reference broker after the requests that had been
-answered by then, or after one more. Where the root token had not been printed there may be no broker.
+answered by then, or after one more. Where the root token had not been printed there may be no broker. Where keys in
+format 1 are rewritten SQLite has to find them all in one format in the image, before the program opens it.
 """
 
 import random
@@ -10,18 +11,19 @@ from dataclasses import dataclass
 from asking import Reply, Story, looked
 from history import NAMES, instants_of
 from program import Running, Wrong, expect
-from rows import put, whole_rows_in
-from scenes import both_scenes
+from rows import put, rows_in, whole_rows_in
+from scenes import KEYS, OLD_KEYS, all_scenes
 from trial import MOMENT, Tally, check_found, side_by_side
 
 ALL, NONE = ("all",), ("none",)
+SECRET = 8  # the kind of a key's row
 MIXES = 6  # drawn mixes of a stretch in the gate
 TEARS = 3  # places in the gate at which a write is torn
 FORGOTTEN = 40  # synced writes that are left out
 RECOVERED = 12  # images of the recovery of an image
 MOST = 1500  # images of a run beside the gate, drawn among all
 LEAST = {"images": 500, "stretches": 30, "before": 300, "after": 20, "of the database": 80, "no broker": 50,
-         "told without a synced write": 25}
+         "told without a synced write": 25, "images of keys in format 1": 20, "images of keys in format 2": 20}
 
 
 @dataclass
@@ -100,9 +102,14 @@ def content_name(part, way):
     return sum(map(len, part.stretches[:-1])) + count
 
 
+def files_of(instant, ways):
+    """What is left of the files after a crash."""
+    return {name: part and part.left(*way) for name, part, way in zip(NAMES, instant.parts, ways)}
+
+
 def open_image(trial, file, instant, ways, look, moment, record=None):
     """Makes an image, and lets the program open it: its rows, or None if it has started a new broker. Raises Wrong."""
-    put(file, {name: part and part.left(*way) for name, part, way in zip(NAMES, instant.parts, ways)})
+    put(file, files_of(instant, ways))
     with Running(trial.program, file, trial.at(moment, record=record)) as running:
         data = running.ask(look)
         end = running.close()
@@ -115,17 +122,28 @@ def open_image(trial, file, instant, ways, look, moment, record=None):
     return rows
 
 
+def format_in(trial, instant, ways):
+    """The one format of all keys in an image, as SQLite finds them, in words. Raises Wrong."""
+    file = trial.place() / "read.db"
+    put(file, files_of(instant, ways))
+    keys = [body for (kind, _), (_, _, body) in rows_in(file).items() if kind == SECRET]
+    formats = {body[0] for body in keys}
+    expect(len(keys) >= KEYS and len(formats) == 1, f"{len(keys)} keys are of the formats {formats}")
+    return f"images of keys in format {formats.pop()}"
+
+
 def judge(trial, history, place, ways):
     """Opens an image: which broker is there. Raises Wrong."""
     instant = history.instants[place]
     answered = history.answered(instant)
+    told = [format_in(trial, instant, ways)] if history.name == OLD_KEYS else []
     rows = open_image(trial, trial.place() / "broker.db", instant, ways, history.look, MOMENT + 1)
     if rows is None:
         return ["no broker"]
     is_after = rows != history.rows[answered]
     expect(not is_after or rows in history.rows[answered + 1:answered + 2],
            f"after {answered} answers another broker is found")
-    return ["after" if is_after else "before"] + ["of the database"] * (ways[0] not in (ALL, NONE))
+    return [*told, "after" if is_after else "before"] + ["of the database"] * (ways[0] not in (ALL, NONE))
 
 
 def judge_recovery(trial, history, place, ways, seed):
@@ -133,7 +151,7 @@ def judge_recovery(trial, history, place, ways, seed):
     instant, draw = history.instants[place], random.Random(seed)
     answered, folder = history.answered(instant), trial.place()
     file, record = folder / "broker.db", folder / "record"
-    first = {name: part and part.left(*way) for name, part, way in zip(NAMES, instant.parts, ways)}
+    first = files_of(instant, ways)
     rows = open_image(trial, file, instant, ways, history.look, MOMENT + 1, record)
     if rows is None:
         return ["recoveries without a broker"]
@@ -170,9 +188,9 @@ def tell_forgotten(trial, history, jobs, draw, tally):
 
 
 def histories_of(trial, tally):
-    """Both recorded runs."""
+    """The recorded runs."""
     try:
-        for scene in both_scenes(trial):
+        for scene in all_scenes(trial):
             yield record_run(trial, scene)
     except Wrong as error:
         tally.fails(f"a recorded run: {error}")
@@ -194,7 +212,7 @@ def try_recoveries(trial, jobs, seed, count):
 
 
 def try_images(trial, jobs, seed=1, is_all=False):
-    """The images of two runs. `is_all`: some of those with each tear, more mixes, and both states of the other file."""
+    """The images of all runs. `is_all`: some of those with each tear, more mixes, and both states of the other file."""
     tally, draw = Tally("images"), random.Random(seed)
     for history in histories_of(trial, tally):
         images = list(images_of(history, is_all, draw))

@@ -9,14 +9,16 @@ Each STRIDEth allocation is refused alone, the first if it is not given. In turn
   connection of its own. The Nth allocation from there on is refused: the reply is the usual one, or the connection is
   closed without a byte, and then the request was not done. The next connection is answered; or else the program has
   ended with status 1 and `fault 2`, and is started again. Then all that was answered is there, and nothing else.
-- **Starts**, with a new file and with one that has a broker, and there also with all later allocations refused: the
-  program serves, or ends with status 1 and `fault 1` or `fault 2`. A start without refusal finds the broker whose token
-  was printed, or that was there before; or else it starts one.
+- **Starts**, with a new file, with one that has a broker, and with one whose keys are in format 1, so that the start
+  rewrites them; and there also with all later allocations refused: the program serves, or ends with status 1 and
+  `fault 1` or `fault 2`. A start without refusal finds the broker whose token was printed, or that was there before; or
+  else it starts one. The keys of a file that was served are in format 2, and of any other all in one format.
 
 The last line is `N passed, M failed`.
 """
 
 import concurrent.futures
+import contextlib
 import functools
 import itertools
 import json
@@ -24,6 +26,7 @@ import os
 import random
 import shutil
 import socket
+import sqlite3
 import subprocess
 import sys
 import time
@@ -40,6 +43,8 @@ SECONDS = 60.0  # for a start, a reply and an end
 SETTLED = 0.2  # seconds until a program that will end has ended, and one that listens allocates nothing
 MOST = 3  # tokens that are left before they are revoked
 LEAST = 90  # allocations of a request, and of a start
+KEYS = 20  # of a file: more than a start rewrites at once
+OLD_BODY = 1 + 3 * 8  # bytes of a key in format 1: its format, and three numbers, with which format 2 begins too
 RULE = f"{HEAP}:0:ENOMEM"  # none, until it is aimed
 numbers = itertools.count(random.randrange(1 << 16))
 
@@ -314,16 +319,44 @@ def try_start(program, library, place, known, which):
         copy_file(place, folder)
         try:
             end, token, changed = start_refused(program, library, folder, known, which)
+            check_formats(folder, end)
             start_again(program, library, folder, known, token)
             return end, None, changed
         except (Wrong, Closed, subprocess.TimeoutExpired) as error:
             return None, repr(error), 0
 
 
+def check_formats(folder, end):
+    """All keys are in one format, those of a broker that was served in format 2."""
+    with scratch() as copy:
+        copy_file(folder, copy)
+        if not (Path(copy) / "broker.db").exists():
+            return
+        with contextlib.closing(sqlite3.connect(f"{copy}/broker.db")) as database:
+            try:
+                found = database.execute("SELECT DISTINCT hex(substr(body, 1, 1)) FROM broker_rows WHERE kind = 8")
+                formats = [name for name, in found]
+            except sqlite3.OperationalError:  # there is no table yet
+                return
+    expect(formats in ([], ["02"]) or (formats == ["01"] and end != "served"), f"{end}: keys are of formats {formats}")
+
+
+def make_old(folder):
+    """Writes the keys of a broker in format 1, as an earlier program did."""
+    with contextlib.closing(sqlite3.connect(f"{folder}/broker.db")) as database, database:
+        keys = database.execute("SELECT key, body FROM broker_rows WHERE kind = 8").fetchall()
+        for key, body in keys:
+            database.execute("UPDATE broker_rows SET body = ? WHERE kind = 8 AND key = ?",
+                             (b"\x01" + body[1:OLD_BODY], key))
+    return len(keys)
+
+
 def fill(program, library, folder):
     """A file with a broker that has something of each kind."""
     with Served(program, library, folder) as served:
         known = Known(served.token())
+        for number in range(KEYS):
+            served.get(200, "POST", f"secret/data/other{number}", known.root, {"data": {"number": number}})
         prepare(served, known)
         create(served, known)
         revoke(served, known)
@@ -332,9 +365,8 @@ def fill(program, library, folder):
     return known
 
 
-def try_starts(tally, pool, program, library, stride, place, known):
+def try_starts(name, tally, pool, program, library, stride, place, known):
     """Refuses each STRIDEth allocation of a start with a copy of the file in a folder, which may have none."""
-    name = "a start with a broker" if known else "a first start"
     with scratch() as folder:
         copy_file(place, folder)
         with Served(program, library, folder) as served:
@@ -359,13 +391,18 @@ def try_starts(tally, pool, program, library, stride, place, known):
 def main():
     program, stride = os.path.abspath(sys.argv[1]), int(sys.argv[2]) if len(sys.argv) > 2 else 1
     tally = Tally("refused, server")
-    with scratch() as empty, scratch() as filled, concurrent.futures.ProcessPoolExecutor(os.cpu_count()) as pool:
+    with scratch() as empty, scratch() as filled, scratch() as old, \
+            concurrent.futures.ProcessPoolExecutor(os.cpu_count()) as pool:
         library = build(empty)
         for passed, failed in pool.map(functools.partial(try_requests, program, library, stride), STEPS):
             tally.passed += passed
             tally.failed += failed
-        try_starts(tally, pool, program, library, stride, empty, None)
-        try_starts(tally, pool, program, library, stride, filled, fill(program, library, filled))
+        starts = functools.partial(try_starts, tally=tally, pool=pool, program=program, library=library, stride=stride)
+        starts("a first start", place=empty, known=None)
+        starts("a start with a broker", place=filled, known=fill(program, library, filled))
+        known = fill(program, library, old)
+        tally.expect(make_old(old) > KEYS, "there are not so many keys")
+        starts("a start that rewrites keys", place=old, known=known)
     return tally.end()
 
 
