@@ -5,13 +5,19 @@ words are known (known_system), and so is what they have read and when they look
 takes the same events, and has to answer the same bytes. After each piece the two files of the database are copied, as a
 crash would leave them. In the copy SQLite has to find the rows that the reference broker has, byte for byte, and no
 others. They show what no reply tells: owners, what is due, and what is gone.
+
+And the other way round: at the end of a row, and in the midst of drawn requests, the program is stopped, and started
+over a database that SQLite has made from docs/STORAGE.md and the rows of the reference broker. It has to go on as that.
 """
 
+import contextlib
 import random
 import re
+import sqlite3
 import struct
 import time
 from collections import Counter, deque
+from pathlib import Path
 
 import chacha20
 from broker.connections import Server
@@ -19,49 +25,82 @@ from broker.http import Need, front
 from broker.lines import BadLine, read_event, read_start
 from broker.parts import TODAY
 from drawn_at_once import LiveDrawer
-from drawn_requests import FIRST, START
+from drawn_requests import FIRST, START, request_text
 from fuzzing.events import IDENTIFIER, identifier
 from known import RECEIVED, TOLD, Known, library
 from program import SECONDS, Running, Wrong, expect
 from rows import bytes_of, put, rows_in, whole_rows_in
-from trial import TESTS, Tally, side_by_side
+from trial import Tally, side_by_side
 
+ROWS = Path(__file__).resolve().parent.parent / "rows"
+STORAGE = ROWS.parents[1] / "docs/STORAGE.md"
 PAUSE = 0.0002  # between two looks at what the program did
 DRAWN = 250  # requests to one program
 STATUS = re.compile(rb"^HTTP/1\.1 (\d+) ", re.MULTILINE)
 
 # Of which kinds rows come, change and go (docs/STORAGE.md): the clock stays, and an identifier is never taken out.
 CHANGES = {"come": range(2, 14), "change": (1, 3, 5, 6, 8, 9, 11, 12, 13), "go": range(3, 14)}
-LEAST_OF_A_KIND = 5
-LEAST = {"pieces": 2000, "pieces that changed rows": 1200, "rows that come": 2500, "rows that change": 1500,
-         "rows that go": 500}
-LEAST_USUAL = 0.97  # of the replies to rows of tests/rows have the status that is stated there
+LEAST_OF_A_KIND = 3
+LEAST = {"pieces": 2000, "pieces that changed rows": 1200, "rows that come": 2500, "rows that change": 1000,
+         "rows that go": 500, "databases made by SQLite": 150}
+LOOKS = (("GET", "auth/token/lookup-self"), ("LIST", "auth/token/accessors"), ("LIST", "secret/metadata"))
+LEAST_USUAL = 0.95  # of the replies to rows of tests/rows have the status that is stated there
 
 
 class Watched:
     """A program over a new file, and the reference broker in step with it."""
 
-    def __init__(self, trial, seed, moment):
-        self.place = trial.place()
+    def __init__(self, trial, draw, moment):
+        self.trial, self.draw, self.place = trial, draw, trial.place()
         self.file, self.copy, self.clock = self.place / "broker.db", self.place / "copy.db", self.place / "moment"
-        self.words = chacha20.words_of_events(seed)
-        self.first = next(self.words)
+        self.server, self.rows, self.counts = None, {}, Counter()
+        self.start(moment)
+
+    def start(self, moment):
+        """Starts the program over the file, and the reference broker if there is none yet. Raises Wrong."""
+        seed = self.draw.getrandbits(256).to_bytes(32, "big")
+        self.words, self.streams, self.taken = chacha20.words_of_events(seed), {}, 0
         self.tell(moment)
-        self.known = Known(self.place, seed=seed, moment=self.clock, preloaded=trial.known)
-        self.server, self.rows = Server(moment, self.first), {}
-        self.streams, self.taken, self.counts = {}, 0, Counter()
-        self.running = Running(trial.program, self.file, self.known.environment)
+        self.known = Known(self.place, seed=seed, moment=self.clock, preloaded=self.trial.known)
+        self.known.log.unlink(missing_ok=True)
+        self.first, is_new = next(self.words), self.server is None
+        self.server = self.server or Server(moment, self.first)
+        self.running = Running(self.trial.program, self.file, self.known.environment)
+        try:
+            root = self.running.told_root() if is_new else self.running.connect().close()
+            expect(root == (self.server.root_token if is_new else None), f"the root token is {root}")
+            while TOLD not in [kind for kind, _, _ in self.records()]:
+                pass
+            self.compare()
+        except BaseException:
+            self.stop()
+            raise
+
+    def stop(self):
+        """Stops the program."""
+        for conn, stream in self.streams.items():
+            stream.close()
+            self.server.closed.add(conn)
+        self.running.close()
+
+    def start_from_outside(self, moment):
+        """Stops the program, and starts it over a database that SQLite has made. Raises Wrong."""
+        self.stop()
+        self.file = self.place / "outside.db"
+        rows = [(*place, *row) for place, row in self.server.rows().items()]
+        self.draw.shuffle(rows)
+        table = STORAGE.read_text(encoding="utf-8").partition("## The table\n\n")[2].partition("\n\n")[0]
+        with contextlib.closing(sqlite3.connect(self.file)) as database, database:
+            database.executescript(table)
+            database.executemany("INSERT INTO broker_rows VALUES (?, ?, ?, ?, ?)", rows)
+        self.start(moment)
+        self.counts["databases made by SQLite"] += 1
 
     def __enter__(self):
-        root = self.running.told_root()
-        expect(root == self.server.root_token, f"the root token is {root}")
-        self.compare()
         return self
 
     def __exit__(self, *_):
-        for stream in self.streams.values():
-            stream.close()
-        self.running.close()
+        self.stop()
 
     def tell(self, moment):
         """The clock of the program tells this moment from now on."""
@@ -152,17 +191,12 @@ class Watched:
 
 def rows_of_tests():
     """The name and the events of each row of tests/rows that is good lines to its end; the first one is the start."""
-    for file in sorted((TESTS / "rows").glob("*.replay")):
-        first, *lines = file.read_bytes().splitlines()
+    for file in sorted(ROWS.glob("*.replay")):
+        lines = file.read_bytes().splitlines() or [b""]
         try:
-            yield file, [(0, b"", *read_start(first, TODAY)), *[read_event(line, TODAY) for line in lines]]
+            yield file, [(0, b"", *read_start(lines[0], TODAY)), *[read_event(line, TODAY) for line in lines[1:]]]
         except BadLine:
             continue
-
-
-def seed_of(draw):
-    """A seed for the random words of a program."""
-    return draw.getrandbits(256).to_bytes(32, "big")
 
 
 def renamed(piece, names):
@@ -173,7 +207,7 @@ def renamed(piece, names):
 def try_row(trial, file, events):
     """A row of tests/rows, whose identifiers are made those that the program draws: what came of it. Raises Wrong."""
     start, names, left, statuses = events[0], {}, {}, []
-    with Watched(trial, seed_of(random.Random(file.stem)), start[2]) as watched:
+    with Watched(trial, random.Random(file.stem), start[2]) as watched:
         names.update(zip(map(identifier, start[3]), map(identifier, watched.first)))
         for conn, piece, moment, words in events[1:]:
             made = watched.send(conn, renamed(piece, names), moment)
@@ -184,20 +218,27 @@ def try_row(trial, file, events):
             waiting += answered[1:]
             drawn = answered[0] if answered else waiting.popleft() if waiting and not piece else ()
             names.update(zip(map(identifier, words), map(identifier, drawn)))
+        watched.start_from_outside(events[-1][2])
+        conn = max(conn for conn, *_ in events) + 1
+        for method, path in LOOKS:
+            text = request_text(method, path, watched.server.root_token, None, None)
+            watched.send(conn, text.encode(), events[-1][2])
         stated = STATUS.findall(file.with_suffix(".out").read_bytes())
         usual = sum(one == other for one, other in zip(statuses, stated))
         return [*watched.end(), *["usual"] * usual, *["stated"] * len(stated)]
 
 
 def try_drawn(trial, seed):
-    """Drawn requests on one connection: what came of them. Raises Wrong."""
+    """Drawn requests on one connection, and on another one after the half: what came of them. Raises Wrong."""
     draw = random.Random(seed)
-    with Watched(trial, seed_of(draw), START) as watched:
+    with Watched(trial, draw, START) as watched:
         drawer = LiveDrawer(iter(lambda: draw.getrandbits(64), None), watched.server.root_token)
         for number in range(DRAWN):
             drawer.moment += drawer.below(31)
+            if number == DRAWN // 2:
+                watched.start_from_outside(drawer.moment)
             text = drawer.first_request(*FIRST[number]) if number < len(FIRST) else drawer.request()
-            for _, reply in watched.send(1, text.encode(), drawer.moment):
+            for _, reply in watched.send(2 * number // DRAWN, text.encode(), drawer.moment):
                 head, _, body = reply.partition(b"\r\n\r\n")
                 if body and head.startswith(b"HTTP/1.1 200 "):
                     drawer.learn(body)
@@ -215,7 +256,7 @@ def judge(tally, changes):
                 tally.passed += 1
 
 
-def try_kept(trial, jobs, seed=1, requests=1000, is_gate=True):
+def try_kept(trial, jobs, seed=1, requests=1500, is_gate=True):
     """All rows of tests/rows, in the gate, and so many drawn requests."""
     tally, changes, draw = Tally("kept"), Counter(), random.Random(seed)
     trial.known = library(trial.folder)

@@ -23,7 +23,7 @@ from drawn_requests import FIRST, Drawer
 
 from . import TESTS
 from .changes import Changer, with_member
-from .messages import has_other_head
+from .messages import has_other_head, taken_apart
 from .promised import Promised, route_name
 
 WORDS_OF_A_REQUEST = 0x10
@@ -190,9 +190,20 @@ class Row:
         piece = IDENTIFIER.sub(lambda found: self.names.get(found[0].decode(), found[0].decode()).encode(), piece)
         if conn not in self.connections or self.connections[conn] in run.server.closed and not run.chance(8):
             self.connections[conn] = run.new_connection()
-        if self.is_twin and run.chance(2):
-            piece = piece.replace(b"/auth/token/create ", b"/auth/token/create-orphan ")
-        return self.connections[conn], piece, new
+        return self.connections[conn], of_twin(piece, run.chance(2)) if self.is_twin else piece, new
+
+
+def of_twin(piece, is_asked):
+    """A piece of a row whose creations are those of the other route, if that is asked for; its policies allow both."""
+    message = taken_apart(piece)
+    if message is None:
+        return piece
+    if is_asked and message.target == b"/v1/auth/token/create":
+        message.target += b"-orphan"
+    if message.target.startswith(b"/v1/sys/policies/"):
+        message.body = message.body.replace(b"auth/token/create", b"auth/token/create*")
+        message.fit_length()
+    return message.bytes()
 
 
 class Run:
