@@ -31,7 +31,7 @@ from fuzzing.promised import STATUSES, Promised
 from fuzzing.shrinking import answers_of_reference, shorter
 
 PROGRAMS = ("brokerd replay", "trial_stores list")
-EVENTS = 20_000
+EVENTS = 25_000
 ENOUGH = 10_000  # events that have to meet all that is listed
 LENGTH = 130  # events of a run
 SHARES = 4
@@ -39,13 +39,16 @@ SECONDS = 60  # for one run of a program
 MOST_SHOWN = 3  # differences of a share that are made short
 LONGEST_SHOWN = 4_000
 LEAST_ASKED = 0.4  # of the changed requests are asked of the broker, and not refused before
+LEAST_SERVED = 0.3  # of the requests whose heads are changed are served all the same
+NUMBERS = ("events", "runs", "changed", "asking", "served", "heads", "served_heads")
 
 
 class Found:
     """What was met and what differed, in a share or in all."""
 
     def __init__(self):
-        self.events = self.runs = self.changed = self.asking = self.served = 0
+        for name in NUMBERS:
+            setattr(self, name, 0)
         self.statuses = Counter()
         self.kinds, self.refusals, self.texts = set(), set(), set()
         self.differences = []
@@ -53,12 +56,13 @@ class Found:
     def take(self, corpus):
         """Takes over what a corpus has noted."""
         self.changed, self.asking, self.served = corpus.changed, corpus.asking, corpus.served
+        self.heads, self.served_heads = corpus.heads, corpus.served_heads
         self.statuses, self.kinds = corpus.statuses, corpus.kinds
         self.refusals, self.texts = corpus.refusals, corpus.texts
 
     def add(self, other):
         """Adds what another one found."""
-        for name in ("events", "runs", "changed", "asking", "served"):
+        for name in NUMBERS:
             setattr(self, name, getattr(self, name) + getattr(other, name))
         self.statuses += other.statuses
         self.differences += other.differences
@@ -138,7 +142,9 @@ def judge(found):
     missing += [f"{route}: `{text}` is not met" for route, text in sorted(promised.refusals - found.refusals)]
     if found.asking < LEAST_ASKED * found.changed:
         missing.append(f"only {found.asking} of {found.changed} changed requests are asked of the broker")
-    return missing, len(STATUSES) + len(promised.texts) + len(promised.refusals) + 1
+    if found.served_heads < LEAST_SERVED * found.heads:
+        missing.append(f"only {found.served_heads} of {found.heads} requests with changed heads are served")
+    return missing, len(STATUSES) + len(promised.texts) + len(promised.refusals) + 2
 
 
 def main():
@@ -166,7 +172,8 @@ def main():
     statuses = ", ".join(f"{status} {count}" for status, count in sorted(found.statuses.items()))
     print(f"{found.events} events in {found.runs} runs, seed {arguments.seed}: {sum(found.statuses.values())} replies "
           f"of {len(found.kinds)} kinds ({statuses}); of {found.changed} changed requests {found.asking} were asked of "
-          f"the broker, and {found.served} were served; {len(found.differences)} differences")
+          f"the broker, and {found.served} were served; of {found.heads} with changed heads {found.served_heads} were "
+          f"served; {len(found.differences)} differences")
     passed = len(commands) * found.runs - len(found.differences) + wanted - len(missing)
     failed = len(found.differences) + len(missing)
     print(f"{passed} passed, {failed} failed")

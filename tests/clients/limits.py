@@ -85,7 +85,7 @@ class Served:
             self.said = self.process.stderr.read().decode().strip()
         return self.process.returncode, self.said
 
-    def connect(self, patience=5.0):
+    def connect(self, patience=60.0):
         """A connection. It raises Wrong if the program has ended, or does not listen in time."""
         until = time.monotonic() + patience
         while True:

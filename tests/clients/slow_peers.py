@@ -1,12 +1,15 @@
 #!/usr/bin/env python3
 """Peers that are idle or slow, against `brokerd serve`: each is let go in time, and other clients are served.
 
-    python3 tests/clients/slow_peers.py PROGRAM [--alone]
+    python3 tests/clients/slow_peers.py PROGRAM [--alone | --twenty]
 
 Each peer has a broker of its own, and all run at once, so the whole takes some 22 seconds. Another client connects when
 the peer begins to be idle or slow. Without `--alone` it is answered at once, and what is measured is when the broker
 lets the peer go, if it does. With `--alone` the program has one place (`--at-once 1`), so the other client has to wait
-for the peer's, and what is measured is how long it waits. The last line is 'N passed, M failed'.
+for the peer's, and what is measured is how long it waits.
+
+With `--twenty` there are twenty slow peers at once: beside another client, in all places that there are, and before it
+in the line for one place. That takes some 100 seconds, and is told. The last line is 'N passed, M failed'.
 """
 
 import socket
@@ -20,6 +23,8 @@ LONGEST_BODY = 1048576
 LONGEST_WAIT = 0.25  # seconds for another client, beside the peer; a large reply may be made meanwhile
 WATCHED = 3  # seconds for which an idle peer is looked at, which has its place for longer
 PEERS = []
+TWENTY = 20
+NEXT = 180  # seconds that a client waits for its reply behind twenty peers
 
 
 def peer(least, most, stays=False):
@@ -174,6 +179,86 @@ def beside(program, function, least, most, stays):
             expect_end(connection)
 
 
+def twenty_peers(broker, function):
+    """Twenty peers on connections of their own."""
+    connections = [connect(broker.port) for _ in range(TWENTY)]
+    for connection in connections:
+        function(broker, connection)
+    return connections
+
+
+def close_all(connections):
+    for connection in connections:
+        connection.close()
+
+
+def behind_twenty(broker):
+    """How long the client waits for its reply that comes after twenty peers."""
+    begin = time.monotonic()
+    with connect(broker.port) as connection:
+        connection.settimeout(NEXT)
+        first_reply(connection, look_up(broker))
+    return time.monotonic() - begin
+
+
+def twenty_beside(program):
+    """Another client is answered at once while twenty peers send a byte a second, until each is let go."""
+    with Broker(program) as broker:
+        begin, waits, gone = time.monotonic(), [], []
+        connections = twenty_peers(broker, a_byte_a_second)
+        while len(gone) < TWENTY and time.monotonic() < begin + 40:
+            waits.append(next_client(broker))
+            gone += [time.monotonic() - begin] * (TWENTY - broker.hold(connections) - len(gone))
+            time.sleep(0.2)
+        close_all(connections)
+    expect(len(gone) == TWENTY, f"{len(gone)} are let go in 40 s")
+    expect(gone[0] >= 18, f"one is let go after {gone[0]:.1f} s")
+    expect(len(waits) > 50 and max(waits) <= LONGEST_WAIT, f"of {len(waits)} requests one waits {max(waits):.2f} s")
+    return f"{len(waits)} requests beside them in {max(waits):.2f} s at most, let go after {gone[0]:.1f} to {gone[-1]:.1f} s"
+
+
+def twenty_in_all_places(program):
+    """Twenty peers have all places: another client waits until one of them is let go."""
+    with Broker(program, "--at-once", f"{TWENTY}") as broker:
+        connections = twenty_peers(broker, a_byte_a_second)
+        waited = behind_twenty(broker)
+        close_all(connections)
+    expect(18 <= waited <= 30, f"behind twenty places another client waits {waited:.1f} s")
+    return f"behind twenty places {waited:.1f} s"
+
+
+def twenty_in_line(program):
+    """Twenty peers with half a request each come before another client, and there is one place."""
+    with Broker(program, "--at-once", "1") as broker:
+        connections = twenty_peers(broker, half_a_request)
+        waited = behind_twenty(broker)
+        close_all(connections)
+    expect(3.5 * TWENTY <= waited <= 8 * TWENTY, f"behind twenty peers for one place another client waits {waited:.1f} s")
+    return f"behind twenty for one place {waited:.1f} s"
+
+
+def run_twenty(program):
+    """The three cases at once: what each has met, and what is wrong."""
+    found, wrong = [], []
+
+    def run_case(case):
+        try:
+            found.append(case(program))
+        except (AssertionError, OSError, SystemExit) as error:
+            wrong.append(f"{case.__name__}: {error}")
+
+    cases = (twenty_beside, twenty_in_all_places, twenty_in_line)
+    threads = [threading.Thread(target=run_case, args=(case,)) for case in cases]
+    for thread in threads:
+        thread.start()
+    for thread in threads:
+        thread.join()
+    print("".join(f"slow peers, {line}\n" for line in wrong), end="")
+    print(f"twenty slow peers: {'; '.join(sorted(found))}")
+    print(f"{len(found)} passed, {len(wrong)} failed")
+    return 1 if wrong else 0
+
+
 def run(program, is_alone, function, least, most, stays, found):
     try:
         if is_alone:
@@ -186,6 +271,8 @@ def run(program, is_alone, function, least, most, stays, found):
 
 
 def main():
+    if sys.argv[2:] == ["--twenty"]:
+        return run_twenty(sys.argv[1])
     program, is_alone, found = sys.argv[1], sys.argv[2:] == ["--alone"], []
     threads = [threading.Thread(target=run, args=(program, is_alone, *peer, found)) for peer in PEERS]
     for thread in threads:

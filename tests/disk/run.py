@@ -3,11 +3,11 @@
 
     python3 tests/disk/run.py PROGRAM [--hours H] [--seed S] [PART...]
 
-The parts are `calls`, `images`, `full`, `changed` and `kills`; README.md beside this says what each does. Without
-`--hours` each is tried once, by a fixed seed, in a minute together. With it all are tried again and again with seeds
-that follow from the first one: each tear and more mixes of the images, images of the recovery of images, limits of all
-lengths, small disks, further changes and kills. Each part tells what it met. The last line is `N passed, M failed`; the
-status is 0 if nothing failed.
+The parts are `kept`, `calls`, `images`, `full`, `changed` and `kills`; README.md beside this says what each does.
+Without `--hours` each is tried once, by a fixed seed, in a minute together. With it all are tried again and again with
+seeds that follow from the first one: each tear and more mixes of the images, images of the recovery of images, limits
+of all lengths, small disks, further requests, changes and kills. Each part tells what it met. The last line is `N
+passed, M failed`; the status is 0 if nothing failed.
 """
 
 import argparse
@@ -19,16 +19,18 @@ from collections import Counter
 from pathlib import Path
 
 TESTS = Path(__file__).resolve().parent.parent
-sys.path += [str(TESTS), str(TESTS / "reference"), str(TESTS / "hostile")]
+sys.path += [str(TESTS), *(str(TESTS / name) for name in ("reference", "differential", "hostile", "known_system"))]
 
 from calls import try_calls  # noqa: E402
 from changed import try_changes  # noqa: E402
 from full import try_disks, try_full  # noqa: E402
 from images import try_images, try_recoveries  # noqa: E402
+from kept import try_kept  # noqa: E402
 from kills import try_kills  # noqa: E402
 from trial import Trial, temporary_folder  # noqa: E402
 
 GATE = {
+    "kept": try_kept,
     "calls": try_calls,
     "images": try_images,
     "full": try_full,
@@ -40,6 +42,7 @@ GATE = {
 def hour_parts(trial, jobs, draw):
     """One round beside the gate: small parts, so that it ends in time."""
     seed = draw.getrandbits(32)
+    yield "kept", lambda: try_kept(trial, jobs, seed, 5000, is_gate=False)
     yield "changed", lambda: try_changes(trial, jobs, seed, 2000, is_gate=False)
     yield "images", lambda: try_images(trial, jobs, seed, is_all=True)
     yield "recoveries", lambda: try_recoveries(trial, jobs, seed, 100)

@@ -103,6 +103,12 @@ class Changer:
             request = change(self, request) or request
         return request
 
+    def spelled(self, request):
+        """The request with one to three changes of its head after which it means the same, where they apply."""
+        for _ in range(self.pick((1, 1, 2, 3))):
+            request = self.pick(SPELLINGS)(self, request) or request
+        return request
+
 
 # ------------------------------------------------------------------------------------------- bytes
 
@@ -248,6 +254,78 @@ def head_length(it, message):
     message.body = body
     message.fields.insert(it.draw.randrange(len(message.fields) + 1), b"A: " + b"b" * (missing - 5))
     return True
+
+
+# ---------------------------------------------------- heads that mean the same (RFC 9110, 9112 and 3986)
+
+@on_message
+def case_of_names(it, message):
+    """The names of fields are spelled in another case."""
+    way = it.pick((bytes.lower, bytes.upper, bytes.swapcase))
+    message.fields = [way(name) + mark + value for name, mark, value in (it.partition(b":") for it in message.fields)]
+
+
+@on_message
+def around_values(it, message):
+    """There is other white space around values."""
+    before, after = it.pick((b"", b"\t", b"  \t ")), it.pick((b"", b" ", b"\t\t"))
+    message.fields = [name + mark + before + value.strip(b" \t") + after
+                      for name, mark, value in (it.partition(b":") for it in message.fields)]
+
+
+@on_message
+def order_of_fields(it, message):
+    """The fields come in another order, with others among them that say nothing."""
+    message.fields += [b"%s: %s" % (name, it.pick(IDLE_VALUES)) for name in IDLE_NAMES if it.chance(2)]
+    it.draw.shuffle(message.fields)
+
+
+@on_message
+def ends_of_lines(it, message):
+    """Lines of the head but its last one end in LF alone, or empty lines come before it."""
+    if len(message.fields) > 1 and it.chance(2):
+        message.fields = [b"\n".join(message.fields)]
+    else:
+        message.method = it.pick((b"\r\n", b"\n", b"\r\n\n\r\n")) + message.method
+
+
+@on_message
+def escaped_letters(it, message):
+    """Letters of the path are percent-encoded."""
+    path, mark, query = message.target.partition(b"?")
+    letters = [place for place in range(len(path)) if path[place:place + 1].isalpha() and b"%" not in path[place - 2:place]]
+    for place in sorted(it.draw.sample(letters, min(len(letters), it.pick((1, 2, 5)))), reverse=True):
+        path = path[:place] + it.pick((b"%%%02X", b"%%%02x")) % path[place] + path[place + 1:]
+    message.target = path + mark + query
+
+
+@on_message
+def idle_query(it, message):
+    """The query has a part that says nothing."""
+    message.target += (b"&" if b"?" in message.target else b"?") + it.pick((b"a=b", b"a", b"lists=true", b"%6cist=x"))
+
+
+@on_message
+def length_with_zeros(it, message):
+    """The length of the body has zeros before it, or is told where there is no body."""
+    places = message.places(b"content-length")
+    if places:
+        name, mark, value = message.fields[places[0]].partition(b":")
+        message.fields[places[0]] = name + mark + b"0" * it.pick((1, 4, 40)) + value.strip()
+    else:
+        message.fields.append(b"Content-Length: " + b"0" * it.pick((1, 4, 40)))
+
+
+@on_message
+def stays_or_closes(it, message):
+    """The connection is said to stay open, or to close."""
+    message.fields.append(b"Connection: " + it.pick((b"keep-alive", b"keep-alive", b"Upgrade, x", b"close")))
+
+
+IDLE_NAMES = (b"Accept", b"User-Agent", b"X-Vault-Request", b"Content-Type", b"Cookie")
+IDLE_VALUES = (b"*/*", b"true", b"", b"application/json", b"a\x80\xff", b"a:b, c; d=\"e\"")
+SPELLINGS = (case_of_names, around_values, order_of_fields, ends_of_lines, escaped_letters, idle_query,
+             length_with_zeros, stays_or_closes)
 
 
 # ------------------------------------------------------------------------------------------- bodies

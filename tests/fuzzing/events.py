@@ -23,6 +23,7 @@ from drawn_requests import FIRST, Drawer
 
 from . import TESTS
 from .changes import Changer, with_member
+from .messages import has_other_head, taken_apart
 from .promised import Promised, route_name
 
 WORDS_OF_A_REQUEST = 0x10
@@ -124,14 +125,15 @@ class Corpus:
         self.refusals = set()  # of a route and a text
         self.texts = set()
         self.statuses = Counter()
-        self.changed = self.asking = self.served = 0
+        self.changed = self.asking = self.served = self.heads = self.served_heads = 0
 
     def any(self, draw):
         """A request, one of the last ones as often as any."""
         return draw.choice(self.requests[-NEW:] if draw.randrange(2) else self.requests)
 
-    def note(self, request, reply, asked, events, is_changed):
-        """Notes the reply to a request that took so many events. The request joins if the kind is new."""
+    def note(self, delivery, reply, asked):
+        """Notes the reply to a request. It joins if the kind is new."""
+        request, events, is_changed = delivery.request, delivery.events, delivery.is_changed
         status = int(reply[9:12])
         head, _, body = reply.partition(b"\r\n\r\n")
         text = text_of_refusal(body)
@@ -142,6 +144,8 @@ class Corpus:
         self.changed += is_changed
         self.asking += is_changed and asked is not None
         self.served += is_changed and status in (200, 204)
+        self.heads += delivery.has_other_head
+        self.served_heads += delivery.has_other_head and status in (200, 204)
         if isinstance(text, str):
             self.texts.add(text)
             self.refusals.add((route, text))
@@ -156,11 +160,12 @@ class Corpus:
 class Delivery:
     """A request on its way: its pieces that are left, each with words or None for those of no request."""
 
-    def __init__(self, conn, pieces, request, is_changed):
+    def __init__(self, conn, pieces, request, original=None):
         self.conn = conn
         self.pieces = pieces
         self.request = request
-        self.is_changed = is_changed
+        self.is_changed = original is not None and original != request
+        self.has_other_head = self.is_changed and has_other_head(original, request)
         self.is_exact = False  # whether it comes at the moment of the run, and no later
         self.events = 0
 
@@ -185,9 +190,20 @@ class Row:
         piece = IDENTIFIER.sub(lambda found: self.names.get(found[0].decode(), found[0].decode()).encode(), piece)
         if conn not in self.connections or self.connections[conn] in run.server.closed and not run.chance(8):
             self.connections[conn] = run.new_connection()
-        if self.is_twin and run.chance(2):
-            piece = piece.replace(b"/auth/token/create ", b"/auth/token/create-orphan ")
-        return self.connections[conn], piece, new
+        return self.connections[conn], of_twin(piece, run.chance(2)) if self.is_twin else piece, new
+
+
+def of_twin(piece, is_asked):
+    """A piece of a row whose creations are those of the other route, if that is asked for; its policies allow both."""
+    message = taken_apart(piece)
+    if message is None:
+        return piece
+    if is_asked and message.target == b"/v1/auth/token/create":
+        message.target += b"-orphan"
+    if message.target.startswith(b"/v1/sys/policies/"):
+        message.body = message.body.replace(b"auth/token/create", b"auth/token/create*")
+        message.fit_length()
+    return message.bytes()
 
 
 class Run:
@@ -222,7 +238,7 @@ class Run:
             words = self.fresh_words()
             self.drawer.word = words[0]
             first = self.drawer.first_request(path, body).encode()
-            self.deliver_whole(Delivery(self.free_connection(), [(first, words)], first, False))
+            self.deliver_whole(Delivery(self.free_connection(), [(first, words)], first))
         while len(self.events) < events:
             if self.server.root_token not in self.server.broker.tokens:
                 events = min(events, len(self.events) + AFTER_ROOT)
@@ -274,18 +290,24 @@ class Run:
         if self.row is not None and not self.is_row_underway() and self.chance(2):
             return self.delivery_of_row()
         words = self.new_words()
-        source = self.draw.randrange(16)
+        source = self.draw.randrange(20)
         if source < 9:
             self.drawer.word = words[0]
             request = self.drawer.request().encode()
         elif source < 13:
             request = self.at_home(self.corpus.any(self.draw))
-        else:
+        elif source < 16 or not self.corpus.served_at:
             request, words = self.sought(words)
-        changed = request
-        if source < 13 and not self.chance(3):
-            changed = self.changer.changed(request, self.route_of(request))
-        return Delivery(self.free_connection(), self.cut(changed, words), changed, changed != request)
+        else:
+            request = self.at_home(self.draw.choice(list(self.corpus.served_at.values())))
+        changed = self.changed(request) if source < 13 else request if source < 16 else self.changer.spelled(request)
+        return Delivery(self.free_connection(), self.cut(changed, words), changed, request)
+
+    def changed(self, request):
+        """The request as it is, with another head that means the same, or mostly with any changes."""
+        if not self.chance(3):
+            return self.changer.changed(request, self.route_of(request))
+        return request if self.chance(8) else self.changer.spelled(request)
 
     def next_row(self):
         """A row: one with a refusal that was not met yet, or another one."""
@@ -320,9 +342,9 @@ class Run:
     def delivery_of_row(self):
         """The next piece of the row. In half of the rows some pieces are changed."""
         conn, piece, words = self.row.next(self)
-        changed = self.changer.changed(piece, self.route_of(piece)) if self.row.is_changed and self.chance(3) else piece
+        changed = self.changed(piece) if self.row.is_changed and self.chance(2) else piece
         pieces = self.cut(changed, words) if self.row.is_changed else [(changed, words)]
-        delivery = Delivery(conn, pieces, changed, changed != piece)
+        delivery = Delivery(conn, pieces, changed, piece)
         delivery.is_exact = not self.row.is_changed
         if not self.row.events:
             self.row = None
@@ -403,7 +425,7 @@ class Run:
         moment = self.moment if delivery.is_exact else self.next_moment()
         reply = self.send(delivery.conn, piece, moment, words or words_from(self.word + 8))
         if reply:
-            self.corpus.note(delivery.request, reply, self.server.asked, delivery.events, delivery.is_changed)
+            self.corpus.note(delivery, reply, self.server.asked)
         if delivery.conn in self.server.closed and not self.chance(8):
             delivery.pieces.clear()
         elif reply and not delivery.pieces and self.server.unanswered[delivery.conn] and not self.chance(8):

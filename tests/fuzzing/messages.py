@@ -48,6 +48,18 @@ def taken_apart(request) -> Optional[Message]:
     return Message(*parts, fields, body)
 
 
+def has_other_head(request, changed):
+    """Whether a changed request has another head, but for a length that is that of its body."""
+    before, after = taken_apart(request), taken_apart(changed)
+    if before is None or after is None:
+        return request.partition(b"\r\n\r\n")[0] != changed.partition(b"\r\n\r\n")[0]
+    for message in (before, after):
+        if message.value(b"content-length") == b"%d" % len(message.body):
+            del message.fields[message.places(b"content-length")[0]]
+        message.body = b""
+    return before != after
+
+
 def members_of(body):
     """The members of a body that is a JSON object, as pairs of a name and the JSON text of its value; else None."""
     try:

@@ -40,6 +40,7 @@ ROWS = HERE.parent / "rows"
 FIVE = ["first_run", "orphan_survives", "check_and_set", "wrapped_reply_once", "lease_ends_with_token"]
 SEVENTH = 7
 SPARSE = 20  # where mistakes are looked for
+DENSE = 8  # each request has more allocations than this
 SAMPLE = 4  # runs from the start
 SECONDS = 1200  # for a run with its child processes
 NUMBERS = itertools.count()  # of runs
@@ -265,7 +266,7 @@ class Judge:
                         f"{self.name}: {after} allocations of the events were refused")
             is_enough = 100 * sent >= SENT[store] * after or after - sent == 1
             self.expect(is_enough, f"{self.name}: sent once more in {sent} of {after} runs")
-            for event in range(1, self.events + 1):
+            for event in range(1, self.events + 1) if self.way.step <= DENSE else ():
                 self.expect(self.sent[event] > 0, f"{self.name}: event {event} was never sent once more")
 
 

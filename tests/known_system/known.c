@@ -3,6 +3,7 @@
 
    KNOWN_ENTROPY=HEX  what `getentropy` gives, over and over: 64 hexadecimal digits
    KNOWN_CLOCK=SECONDS the wall clock begins there, and tells another second at each look; at some it goes back
+   KNOWN_MOMENT=FILE  the wall clock tells the second that the file has at the time of the look, in eight bytes
    KNOWN_SPEED=TIMES  the monotonic clock runs so many times as fast
    KNOWN_LOG=FILE     a record for each connection that was accepted, each piece of bytes that was received, each look
                      at the wall clock, and each piece that is about to be sent, in their order */
@@ -22,12 +23,13 @@ struct record {
 
 enum { ACCEPTED = 1, RECEIVED = 2, TOLD = 3, SENDING = 4 };
 enum { WALL = 0, MONOTONIC = 1 };
-enum { WRITE_ONLY = 1, CREATE = 0100, APPEND = 02000 };
+enum { READ_ONLY = 0, WRITE_ONLY = 1, CREATE = 0100, APPEND = 02000 };
 enum { LONGEST_STEP = 31, STEP_BACK = 45, OFTEN = 16 };
 
 char *getenv(const char *name);
 int open(const char *name, int flags, ...);
 ssize_t write(int file, const void *bytes, size_t count);
+ssize_t pread(int file, void *bytes, size_t count, long place);
 long strtol(const char *text, char **end, int base);
 int getpeername(int socket, void *address, unsigned *length);
 void *dlsym(void *library, const char *name);
@@ -85,13 +87,22 @@ static long next_second(const char *begin) {
     return drawn % OFTEN == 0 ? now - STEP_BACK : now;
 }
 
+/* The second that a file has. */
+static long second_in(const char *name) {
+    static int file = -1;
+    long second = 0;
+    file = file >= 0 ? file : open(name, READ_ONLY);
+    pread(file, &second, sizeof second, 0);
+    return second;
+}
+
 int clock_gettime(int clock, struct moment *time) {
     static int (*real)(int, struct moment *);
     static struct moment first;
-    const char *begin = getenv("KNOWN_CLOCK"), *speed = getenv("KNOWN_SPEED");
+    const char *begin = getenv("KNOWN_CLOCK"), *kept = getenv("KNOWN_MOMENT"), *speed = getenv("KNOWN_SPEED");
     real = real ? real : (int (*)(int, struct moment *))dlsym(NEXT, "clock_gettime");
-    if (clock == WALL && begin) {
-        time->seconds = next_second(begin);
+    if (clock == WALL && (begin || kept)) {
+        time->seconds = kept ? second_in(kept) : next_second(begin);
         time->nanoseconds = 0;
         note(TOLD, -1, time->seconds);
         return 0;

@@ -34,13 +34,16 @@ def library(folder):
 class Known:
     """What is known to a program, and what it did: `environment` is that of its process."""
 
-    def __init__(self, folder, seed=None, clock=None, speed=None):
+    def __init__(self, folder, seed=None, clock=None, speed=None, moment=None, preloaded=None):
+        """`preloaded` is the library, if it is built already."""
         self.log = Path(folder) / "log"
-        told = {"ENTROPY": seed and seed.hex(), "CLOCK": clock, "SPEED": speed, "LOG": self.log}
-        self.environment = {**os.environ, "LD_PRELOAD": str(library(folder)),
+        told = {"ENTROPY": seed and seed.hex(), "CLOCK": clock, "SPEED": speed, "MOMENT": moment, "LOG": self.log}
+        self.environment = {**os.environ, "LD_PRELOAD": str(preloaded or library(folder)),
                             **{f"KNOWN_{name}": str(value) for name, value in told.items() if value is not None}}
 
-    def records(self):
-        """What the program did so far, in its order: what kind of deed, the port of the peer, and how many bytes, or
-        the second that was told."""
-        return list(RECORD.iter_unpack(self.log.read_bytes()))
+    def records(self, first=0):
+        """What the program did so far, from this record on, in its order: what kind of deed, the port of the peer, and
+        how many bytes, or the second that was told."""
+        with open(self.log, "rb") as log:
+            log.seek(first * RECORD.size)
+            return list(RECORD.iter_unpack(log.read()))
