@@ -1,5 +1,5 @@
-//! Secrets over a transaction in memory: each call, run once with enough memory. Check-and-set and pruning are in
-//! `check_and_set`, `eleven_versions` and `settings_of_mount` of `tests/rows`.
+//! Secrets over a transaction in memory: each call, run once with enough memory. Check-and-set, pruning and custom
+//! metadata are in `check_and_set`, `eleven_versions`, `settings_of_mount` and `custom_metadata` of `tests/rows`.
 
 use broker_types::{Bytes, Fault, Moment, TextBuf};
 use kv2::{
@@ -7,6 +7,7 @@ use kv2::{
     list, metadata, read, remove_key, set_config, set_metadata, undelete, write,
 };
 use records::{Engine, Kind, ListRecords, ListTx, MountRecord, RecordsTx, Row, write_mount};
+use std::alloc::{AllocError, Global};
 use std::test::Fail;
 
 const ONE: &str = "{\"a\":1}";
@@ -88,59 +89,45 @@ fn settings_and_metadata(rt: HostRuntime) -> Result<(), Fail> {
     Ok(())
 }
 
-/// The names and values of a text, as `a=1 b=2`.
-fn pairs(rt: &HostRuntime, text: &str) -> Result<Vec<(TextBuf, TextBuf)>, Fail> {
-    let alloc = rt.alloc();
-    let mut list = Vec::new(alloc);
-    for pair in text.split(' ') {
-        let (name, value) = pair.split_once('=').ok_or("no pair")?;
-        list.push((
-            TextBuf::copied(alloc, name)?,
-            TextBuf::copied(alloc, value)?,
-        ))?;
+/// Settings of one secret, without custom metadata.
+fn settings(cas_required: bool, max_versions: Option<u64>) -> SecretSettings {
+    SecretSettings {
+        cas_required: Some(cas_required),
+        max_versions,
+        custom_metadata: None,
     }
-    Ok(list)
-}
-
-/// Whether the custom metadata of a secret are these.
-fn has_pairs(rt: &HostRuntime, tx: &mut ListTx, expected: &[(&str, &str)]) -> Result<bool, Fail> {
-    let Some(told) = metadata(rt.alloc(), tx, "secret", "x")? else {
-        return Ok(false);
-    };
-    Ok(
-        told.custom_metadata.len() == expected.len()
-            && told.custom_metadata.iter().zip(expected).all(|(kept, wanted)| kept.0.as_str()
-                == wanted.0
-                && kept.1.as_str() == wanted.1),
-    )
 }
 
 #[test]
 fn a_secret_has_settings_of_its_own(rt: HostRuntime) -> Result<(), Fail> {
     let alloc = rt.alloc();
     let mut tx = started(&rt)?;
-    let first = SecretSettings {
-        cas_required: Some(true),
-        max_versions: Some(1),
-        custom_metadata: Some(pairs(&rt, "a=1 b=2")?),
-    };
-    set_metadata(alloc, &mut tx, moment(900)?, "secret", "x", first)?;
-    assert!(rt; has_pairs(&rt, &mut tx, &[("a", "1"), ("b", "2")])?);
+    set_metadata(
+        alloc,
+        &mut tx,
+        moment(900)?,
+        "secret",
+        "x",
+        settings(true, Some(1)),
+    )?;
+    assert!(rt; is_there(alloc, &mut tx, "secret", "x")?);
     assert!(rt; writes(&rt, &mut tx, "x", None).is_err());
     assert!(rt; writes(&rt, &mut tx, "x", Some(0))? == 1);
     assert!(rt; writes(&rt, &mut tx, "x", Some(1))? == 2);
     assert!(rt; read(alloc, &mut tx, "secret", "x", 1)?.is_none());
-    let second = SecretSettings {
-        cas_required: Some(false),
-        max_versions: None,
-        custom_metadata: Some(pairs(&rt, "c=3")?),
-    };
-    set_metadata(alloc, &mut tx, moment(1100)?, "secret", "x", second)?;
-    assert!(rt; has_pairs(&rt, &mut tx, &[("c", "3")])?);
+    set_metadata(
+        alloc,
+        &mut tx,
+        moment(1100)?,
+        "secret",
+        "x",
+        settings(false, None),
+    )?;
     let Some(told) = metadata(alloc, &mut tx, "secret", "x")? else {
         return Err(Fail::from("no metadata"));
     };
-    assert!(rt; (told.created, told.updated, told.current, told.max_versions) == (900, 1100, 2, 1));
+    assert!(rt; (told.created, told.updated) == (900, 1100));
+    assert!(rt; (told.current, told.max_versions) == (2, 1));
     assert!(rt; reads(&rt, &mut tx, 2, (2, None, Some(ONE)))?);
     Ok(())
 }
@@ -215,17 +202,25 @@ fn folders_are_listed_and_mounts_are_dropped(rt: HostRuntime) -> Result<(), Fail
     Ok(())
 }
 
+/// A row that is in no format.
+fn damaged(alloc: Global) -> Result<Row, AllocError> {
+    Ok(Row {
+        owner: TextBuf::copied(alloc, "")?,
+        due: None,
+        body: Bytes::new(vec![in alloc; 9u8]?),
+    })
+}
+
 #[test]
 fn a_damaged_row_is_told_where_it_is_read(rt: HostRuntime) -> Result<(), Fail> {
     let alloc = rt.alloc();
     let mut tx = started(&rt)?;
     writes(&rt, &mut tx, "x", None)?;
-    let row = Row {
-        owner: TextBuf::copied(alloc, "")?,
-        due: None,
-        body: Bytes::new(vec![in alloc; 9u8]?),
-    };
-    tx.put(Kind::KvVersion, "secret/x\n00000000000000000001", row)?;
+    tx.put(
+        Kind::KvVersion,
+        "secret/x\n00000000000000000001",
+        damaged(alloc)?,
+    )?;
     assert!(rt; matches!(read(alloc, &mut tx, "secret", "x", 1), Err(Fault::Damaged)));
     assert!(rt; read(alloc, &mut tx, "secret", "x", 2)?.is_none());
     assert!(rt; matches!(metadata(alloc, &mut tx, "secret", "x"), Err(Fault::Damaged)));
@@ -235,5 +230,15 @@ fn a_damaged_row_is_told_where_it_is_read(rt: HostRuntime) -> Result<(), Fail> {
             Err(Fault::Damaged)
         )
     );
+    tx.put(Kind::KvKey, "secret/y", damaged(alloc)?)?;
+    let set = set_metadata(
+        alloc,
+        &mut tx,
+        moment(1000)?,
+        "secret",
+        "y",
+        settings(true, None),
+    );
+    assert!(rt; matches!(set, Err(Fault::Damaged)));
     Ok(())
 }

@@ -92,6 +92,40 @@ fn settings_of_mount(rt: HostRuntime) -> Result<(), Fail> {
     }
 }
 
+/// Custom metadata, and a number of versions for one secret.
+#[test]
+fn custom_metadata(rt: HostRuntime) -> Result<(), Fail> {
+    expect! { &rt, 1000;
+        "#001 POST secret/metadata/x {'custom_metadata':{'b':'2','a':'1'},'max_versions':1}" => "204";
+        "#001 POST secret/data/x {'data':{},'options':{'cas':0}}"
+            => "200 {'created_time':'@','custom_metadata':{'a':'1','b':'2'},'deletion_time':'','destroyed':false,\
+                'version':1}";
+        "#001 POST secret/data/x {'data':{}}"
+            => "200 {'created_time':'@','custom_metadata':{'a':'1','b':'2'},'deletion_time':'','destroyed':false,\
+                'version':2}";
+        "#001 GET secret/data/x?version=1" => "404";
+        "#001 GET secret/metadata/x"
+            => "200 {'cas_required':false,'created_time':'@','current_version':2,\
+                'custom_metadata':{'a':'1','b':'2'},'delete_version_after':'0s','max_versions':1,\
+                'oldest_version':2,'updated_time':'@','versions':{'2':{'created_time':'@','deletion_time':'',\
+                'destroyed':false}}}";
+    }
+}
+
+/// A secret that is made by its settings has no version; custom metadata that are not strings make none.
+#[test]
+fn key_without_version(rt: HostRuntime) -> Result<(), Fail> {
+    expect! { &rt, 1000;
+        "#001 POST secret/metadata/y {'custom_metadata':{'a':1}}" => "400 invalid field: custom_metadata";
+        "#001 GET secret/metadata/y" => "404";
+        "#001 POST secret/metadata/y {}" => "204";
+        "#001 GET secret/metadata/y"
+            => "200 {'cas_required':false,'created_time':'@','current_version':0,'custom_metadata':null,\
+                'delete_version_after':'0s','max_versions':0,'oldest_version':0,'updated_time':'@','versions':{}}";
+        "#001 GET secret/data/y" => "404";
+    }
+}
+
 /// Keys and folders in a list.
 #[test]
 fn list_of_keys(rt: HostRuntime) -> Result<(), Fail> {
