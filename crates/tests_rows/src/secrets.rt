@@ -89,40 +89,27 @@ fn settings_and_metadata(rt: HostRuntime) -> Result<(), Fail> {
     Ok(())
 }
 
-/// Settings of one secret, without custom metadata.
-fn settings(cas_required: bool, max_versions: Option<u64>) -> SecretSettings {
-    SecretSettings {
-        cas_required: Some(cas_required),
-        max_versions,
-        custom_metadata: None,
-    }
-}
-
 #[test]
 fn a_secret_has_settings_of_its_own(rt: HostRuntime) -> Result<(), Fail> {
     let alloc = rt.alloc();
     let mut tx = started(&rt)?;
-    set_metadata(
-        alloc,
-        &mut tx,
-        moment(900)?,
-        "secret",
-        "x",
-        settings(true, Some(1)),
-    )?;
+    let strict = SecretSettings {
+        cas_required: Some(true),
+        max_versions: Some(1),
+        custom_metadata: None,
+    };
+    set_metadata(alloc, &mut tx, moment(900)?, "secret", "x", strict)?;
     assert!(rt; is_there(alloc, &mut tx, "secret", "x")?);
     assert!(rt; writes(&rt, &mut tx, "x", None).is_err());
     assert!(rt; writes(&rt, &mut tx, "x", Some(0))? == 1);
     assert!(rt; writes(&rt, &mut tx, "x", Some(1))? == 2);
     assert!(rt; read(alloc, &mut tx, "secret", "x", 1)?.is_none());
-    set_metadata(
-        alloc,
-        &mut tx,
-        moment(1100)?,
-        "secret",
-        "x",
-        settings(false, None),
-    )?;
+    let lenient = SecretSettings {
+        cas_required: Some(false),
+        max_versions: None,
+        custom_metadata: None,
+    };
+    set_metadata(alloc, &mut tx, moment(1100)?, "secret", "x", lenient)?;
     let Some(told) = metadata(alloc, &mut tx, "secret", "x")? else {
         return Err(Fail::from("no metadata"));
     };
@@ -231,14 +218,12 @@ fn a_damaged_row_is_told_where_it_is_read(rt: HostRuntime) -> Result<(), Fail> {
         )
     );
     tx.put(Kind::KvKey, "secret/y", damaged(alloc)?)?;
-    let set = set_metadata(
-        alloc,
-        &mut tx,
-        moment(1000)?,
-        "secret",
-        "y",
-        settings(true, None),
-    );
+    let given = SecretSettings {
+        cas_required: Some(true),
+        max_versions: None,
+        custom_metadata: None,
+    };
+    let set = set_metadata(alloc, &mut tx, moment(1000)?, "secret", "y", given);
     assert!(rt; matches!(set, Err(Fault::Damaged)));
     Ok(())
 }
