@@ -1,7 +1,7 @@
 //! Secrets over a transaction in memory: each call, run once with enough memory. Check-and-set, pruning and custom
 //! metadata are in `check_and_set`, `eleven_versions`, `settings_of_mount` and `custom_metadata` of `tests/rows`.
 
-use broker_types::{Bytes, Fault, Moment, TextBuf};
+use broker_types::{Bytes, Fault, Moment, RequestError, TextBuf};
 use kv2::{
     FoundVersion, SecretSettings, config, delete, delete_versions, destroy, drop_mount, is_there,
     list, metadata, read, remove_key, set_config, set_metadata, undelete, write,
@@ -100,7 +100,8 @@ fn a_secret_has_settings_of_its_own(rt: HostRuntime) -> Result<(), Fail> {
     };
     set_metadata(alloc, &mut tx, moment(900)?, "secret", "x", strict)?;
     assert!(rt; is_there(alloc, &mut tx, "secret", "x")?);
-    assert!(rt; writes(&rt, &mut tx, "x", None).is_err());
+    let refused = write(alloc, &mut tx, moment(1000)?, "secret", "x", None, ONE);
+    assert!(rt; matches!(refused, Err(RequestError::Refused(_))));
     assert!(rt; writes(&rt, &mut tx, "x", Some(0))? == 1);
     assert!(rt; writes(&rt, &mut tx, "x", Some(1))? == 2);
     assert!(rt; read(alloc, &mut tx, "secret", "x", 1)?.is_none());
