@@ -1,12 +1,13 @@
 //! What a command leads to: its identifiers have to be new, it acts, and its reply may be wrapped.
 
-ghost use Rattle.std.specs.Prelude.{◌≡◌, true, None, Some};
+ghost use Rattle.std.specs.Prelude.{◌≡◌, ◌||◌, true, not, nat_lt, Option, None, Some, IfErr, OnOk};
 ghost use Rattle.broker_types.specs.Broker.{Broker};
-ghost use Rattle.broker_types.specs.Fault.{IsNotBadStart};
-ghost use Rattle.broker_types.specs.Names.{names_of};
-ghost use Rattle.broker_types.specs.RequestError.{Ends};
+ghost use Rattle.broker_types.specs.Fault.{IsMemoryOrStorage, IsNotBadStart};
+ghost use Rattle.broker_types.specs.Names.{Names, names_of};
+ghost use Rattle.broker_types.specs.RequestError.{Ends, EndsErr};
+ghost use Rattle.broker_types.specs.Text.{Text};
 ghost use Rattle.broker_types.specs.Used.{are_new};
-ghost use Rattle.records.specs.Calls.{OnAnswer, IsRequestCall};
+ghost use Rattle.records.specs.Calls.{OnAnswer, OnRefused, IsRequestCall, IsRequestReading};
 ghost use Rattle.records.specs.Ranges.{IsTokenInRange};
 ghost use Rattle.records.specs.Transaction.{IsHonest};
 ghost use Rattle.broker_model.specs.Act as model;
@@ -64,13 +65,37 @@ pub(crate) fn operate<T: RecordsTx>(
     ensures call { IsRequestCall (T.seen tx.old) (T.seen tx.new) result IsNotBadStart }
 {
     let needed = needed_identifiers(alloc, context.words, ask, &command)?;
-    if !are_new(tx, &needed)? {
+    check(tx, ask, &needed, &command)?;
+    carry_out(alloc, tx, context, asker, ask, &needed, command)
+}
+
+/// Whether a command of an ask may be carried out: the identifiers that it needs have to be new, and the ask has to have
+/// the wrap TTL that the command must have.
+fn check<T: RecordsTx>(
+    tx: &mut T,
+    ask: &Ask<'_>,
+    needed: &[TextBuf],
+    command: &Command<'_>,
+) -> Result<(), RequestError>
+    ensures refused { IsHonest (T.seen tx.new) → (who : Option Text) (b : Broker) (names : Names)
+        → Represents who (T.seen tx.old).rows b → needed.now ≡ needed_by ask.now names (meant command.now)
+        → IfErr result (λ e. EndsErr (Represents who (T.seen tx.new).rows b) e
+        (operated b who names ask.now (meant command.now))) }
+    ensures fresh { IsHonest (T.seen tx.new) → (who : Option Text) (b : Broker)
+        → Represents who (T.seen tx.old).rows b → OnOk result (are_new b.used needed.now ≡ true) }
+    ensures timed { OnOk result ((not (traits (meant command.now)).must_wrap || nat_lt 0 ask.now.wrap_ttl) ≡ true) }
+    ensures readable { IsHonest (T.seen tx.new) → (who : Option Text) (names : Names)
+        → needed.now ≡ needed_by ask.now names (meant command.now)
+        → OnRefused result (IsReadableIfNew (T.seen tx.old).rows who names ask.now (meant command.now)) }
+    ensures call { IsRequestReading (T.seen tx.old) (T.seen tx.new) result IsMemoryOrStorage }
+{
+    if !are_new(tx, needed)? {
         return Err(RequestError::Refused(Refusal::IdentifierUsed));
     }
-    if !has_wrap_ttl(ask, &command) {
+    if !has_wrap_ttl(ask, command) {
         return Err(RequestError::Refused(Refusal::BadRequest(Reason::WrappingRequired)));
     }
-    carry_out(alloc, tx, context, asker, ask, &needed, command)
+    Ok(())
 }
 
 /// Carries out a command of an ask, and wraps its reply if a wrap TTL asks for it.
