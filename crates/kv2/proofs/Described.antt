@@ -12,6 +12,7 @@ use Rattle.broker_types.specs.Secret.{Key}
 use Rattle.broker_types.specs.Broker.{Broker}
 use Rattle.broker_types.specs.Sound.{IsMoment, is_ascending}
 use Rattle.records.specs.declared.kind.Kind.TheVariants as kind
+use Rattle.records.specs.EntryMapLaws.{listed_entries}
 use Rattle.records.specs.KeyEntry.{KeyEntry, key_entry}
 use Rattle.records.specs.Parts.{of_secrets, Tells}
 use Rattle.records.specs.Ranges.{IsKeyInRange}
@@ -20,7 +21,6 @@ use Rattle.records.specs.RowForms.{key_row, key_entry_row, version_row}
 use Rattle.records.specs.Rows.{version_of_digits, version_row_of, version_at}
 use Rattle.records.specs.Table.{Table}
 use Rattle.records.specs.TokenEntry.{IsMeta}
-use Rattle.kv2.specs.MetadataLaws.{listed_entries}
 use Rattle.kv2.specs.SecretRows.{new_entry, described_entry, with_description}
 use Rattle.kv2.specs.Secrets.{secret_name, set_metadata}
 use Rattle.kv2.specs.Versions.{Settings, described, key_or_new}

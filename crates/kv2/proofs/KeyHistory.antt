@@ -16,8 +16,8 @@ use Rattle.broker_types.specs.OptionLaws.{mapped}
 use Rattle.broker_types.specs.Secret.{Key, Version}
 use Rattle.broker_types.specs.Broker.{Broker}
 use Rattle.broker_types.specs.Sound.{Forms, SoundSecrets, is_ascending}
+use Rattle.records.specs.EntryMapLaws.{listed_entries}
 use Rattle.kv2.specs.Laws.{last_number, version_at, HasNoSecret, custom_metadata_at}
-use Rattle.kv2.specs.MetadataLaws.{listed_entries}
 use Rattle.kv2.specs.Secrets.{Written, secret_name, key_at, with_key, write, set_metadata, remove_key, drop_mount}
 use Rattle.kv2.specs.SoundLaws.{write_is}
 use Rattle.kv2.specs.VersionLaws.{get-change_versions, next_versions}

@@ -2,7 +2,6 @@ pub mod Changes
 pub mod InRange
 pub mod Laws
 pub mod Metadata
-pub mod MetadataLaws
 pub mod SecretRows
 pub mod Secrets
 pub mod SoundLaws

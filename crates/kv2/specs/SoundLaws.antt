@@ -28,11 +28,11 @@ use Rattle.broker_types.specs.declared.refusal.Refusal.{Refusal}
 use Rattle.broker_types.specs.declared.refusal.Refusal.TheVariants as refusal
 use Rattle.broker_types.specs.declared.refusal.Reason.TheVariants as reason
 use Rattle.broker_types.specs.declared.refusal.Field.TheVariants as field
+use Rattle.records.specs.EntryMapLaws.{few_listed, each_listed}
 use Rattle.records.specs.Reading.{IsSomeIn, IsWide}
 use Rattle.records.specs.Splits.{slash}
 use Rattle.records.specs.ValueLaws.{ok_inj}
 use Rattle.kv2.specs.InRange.{AreWithinLimits}
-use Rattle.kv2.specs.MetadataLaws.{few_listed, each_listed}
 use Rattle.kv2.specs.Secrets.{Written, secret_name, with_key, write, write_over, written, delete, delete_versions}
 use Rattle.kv2.specs.Secrets.{undelete, destroy, remove_key, drop_mount, set_config, with_settings, set_metadata}
 use Rattle.kv2.specs.VersionLaws.{get-change_versions, next_versions}

@@ -1,59 +1,32 @@
 -- The policies of a new token are names, in order, and few.
-use Rattle.std.specs.Prelude.{◌≡◌, ◌≤◌, ◌<◌, ◌^◌, ◌+◌, ◌&&◌, ℕ, suc, List, [], ◌∷◌, length, map, Bool, true, false, cond, not, ◌||◌, T, Some, codes}
+use Rattle.std.specs.Prelude.{◌≡◌, ◌≤◌, ◌<◌, ◌^◌, ◌+◌, ◌&&◌, ℕ, suc, List, [], ◌∷◌, length, map, Bool, true, false, not, ◌||◌, T, codes}
 use Rattle.std.specs.Prelude.{All, if◌then◌else◌}
-use Rattle.std.specs.Cmp.Lexicographic.{nat_list_cmp_total}
-use Rattle.std.specs.FinMap.{from_entries, len-insert, len-empty, len-entries, entries_sorted, contains_key, is_sorted}
+use Rattle.std.specs.FinMap.{len-entries, entries_sorted, is_sorted}
 use Rattle.std.specs.List.{list_all}
 use Rattle.std.proofs.Common.{refl, sym, ◌∙◌, subst, lit<, lt_of_le_of_lt, arith}
 use Rattle.std.proofs.lemmas.Bool.{and_parts}
-use Rattle.std.proofs.lemmas.Option.{same_Some}
 use Rattle.std.proofs.lemmas.List.{length-map}
 use Rattle.std.proofs.lemmas.List.Sums.{length-filter, count_by-le-length}
-use Rattle.std.proofs.lemmas.List.Elements.{All-nil, All-cons, All-head, All-tail, All-map, All-filter}
+use Rattle.std.proofs.lemmas.List.Elements.{All-nil, All-cons, All-map, All-filter}
 use Rattle.broker_types.specs.Text.{Text, text_cmp, same}
-use Rattle.broker_types.specs.Map.{Map, get, len, entries, keys}
-use Rattle.broker_types.specs.MapLaws.{get-put, no_entry}
+use Rattle.broker_types.specs.Map.{Map, len, entries, keys}
 use Rattle.broker_types.specs.Name.{is_name}
 use Rattle.broker_types.specs.SearchLaws.{each_entry}
 use Rattle.broker_types.specs.Sound.{is_ascending}
-use Rattle.broker_types.specs.TextLaws.{same_true}
 use Rattle.broker_types.specs.Token.{Token}
 use Rattle.api_json.specs.declared.token_bodies.TokenCreation.{TokenCreation}
 use Rattle.records.specs.Children.{has, set_of, member}
+use Rattle.records.specs.EntryMapLaws.{each_listed, few_listed}
 use Rattle.broker_model.specs.parts.TokenCreation.{default_name, have_root, policies_given, without_default}
 use Rattle.broker_model.specs.parts.TokenCreation.{new_policies}
 
--- ---- maps of lists of entries
+-- ---- keys of maps
 
 is_true : (b : Bool) → T b → b ≡ true
 is_true true h = refl
 is_true false h = absurd h
 
-more : (v : Bool) (n m : ℕ) → n ≤ m → cond v n (n + 1) ≤ suc m
-more true n m h = omega arith
-more false n m h = omega arith
-
 module _ {X : Type 0} where
-  -- what holds of each entry of the list holds of each of the map
-  pub each_listed : (P : Text → X → Type 0) (es : List (Text × X)) → All (λ e. P e.0 e.1) es → (q : Text) (x : X)
-      → get (from_entries {R = text_cmp} es) q ≡ Some x → P q x
-  each_listed P [] all q x is = absurd (no_entry q x is)
-  each_listed P (e ∷ es) all q x is =
-      elim (same q e.0) as (λ v. same q e.0 ≡ v → cond v (Some e.1) (get (from_entries {R = text_cmp} es) q) ≡ Some x → P q x) [
-        | true ↦ λ s g. at (same_true q e.0 s) g
-        | false ↦ λ _ g. each_listed P es (All-tail (λ e. P e.0 e.1) e es all) q x g
-      ] refl (sym (get-put (from_entries {R = text_cmp} es) e.0 e.1 q) ∙ is)
-    where
-      at : q ≡ e.0 → Some e.1 ≡ Some x → P q x
-      at s g = subst (λ k. P k x) (sym s) (subst (P e.0) (same_Some _ _ g) (All-head (λ e. P e.0 e.1) e es all))
-
-  -- the map has no more entries than the list
-  pub few_listed : (es : List (Text × X)) → len (from_entries {R = text_cmp} es) ≤ length es
-  few_listed [] = subst (λ n. n ≤ 0) (sym (len-empty text_cmp X)) (omega arith)
-  few_listed (e ∷ es) =
-      let m = from_entries {R = text_cmp} es in
-      subst (λ n. n ≤ suc (length es)) (sym (len-insert nat_list_cmp_total m e.0 e.1)) (more (contains_key m e.0) (len m) (length es) (few_listed es))
-
   sorted_ascend : (es : List (Text × X)) → is_sorted text_cmp es ≡ true → is_ascending (map (λ e. e.0) es) ≡ true
   sorted_ascend [] h = refl
   sorted_ascend (x ∷ []) h = refl

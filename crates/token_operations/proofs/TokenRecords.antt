@@ -12,6 +12,7 @@ use Rattle.broker_types.specs.Name.{is_name}
 use Rattle.broker_types.specs.Sound.{IsShortText, IsIdentifier, IsEnd}
 use Rattle.broker_types.specs.Token.{Token}
 use Rattle.api_json.specs.declared.token_bodies.TokenCreation.{TokenCreation}
+use Rattle.records.specs.EntryMapLaws.{listed_entries}
 use Rattle.records.specs.RangeLaws.{identifier_short, name_short}
 use Rattle.records.specs.Ranges.{IsTokenInRange}
 use Rattle.records.specs.Reading.{IsSomeIn, IsWide}
@@ -20,7 +21,6 @@ use Rattle.broker_model.specs.declared.making.Making.{Making}
 use Rattle.broker_model.specs.parts.TokenCreation.{new_token, new_policies, may_make, has_no_end, asked_ttl}
 use Rattle.token_operations.specs.TokenEntries.{token_told, new_entry}
 use Rattle.token_operations.specs.TokenRanges.{IsInRange}
-use Rattle.token_operations.proofs.TokenLists.{listed_entries}
 use Rattle.token_operations.proofs.TokenPolicies.{ArePolicies, IsPolicyName, each_passes, new_policies_are}
 use Rattle.token_operations.proofs.TokenSound.{ttl_short, end_near}
 

@@ -23,6 +23,7 @@ use Rattle.broker_types.specs.UsedLaws.{first_new}
 use Rattle.broker_types.specs.declared.refusal.Denial.TheVariants as denial
 use Rattle.broker_types.specs.declared.refusal.Refusal.TheVariants as refusal
 use Rattle.api_json.specs.declared.token_bodies.TokenCreation.{TokenCreation}
+use Rattle.records.specs.EntryMapLaws.{each_listed, few_listed}
 use Rattle.records.specs.ValueLaws.{ok_inj}
 use Rattle.token_tree.specs.Tokens.{MayBeMade}
 use Rattle.broker_model.specs.declared.making.Making.{Making}
@@ -31,7 +32,7 @@ use Rattle.broker_model.specs.parts.TokenCreation.{new_token, new_parent, or_lon
 use Rattle.broker_model.specs.parts.Tokens.{known}
 use Rattle.broker_model.specs.parts.TokenCommands.{token_names}
 use Rattle.token_operations.specs.TokenRanges.{IsInRange, AreTokenNames}
-use Rattle.token_operations.proofs.TokenPolicies.{ArePolicies, IsPolicyName, each_listed, few_listed}
+use Rattle.token_operations.proofs.TokenPolicies.{ArePolicies, IsPolicyName}
 
 -- ---- the token of a caller
 
