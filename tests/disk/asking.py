@@ -208,7 +208,7 @@ def is_whole(data):
 
 def looked(broker, moment, look):
     """The rows of a broker after a look at this moment."""
-    return rows_of(after(broker, moment, [UNTOLD] * 8, look), TODAY)
+    return rows_of(after(broker, moment, [UNTOLD] * 8, look))
 
 
 def found_broker(rows, before, text, moment, look):
@@ -218,7 +218,7 @@ def found_broker(rows, before, text, moment, look):
         return before
     if text is None:
         return None
-    words = words_between(rows_of(before, TODAY), rows)
+    words = words_between(rows_of(before), rows)
     for taken in range(before.clock, min(moment, before.clock + LONGEST) + 1):
         broker = after(before, taken, words, text)
         if looked(broker, moment, look) == rows:

@@ -13,9 +13,9 @@ import re
 import sqlite3
 from dataclasses import dataclass
 
-from asking import LOOK, REQUESTS, TODAY, WITH_ALL_KINDS, Reply, Request, Server, Story, looked, rows_of
+from asking import LOOK, REQUESTS, WITH_ALL_KINDS, Reply, Request, Server, Story, looked, rows_of
 from program import Running, Wrong, expect
-from rows import bytes_of, close_log, in_all_parts, put, read_rows, rows_in
+from rows import bytes_of, close_log, put, read_rows, rows_in
 from stored_broker import broker_of
 from trial import MOMENT, Tally, side_by_side
 
@@ -69,7 +69,7 @@ class Base:
 
     def __post_init__(self):
         self.questions = [question.text(self.story.known) for question in QUESTIONS]
-        self.rows = rows_of(self.story.brokers[-1], TODAY)
+        self.rows = rows_of(self.story.brokers[-1])
         self.looked = [looked(broker, MOMENT + 1, self.questions[0]) for broker in self.story.brokers]
 
 
@@ -251,10 +251,10 @@ def reference_of(rows):
     """The reference broker that has these rows, or None if they are those of no broker."""
     try:
         server = Server(0, range(8))
-        server.broker = broker_of(in_all_parts(rows))
+        server.broker = broker_of(rows)
     except Exception:
         return None
-    return server if rows_of(server.broker, TODAY) == rows else None
+    return server if rows_of(server.broker) == rows else None
 
 
 def reference_replies(rows, questions, replies):

@@ -13,7 +13,7 @@ import subprocess
 import threading
 import time
 
-from asking import (LOOK, RESPONSE, TODAY, TOKEN, UNTOLD, VERSION, Reply, Server, after, is_whole, looked, request_text,
+from asking import (LOOK, RESPONSE, TOKEN, UNTOLD, VERSION, Reply, Server, after, is_whole, looked, request_text,
                     rows_of, started, word)
 from hostile import environment
 from program import SECONDS, Running, Wrong, expect, reply_from
@@ -212,7 +212,7 @@ class Killed:
     def settle(self, rows, last):
         """The reference broker takes those of the requests in progress that were taken. Raises Wrong."""
         broker, taken = self.server.broker, []
-        before = rows_of(broker, TODAY)
+        before = rows_of(broker)
         for asked in self.pending:
             keys = asked.made(before, rows)
             self.tally.counts["not taken" if keys is None else "taken"] += 1
@@ -226,7 +226,7 @@ class Killed:
         """The moment, the bytes and the words of a request that was taken. Raises Wrong."""
         broker = self.server.broker
         for moment in range(broker.clock, last + 1):
-            found = rows_of(after(broker, moment, words, asked.text), TODAY)
+            found = rows_of(after(broker, moment, words, asked.text))
             changed = [key for key in {*before, *found} if before.get(key) != found.get(key) and key != CLOCK]
             if all(rows.get(key) == found.get(key) for key in changed):
                 return moment, asked.text, words

@@ -6,7 +6,6 @@ import sqlite3
 from program import Wrong, expect
 from stored_broker import broker_of
 
-SECRET = 8
 ALL = "SELECT kind, key, owner, due, body FROM broker_rows"
 
 
@@ -31,21 +30,10 @@ def whole_rows_in(file):
         raise Wrong(f"sqlite3 cannot read it: {error}") from None
     expect(told == ["ok"], f"sqlite3 finds: {told}")
     try:
-        broker_of(in_all_parts(rows))
+        broker_of(rows)
     except Exception as error:
         raise Wrong(f"the rows are those of no broker: {type(error).__name__} {error}") from None
     return rows
-
-
-def in_all_parts(rows):
-    """The rows with those of secrets in the format that has settings of their own."""
-    return {(kind, key): (owner, due, with_settings(body) if kind == SECRET else body)
-            for (kind, key), (owner, due, body) in rows.items()}
-
-
-def with_settings(body):
-    """The body of a secret's row, with settings that are none if it has none."""
-    return b"\x02" + body[1:] + bytes(1 + 8 + 4) if body[:1] == b"\x01" else body
 
 
 def bytes_of(file):

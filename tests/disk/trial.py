@@ -9,7 +9,7 @@ import traceback
 from collections import Counter
 from pathlib import Path
 
-from asking import LOOK, REQUESTS, TODAY, Reply, Story, found_broker, looked, rows_of, started
+from asking import LOOK, REQUESTS, Reply, Story, found_broker, looked, rows_of, started
 from hostile import build, environment
 from program import Running, Wrong, expect
 from rows import whole_rows_in
@@ -81,7 +81,7 @@ def check_found(trial, file, story, moment=MOMENT + 1):
     found = found_broker(rows, before, story.asked, moment, look)
     if found is None:
         raise Wrong(f"after {len(story.replies)} replies {differing(rows, before, moment, look)}")
-    return rows_of(found, TODAY) != rows_of(before, TODAY)
+    return rows_of(found) != rows_of(before)
 
 
 def differing(rows, broker, moment, look):

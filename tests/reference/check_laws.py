@@ -128,7 +128,7 @@ class WatchedServer(Server):
         answer = super().step(moment, words, ask)
         self.steps += 1
         check_sound(self.broker)
-        assert broker_of(rows_of(self.broker, ALL)) == self.broker
+        assert broker_of(rows_of(self.broker)) == self.broker
         assert self.broker.clock == max(b.clock, moment)
         assert b.used <= self.broker.used
         self.check_answer(answer)

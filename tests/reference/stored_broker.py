@@ -131,7 +131,7 @@ class Found:
 
 
 def broker_of(rows: dict) -> Broker:
-    """The broker that rows represent: all its rows, with those of secrets in their format of all parts."""
+    """The broker that rows represent."""
     found = Found()
     for (kind, key), (owner, due, data) in sorted(rows.items()):
         found.read(kind, key, owner, due, data)

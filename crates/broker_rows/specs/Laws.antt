@@ -4,9 +4,12 @@ use Rattle.broker_types.specs.Text.{Text}
 use Rattle.broker_types.specs.Moment.{greatest_moment}
 use Rattle.broker_types.specs.First.{first_broker}
 use Rattle.broker_types.specs.Broker.{Broker}
+use Rattle.broker_types.specs.Sound.{Sound}
+use Rattle.broker_model.specs.Forms.{forms}
 use Rattle.records.specs.Rows.{rows_of}
 use Rattle.records.specs.Table.{table_of}
 use Rattle.records.specs.Transaction.{Rows}
+use Rattle.records.specs.Upgraded.{AreUpgraded, ArePlain, old_rows_of}
 use Rattle.broker_rows.specs.Representing.{Represents}
 
 -- rows represent one broker at most, whoever may have spent its last use
@@ -21,3 +24,15 @@ TheFirstBrokerIsRepresented =
     → token_word < 2 ^ 128 → accessor_word < 2 ^ 128 → token_word ≢ accessor_word
     → table_of rows ≡ rows_of (first_broker moment token_word accessor_word)
     → Represents None rows (first_broker moment token_word accessor_word)
+
+-- the rows of a broker whose keys have no settings, kept in format 1, represent it once they are upgraded
+abbrev pub OldRowsRepresentTheirBroker : Type 0
+OldRowsRepresentTheirBroker =
+    (b : Broker) → Sound forms None b → ArePlain b.secrets → (old new : Rows) → table_of old ≡ old_rows_of b
+    → AreUpgraded (table_of old) (table_of new) → Represents None new b
+
+-- and rows that represent a broker go on to represent it
+abbrev pub UpgradedRowsRepresentTheirBroker : Type 0
+UpgradedRowsRepresentTheirBroker =
+    (b : Broker) (old new : Rows) → Represents None old b → AreUpgraded (table_of old) (table_of new)
+    → Represents None new b

@@ -19,7 +19,10 @@ pub use context::Context;
 pub use ending::{end_spent, leave_nothing};
 pub use expiry::expire;
 pub use identifiers::{are_new, identifier, printed, token_text, use_up};
-pub use laws::{rows_represent_one_broker, the_first_broker_is_represented};
+pub use laws::{
+    rows_represent_one_broker, the_first_broker_is_represented,
+    upgraded_rows_represent_the_same_broker,
+};
 pub use moments::{moment, moment_or_none};
 pub use spending::spend;
 pub use start::write_first_rows;

@@ -2,6 +2,10 @@
 use Rattle.std.proofs.Common.{◌≡◌, ◌≤◌, IsTrue, Ok, Err, Result, sym, subst, ◌∙◌, arith}
 use Rattle.std.specs.Prelude.{IfOk}
 use Rattle.sqlite.specs.Recovery.{Image}
+use Rattle.records.specs.Table.{Table, table_of}
+use Rattle.records.specs.Transaction.{Rows}
+use Rattle.records.specs.Upgraded.{AreUpgraded}
+use Rattle.records.specs.UpgradedLaws.{clock_stays, empty_stays}
 use Rattle.records_sql.specs.Adopted.{IsKeptIn}
 use Rattle.std.specs.FinMap.{empty}
 use Rattle.broker_rows.specs.ClockRow.{HasNoClock}
@@ -15,14 +19,28 @@ pub if_two : {T E : Type 0} {P Q Z : T → Type 0} (r : Result T E) → ((x : T)
 if_two (Ok x) f p q = f x p q
 if_two (Err e) f p q = tt
 
--- what the files keep is what the store shows
-pub found_open : (image : Image) (records store : Kept) → (IsHonestStore records → IsKeptIn image records.rows) → (IsHonestStore store → store.rows ≡ records.rows)
-    → (IsHonestStore store → IsTrue store.is_open) → records.mismatches ≤ store.mismatches → IsHonestStore store → IsKeptIn image store.rows × IsTrue store.is_open
-found_open image records store kept same stands less honest =
+-- the rows of the store are upgraded
+abbrev pub IsUpgradedStore : Kept → Kept → Type 0
+IsUpgradedStore records store = IsHonestStore store → AreUpgraded (table_of records.rows) (table_of store.rows)
+
+-- what the files keep is what the store shows, upgraded
+pub found_open : (image : Image) (records store : Kept) → (IsHonestStore records → IsKeptIn image records.rows) → IsUpgradedStore records store
+    → (IsHonestStore store → IsTrue store.is_open) → records.mismatches ≤ store.mismatches → IsHonestStore store
+    → (old : Rows) × IsKeptIn image old × AreUpgraded (table_of old) (table_of store.rows) × IsTrue store.is_open
+found_open image records store kept upgraded stands less honest =
     let before : IsHonestStore records = omega (arith, less, honest) in
-    (subst (IsKeptIn image) (sym (same honest)) (kept before), stands honest)
+    (records.rows, kept before, upgraded honest, stands honest)
 
 -- and whether it has the clock is asked of the same rows
-pub still_empty : (records store : Kept) → (IsHonestStore store → store.rows ≡ records.rows) → (IsHonestStore store → HasNoClock records.rows → records.rows ≡ empty)
+pub still_empty : (records store : Kept) → IsUpgradedStore records store → (IsHonestStore store → HasNoClock records.rows → records.rows ≡ empty)
     → IsHonestStore store → HasNoClock store.rows → store.rows ≡ empty
-still_empty records store same started honest none = same honest ∙ started honest (subst HasNoClock (same honest) none)
+still_empty records store upgraded started honest none =
+    let up = upgraded honest in
+    empty_stays records.rows store.rows up (started honest (sym (clock_stays records.rows store.rows up) ∙ none))
+
+-- the rows that the start was found in are upgraded
+pub upgraded_from : (records mid store : Kept) → mid.mismatches ≤ store.mismatches → (IsHonestStore mid → IsTrue mid.is_open)
+    → (IsHonestStore mid → IsTrue mid.is_open → mid.rows ≡ records.rows) → IsUpgradedStore mid store → IsUpgradedStore records store
+upgraded_from records mid store less stands same upgraded honest =
+    let before : IsHonestStore mid = omega (arith, less, honest) in
+    subst (λ (r : Rows). AreUpgraded (table_of r) (table_of store.rows)) (same before (stands before)) (upgraded honest)

@@ -5,7 +5,9 @@ ghost use Rattle.std.specs.FinMap as map;
 ghost use Rattle.sqlite.specs.Files.{over_files};
 ghost use Rattle.sqlite.specs.WalFiles.{image_at};
 ghost use Rattle.broker_types.specs.Fault.{IsMemoryOrStorage};
-ghost use Rattle.records.specs.Transaction.{is_storage};
+ghost use Rattle.records.specs.Table.{table_of};
+ghost use Rattle.records.specs.Transaction.{Rows, is_storage};
+ghost use Rattle.records.specs.Upgraded.{AreUpgraded};
 ghost use Rattle.records_sql.specs.Adopted.{IsKeptIn};
 ghost use Rattle.broker_rows.specs.ClockRow.{HasNoClock};
 ghost use Rattle.broker.specs.Kept.{IsHonestStore};
@@ -16,7 +18,7 @@ ghost use Rattle.broker_sql.specs.SqlKept.{kept_records, sql_kept};
 use crate::emptiness::is_empty;
 use crate::sql_store::SqlStore;
 use broker_types::Fault;
-use records::{Kind, RecordsTx};
+use records::{Kind, RecordsTx, upgrade_keys};
 use records_sql::SqlRecords;
 use sqlite::{Alter, FileFrom, FileStore, Start};
 use sqlite_disk::Disk;
@@ -68,15 +70,29 @@ impl<S: Alter> SqlStore<S> {
         tx.commit()?;
         Ok(started)
     }
+
+    /// Rewrites each row of a key in format 1 as that of the same key in format 2, in a transaction of its own.
+    fn upgrade(&mut self) -> Result<(), Fault>
+        ensures upgraded { IsHonestStore (sql_kept S.Store self.new)
+            → OnOk result (AreUpgraded (table_of (sql_kept S.Store self.old).rows)
+            (table_of (sql_kept S.Store self.new).rows)) }
+        ensures faults { IfErr result IsMemoryOrStorage }
+        ensures atomic { IsAtomic (sql_kept S.Store self.old) (sql_kept S.Store self.new) result }
+    {
+        let mut tx = self.records.begin()?;
+        upgrade_keys(self.alloc, &mut tx)?;
+        tx.commit()
+    }
 }
 
 impl<S: Alter + Drop> SqlStore<S> {
-    /// The store of rows that were there before. If there are none, `start` makes the first broker; else the rows are
-    /// that of a broker that was started. It fails with `BadStart` exactly if there are rows and no row of the clock,
-    /// with `Memory` if memory runs out, and with `Storage` if the storage failed. The records are gone then.
+    /// The store of rows that were there before, with those of keys in format 1 rewritten in format 2, all of them or
+    /// none. If there are no rows, `start` makes the first broker; else the rows are those of a broker that was started.
+    /// It fails with `BadStart` exactly if there are rows and no row of the clock, with `Memory` if memory runs out, and
+    /// with `Storage` if the storage failed. The records are gone then.
     pub fn adopt(alloc: Global, records: SqlRecords<S>) -> Result<SqlStore<S>, Fault>
-        ensures rows { IfOk result (λ store. IsHonestStore (sql_kept S.Store store)
-            → (sql_kept S.Store store).rows ≡ (kept_records S.Store records).rows) }
+        ensures upgraded { IfOk result (λ store. IsHonestStore (sql_kept S.Store store)
+            → AreUpgraded (table_of (kept_records S.Store records).rows) (table_of (sql_kept S.Store store).rows)) }
         ensures started { IfOk result (λ store. IsHonestStore (sql_kept S.Store store)
             → HasNoClock (kept_records S.Store records).rows → (kept_records S.Store records).rows ≡ map.empty) }
         ensures stands { IfOk result (λ store. IsHonestStore (sql_kept S.Store store)
@@ -88,6 +104,7 @@ impl<S: Alter + Drop> SqlStore<S> {
     {
         let mut store = SqlStore { alloc, records };
         store.is_started()?;
+        store.upgrade()?;
         Ok(store)
     }
 }
@@ -101,7 +118,8 @@ impl<S: Start> SqlStore<FileStore<FileFrom<S>>> {
         start: S,
     ) -> Result<SqlStore<FileStore<FileFrom<S>>>, Fault>
         ensures found { IfOk result (λ store. IsHonestStore (sql_kept over_files store)
-            → IsKeptIn (image_at S.Start) (sql_kept over_files store).rows
+            → (old : Rows) × IsKeptIn (image_at S.Start) old
+            × AreUpgraded (table_of old) (table_of (sql_kept over_files store).rows)
             × IsTrue (sql_kept over_files store).is_open) }
         ensures started { IfOk result (λ store. IsHonestStore (sql_kept over_files store)
             → HasNoClock (sql_kept over_files store).rows → (sql_kept over_files store).rows ≡ map.empty) }

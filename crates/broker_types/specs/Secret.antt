@@ -11,7 +11,7 @@ pub record Version : Type 0 where
   pub deleted : Option ℕ
   pub secret : Option Text
 
--- a key: its versions by number, its times, and its own settings, of which it has none so far
+-- a key: its versions by number, its times, and its own settings
 pub record Key : Type 0 where
   pub created : ℕ
   pub updated : ℕ

@@ -1,15 +1,16 @@
 -- Sound brokers: what the start makes true and every request keeps true (this project's definition).
-use Rattle.std.specs.Prelude.{◌≡◌, ◌≢◌, ◌<◌, ◌≤◌, ◌^◌, ◌+◌, ◌++◌, ◌&&◌, ℕ, List, [], ◌∷◌, Bool, true, false, length}
+use Rattle.std.specs.Prelude.{◌≡◌, ◌≢◌, ◌<◌, ◌≤◌, ◌^◌, ◌+◌, ◌++◌, ◌&&◌, ℕ, List, [], ◌∷◌, Bool, true, length}
 use Rattle.std.specs.Prelude.{codes, IsUtf8, Option, Some, All}
 use Rattle.std.specs.Ordering.{is_lt}
 use Rattle.std.specs.FinMap as fin
 use Rattle.broker_types.specs.Text.{Text, text_cmp}
-use Rattle.broker_types.specs.Map.{Map, get, empty, len}
+use Rattle.broker_types.specs.Map.{Map, get, len}
 use Rattle.broker_types.specs.Identifier.{id}
 use Rattle.broker_types.specs.TokenText.{token_text}
 use Rattle.broker_types.specs.Moment.{greatest_moment}
 use Rattle.broker_types.specs.Duration.{longest_duration}
-use Rattle.broker_types.specs.Limits.{longest_ttl, greatest_version}
+use Rattle.broker_types.specs.Limits.{longest_ttl, greatest_version, most_custom_metadata, longest_custom_name}
+use Rattle.broker_types.specs.Limits.{longest_custom_value}
 use Rattle.broker_types.specs.Name.{is_name, is_mount_name}
 use Rattle.broker_types.specs.Path.{is_path}
 use Rattle.broker_types.specs.Token.{Token, Tokens, Lease}
@@ -121,11 +122,13 @@ pub record IsSecretName (q : Text) : Type 0 where
   pub is_path_text : IsPathText path
   pub parts : q ≡ mount ++ codes "/" ++ path
 
--- the key has no settings of its own, so far: those of its mount count
-pub record HasNoSettings (k : Key) : Type 0 where
-  pub cas_required : k.cas_required ≡ false
-  pub max_versions : k.max_versions ≡ 0
-  pub custom_metadata : k.custom_metadata ≡ empty
+-- a name and a value of custom metadata: as short as this project allows, the name not empty
+pub record IsCustomPair (name value : Text) : Type 0 where
+  pub name_utf8 : IsUtf8 name
+  pub value_utf8 : IsUtf8 value
+  pub name_given : 0 < length name
+  pub name_short : length name ≤ longest_custom_name
+  pub value_short : length value ≤ longest_custom_value
 
 -- a key under its name
 pub record IsSoundKey (forms : Forms) (q : Text) (k : Key) : Type 0 where
@@ -134,7 +137,9 @@ pub record IsSoundKey (forms : Forms) (q : Text) (k : Key) : Type 0 where
   pub updated : IsMoment k.updated
   pub current : k.current ≤ greatest_version
   pub versions : (n : ℕ) (v : Version) → fin.get k.versions n ≡ Some v → IsSoundVersion forms k n v
-  pub no_settings : HasNoSettings k
+  pub max_versions : k.max_versions < 2 ^ 64
+  pub few_metadata : len k.custom_metadata ≤ most_custom_metadata
+  pub metadata : (name value : Text) → get k.custom_metadata name ≡ Some value → IsCustomPair name value
 
 -- a response that waits under a wrapping token
 pub record IsSoundWaiting (t : Text) (w : Waiting) : Type 0 where

@@ -4,14 +4,14 @@ use Rattle.std.specs.Prelude.{◌^◌, if◌then◌else◌, Option, Some, None, 
 use Rattle.std.specs.Prelude.{⊤}
 use Rattle.std.specs.Ordering.{nat_cmp}
 use Rattle.std.specs.FinMap as fin
-use Rattle.std.proofs.Common.{refl, sym, ◌∙◌, subst, append_assoc, zero-le}
+use Rattle.std.proofs.Common.{refl, sym, ◌∙◌, subst, append_assoc, zero-le, lit<}
 use Rattle.std.proofs.Math.Nat.{le_trans, le_refl, le-add_left, le-add_right}
 use Rattle.std.proofs.Math.Numerals.{add-one-le}
 use Rattle.std.proofs.lemmas.Bool.{eqb-true, ltb-true}
 use Rattle.std.proofs.lemmas.Option.{none-some, same_Some}
-use Rattle.broker_types.specs.Text.{Text, same}
+use Rattle.broker_types.specs.Text.{Text, text_cmp, same}
 use Rattle.broker_types.specs.TextLaws.{same_true}
-use Rattle.broker_types.specs.Limits.{greatest_version}
+use Rattle.broker_types.specs.Limits.{greatest_version, most_custom_metadata}
 use Rattle.broker_types.specs.Map.{Map, get, put, without, keep, change}
 use Rattle.broker_types.specs.MapLaws.{get-put, without_is, get-keep, valued_is}
 use Rattle.broker_types.specs.Name.{is_mount_name}
@@ -99,11 +99,9 @@ module _ (forms : Forms) (f : Version → Version)
     current = s.current;
     versions = λ n v e. again n v (each n (fin.get k.versions n) refl v
         (sym (get-change_versions f (is_among ns) k.versions n) ∙ e));
-    no_settings = record {
-      cas_required = s.no_settings.cas_required;
-      max_versions = s.no_settings.max_versions;
-      custom_metadata = s.no_settings.custom_metadata;
-    };
+    max_versions = s.max_versions;
+    few_metadata = s.few_metadata;
+    metadata = s.metadata;
   }
     where
       again : (n : ℕ) (v : Version) → IsSoundVersion forms k n v → IsSoundVersion forms (with_changed f ns k) n v
@@ -234,7 +232,9 @@ module _ (forms : Forms) (name : Text) (now : ℕ) (is_name : IsSecretName name)
     updated = moment;
     current = zero-le;
     versions = λ n v e. absurd (none-some _ (sym (fin.get-empty nat_cmp n) ∙ e));
-    no_settings = record { cas_required = refl; max_versions = refl; custom_metadata = refl };
+    max_versions = lit< tt;
+    few_metadata = subst (λ n. n ≤ most_custom_metadata) (sym (fin.len-empty text_cmp Text)) zero-le;
+    metadata = λ n v e. absurd (none-some _ (sym (fin.get-empty text_cmp n) ∙ e));
   }
 
   module _ (limit : ℕ) (object : Text) (o : Option Key) (sound : (k : Key) → o ≡ Some k → IsSoundKey forms name k)
@@ -289,11 +289,9 @@ module _ (forms : Forms) (name : Text) (now : ℕ) (is_name : IsSecretName name)
           updated = moment;
           current = few;
           versions = next_sound;
-          no_settings = record {
-            cas_required = s.no_settings.cas_required;
-            max_versions = s.no_settings.max_versions;
-            custom_metadata = s.no_settings.custom_metadata;
-          };
+          max_versions = s.max_versions;
+          few_metadata = s.few_metadata;
+          metadata = s.metadata;
         }
 
 -- ---- the operations

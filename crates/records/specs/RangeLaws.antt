@@ -5,7 +5,7 @@ use Rattle.std.specs.FinMap as fin
 use Rattle.std.specs.FinMap.{is_sorted}
 use Rattle.std.specs.Int.{to_be_bytes, w128}
 use Rattle.std.specs.List.{list_all}
-use Rattle.std.proofs.Common.{refl, sym, ◌∙◌, ap, subst, lit<, inl, inr, lt_of_le_of_lt}
+use Rattle.std.proofs.Common.{refl, sym, ap, subst, lit<, inl, inr, lt_of_le_of_lt}
 use Rattle.std.proofs.Math.Nat.{le_trans}
 use Rattle.std.proofs.lemmas.Bool.{and_parts, or_cases, leb-true, eqb-true, false≢true}
 use Rattle.std.proofs.lemmas.List.Elements.{All-cons, All-nil}
@@ -14,8 +14,7 @@ use Rattle.std.proofs.lemmas.Str.Ascii.{IsAscii-from_all}
 use Rattle.uuid.specs.Text.{lower}
 use Rattle.uuid.proofs.TextLemmas.{hyphenated_ascii}
 use Rattle.broker_types.specs.Text.{Text, text_cmp}
-use Rattle.broker_types.specs.Map.{entries, get}
-use Rattle.broker_types.specs.MapLaws.{entries-empty}
+use Rattle.broker_types.specs.Map.{Map, entries, get, len}
 use Rattle.broker_types.specs.Identifier.{id}
 use Rattle.broker_types.specs.IdentifierLaws.{id-length}
 use Rattle.broker_types.specs.Name.{is_name, is_name_byte}
@@ -28,7 +27,7 @@ use Rattle.broker_types.specs.Sound.{is_ascending, IsSoundLease, IsSoundKey, IsS
 use Rattle.broker_types.specs.Sound.{IsSoundRole}
 use Rattle.records.specs.CubbyKeyLaws.{length-token}
 use Rattle.records.specs.KeyEntry.{key_entry}
-use Rattle.records.specs.TokenEntry.{token_entry, IsShortPair}
+use Rattle.records.specs.TokenEntry.{token_entry, IsShortPair, IsMeta}
 use Rattle.records.specs.Ranges.{IsTokenInRange, IsLeaseInRange, IsKeyInRange, IsVersionInRange, IsWaitingInRange}
 use Rattle.records.specs.Ranges.{IsRoleInRange}
 
@@ -106,6 +105,18 @@ sorted_ascend (x ∷ y ∷ es) h =
     let inner = and_parts _ _ outer.0 in
     λ i. inner.0 i && sorted_ascend (y ∷ es) outer.1 i
 
+-- the entries of a map of short texts are metadata
+pub meta_in_range : (m : Map Text) → len m < 2 ^ 32
+    → ((name value : Text) → get m name ≡ Some value → IsShortText name × IsShortText value) → IsMeta (entries m)
+meta_in_range m few each =
+    record {
+      members = record {
+        each = each_entry IsShortPair m each;
+        few = subst (λ n. n < 2 ^ 32) (fin.len-entries m) few;
+      };
+      ascend = sorted_ascend (entries m) (is_true _ (fin.entries_sorted m));
+    }
+
 no_token : IsTokenText [] → ⊥
 no_token h = false≢true (ap (λ n. n == 40) (length-token [] h))
 
@@ -139,14 +150,7 @@ token_in_range forms ts s t x here =
       explicit_max_ttl = x_sound.explicit_max_ttl;
       period = x_sound.period;
       uses_left = x_sound.uses_left;
-      meta =
-          record {
-            members = record {
-              each = each_entry IsShortPair x.meta x_sound.meta;
-              few = subst (λ n. n < 2 ^ 32) (fin.len-entries x.meta) x_sound.few_meta;
-            };
-            ascend = sorted_ascend (entries x.meta) (is_true _ (fin.entries_sorted x.meta));
-          };
+      meta = meta_in_range x.meta x_sound.few_meta x_sound.meta;
     }
 
 -- the row of each sound lease
@@ -170,9 +174,13 @@ key_in_range forms q k s =
       current = s.current;
       created = s.created;
       updated = s.updated;
-      cas_required = s.no_settings.cas_required;
-      max_versions = s.no_settings.max_versions;
-      custom_metadata = ap entries s.no_settings.custom_metadata ∙ entries-empty;
+      max_versions = s.max_versions;
+      custom_metadata =
+          meta_in_range k.custom_metadata (lt_of_le_of_lt s.few_metadata (lit< tt)) (λ name value here.
+          let p = s.metadata name value here in (
+            record { utf8 = p.name_utf8; short = lt_of_le_of_lt p.name_short (lit< tt) },
+            record { utf8 = p.value_utf8; short = lt_of_le_of_lt p.value_short (lit< tt) },
+          ));
     }
 
 -- of each sound version

@@ -39,6 +39,12 @@ pub record IsKeyInRange (k : KeyEntry) : Type 0 where
   pub current : k.current ≤ greatest_version
   pub created : IsMoment k.created
   pub updated : IsMoment k.updated
+  pub max_versions : IsWide k.max_versions
+  pub custom_metadata : IsMeta k.custom_metadata
+
+-- a key that a row of format 1 can hold: it has no settings
+pub record IsOldKey (k : KeyEntry) : Type 0 where
+  pub in_range : IsKeyInRange k
   pub cas_required : k.cas_required ≡ false
   pub max_versions : k.max_versions ≡ 0
   pub custom_metadata : k.custom_metadata ≡ []

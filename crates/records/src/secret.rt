@@ -2,40 +2,51 @@
 
 ghost use Rattle.std.specs.Prelude.{◌≡◌, ◌<◌, ◌^◌, [], length, option_map, unwrap_or, IfOk};
 ghost use Rattle.records.specs.KeyEntry.{secret_in};
-ghost use Rattle.records.specs.RowForms.{key_entry_row, version_row};
-ghost use Rattle.records.specs.Reading.{Reads};
-ghost use Rattle.records.specs.Ranges.{IsKeyInRange, IsVersionInRange};
+ghost use Rattle.records.specs.RowForms.{key_entry_row, old_key_row, version_row};
+ghost use Rattle.records.specs.Reading.{Reads, ReadsWithMemory};
+ghost use Rattle.records.specs.Ranges.{IsKeyInRange, IsOldKey, IsVersionInRange};
 
 use crate::field::UpTo;
 use crate::key_record::KeyRecord;
 use crate::row::Row;
-use crate::row_fields::{read_lone, write_row};
+use crate::row_fields::{read_lone, read_lone_in, write_row, write_row_in};
 use crate::text_field::ShortText;
+use crate::token_lists::{Borrowed, Meta};
 use crate::version_record::VersionRecord;
-use broker_types::Fault;
+use broker_types::{Fault, TextBuf};
 use std::alloc::{AllocError, Global};
 
 type At = UpTo<250_000_000_000>;
 
 /// Current version, created, updated.
-type KeyForm = ((UpTo<999_999_999_999_999_999>, At), At);
+type OldKeyForm = ((UpTo<999_999_999_999_999_999>, At), At);
+
+/// The same, whether a write must name the current version, how many versions are kept, custom metadata, as
+/// they are read.
+type KeyForm = (((OldKeyForm, bool), u64), Meta);
+
+/// The same, as they are written.
+type BorrowedForm<'t> = (((OldKeyForm, bool), u64), Borrowed<'t, (TextBuf, TextBuf)>);
 
 /// Created, deleted, whether it is destroyed, secret.
 type VersionForm<'r> = (((At, Option<At>), bool), ShortText<'r>);
 
-/// The key in a row, without its versions; a row has no settings of its own. It fails as `Damaged` if the row is
-/// not one of a key. No memory is taken.
+/// The key in a row, without its versions. It fails as `Damaged` if the row is not one of a key in the
+/// format that is written, and also if memory runs out.
 pub fn read_key(alloc: Global, kept: &Row) -> Result<KeyRecord, Fault>
-    ensures { Reads IsKeyInRange key_entry_row kept.now result }
+    ensures { ReadsWithMemory IsKeyInRange key_entry_row kept.now result }
 {
-    let ((current, created), updated) = read_lone::<(), KeyForm>((), kept)?;
+    let (((((current, created), updated), cas_required), max_versions), meta) = read_lone_in::<
+        Global,
+        KeyForm,
+    >(alloc, kept, 2)?;
     Ok(KeyRecord {
         current,
         created,
         updated,
-        cas_required: false,
-        max_versions: 0,
-        custom_metadata: Vec::new(alloc),
+        cas_required,
+        max_versions,
+        custom_metadata: meta.members,
     })
 }
 
@@ -44,8 +55,28 @@ pub fn write_key(alloc: Global, key: &KeyRecord) -> Result<Row, AllocError>
     requires { IsKeyInRange key.now }
     ensures { IfOk result (λ kept. kept ≡ key_entry_row key.now) }
 {
-    let fields = ((key.current, key.created), key.updated);
-    write_row::<KeyForm>(alloc, "", None, &fields)
+    let meta = Borrowed {
+        items: key.custom_metadata.as_slice(),
+    };
+    let numbers = ((key.current, key.created), key.updated);
+    let fields = (((numbers, key.cas_required), key.max_versions), meta);
+    write_row_in::<BorrowedForm<'_>>(alloc, 2, "", None, &fields)
+}
+
+/// The key in a row of format 1, which has no settings. It fails as `Damaged` if the row is not one of a
+/// key in this format. No memory is taken.
+pub fn read_old_key(alloc: Global, kept: &Row) -> Result<KeyRecord, Fault>
+    ensures { Reads IsOldKey old_key_row kept.now result }
+{
+    let ((current, created), updated) = read_lone::<(), OldKeyForm>((), kept)?;
+    Ok(KeyRecord {
+        current,
+        created,
+        updated,
+        cas_required: false,
+        max_versions: 0,
+        custom_metadata: Vec::new(alloc),
+    })
 }
 
 /// The secret of a version, which has none if it is destroyed.

@@ -8,17 +8,19 @@ use Rattle.broker_types.specs.Names.{token_word, accessor_word}
 use Rattle.broker_types.specs.Text.{Text}
 use Rattle.broker_types.specs.TokenText.{token_text}
 use Rattle.broker_types.specs.declared.words.Words.{Words}
+use Rattle.records.specs.Table.{table_of}
 use Rattle.records.specs.Transaction.{Rows}
+use Rattle.records.specs.Upgraded.{AreUpgraded}
 use Rattle.records_sql.specs.declared.sql_records.SqlRecords.{SqlRecords}
 use Rattle.broker_rows.specs.ClockRow.{HasNoClock}
 use Rattle.broker_rows.specs.Representing.{Represents}
 use Rattle.broker.specs.Kept.{IsHonestStore}
 use Rattle.broker_sql.specs.SqlKept.{kept_records}
 
--- a broker that was there before, with the row of the clock, as it was
+-- a broker that was there before, with the row of the clock, as it was: rows of keys in format 1 are in format 2
 pub record IsOpened (before after : Rows) : Type 0 where
   pub started : ¬ HasNoClock before
-  pub same : after ≡ before
+  pub upgraded : AreUpgraded (table_of before) (table_of after)
 
 -- the first broker, where there was no row, with the root token of word 1
 pub record IsStarted (moment : ℕ) (words : Words) (before after : Rows) (token : Text) : Type 0 where

@@ -10,7 +10,6 @@ use crate::listening::Listening;
 use crate::preparing::prepare;
 use crate::serving::serve;
 use crate::system_clock::SystemClock;
-use broker_sql::SqlStore;
 use broker_types::{Fault, TokenText};
 use hub::{Clock, ConnectionFault, Hub, WordSource};
 use records_sql::SqlRecords;
@@ -49,9 +48,10 @@ where
 
 /// Serves the broker that a file keeps, with its log beside it, or starts one in a file that is new, and prints its
 /// root token on standard output: so many connections to the address, or without an end, and at most `at_once` of them
-/// at once. A file that is not there is made, for its owner alone. It fails as `serve_in_memory` does; and with `Storage` if the
-/// file cannot be opened, or has another table than that of a broker, with `BadStart` if it has rows and none of
-/// the clock, and with `Damaged` if a row cannot be read.
+/// at once. A file that is not there is made, for its owner alone; in one that is there, rows of keys in format 1 are
+/// rewritten in format 2. It fails as `serve_in_memory` does; and with `Storage` if the file cannot be opened, or has
+/// another table than that of a broker, with `BadStart` if it has rows and none of the clock, and with `Damaged` if a
+/// row cannot be read.
 pub fn serve_file(
     rt: &HostRuntime,
     path: &str,
@@ -61,8 +61,8 @@ pub fn serve_file(
 ) -> Result<(), ConnectionFault> {
     // If it is there, or cannot be made, opening it tells.
     let _ = make_private(rt, path);
-    let store = SqlStore::open_from(rt, path, Unknown)?;
-    serve_records(rt, store.into_records(), address, connections, at_once)
+    let records = SqlRecords::open_from(rt, path, Unknown)?;
+    serve_records(rt, records, address, connections, at_once)
 }
 
 /// Makes an empty file that its owner alone may read and write, if there is none.

@@ -55,4 +55,4 @@ class Server:
 
     def rows(self) -> dict:
         """The rows that a store holds for this broker: (kind, key) -> (owner, due, body)."""
-        return rows_of(self.broker, self.parts)
+        return rows_of(self.broker)

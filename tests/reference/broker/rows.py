@@ -2,7 +2,7 @@
 
 The kinds are 1 the clock, 2 used identifiers, 3 tokens, 4 accessors, 5 cubbyhole objects, 6 leases, 7 credentials,
 8 secrets, 9 versions, 10 waiting responses, 11 mounts, 12 policies and 13 roles. A body begins with a byte that is its
-format: 2 for secrets that have settings of their own, 1 for all else.
+format: 2 for secrets, 1 for all else.
 """
 
 from typing import Callable, Optional
@@ -47,12 +47,12 @@ def row(*fields: bytes, owner: str = "", due: Optional[int] = None, form: int = 
     return owner, due, bytes([form]) + b"".join(fields)
 
 
-def rows_of(b: Broker, parts: frozenset) -> dict:
+def rows_of(b: Broker) -> dict:
     """All rows of a broker."""
     rows = {(1, ""): row(number(b.clock))}
     rows |= {(2, each): row() for each in b.used}
     rows |= token_rows(b)
-    rows |= secret_rows(b, "key-settings" in parts)
+    rows |= secret_rows(b)
     for wrapping_token, entry in b.waiting.items():
         kept = entry.text.encode("utf-8")
         rows[10, wrapping_token] = row(
@@ -85,13 +85,13 @@ def token_rows(b: Broker) -> dict:
     return rows
 
 
-def secret_rows(b: Broker, with_settings: bool) -> dict:
+def secret_rows(b: Broker) -> dict:
     """The rows of secrets and of their versions."""
     rows = {}
     for (mount, path), key in b.secrets.items():
         numbers = number(key.current) + number(key.created) + number(key.updated)
         settings = truth(key.cas_required) + number(key.max_versions) + items(key.custom_metadata, pair)
-        rows[8, f"{mount}/{path}"] = row(numbers, settings, form=2) if with_settings else row(numbers)
+        rows[8, f"{mount}/{path}"] = row(numbers, settings, form=2)
         for n, v in key.versions.items():
             rows[9, f"{mount}/{path}\n{n:020}"] = row(
                 number(v.created), optional(v.deleted), truth(v.destroyed),

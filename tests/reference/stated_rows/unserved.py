@@ -84,7 +84,8 @@ def unserved_key_settings(r):
     r.post("secret/metadata/x", {"max_versions": 1}).no_method("GET, LIST, DELETE")
     r.post("secret/data/x", {"data": {}}).is_(200)
     _, _, body = r.broker.rows()[8, "secret/x"]
-    assert body == bytes.fromhex("01" "0000000000000001" "00000000000003e8" "00000000000003e8")
+    numbers, settings = "0000000000000001" "00000000000003e8" "00000000000003e8", "00" "0000000000000000" "00000000"
+    assert body == bytes.fromhex("02" + numbers + settings)
 
 
 @row("The wrap TTL is ignored, and the routes of wrapping are not served so far", "tokens", until=("wrapping",))

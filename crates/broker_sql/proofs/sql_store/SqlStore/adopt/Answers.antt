@@ -2,6 +2,8 @@ use Rattle.std.proofs.Common.{◌≡◌, Ok, Err, Result, sym, ap, ◌∙◌}
 use Rattle.std.proofs.lemmas.Result.{err_from_is_err_and}
 use Rattle.broker_types.specs.declared.fault.Fault.{Fault}
 use Rattle.broker_types.specs.declared.fault.Fault.TheVariants.{BadStart}
+use Rattle.broker_sql.specs.SqlKept.{kept_records, sql_kept}
+use Rattle.broker_sql.proofs.AdoptLemmas.{upgraded_from}
 use Rattle.broker_sql.proofs.sql_store.SqlStore.adopt.Goals as goal
 
 abbrev fault_of : {A : Type 0} → Fault → Result A Fault → Fault
@@ -17,3 +19,8 @@ returns-in_err-is_started-clause-bad_start g c is =
       mismatches = c.in_err-is_started.ensures.mismatches;
       told = λ honest. (c.in_err-is_started.ensures.told honest).bad_start (ap Err same);
     }
+
+pub returns-clause-upgraded : goal.returns-clause-upgraded
+returns-clause-upgraded g c =
+    upgraded_from (kept_records g.S.Store c.args.records) (sql_kept g.S.Store c.is_started.new.self) (sql_kept g.S.Store c.upgrade.new.self)
+    c.in_ok-upgrade.ensures.atomic.mismatches c.in_ok-is_started.ensures.stands c.in_ok-is_started.ensures.same c.in_ok-upgrade.ensures.upgraded
