@@ -14,7 +14,7 @@ import sqlite3
 from dataclasses import dataclass
 
 from asking import LOOK, REQUESTS, WITH_ALL_KINDS, Reply, Request, Server, Story, looked, rows_of
-from program import Running, Wrong, expect
+from program import SECONDS, Running, Wrong, expect
 from rows import bytes_of, close_log, put, read_rows, rows_in
 from stored_broker import broker_of
 from trial import MOMENT, Tally, side_by_side
@@ -231,6 +231,7 @@ def ask_all(trial, file, questions):
             replies.append(data)
         end = running.close()
     expect(end.memory <= MOST_MEMORY, f"it took {end.memory} kB")
+    expect(end.seconds <= SECONDS, f"it took {end.seconds:.1f} s of processor time")
     expect(end.is_kill() if len(replies) == len(questions) else end.is_fault(2, 3, 4), f"{end}")
     return replies, end
 

@@ -29,7 +29,7 @@ from drawn_at_once import LiveDrawer
 from drawn_requests import FIRST, START, request_text
 from fuzzing.events import IDENTIFIER, identifier
 from known import RECEIVED, TOLD, Known, library
-from program import SECONDS, Running, Wrong, expect
+from program import PATIENCE, Running, Wrong, expect
 from rows import bytes_of, put, rows_in, whole_rows_in
 from trial import Tally, side_by_side
 
@@ -137,7 +137,7 @@ class Watched:
 
     def events_of(self, conn, piece):
         """The events that the program makes of a piece: their words, and the replies to them. Raises Wrong."""
-        until, events, read, received = time.monotonic() + SECONDS, [], 0, b""
+        until, events, read, received = time.monotonic() + PATIENCE, [], 0, b""
         while not self.is_over(conn, read == len(piece) and not received and events):
             expect(time.monotonic() < until, f"of {piece[:80]!r} it has read {read} bytes in {len(events)} events")
             for kind, _, value in self.records():

@@ -16,7 +16,7 @@ import time
 from asking import (LOOK, RESPONSE, TOKEN, UNTOLD, VERSION, Reply, Server, after, is_whole, looked, request_text,
                     rows_of, started, word)
 from hostile import environment
-from program import SECONDS, Running, Wrong, expect, reply_from
+from program import PATIENCE, Running, Wrong, expect, reply_from
 from rows import whole_rows_in
 from trial import MOMENT, NOBODY, Tally, differing
 
@@ -25,7 +25,7 @@ CONNECTIONS = 16
 KINDS = ("write", "create", "revoke", "wrap", "unwrap")
 SECRETS = 3  # of a connection
 LEFT = 1  # tokens, and responses, that a connection leaves before some are ended
-LONGEST = 60  # seconds until they are
+LONGEST = 300  # seconds until they are
 FEWEST, MOST = 20, 250  # requests that are answered before a kill
 KILLS = (None, "send", None, None, "pwrite", None, None, "fdatasync", None)  # at a random moment, or before a call
 CALLS = {"send": 1, "pwrite": 3, "fdatasync": 1}  # so many for each request
@@ -139,7 +139,7 @@ class Peer(threading.Thread):
         while not self.load.is_over:
             self.pending = self.pending or self.drawn()
             try:
-                connection = connection or socket.create_connection(self.load.address, timeout=SECONDS)
+                connection = connection or socket.create_connection(self.load.address, timeout=PATIENCE)
                 connection.sendall(self.pending.text)
                 data = reply_from(connection)
             except OSError:
@@ -176,7 +176,7 @@ class Load:
         """Waits for the connections to end."""
         self.is_over = True
         for peer in self.peers:
-            peer.join(2 * SECONDS)
+            peer.join(2 * PATIENCE)
 
     def pending(self):
         """The requests in progress."""
@@ -289,7 +289,7 @@ def try_kills(trial, seed=1, times=len(KILLS), is_gate=True):
 
 def serves_at_once(program):
     """Whether the program serves many connections at once."""
-    told = subprocess.run([program, "serve", "--help"], capture_output=True, text=True, timeout=SECONDS, check=False)
+    told = subprocess.run([program, "serve", "--help"], capture_output=True, text=True, timeout=PATIENCE, check=False)
     return "--at-once" in told.stdout
 
 

@@ -10,7 +10,8 @@ import subprocess
 import time
 from dataclasses import dataclass
 
-SECONDS = 10  # until a program listens, answers or has ended by itself
+SECONDS = 10  # of processor time that a program may take where its files were changed
+PATIENCE = 200  # seconds until a program listens, answers or has ended by itself, also beside much other work
 PAUSE = 0.001  # between two looks at it
 IDLE = 0.15  # after which the program may have closed a connection: it does after 0.25
 PORTS = itertools.count()
@@ -36,6 +37,7 @@ class End:
     printed: str  # on standard output
     said: str  # on standard error
     memory: int  # the most that it had in memory at once, in kB
+    seconds: float  # of processor time that it took
 
     def is_fault(self, *numbers):
         """Whether it ended with one of these faults, as the pages for users say."""
@@ -112,7 +114,7 @@ class Running:
             **({} if longest is None else self.limited(longest)))
         self.connection = None
         self.asked = time.monotonic()  # when the last request was sent, or the connection was made
-        self.memory = 0
+        self.memory, self.seconds = 0, 0.0
         self.printed = b""
 
     @staticmethod
@@ -128,13 +130,13 @@ class Running:
             pid, status, usage = os.wait4(self.process.pid, 0 if wait else os.WNOHANG)
             if pid:
                 self.process.returncode = os.waitstatus_to_exitcode(status)
-                self.memory = usage.ru_maxrss
+                self.memory, self.seconds = usage.ru_maxrss, usage.ru_utime + usage.ru_stime
         return self.process.returncode is not None
 
     def told_root(self):
         """The root token, which a program prints that starts a broker; None if it has ended. Raises TooSlow."""
         while not self.printed.endswith(b"\n"):
-            if not select.select([self.process.stdout], [], [], SECONDS)[0]:
+            if not select.select([self.process.stdout], [], [], PATIENCE)[0]:
                 raise TooSlow("no root token")
             more = os.read(self.process.stdout.fileno(), 4096)
             if not more:
@@ -144,10 +146,10 @@ class Running:
 
     def connect(self):
         """A new connection, or None if the program has ended. Raises TooSlow."""
-        until = time.monotonic() + SECONDS
+        until = time.monotonic() + PATIENCE
         while True:
             try:
-                connection = socket.create_connection(self.address, timeout=SECONDS)
+                connection = socket.create_connection(self.address, timeout=PATIENCE)
                 connection.setsockopt(socket.IPPROTO_TCP, socket.TCP_NODELAY, 1)
                 return connection
             except ConnectionRefusedError:
@@ -174,7 +176,7 @@ class Running:
 
     def ends(self):
         """Waits until the program has ended by itself. Raises TooSlow."""
-        until = time.monotonic() + SECONDS
+        until = time.monotonic() + PATIENCE
         while not self.has_ended():
             if time.monotonic() > until:
                 raise TooSlow("it does not end")
@@ -189,7 +191,8 @@ class Running:
             self.connection.close()
         with self.process.stdout as printed, self.process.stderr as said:
             told = (self.printed + printed.read()).decode(errors="replace")
-            return End(self.process.returncode, told, said.read().decode(errors="replace"), self.memory)
+            error = said.read().decode(errors="replace")
+        return End(self.process.returncode, told, error, self.memory, self.seconds)
 
     def __enter__(self):
         return self
