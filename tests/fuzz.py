@@ -9,10 +9,10 @@ limits, line ends, fields, targets, members and levels of bodies, what is UTF-8 
 on several connections. The same seed makes the same runs. With `--minutes` there is one round of N events after
 another, each with a seed of its own, until the time is over.
 
-Each status and each text of a refusal in docs/API.md has to be met, the latter at each route that names it; that is
-only asked of 10,000 events and more. A run on which a program differs is made short,
-printed, and written to the folder, which is out/fuzz if not given. The last line is `N passed, M failed`; the status is
-0 if nothing failed.
+Each status and each text of a refusal in docs/API.md has to be met, the latter at each route that names it; and of the
+requests whose heads are changed, some so that they mean the same, three in ten have to be served. That is only asked of
+25,000 events and more. A run on which a program differs is made short, printed, and written to the folder, which is
+out/fuzz if not given. The last line is `N passed, M failed`; the status is 0 if nothing failed.
 """
 
 import argparse
@@ -32,7 +32,7 @@ from fuzzing.shrinking import answers_of_reference, shorter
 
 PROGRAMS = ("brokerd replay", "trial_stores list")
 EVENTS = 25_000
-ENOUGH = 10_000  # events that have to meet all that is listed
+ENOUGH = 25_000  # events that have to meet all that is listed
 LENGTH = 130  # events of a run
 SHARES = 4
 SECONDS = 60  # for one run of a program

@@ -6,7 +6,8 @@
 By halves, in steps of 4 KB: for `brokerd replay`, each row of tests/rows with its usual output; and for `brokerd serve
 --db`, a start, requests with the deepest body that is taken, and another start. It prints both figures, and which row
 needs the most. What a program needs for its environment comes on top, so it is run with none. A program that the
-system stops, or whose output is another one, has too little.
+system stops, or whose output is another one, has too little. The system moves the stack by some KB at random, so it has
+to be enough three times.
 """
 
 import re
@@ -23,6 +24,7 @@ from broker import Broker, connect, reply, request  # noqa: E402
 
 STEP = 4  # KB
 MOST = 8192
+TIMES = 3
 LEVELS = 127  # of a body, with itself
 DEEPEST = '{"a":' * (LEVELS - 1) + "{}" + "}" * (LEVELS - 1)
 DEEP_SECRET = '{"data":' + '{"a":' * (LEVELS - 2) + "{}" + "}" * (LEVELS - 2) + "}"
@@ -41,7 +43,7 @@ def least(is_enough):
     low, high = 0, MOST
     while high - low > STEP:
         middle = (low + high) // 2 // STEP * STEP
-        low, high = (low, middle) if is_enough(middle) else (middle, high)
+        low, high = (low, middle) if all(is_enough(middle) for _ in range(TIMES)) else (middle, high)
     return high
 
 
