@@ -2,7 +2,7 @@
 use Rattle.std.proofs.Common.{◌≡◌, ◌≤◌, IsTrue, Ok, Err, Result, sym, subst, ◌∙◌, arith}
 use Rattle.std.specs.Prelude.{IfOk}
 use Rattle.sqlite.specs.Recovery.{Image}
-use Rattle.records.specs.Table.{Table, table_of}
+use Rattle.records.specs.Table.{table_of}
 use Rattle.records.specs.Transaction.{Rows}
 use Rattle.records.specs.Upgraded.{AreUpgraded}
 use Rattle.records.specs.UpgradedLaws.{clock_stays, empty_stays}

@@ -1,4 +1,4 @@
-use Rattle.std.proofs.Common.{None, ap, sym, subst, ◌∙◌}
+use Rattle.std.proofs.Common.{None, subst}
 use Rattle.broker_model.specs.Forms.{forms}
 use Rattle.records.specs.Table.{Table, table_of}
 use Rattle.records.specs.Upgraded.{AreUpgraded}
