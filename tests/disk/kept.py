@@ -136,12 +136,14 @@ class Watched:
         return events
 
     def events_of(self, conn, piece):
-        """The events that the program makes of a piece: their words, and the replies to them. Raises Wrong."""
+        """The events that the program makes of a piece: their words, and the replies to them. What it still reads on
+        another connection, which it has closed, is none. Raises Wrong."""
+        port = self.streams[conn].getsockname()[1]
         until, events, read, received = time.monotonic() + PATIENCE, [], 0, b""
         while not self.is_over(conn, read == len(piece) and not received and events):
             expect(time.monotonic() < until, f"of {piece[:80]!r} it has read {read} bytes in {len(events)} events")
-            for kind, _, value in self.records():
-                if kind == RECEIVED:
+            for kind, peer, value in self.records():
+                if kind == RECEIVED and peer == port:
                     received = piece[read:read + value]
                     read += value
                 elif kind == TOLD:
