@@ -11,6 +11,7 @@ import concurrent.futures
 import json
 import re
 import resource
+import signal
 import subprocess
 import sys
 import threading
@@ -32,6 +33,7 @@ WAYS = ("not loaded", "fault 2", "fault 5", "waits", "serves")  # what may come 
 AT_ONCE = 40  # connections at once where there are 32 descriptors
 MEGABYTE = 1 << 20
 MEMORY = (12, 16, 20, 24, 28, 32, 36, 64)  # megabytes that a program may have in all
+ROOM_FOR_THE_STACK = 20  # with fewer the stack may find no room to grow, and the kernel ends the program by SIGSEGV
 WRITES = 12  # secrets of a megabyte
 ONE_BY_ONE, TOGETHER = 5_000, 500
 GREATEST_MOMENT = 250_000_000_000
@@ -267,7 +269,8 @@ def with_memory(program, megabytes, file):
         end = running.ended(10 if token is None else 0.2)
         if end is not None:
             faults = ("fault 1", "fault 2") if token is None else ("fault 2",)
-            expect(end[0] == 1 and end[1] in faults, f"it ends with {end}")
+            has_no_stack = end[0] == -signal.SIGSEGV and megabytes < ROOM_FOR_THE_STACK
+            expect(has_no_stack or (end[0] == 1 and end[1] in faults), f"it ends with {end}")
     if token is None:  # nobody can ask the broker that the file may have
         return end, 0, refused
     with served(program, *unlimited("--db", file), is_new=False) as running:
@@ -280,16 +283,22 @@ def with_memory(program, megabytes, file):
     return end, len(written), refused
 
 
+def told(end):
+    """How a program ended, or that it did not."""
+    return "serves" if end is None else end[1] or "no stack"
+
+
 @part
 def memory(program, folder):
-    """With little memory in all, writes of a megabyte end in the faults that are listed, and nothing is lost."""
+    """With little memory in all, writes of a megabyte end in the faults that are listed, and nothing is lost. With next
+    to none the stack cannot grow either: that ends the program, and nothing is lost then."""
     wrong, found = [], []
     for megabytes in MEMORY:
         try:
             found.append((megabytes, *with_memory(program, megabytes, str(folder / f"memory-{megabytes}.db"))))
         except (Wrong, OSError) as error:
             wrong.append(f"{megabytes} MB: {error}")
-    print("memory: " + "; ".join(f"{size} MB: {written} written, {refused} refused, {end[1] if end else 'serves'}"
+    print("memory: " + "; ".join(f"{size} MB: {written} written, {refused} refused, {told(end)}"
                                  for size, end, written, refused in found))
     if not any(refused for _, _, _, refused in found):
         wrong.append("nothing is refused")
