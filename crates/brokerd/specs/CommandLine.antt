@@ -1,5 +1,5 @@
 -- The command line of the program, as `clap` sees it (this project's).
-use Rattle.std.specs.Prelude.{◌≡◌, ◌≢◌, ◌⊎◌, ◌<◌, ◌^◌, codes, true, option_map, Option, Some, None, List, ℕ, ⊤, pos}
+use Rattle.std.specs.Prelude.{◌≡◌, ◌≢◌, ◌⊎◌, ◌<◌, ◌^◌, codes, true, false, Bool, option_map, Option, Some, None, List, ℕ, ⊤, pos}
 use Rattle.std.specs.Str.Parse.{IsNumeral, digits_value, without_leading_plus}
 use Rattle.clap.specs.Words.{App, Row, Rule, Text, first_of, new_app, new_rule, one_of, with_rule, with_subcommand}
 use Rattle.clap.specs.declared.builder.action.ArgAction.TheVariants.{SetTrue}
@@ -39,18 +39,31 @@ abbrev pub until_stopped_rule : Rule
 until_stopped_rule =
     record (new_rule (codes "until-stopped")) { long = Some (codes "until-stopped"); action = Some SetTrue }
 
+-- `--stop-on-input`
+abbrev pub stop_on_input_rule : Rule
+stop_on_input_rule =
+    record (new_rule (codes "stop-on-input")) { long = Some (codes "stop-on-input"); action = Some SetTrue }
+
+-- `--log`
+abbrev pub log_rule : Rule
+log_rule = record (new_rule (codes "log")) { long = Some (codes "log"); action = Some SetTrue }
+
 -- `brokerd replay`
 abbrev pub replay_app : App
 replay_app = new_app (codes "replay")
 
--- `brokerd serve --listen ADDR [--db FILE] [--connections N] [--at-once M] [--until-stopped]`
+-- `brokerd serve --listen ADDR [--db FILE] [--connections N] [--at-once M] [--until-stopped] [--stop-on-input] [--log]`
 abbrev pub serve_app : App
 serve_app =
     with_rule
     (with_rule
+    (with_rule
+    (with_rule
     (with_rule (with_rule (with_rule (new_app (codes "serve")) listen_rule) db_rule) connections_rule)
     at_once_rule)
-    until_stopped_rule
+    until_stopped_rule)
+    stop_on_input_rule)
+    log_rule
 
 -- `brokerd`, which has a version and requires a subcommand
 abbrev pub top_app : App
@@ -79,6 +92,11 @@ IsSet text = (text ≢ None) × (text ≢ Some (codes "false"))
 
 abbrev pub IsNotSet : Option Text → Type 0
 IsNotSet text = text ≢ Some (codes "true")
+
+-- whether a flag is set
+abbrev pub IsFlag : Bool → Option Text → Type 0
+IsFlag true text = IsSet text
+IsFlag false text = IsNotSet text
 
 -- how many connections to serve: without an end if that alone is asked for, else the number, or 1,000
 abbrev pub IsCount : List Row → Option ℕ → Type 0
@@ -110,12 +128,14 @@ LacksValues rows = (first_of (codes "listen") rows ≡ None) ⊎ (LacksCount row
 abbrev pub IsMeant : Text → List Row → Option Command → Type 0
 IsMeant name rows None = (name ≢ codes "replay") × (name ≡ codes "serve" → LacksValues rows)
 IsMeant name rows (Some Replay) = name ≡ codes "replay"
-IsMeant name rows (Some (Serve listen db connections at_once)) =
+IsMeant name rows (Some (Serve db settings)) =
     (name ≡ codes "serve")
-    × (first_of (codes "listen") rows ≡ Some listen.now)
     × (option_map (λ path. path.now) db ≡ first_of (codes "db") rows)
-    × IsCount rows connections
-    × IsPlaces rows at_once
+    × (first_of (codes "listen") rows ≡ Some settings.address.now)
+    × IsCount rows settings.connections
+    × IsPlaces rows settings.at_once
+    × IsFlag settings.stops_on_input (one_of (codes "stop-on-input") rows)
+    × IsFlag settings.logs (one_of (codes "log") rows)
 
 -- the command that the words of a line name, by the subcommand that they enter
 abbrev pub IsCommandOf : Option (Text × List Row) → Option Command → Type 0

@@ -1,11 +1,13 @@
 ghost use Rattle.std.specs.Prelude.{◌≡◌, IfOk, IfErr, IfSome, None, codes, false, map, string_bytes, true};
 ghost use Rattle.clap.specs.Words.{app_of, found_of, kind_of, rows_of, rule_of, subcommand_of, takes};
 ghost use Rattle.brokerd.specs.CommandLine.{program_app, replay_app, serve_app, listen_rule};
-ghost use Rattle.brokerd.specs.CommandLine.{at_once_rule, connections_rule, db_rule, until_stopped_rule};
+ghost use Rattle.brokerd.specs.CommandLine.{at_once_rule, connections_rule, db_rule, log_rule};
+ghost use Rattle.brokerd.specs.CommandLine.{stop_on_input_rule, until_stopped_rule};
 ghost use Rattle.brokerd.specs.CommandLine.{IsMeant, IsCommandOf, IsCount, IsPlaces, LacksCount, LacksPlaces};
 
 use clap::error::{Error, ErrorKind};
 use clap::{Arg, ArgAction, ArgMatches};
+use server::Settings;
 use std::alloc::{AllocError, Global};
 use version::VERSION;
 
@@ -20,13 +22,10 @@ const AT_ONCE: u32 = 256;
 pub(crate) enum Command<'a> {
     /// Run the lines of standard input, and write the replies to standard output.
     Replay,
-    /// Serve so many connections to an address, or serve without an end, and at most so many at once, from the broker of
-    /// a file, or from one in memory.
+    /// Serve the broker of a file, or one in memory.
     Serve {
-        listen: &'a str,
         db: Option<&'a str>,
-        connections: Option<u32>,
-        at_once: u32,
+        settings: Settings<'a>,
     },
 }
 
@@ -60,14 +59,18 @@ fn meant<'a>(name: &str, found: &ArgMatches<'a>) -> Option<Command<'a>>
     if name != "serve" {
         return None;
     }
-    let Some(listen) = found.get_str("listen") else {
+    let Some(address) = found.get_str("listen") else {
         return None;
     };
     Some(Command::Serve {
-        listen,
         db: found.get_str("db"),
-        connections: count(found)?,
-        at_once: places(found)?,
+        settings: Settings {
+            address,
+            connections: count(found)?,
+            at_once: places(found)?,
+            stops_on_input: found.get_flag("stop-on-input"),
+            logs: found.get_flag("log"),
+        },
     })
 }
 
@@ -128,7 +131,9 @@ fn serve<'a>(alloc: Global) -> Result<clap::Command<'a>, AllocError>
         .arg(db(alloc))?
         .arg(connections(alloc))?
         .arg(at_once(alloc))?
-        .arg(until_stopped(alloc))
+        .arg(until_stopped(alloc))?
+        .arg(stop_on_input(alloc))?
+        .arg(log(alloc))
 }
 
 fn listen<'a>(alloc: Global) -> Arg<'a>
@@ -181,4 +186,24 @@ fn until_stopped<'a>(alloc: Global) -> Arg<'a>
         .long("until-stopped")
         .action(ArgAction::SetTrue)
         .help("Serve without an end, in place of --connections")
+}
+
+fn stop_on_input<'a>(alloc: Global) -> Arg<'a>
+    ensures rule { rule_of result ≡ stop_on_input_rule }
+    ensures local { result.global ≡ false }
+{
+    Arg::new(alloc, "stop-on-input")
+        .long("stop-on-input")
+        .action(ArgAction::SetTrue)
+        .help("Stop when standard input ends, or a byte comes on it, once what was begun is done")
+}
+
+fn log<'a>(alloc: Global) -> Arg<'a>
+    ensures rule { rule_of result ≡ log_rule }
+    ensures local { result.global ≡ false }
+{
+    Arg::new(alloc, "log")
+        .long("log")
+        .action(ArgAction::SetTrue)
+        .help("Log each request on standard error, by time, status, milliseconds, method and path")
 }

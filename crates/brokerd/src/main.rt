@@ -14,7 +14,7 @@ use clap::error::{Error, ErrorKind};
 use command::{Command, command_of};
 use endpoints::{Reading, Writing};
 use replay::{Exit, replay};
-use server::{serve_file, serve_in_memory};
+use server::{Settings, serve_file, serve_in_memory};
 use std::io::{Eprint, Print};
 use std::process::ExitCode;
 use std::{env, io};
@@ -32,17 +32,8 @@ fn main(rt: HostRuntime) -> anyhow::Result<ExitCode> {
             let exit = replay(alloc, &mut reader, &mut writer);
             tell(&rt, exit)
         }
-        Ok(
-            Some(
-                Command::Serve {
-                    listen,
-                    db,
-                    connections,
-                    at_once,
-                },
-            ),
-        ) => {
-            let exit = serve(&rt, listen, db, connections, at_once);
+        Ok(Some(Command::Serve { db, settings })) => {
+            let exit = serve(&rt, db, &settings);
             tell(&rt, exit)
         }
         Ok(None) => {
@@ -55,18 +46,11 @@ fn main(rt: HostRuntime) -> anyhow::Result<ExitCode> {
     }
 }
 
-/// Serves connections from the broker of a file, or else from one in memory: so many, or without an end, and at most
-/// `at_once` of them at once.
-fn serve(
-    rt: &HostRuntime,
-    listen: &str,
-    db: Option<&str>,
-    connections: Option<u32>,
-    at_once: u32,
-) -> Exit {
+/// Serves the broker of a file, or else one in memory.
+fn serve(rt: &HostRuntime, db: Option<&str>, settings: &Settings<'_>) -> Exit {
     let served = match db {
-        Some(path) => serve_file(rt, path, listen, connections, at_once),
-        None => serve_in_memory(rt, listen, connections, at_once),
+        Some(path) => serve_file(rt, path, settings),
+        None => serve_in_memory(rt, settings),
     };
     match served {
         Ok(()) => Exit::Done,

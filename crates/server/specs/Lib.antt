@@ -1,7 +1,10 @@
 pub mod Drawn
 pub mod Laws
+pub mod LogLine
 pub mod Moments
+pub mod Noting
 pub mod Patience
 pub mod Prepared
+pub mod Replying
 pub mod Serving
 pub mod Starting

@@ -8,6 +8,12 @@ use std::io::ErrorKind;
 /// The token of the listener: no connection has it.
 pub(crate) const LISTENER: Token = Token(usize::MAX);
 
+/// The token of standard input, if its end is waited for: no connection has it.
+pub(crate) const INPUT: Token = Token(usize::MAX - 1);
+
+/// Numbers of connections are below this one. Those from it on, as tokens, are the two above.
+const NUMBERS: u64 = u64::MAX - 1;
+
 /// How many connections are accepted in one round.
 const ROUND: u32 = 16;
 
@@ -20,7 +26,7 @@ pub(crate) struct Accepting {
     listener: Option<TcpListener>,
     /// How many more are to be accepted.
     left: u64,
-    /// The number of the next connection. The greatest number is the listener's token, and no connection's.
+    /// The number of the next connection.
     next: u64,
     at_once: usize,
     /// Whether somebody may wait to be accepted.
@@ -63,6 +69,12 @@ impl Accepting {
     /// The listener was reported.
     pub(crate) fn mark(&mut self) {
         self.may_wait = true;
+    }
+
+    /// Accepts no more. Those that wait in the system's queue are reset.
+    pub(crate) fn shut(&mut self) {
+        self.listener = None;
+        self.may_wait = false;
     }
 
     /// Whether no more connections are accepted.
@@ -136,11 +148,10 @@ impl Accepting {
         }
     }
 
-    /// Drops the listener if enough were accepted, or no number is left.
+    /// Accepts no more if enough were accepted, or no number is left.
     fn shut_if_done(&mut self) {
-        if self.left == 0 || self.next == u64::MAX {
-            self.listener = None;
-            self.may_wait = false;
+        if self.left == 0 || self.next >= NUMBERS {
+            self.shut();
         }
     }
 

@@ -5,6 +5,7 @@ ghost use Rattle.hub.specs.Supplies.{Supplies};
 ghost use Rattle.hub.specs.World.{Connections};
 ghost use Rattle.server.specs.Serving.{ClosesSome, LeavesBelow, LeavesServed};
 
+use crate::log::Log;
 use crate::peer::{Peer, Stay};
 use broker::Store;
 use broker_types::Fault;
@@ -14,6 +15,7 @@ use mio::net::TcpStream;
 use mio::{Interest, Registry, Token};
 use std::alloc::{AllocError, Global};
 use std::collections::{BTreeMap, VecDeque};
+use std::rc::Rc;
 
 /// The connections that are open, by their numbers, and those that can go on.
 #[derive(Drop)]
@@ -24,6 +26,8 @@ pub(crate) struct Links {
     ready: VecDeque<u64>,
     /// Those whose time is over, while they are closed.
     over: Vec<u64>,
+    /// Where requests are logged, if they are.
+    log: Option<Rc<Log>>,
 }
 
 impl Links {
@@ -35,7 +39,13 @@ impl Links {
             peers: BTreeMap::new(alloc),
             ready: VecDeque::with_capacity(alloc, at_once.saturating_mul(2))?,
             over: Vec::with_capacity(alloc, at_once)?,
+            log: None,
         })
+    }
+
+    /// Requests are logged from now on.
+    pub(crate) fn log_to(&mut self, log: Rc<Log>) {
+        self.log = Some(log);
     }
 
     /// How many are open.
@@ -73,6 +83,20 @@ impl Links {
         peer.mark(event);
         if peer.enters_queue() {
             let _ = self.ready.push_back(conn);
+        }
+    }
+
+    /// Each is to end once what was begun on it is done, and at this time at the latest. All go into the queue, so that
+    /// those on which nothing was begun end now.
+    pub(crate) fn leave(&mut self, by: u64) {
+        if let Some(log) = &self.log {
+            log.tell("stopping");
+        }
+        for (conn, peer) in &mut self.peers {
+            peer.leave(by);
+            if peer.enters_queue() {
+                let _ = self.ready.push_back(*conn);
+            }
         }
     }
 
@@ -115,7 +139,14 @@ impl Links {
         let Some(peer) = self.peers.get_mut(&conn) else {
             return Ok(());
         };
-        match peer.turn(hub, first, clock, words, now) {
+        if let Some(log) = &self.log {
+            log.begin();
+        }
+        let turned = peer.turn(hub, first, clock, words, now);
+        if let Some(log) = &self.log {
+            log.end(peer.status());
+        }
+        match turned {
             Ok(Stay::Ready) => {
                 peer.enters_queue();
                 let _ = self.ready.push_back(conn);

@@ -3,21 +3,28 @@ ghost use Rattle.hub.specs.Supplies.{Supplies};
 ghost use Rattle.hub.specs.World.{Connections};
 ghost use Rattle.server.specs.Serving.{ClosesSome, LeavesBelow, LeavesServed};
 
-use crate::accepting::{Accepting, LISTENER};
+use crate::accepting::{Accepting, INPUT, LISTENER};
 use crate::links::Links;
-use crate::waiting::TICK;
+use crate::log::Log;
+use crate::waiting::{LONGEST_EXCHANGE, TICK};
 use broker::Store;
 use broker_types::Fault;
 use hub::{Hub, WordSource};
 use mio::net::TcpListener;
-use mio::{Events, Poll};
+use mio::unix::SourceFd;
+use mio::{Events, Interest, Poll};
 use std::alloc::AllocGlobal;
 use std::net::Net;
+use std::os::fd::RawFd;
+use std::rc::Rc;
 use std::time::{Clock, Duration, Instant};
 use std::{io, net, thread};
 
 /// How many turns each connection gets between two looks at the system.
 const PASSES: u32 = 4;
+
+/// The descriptor of standard input.
+const STANDARD_INPUT: RawFd = 0;
 
 /// How much time one round counts for at most, in milliseconds: a wait of `TICK`, and some for what is done then.
 const LONGEST_ROUND: u64 = 100;
@@ -37,6 +44,8 @@ pub struct Listening {
     now: u64,
     /// When the limits are to be looked at.
     look_at: u64,
+    /// Whether a stop was asked for, and was not begun yet.
+    is_to_stop: bool,
 }
 
 impl Listening {
@@ -71,7 +80,23 @@ impl Listening {
             age: 0,
             now: 0,
             look_at: TICK,
+            is_to_stop: false,
         })
+    }
+
+    /// The end of standard input, or a byte on it, is to stop the serving: no more connections are accepted, those that
+    /// are open end once what was begun on them is done, after `LONGEST_EXCHANGE` at the latest, and then all is done.
+    /// Nothing is read there. It fails if standard input is a file, or `/dev/null`: they cannot be waited for.
+    pub fn stop_on_input(&mut self) -> io::Result<()> {
+        let mut input = SourceFd(&STANDARD_INPUT);
+        self.poll
+            .registry()
+            .register(&mut input, INPUT, Interest::READABLE)
+    }
+
+    /// Requests are logged from now on.
+    pub(crate) fn log_to(&mut self, log: Rc<Log>) {
+        self.links.log_to(log);
     }
 
     /// Connections are accepted under numbers from this one on.
@@ -99,6 +124,7 @@ impl Listening {
         ensures below { (all : Connections) → ConnectionsRepresent hub.old all → LeavesBelow first all hub.new }
     {
         self.await_events(rt);
+        self.stop_if_asked();
         self.make_room(hub, first);
         self.accepting
             .accept(self.poll.registry(), &mut self.links, self.now);
@@ -121,7 +147,16 @@ impl Listening {
             thread::sleep(rt, Duration::from_millis(TICK));
         }
         self.count_time(rt);
-        mark_all(&self.events, &mut self.accepting, &mut self.links);
+        self.is_to_stop |= mark_all(&self.events, &mut self.accepting, &mut self.links);
+    }
+
+    /// Accepts no more, and has each connection end, if that was asked for.
+    fn stop_if_asked(&mut self) {
+        if self.is_to_stop {
+            self.is_to_stop = false;
+            self.accepting.shut();
+            self.links.leave(self.now.saturating_add(LONGEST_EXCHANGE));
+        }
     }
 
     /// Counts the time since the last round, as far as a round counts.
@@ -189,15 +224,20 @@ impl Listening {
     }
 }
 
-/// Takes down all that was reported.
-fn mark_all(events: &Events, accepting: &mut Accepting, links: &mut Links) {
+/// Takes down all that was reported. Whether standard input was.
+fn mark_all(events: &Events, accepting: &mut Accepting, links: &mut Links) -> bool {
+    let mut is_input = false;
     for event in events {
-        if event.token() == LISTENER {
+        let token = event.token();
+        if token == LISTENER {
             accepting.mark();
+        } else if token == INPUT {
+            is_input = true;
         } else {
-            links.mark(event.token().0 as u64, event);
+            links.mark(token.0 as u64, event);
         }
     }
+    is_input
 }
 
 /// The age in milliseconds; the last one if it cannot be told.

@@ -6,6 +6,7 @@ ghost use Rattle.hub.specs.World.{Connections};
 ghost use Rattle.hub.specs.declared.serve.ConnectionFault.TheVariants.{Broker};
 ghost use Rattle.server.specs.Serving.{LeavesBelow, LeavesServed, is_skipped};
 
+use crate::replying::Replying;
 use crate::waiting::{Wait, is_over};
 use broker::Store;
 use broker_types::Fault;
@@ -34,6 +35,10 @@ pub(crate) struct Peer {
     since: u64,
     /// When the last byte came or went.
     last_byte: u64,
+    /// If the program is to stop: when it is closed at the latest.
+    leaves_by: Option<u64>,
+    /// The status of the reply that was made in the last turn.
+    status: Option<u16>,
 }
 
 /// What a turn left of a connection.
@@ -60,6 +65,8 @@ impl Peer {
             wait: Wait::Progress,
             since: now,
             last_byte: now,
+            leaves_by: None,
+            status: None,
         }
     }
 
@@ -97,6 +104,7 @@ impl Peer {
         ensures below { (all : Connections) → ConnectionsRepresent hub.old all → LeavesBelow first all hub.new }
     {
         self.is_queued = false;
+        self.status = None;
         if self.wait == Wait::Farewell {
             return Ok(self.drain());
         }
@@ -104,17 +112,29 @@ impl Peer {
         if self.link.conn() < first {
             return Ok(Stay::Gone);
         }
+        if self.is_done(hub) {
+            return Ok(self.begin_farewell(now));
+        }
         let mut reader = NowReading::new(&self.stream);
-        let mut writer = NowWriting::new(&self.stream);
+        let mut writer = Replying::new(NowWriting::new(&self.stream));
         match take_turn(hub, &mut self.link, &mut reader, &mut writer, clock, words) {
             Ok(turn) => {
                 let is_emptied = reader.is_emptied();
-                let is_full = writer.is_full();
+                let is_full = writer.sink().is_full();
+                if turn == Turn::Answered {
+                    self.status = writer.status();
+                }
                 self.unmark(turn, is_emptied, is_full);
                 Ok(self.settle(hub, turn, now))
             }
             Err(fault) => unskipped(fault),
         }
+    }
+
+    /// The status of the reply that was made in the last turn, if one was, and as much of it was sent as there was room
+    /// for.
+    pub(crate) fn status(&self) -> Option<u16> {
+        self.status
     }
 
     /// Takes down that a call would have waited now, or that a read gave fewer bytes than there was room for, and so has
@@ -133,7 +153,7 @@ impl Peer {
         if turn == Turn::WentOn || turn == Turn::Answered {
             self.note(hub, turn == Turn::Answered, now);
         }
-        if !self.link.is_sending() && hub.is_closed(self.link.conn()) {
+        if self.is_done(hub) {
             return self.begin_farewell(now);
         }
         if turn == Turn::Ended {
@@ -169,6 +189,14 @@ impl Peer {
         self.can_read || hub.has_request(self.link.conn())
     }
 
+    /// Whether the last reply was sent: the connection is closed, or it is to end, and nothing of a further request was
+    /// read.
+    fn is_done<S: Store>(&self, hub: &Hub<S>) -> bool {
+        let conn = self.link.conn();
+        let ends = self.leaves_by.is_some() && !hub.has_rest(conn);
+        !self.link.is_sending() && (ends || hub.is_closed(conn))
+    }
+
     /// Tries once to send what was not sent of the last reply.
     pub(crate) fn send_rest(&self) {
         if self.link.is_sending() {
@@ -177,6 +205,14 @@ impl Peer {
     }
 
     // ---- the farewell
+
+    /// It is to end once what was begun is done, and at this time at the latest, or at an earlier one that was told
+    /// before.
+    pub(crate) fn leave(&mut self, by: u64) {
+        if self.leaves_by.is_none() {
+            self.leaves_by = Some(by);
+        }
+    }
 
     /// The last reply was sent. The peer is told so, and what it still sends is taken for a quarter of a second at most:
     /// a stream that is closed with bytes unread is reset, and its peer can lose the reply (RFC 9112, section 9.6).
@@ -215,7 +251,8 @@ impl Peer {
     pub(crate) fn is_over(&self, now: u64, is_pressed: bool) -> bool {
         let silence = now.saturating_sub(self.last_byte);
         let age = now.saturating_sub(self.since);
-        is_over(self.wait, silence, age, is_pressed)
+        let has_to_leave = matches!(self.leaves_by, Some(by) if by <= now);
+        has_to_leave || is_over(self.wait, silence, age, is_pressed)
     }
 
     /// Since when it has been idle, if it is: it is between requests, and nothing of it waits to be read.

@@ -7,62 +7,63 @@ ghost use Rattle.server.specs.Starting.{IsFaultOfNew, ReturnsWhatWasWritten};
 
 use crate::drawn::seeded;
 use crate::listening::Listening;
+use crate::log::Log;
+use crate::noting::Noting;
 use crate::preparing::prepare;
 use crate::serving::serve;
+use crate::settings::Settings;
 use crate::system_clock::SystemClock;
 use broker_types::{Fault, TokenText};
 use hub::{Clock, ConnectionFault, Hub, WordSource};
 use records_sql::SqlRecords;
 use sqlite::{Alter, Unknown};
-use std::alloc::AllocGlobal;
 use std::fs::OpenOptions;
+use std::io;
 use std::io::{Print, Write};
-use std::net::{Net, TcpListener, TcpStream};
+use std::net::TcpListener;
 use std::os::unix::fs::OpenOptionsExt;
-use std::random::RandomSource;
+use std::rc::Rc;
 use std::rt::HostRuntime;
-use std::{io, time};
 
-/// Starts a broker in memory, prints its root token on standard output, and serves so many connections to the
-/// address, or serves without an end, and at most `at_once` of them at once. It fails before it serves if memory runs
-/// out, the words of the root token and its accessor are equal, the system has no randomness or the address cannot be
-/// listened on (a fault of reading), or the token cannot be printed (one of writing); and at any time if the database in
-/// memory fails, which it does if memory runs out for it.
-pub fn serve_in_memory<R>(
-    rt: &R,
-    address: &str,
-    connections: Option<u32>,
-    at_once: u32,
-) -> Result<(), ConnectionFault>
-where
-    R: AllocGlobal
-        + Print
-        + RandomSource
-        + time::Clock
-        + Net<Listener = TcpListener, Stream = TcpStream>,
+/// Starts a broker in memory, prints its root token on standard output, and serves it. It fails before it serves if
+/// memory runs out, the words of the root token and its accessor are equal, the system has no randomness, the address
+/// cannot be listened on or standard input not be waited for (a fault of reading), or the token cannot be printed (one of
+/// writing); and at any time if the database in memory fails, which it does if memory runs out for it.
+pub fn serve_in_memory(rt: &HostRuntime, settings: &Settings<'_>) -> Result<(), ConnectionFault>
     ensures { IfErr result IsFaultOfNew }
 {
+    let log = begin_log(rt, settings)?;
     let records = SqlRecords::in_memory(rt.alloc())?;
-    serve_records(rt, records, address, connections, at_once)
+    serve_records(rt, records, settings, log)
 }
 
 /// Serves the broker that a file keeps, with its log beside it, or starts one in a file that is new, and prints its
-/// root token on standard output: so many connections to the address, or without an end, and at most `at_once` of them
-/// at once. A file that is not there is made, for its owner alone; in one that is there, rows of keys in format 1 are
-/// rewritten in format 2. It fails as `serve_in_memory` does; and with `Storage` if the file cannot be opened, or has
-/// another table than that of a broker, with `BadStart` if it has rows and none of the clock, and with `Damaged` if a
-/// row cannot be read.
+/// root token on standard output. A file that is not there is made, for its owner alone; in one that is there, rows of
+/// keys in format 1 are rewritten in format 2. It fails as `serve_in_memory` does; and with `Storage` if the file cannot
+/// be opened, or has another table than that of a broker, with `BadStart` if it has rows and none of the clock, and with
+/// `Damaged` if a row cannot be read.
 pub fn serve_file(
     rt: &HostRuntime,
     path: &str,
-    address: &str,
-    connections: Option<u32>,
-    at_once: u32,
+    settings: &Settings<'_>,
 ) -> Result<(), ConnectionFault> {
+    let log = begin_log(rt, settings)?;
     // If it is there, or cannot be made, opening it tells.
     let _ = make_private(rt, path);
     let records = SqlRecords::open_from(rt, path, Unknown)?;
-    serve_records(rt, records, address, connections, at_once)
+    serve_records(rt, records, settings, log)
+}
+
+/// The log, if there is to be one.
+fn begin_log(rt: &HostRuntime, settings: &Settings<'_>) -> Result<Option<Rc<Log>>, Fault>
+    ensures { IfErr result (λ fault. fault ≡ Fault.Memory) }
+{
+    if !settings.logs {
+        return Ok(None);
+    }
+    let log = Rc::new(rt.alloc(), Log::new(*rt))?;
+    log.tell("starting");
+    Ok(Some(log))
 }
 
 /// Makes an empty file that its owner alone may read and write, if there is none.
@@ -77,19 +78,12 @@ fn make_private(rt: &HostRuntime, path: &str) -> io::Result<()> {
 
 /// Serves the broker that the records have, or starts one in records without a row. A store that has just been started,
 /// in a storage that returns what was written, has no damaged row.
-fn serve_records<R, S: Alter + Drop>(
-    rt: &R,
+fn serve_records<S: Alter + Drop>(
+    rt: &HostRuntime,
     records: SqlRecords<S>,
-    address: &str,
-    connections: Option<u32>,
-    at_once: u32,
+    settings: &Settings<'_>,
+    log: Option<Rc<Log>>,
 ) -> Result<(), ConnectionFault>
-where
-    R: AllocGlobal
-        + Print
-        + RandomSource
-        + time::Clock
-        + Net<Listener = TcpListener, Stream = TcpStream>,
     ensures { ReturnsWhatWasWritten S.Store → (kept_records S.Store records).rows ≡ map.empty
         → IfErr result IsFaultOfNew }
 {
@@ -103,25 +97,38 @@ where
     {
         return Err(ConnectionFault::Write);
     }
-    let listening = match listen(rt, address, connections, at_once) {
+    let listening = match listen(rt, settings, &log) {
         Ok(listening) => listening,
         Err(error) => return Err(fault_of(&error)),
     };
-    let mut hub = Hub::new(rt.alloc(), store);
+    let mut hub = Hub::new(rt.alloc(), Noting::new(store, log.clone()));
     serve(rt, &mut hub, listening, &mut clock, &mut words)?;
+    if let Some(log) = &log {
+        log.tell("stopped");
+    }
     Ok(())
 }
 
-/// Listens on the address.
-fn listen<R>(rt: &R, address: &str, connections: Option<u32>, at_once: u32) -> io::Result<Listening>
-where
-    R: AllocGlobal + time::Clock + Net<Listener = TcpListener, Stream = TcpStream>,
-{
-    let listener = TcpListener::bind(rt, address)?;
-    Listening::new(rt, listener, connections, at_once)
+/// Listens on the address, and waits for the end of standard input if it is to stop then.
+fn listen(
+    rt: &HostRuntime,
+    settings: &Settings<'_>,
+    log: &Option<Rc<Log>>,
+) -> io::Result<Listening> {
+    let listener = TcpListener::bind(rt, settings.address)?;
+    let address = listener.local_addr()?;
+    let mut listening = Listening::new(rt, listener, settings.connections, settings.at_once)?;
+    if settings.stops_on_input {
+        listening.stop_on_input()?;
+    }
+    if let Some(log) = log {
+        log.tell(format_args!("listening on {address}"));
+        listening.log_to(Rc::clone(log));
+    }
+    Ok(listening)
 }
 
-/// The fault where the address cannot be listened on: one of memory, or of reading.
+/// The fault where the address cannot be listened on, or standard input not be waited for: one of memory, or of reading.
 fn fault_of(error: &io::Error) -> ConnectionFault
     ensures { IsFaultOfNew result }
 {

@@ -24,8 +24,13 @@ impl<'r, R: Clock> SystemClock<'r, R> {
 
 impl<'r, R: Clock> hub::Clock for SystemClock<'r, R> {
     fn now(&mut self) -> Moment {
-        moment_of(&SystemTime::now(self.rt))
+        moment_now(self.rt)
     }
+}
+
+/// The moment that the system's clock tells now.
+pub(crate) fn moment_now<R: Clock>(rt: &R) -> Moment {
+    moment_of(&SystemTime::now(rt))
 }
 
 /// The moment of a time: one before 1970, or that cannot be read, counts as 0, and one past the greatest

@@ -25,7 +25,7 @@ const LONG_PAUSE: u64 = 90_000;
 const LONGEST_SILENCE: u64 = 5_000;
 
 /// How long a peer may take to send one request, or to take one reply, in milliseconds.
-const LONGEST_EXCHANGE: u64 = 20_000;
+pub(crate) const LONGEST_EXCHANGE: u64 = 20_000;
 
 /// Whether a peer's time is over, if the last byte came or went so many milliseconds ago, and what is waited for began
 /// so many ago. It is pressed if its place is wanted, or no more connections are accepted.

@@ -1,7 +1,7 @@
-use Rattle.std.proofs.Common.{◌≡◌, inl, inr, ℕ, List, Option, Some, None, Result, Ok, Bool, true, false, codes, refl}
+use Rattle.std.proofs.Common.{◌≡◌, inl, inr, ℕ, List, Option, Some, None, Result, Ok, codes, refl}
 use Rattle.clap.specs.Words.{Text, found_of, one_text, TriesOne}
 use Rattle.clap.proofs.WalkLemmas.{one_text-rows}
-use Rattle.brokerd.specs.CommandLine.{IsNotSet, IsSet}
+use Rattle.brokerd.proofs.FlagLemmas.{not_set, set}
 use Rattle.brokerd.proofs.NumberLemmas.{Reads, counted, uncounted}
 use Rattle.brokerd.proofs.command.count.Goals as goal
 
@@ -18,14 +18,6 @@ no_text : {E : Type 0} (G : List ℕ → Result ℕ E → Type 0) (o : Option Te
 no_text G None given is value = refl
 no_text G (Some t) None is value = absurd (value t refl)
 no_text G (Some t) (Some v) is value = cc is
-
-set : (o : Option Text) (flag : Bool) → (o ≡ None → flag ≡ false) → (o ≡ Some (codes "false") → flag ≡ false) → flag ≡ true → IsSet o
-set o false none other is = cc is
-set o true none other is = (λ e. cc (none e), λ e. cc (other e))
-
-not_set : (o : Option Text) (flag : Bool) → (o ≡ Some (codes "true") → flag ≡ true) → flag ≡ false → IsNotSet o
-not_set o true value is = cc is
-not_set o false value is = λ e. cc (value e)
 
 pub returns-in_default-clause-none : goal.returns-in_default-clause-none
 returns-in_default-clause-none c = λ _.

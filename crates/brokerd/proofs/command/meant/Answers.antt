@@ -1,6 +1,7 @@
 use Rattle.std.proofs.Common.{◌≡◌, ◌≢◌, ◌∙◌, inl, inr, List, ℕ, Option, Some, None, option_map, sym, refl, ap, codes, Bor, rules}
-use Rattle.clap.specs.Words.{found_of}
-use Rattle.clap.proofs.WalkLemmas.{first_value-rows}
+use Rattle.clap.specs.Words.{found_of, one_text}
+use Rattle.clap.proofs.WalkLemmas.{first_value-rows, one_text-rows}
+use Rattle.brokerd.proofs.FlagLemmas.{is_flag}
 use Rattle.brokerd.proofs.command.meant.Goals as goal
 
 none_of : {X : Type 0} (o : Option X) → ((x : X) → o ≢ Some x) → o ≡ None
@@ -24,8 +25,12 @@ pub returns : goal.returns
 returns c =
     let f = found_of c.args.found.now in (
       search rules,
-      sym (c.get_str.ensures ∙ first_value-rows f (codes "listen")) ∙ ap (λ (o : Option (Bor (List ℕ))). option_map (λ s. s.now) o) c.in-Some.is,
       c.get_str-2.ensures ∙ first_value-rows f (codes "db"),
+      sym (c.get_str.ensures ∙ first_value-rows f (codes "listen")) ∙ ap (λ (o : Option (Bor (List ℕ))). option_map (λ s. s.now) o) c.in-Some.is,
       c.in_ok-count.ensures.some,
       c.in_ok-places.ensures.some,
+      rw (← one_text-rows f (codes "stop-on-input"))
+      (is_flag (one_text f (codes "stop-on-input")) c.get_flag.result c.get_flag.ensures.none c.get_flag.ensures.other c.get_flag.ensures.value),
+      rw (← one_text-rows f (codes "log"))
+      (is_flag (one_text f (codes "log")) c.get_flag-2.result c.get_flag-2.ensures.none c.get_flag-2.ensures.other c.get_flag-2.ensures.value),
     )

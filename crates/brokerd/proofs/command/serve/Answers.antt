@@ -11,4 +11,6 @@ returns c =
     let two = c.in_ok-arg-2.ensures.shape c.db.ensures.local ∙ ap₂ with_rule one c.db.ensures.rule in
     let three = c.in_ok-arg-3.ensures.shape c.connections.ensures.local ∙ ap₂ with_rule two c.connections.ensures.rule in
     let four = c.in_ok-arg-4.ensures.shape c.at_once.ensures.local ∙ ap₂ with_rule three c.at_once.ensures.rule in
-    IfOk-weaker c.arg-5.result _ _ (λ d h. h.shape c.until_stopped.ensures.local ∙ ap₂ with_rule four c.until_stopped.ensures.rule) c.arg-5.ensures
+    let five = c.in_ok-arg-5.ensures.shape c.until_stopped.ensures.local ∙ ap₂ with_rule four c.until_stopped.ensures.rule in
+    let six = c.in_ok-arg-6.ensures.shape c.stop_on_input.ensures.local ∙ ap₂ with_rule five c.stop_on_input.ensures.rule in
+    IfOk-weaker c.arg-7.result _ _ (λ d h. h.shape c.log.ensures.local ∙ ap₂ with_rule six c.log.ensures.rule) c.arg-7.ensures

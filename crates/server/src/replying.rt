@@ -1,0 +1,56 @@
+//! A sink that knows the status of the reply that it is given.
+
+use endpoints::{Failed, NowSink};
+
+/// A sink over another one, which remembers the status line that the last bytes began with.
+#[derive(Drop)]
+pub(crate) struct Replying<W: NowSink> {
+    sink: W,
+    status: Option<u16>,
+}
+
+impl<W: NowSink> Replying<W> {
+    ghost use Rattle.std.specs.Prelude.{◌≡◌};
+
+    /// The sink, with what was pushed to it.
+    pub(crate) fn new(sink: W) -> Replying<W>
+        ensures written { ⟦<Replying<W> as NowSink>⟧.written result ≡ W.written sink }
+        ensures failed { ⟦<Replying<W> as NowSink>⟧.has_failed result ≡ W.has_failed sink }
+    {
+        Replying { sink, status: None }
+    }
+
+    /// The sink below.
+    pub(crate) fn sink(&self) -> &W {
+        &self.sink
+    }
+
+    /// The status of the reply that the last push began, if that was a reply.
+    pub(crate) fn status(&self) -> Option<u16> {
+        self.status
+    }
+}
+
+impl<W: NowSink> NowSink for Replying<W> {
+    ghost use Rattle.server.specs.Replying.{sink_of};
+
+    ghost written = { λ replying. W.written (sink_of replying) };
+
+    ghost has_failed = { λ replying. W.has_failed (sink_of replying) };
+
+    fn push_now(&mut self, bytes: &[u8]) -> Result<usize, Failed> {
+        self.status = status_of(bytes);
+        self.sink.push_now(bytes)
+    }
+
+    fn failed(&self) -> bool {
+        self.sink.failed()
+    }
+}
+
+/// The status of a reply that begins with `HTTP/1.1 ` and three digits (RFC 9112, section 4).
+fn status_of(reply: &[u8]) -> Option<u16> {
+    let rest = reply.strip_prefix(b"HTTP/1.1 ")?;
+    let digits = str::from_utf8(rest.get(..3)?).ok()?;
+    digits.parse().ok()
+}

@@ -1,0 +1,14 @@
+/// How a broker is served.
+#[derive(Clone, Copy, Debug, PartialEq, Eq)]
+pub struct Settings<'a> {
+    /// The address to listen on, such as `127.0.0.1:8200`. With port 0 the system chooses one, which the log names.
+    pub address: &'a str,
+    /// How many connections are served; without a number as many as come.
+    pub connections: Option<u32>,
+    /// How many are served at once at most.
+    pub at_once: u32,
+    /// Whether the end of standard input, or a byte on it, stops the serving.
+    pub stops_on_input: bool,
+    /// Whether each request is logged on standard error.
+    pub logs: bool,
+}
