@@ -111,5 +111,9 @@ fn push_segment(shown: &mut Vec<u8>, segment: &[u8]) -> Result<(), AllocError>
 fn shown_byte(byte: u8) -> u8
     ensures { result ≡ shown_byte byte }
 {
-    if byte > b' ' && byte < 0x7F { byte } else { b'?' }
+    if byte > b' ' && byte < 0x7F {
+        byte
+    } else {
+        b'?'
+    }
 }

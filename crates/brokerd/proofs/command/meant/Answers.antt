@@ -30,7 +30,7 @@ returns c =
       c.in_ok-count.ensures.some,
       c.in_ok-places.ensures.some,
       rw (← one_text-rows f (codes "stop-on-input"))
-      (is_flag (one_text f (codes "stop-on-input")) c.get_flag.result c.get_flag.ensures.none c.get_flag.ensures.other c.get_flag.ensures.value),
+          (is_flag (one_text f (codes "stop-on-input")) c.get_flag.result c.get_flag.ensures.none c.get_flag.ensures.other c.get_flag.ensures.value),
       rw (← one_text-rows f (codes "log"))
-      (is_flag (one_text f (codes "log")) c.get_flag-2.result c.get_flag-2.ensures.none c.get_flag-2.ensures.other c.get_flag-2.ensures.value),
+          (is_flag (one_text f (codes "log")) c.get_flag-2.result c.get_flag-2.ensures.none c.get_flag-2.ensures.other c.get_flag-2.ensures.value),
     )
