@@ -337,7 +337,8 @@ count python3 tests/clients/damaged.py "$program"
 count python3 tests/upgrade/opened.py "$program"
 count python3 tests/upgrade/rewritten.py "$program"
 count python3 tests/upgrade/killed.py "$program" --keys 5000
-count_together many_peers.py slow_peers.py "slow_peers.py --alone" scarce_descriptors.py
+count_together many_peers.py slow_peers.py "slow_peers.py --alone" scarce_descriptors.py stopping.py
+count python3 tests/clients/logged.py "$program"
 count python3 tests/clients/short_lives.py "$program" 4000
 count python3 tests/clients/fault_at_once.py "$program"
 count python3 tests/drawn_at_once.py "$program"
