@@ -1,5 +1,5 @@
 -- Lines of the log (this project's format). The time is that of RFC 3339, section 5.6.
-use Rattle.std.specs.Prelude.{ℕ, ◌&&◌, ◌==◌, nat_lt, bytes_eq, if◌then◌else◌, List, [], ◌∷◌, ◌++◌, map, take, codes, decimal}
+use Rattle.std.specs.Prelude.{ℕ, ◌&&◌, ◌==◌, nat_lt, bytes_eq, if◌then◌else◌, [], ◌∷◌, ◌++◌, map, take, codes, decimal}
 use Rattle.std.specs.Prelude.{Option, Some, None}
 use Rattle.broker_types.specs.Text.{Text}
 use Rattle.broker_types.specs.Time.{time_text}

@@ -1,8 +1,8 @@
 //! Lines of the log.
 
-ghost use Rattle.std.specs.Prelude.{◌≡◌, ◌<◌, ◌^◌, ◌++◌, [], IfOk, OnOk, Some, map, option_map, codes};
-ghost use Rattle.server.specs.LogLine.{Asked as AskedText, asked_text, line_of, method_of, shown_byte};
-ghost use Rattle.server.specs.LogLine.{shown_path, shown_segment, status_text};
+ghost use Rattle.std.specs.Prelude.{◌≡◌, ◌++◌, [], IfOk, OnOk, string_bytes};
+ghost use Rattle.server.specs.LogLine.{asked_text, line_of, method_of, shown_byte, shown_path, shown_segment};
+ghost use Rattle.server.specs.LogLine.{status_text};
 
 use broker_types::{Ask, Moment, Verb, time_text};
 use std::alloc::{AllocError, Global};
@@ -45,15 +45,20 @@ pub(crate) fn log_line(
     let time = time_text(alloc, moment.seconds())?;
     let status = status_shown(alloc, status)?;
     let mut line = format!(in alloc; "{time} {status} {millis}ms ")?.into_bytes();
-    match asked {
-        Some(asked) => {
-            line.extend_from_slice(method(asked.verb).as_bytes())?;
-            line.extend_from_slice(b" /v1/")?;
-            line.extend_from_slice(&asked.path)?;
-        }
-        None => line.extend_from_slice(b"- -")?,
-    }
+    push_asked(&mut line, asked)?;
     Ok(line)
+}
+
+/// Adds the method and the path, if they were read.
+fn push_asked(line: &mut Vec<u8>, asked: &Option<Asked>) -> Result<(), AllocError>
+    ensures { OnOk result (line.new.items ≡ line.old.items ++ asked_text asked.now) }
+{
+    let Some(asked) = asked else {
+        return line.extend_from_slice(b"- -");
+    };
+    line.extend_from_slice(method(asked.verb).as_bytes())?;
+    line.extend_from_slice(b" /v1/")?;
+    line.extend_from_slice(&asked.path)
 }
 
 fn status_shown(alloc: Global, status: Option<u16>) -> Result<String, AllocError>

@@ -121,9 +121,7 @@ impl Peer {
             Ok(turn) => {
                 let is_emptied = reader.is_emptied();
                 let is_full = writer.sink().is_full();
-                if turn == Turn::Answered {
-                    self.status = writer.status();
-                }
+                self.status = made_in(turn, writer.status());
                 self.unmark(turn, is_emptied, is_full);
                 Ok(self.settle(hub, turn, now))
             }
@@ -261,6 +259,14 @@ impl Peer {
             Wait::NextRequest if !self.is_queued => Some(self.since),
             _ => None,
         }
+    }
+}
+
+/// The status of the bytes that were sent last, if a reply was made in the turn.
+fn made_in(turn: Turn, status: Option<u16>) -> Option<u16> {
+    match turn {
+        Turn::Answered => status,
+        _ => None,
     }
 }
 

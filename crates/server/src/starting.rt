@@ -66,6 +66,13 @@ fn begin_log(rt: &HostRuntime, settings: &Settings<'_>) -> Result<Option<Rc<Log>
     Ok(Some(log))
 }
 
+/// The same log once more.
+fn shared(log: &Option<Rc<Log>>) -> Result<Option<Rc<Log>>, Fault>
+    ensures { IfErr result (λ fault. fault ≡ Fault.Memory) }
+{
+    Ok(log.clone()?)
+}
+
 /// Makes an empty file that its owner alone may read and write, if there is none.
 fn make_private(rt: &HostRuntime, path: &str) -> io::Result<()> {
     OpenOptions::new()
@@ -101,7 +108,7 @@ fn serve_records<S: Alter + Drop>(
         Ok(listening) => listening,
         Err(error) => return Err(fault_of(&error)),
     };
-    let mut hub = Hub::new(rt.alloc(), Noting::new(store, log.clone()));
+    let mut hub = Hub::new(rt.alloc(), Noting::new(store, shared(&log)?));
     serve(rt, &mut hub, listening, &mut clock, &mut words)?;
     if let Some(log) = &log {
         log.tell("stopped");
@@ -123,7 +130,7 @@ fn listen(
     }
     if let Some(log) = log {
         log.tell(format_args!("listening on {address}"));
-        listening.log_to(Rc::clone(log));
+        listening.log_to(Rc::clone(log)?);
     }
     Ok(listening)
 }

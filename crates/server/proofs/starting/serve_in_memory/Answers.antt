@@ -4,4 +4,4 @@ use Rattle.server.proofs.starting.serve_in_memory.Goals as goal
 
 -- memory returns what was written
 pub returns : goal.returns
-returns g c = c.serve_records.ensures (always_honest (λ _. refl)) c.in_ok-records.ensures.empty
+returns c = c.serve_records.ensures (always_honest (λ _. refl)) c.in_ok-records.ensures.empty

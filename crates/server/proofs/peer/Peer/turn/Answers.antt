@@ -11,6 +11,10 @@ pub returns-then-conn-first-clause-served : goal.returns-then-conn-first-clause-
 returns-then-conn-first-clause-served g c = leaves_none g.S.Store.seen _ _ c.args.hub.now
     (Supplies-nil g.C.Clock.may_tell c.args.clock.now g.D.WordSource.may_give c.args.words.now)
 
+pub returns-then-is_done-clause-served : goal.returns-then-is_done-clause-served
+returns-then-is_done-clause-served g c = leaves_none g.S.Store.seen _ _ c.args.hub.now
+    (Supplies-nil g.C.Clock.may_tell c.args.clock.now g.D.WordSource.may_give c.args.words.now)
+
 pub returns-in-Ok-clause-served : goal.returns-in-Ok-clause-served
 returns-in-Ok-clause-served g c =
     leaves_turn g.S.Store.seen _ _ _ _ (Ok c.in-Ok.turn) (Ok c.settle.result) c.args.hub.now c.take_turn.new.hub tt
