@@ -83,6 +83,83 @@ def child_without_default(r):
         400, "child policies must be subset of parent")
 
 
+@row("A child with one policy of the caller's and one that it lacks is refused as a whole", "tokens", "policies")
+def one_policy_of_two(r):
+    r.post("sys/policies/acl/c", policy({"auth/token/create": ["update"]})).is_(204)
+    r.post("auth/token/create", {"policies": ["c", "d"], "no_default_policy": True}).is_(200)
+    r.post("auth/token/create", {"policies": ["c", "d"], "num_uses": 3}).is_(200)
+
+    def create(policies, token="hvs.#21", **event):
+        return r.post("auth/token/create", {"policies": policies}, token=token, **event)
+
+    for policies in (["d", "x"], ["x", "d"], ["c", "d", "default"]):
+        create(policies).refused(400, "child policies must be subset of parent")
+    r.list("auth/token/accessors").is_(200, data={"keys": ["#2", "#22", "#32"]})
+    # nor were the words of the refused request taken
+    create(["d", "c"], words=0x40).is_(200).has("auth", client_token="hvs.#41", policies=["c", "d"], orphan=False)
+    create(["d"]).is_(200).has("auth", policies=["d"])
+    # a caller with limited uses is refused before that, and each refusal spends one
+    for policies in (["d", "x"], ["c", "d"]):
+        create(policies, "hvs.#31").refused(400, "restricted use token cannot generate child tokens")
+    r.post("auth/token/lookup", {"token": "hvs.#31"}).is_(200).has("data", num_uses=1)
+    r.list("auth/token/accessors").is_(200, data={"keys": ["#2", "#22", "#32", "#42", "#92"]})
+
+
+@row("`sudo` on `auth/token/create` does not count on `auth/token/create-orphan`, nor the other way round",
+     "tokens", "policies")
+def sudo_on_one_route(r):
+    child, orphan = "auth/token/create", "auth/token/create-orphan"
+    r.post("sys/policies/acl/c", policy({child: ["update", "sudo"]})).is_(204)
+    r.post("sys/policies/acl/o", policy({child: ["update"], orphan: ["update", "sudo"]})).is_(204)
+    r.post(child, {"policies": ["c"], "no_default_policy": True}).is_(200)  # hvs.#31
+    r.post(child, {"policies": ["o"], "no_default_policy": True}).is_(200)  # hvs.#41
+    beyond = "child policies must be subset of parent"
+    no_orphan = "root or sudo privileges required to create orphan token"
+    # `update` on the one is none on the other either
+    r.post(orphan, {}, token="hvs.#31").refused(403, DENIED)
+    r.post("sys/policies/acl/c", policy({child: ["update", "sudo"], orphan: ["update"]})).is_(204)
+    r.post(orphan, {"policies": ["x"]}, token="hvs.#31").refused(400, beyond)
+    r.post(orphan, {"policies": ["c"]}, token="hvs.#31").is_(200).has("auth", policies=["c"], orphan=True)
+    r.post(child, {"policies": ["x"]}, token="hvs.#31").is_(200).has("auth", policies=["default", "x"], orphan=False)
+    r.post(child, {"no_parent": True}, token="hvs.#31").is_(200).has("auth", policies=["c"], orphan=True)
+    r.post(child, {"policies": ["x"]}, token="hvs.#41").refused(400, beyond)
+    r.post(child, {"no_parent": True}, token="hvs.#41").refused(400, no_orphan)
+    r.post(child, {"policies": ["o"]}, token="hvs.#41").is_(200).has("auth", policies=["o"], orphan=False)
+    r.post(orphan, {"policies": ["x"]}, token="hvs.#41").is_(200).has("auth", policies=["default", "x"], orphan=True)
+    # the children go with their makers, and the orphans stay
+    r.post("auth/token/revoke", {"token": "hvs.#31"}).is_(204)
+    r.post("auth/token/revoke", {"token": "hvs.#41"}).is_(204)
+    r.list("auth/token/accessors").is_(200, data={"keys": ["#2", "#82", "#a2", "#e2"]})
+
+
+@row("A policy whose name begins with `root` is not `root`", "tokens", "secrets", "policies")
+def named_like_root(r):
+    r.post("auth/token/create", {"policies": ["root2"], "no_default_policy": True}).is_(200).has(
+        "auth", client_token="hvs.#11", policies=["root2"], lease_duration=2764800, renewable=True)
+    token = "hvs.#11"
+    r.whoami(token).refused(403, DENIED)
+    rules = {"auth/token/*": ["create", "read", "update", "list"], "secret/data/x": ["read"]}
+    r.post("sys/policies/acl/root2", policy(rules)).is_(204)
+    r.get("secret/data/x", token=token).refused(404)
+    for method, path in (("GET", "secret/data/y"), ("POST", "secret/data/x"), ("GET", "sys/mounts"),
+                         ("LIST", "auth/token/accessors"), ("POST", "auth/token/revoke-orphan")):
+        r.ask(method, path, token=token).refused(403, DENIED)
+
+    def create(body):
+        return r.post("auth/token/create", body, token=token)
+
+    create({"policies": ["root"]}).refused(400, "only a root token can create root tokens")
+    create({"policies": ["default"]}).refused(400, "child policies must be subset of parent")
+    create({"no_parent": True}).refused(400, "root or sudo privileges required to create orphan token")
+    create({}).is_(200).has("auth", policies=["root2"], lease_duration=2764800, orphan=False)
+    create({"policies": ["root2"], "ttl": 5000000}).is_(200).has("auth", policies=["root2"], lease_duration=2764800)
+    r.post("auth/token/renew-self", {"increment": 5000000}, token=token, at=2000).is_(200).has(
+        "auth", lease_duration=2763800)
+    r.delete("sys/policies/acl/root2").is_(204)
+    r.whoami(token).refused(403, DENIED)
+    r.list("auth/token/accessors", at=2765800).is_(200, data={"keys": ["#2"]})
+
+
 @row("Texts that are policies, and texts that are not", "policies")
 def forms_of_policies(r):
     def put(text):
