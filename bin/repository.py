@@ -1,10 +1,17 @@
-"""What the scripts of this folder know of the repository: its crates, and how a must-fail edit is applied."""
+"""What the scripts of this folder know of the repository: crates, routes, and how a must-fail edit is applied."""
 
 import os
+import re
 import shutil
+from dataclasses import dataclass
 from pathlib import Path
 
 TOP = Path(__file__).resolve().parent.parent
+
+# The mounts of the table of routes, as docs/API.md writes them; the methods and the capability of each verb.
+MOUNTS = {"TOKEN": "auth", "SYSTEM": "sys", "CUBBYHOLE": "cubbyhole", "KV": "secret", "ISSUED": "MOUNT"}
+VERBS = {"Get": (("GET",), "read"), "List": (("LIST",), "list"), "Write": (("POST", "PUT"), "update"),
+         "Delete": (("DELETE",), "delete")}
 
 
 def read_crates():
@@ -38,6 +45,36 @@ def copy_crates(to, names):
     shutil.copy(TOP / "HANDLES", to)
     (to / ".git").mkdir()
     return to
+
+
+@dataclass(frozen=True)
+class Route:
+    """A verb of a path, as docs/API.md writes both, and what a caller needs for it: one of the capabilities."""
+    path: str
+    methods: tuple
+    capabilities: tuple
+    needs_sudo: bool
+
+
+def read_routes():
+    """The routes of the code, in the order of its table."""
+    files = ("mounts/src/table.rt", "broker/src/order/capability.rt", "broker/src/order/permission.rt")
+    table, of_writes, of_paths = ((TOP / "crates" / file).read_text(encoding="utf-8") for file in files)
+    can_create = re.findall(r"Operation::(\w+\(\w+::\w+\)) =>", of_writes)
+    of_sudo = of_paths.partition("fn needs_sudo(")[2].partition("\n}")[0]
+    exact = re.findall(r'== "([^"]*)"', of_sudo)
+    prefixes = tuple(re.findall(r'starts_with\(b"([^"]*)"\)', of_sudo))
+    row = re.compile(r'RouteRow\(\s*(\w+),\s*"([^"]*)",\s*(\w+\(\w+::\w+\)),?\s*\)')
+    routes = []
+    for mount, rows in re.findall(r"^const (\w+): &\[RouteRow\](.*?)^\];", table, re.MULTILINE | re.DOTALL):
+        for verb, pattern, operation in row.findall(rows):
+            path = f"{MOUNTS[mount]}/{pattern}".rstrip("/").replace("{name}", "NAME").replace("{*path}", "PATH")
+            methods, capability = VERBS[verb]
+            capabilities = ("create", capability) if operation in can_create else (capability,)
+            routes.append(Route(path, methods, capabilities, path in exact or path.startswith(prefixes)))
+    if len(routes) != len(re.findall(r"(?<!struct )RouteRow\(", table)):
+        raise AssertionError("crates/mounts/src/table.rt has a row of another form")
+    return routes
 
 
 class NotApplied(Exception):
