@@ -1,0 +1,58 @@
+#!/bin/bash
+# Copies the database of a broker, which may run meanwhile, into a folder that it makes: backup.sh FILE FOLDER
+#
+# A broker changes FILE only while it moves its log, FILE-wal, into it, and then the log gets another head. So FILE is
+# copied before the log, and both are copied again if the head of the log is another one by then. At the end brokerd
+# has to read the copy. BROKERD names another program. docs/STORAGE.md says more, and how to restore.
+set -eu
+umask 077
+
+if [ $# -ne 2 ]; then
+    echo "usage: backup.sh FILE FOLDER" >&2
+    exit 2
+fi
+file=$1
+folder=$2
+part=$folder.part # becomes the folder once all is right
+name=$(basename "$file")
+
+fail() {
+    echo "backup.sh: $1" >&2
+    exit 1
+}
+
+head_of_log() { head -c 32 "$file-wal" | od -An -v -tx1; }
+
+# Copies both files, and answers whether they are those of one moment.
+copy() {
+    local before
+    before=$(head_of_log)
+    cp -p "$file" "$part/$name" || fail "$file is not copied"
+    cp -p "$file-wal" "$part/$name-wal" || fail "$file-wal is not copied"
+    [ "$(head_of_log)" = "$before" ]
+}
+
+# Reads a copy of the copy, since a start may write to its files. No address is called nowhere: brokerd ends with
+# fault 5 there, after it has read the whole database, and with another fault if that is damaged. Of a database without
+# a broker it would print a new root token.
+is_read() {
+    local said
+    mkdir "$part/read"
+    cp "$part/$name" "$part/$name-wal" "$part/read"
+    said=$("${BROKERD:-brokerd}" serve --listen nowhere --db "$part/read/$name" 2>&1) || true
+    rm -r "$part/read"
+    [ "$said" = 'fault 5' ]
+}
+
+[ ! -e "$folder" ] || fail "there is a $folder"
+mkdir "$part"
+trap 'rm -rf "$part"' EXIT
+for turn in {1..20}; do
+    if copy; then
+        is_read || fail "brokerd cannot read the copy"
+        sync "$part/$name" "$part/$name-wal"
+        mv -T "$part" "$folder"
+        exit
+    fi
+done
+fail "the log was moved into $file during each of $turn copies: stop the broker"
