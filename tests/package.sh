@@ -1,6 +1,7 @@
 #!/bin/bash
-# Makes the package twice and compares the bytes, unpacks it into an empty folder, and there types the quick start of
-# README.md on a PATH without the toolchain. The last line is 'N passed, M failed'; the status is 0 if nothing failed.
+# Makes the package twice and compares the bytes, unpacks it into an empty folder, verifies its unit by systemd if that
+# is installed, and there types the quick start of README.md on a PATH without the toolchain. The last line is
+# 'N passed, M failed'; the status is 0 if nothing failed.
 set -u
 cd "$(dirname "$0")/.."
 
@@ -36,6 +37,13 @@ tools() {
     echo "$found/tools:$(path_without_toolchain)"
 }
 
+# What systemd says of the unit, with the program where it was unpacked, and changed by sed: verify NAME SCRIPT. It
+# speaks of other units of the machine too, which do not count.
+verify() {
+    sed -e "s|/usr/local/bin/brokerd|$unpacked/bin/brokerd|" -e "$2" "$unpacked/dehluvima.service" > "$found/$1.service"
+    systemd-analyze verify "$found/$1.service" 2>&1 | grep -F "$1.service"
+}
+
 for turn in 1 2; do
     if ! bin/package "$found/$turn" > "$found/said"; then
         fail "making it" "$(tail -n 1 "$found/said")"
@@ -62,9 +70,12 @@ for program in brokerd client; do
     if [ $? -eq 0 ] && [ "$said" = "$program $version" ]; then pass; else fail "$program --version" "$said"; fi
 done
 if command -v systemd-analyze > /dev/null; then
-    sed "s|/usr/local/bin/brokerd|$unpacked/bin/brokerd|" "$unpacked/dehluvima.service" > "$found/dehluvima.service"
-    said=$(systemd-analyze verify "$found/dehluvima.service" 2>&1 | grep -F dehluvima.service)
+    said=$(verify dehluvima '')
     if [ -z "$said" ]; then pass; else fail "the unit" "$said"; fi
+    said=$(verify mistaken 's/^Restart=always$/Restart=sometimes/')
+    if [ -n "$said" ]; then pass; else fail "the unit" "systemd-analyze says nothing of one with a mistake"; fi
+else
+    echo "package: systemd-analyze: not installed, the unit is not verified"
 fi
 
 PATH=$(tools)
