@@ -4,7 +4,8 @@
     python3 tests/clients/stopping.py PROGRAM
 
 A thousand requests of eight clients are on their way when it is told to stop: by the end of its standard input, by a byte
-there, and, where PROGRAM is that of this repository, by SIGTERM to `bin/brokerd`. Each client has whole replies from the
+there, as the unit of examples/ does it, and, where PROGRAM is that of this repository, by SIGTERM to `bin/brokerd`. Each
+client has whole replies from the
 first one on, and then the end; the file has afterwards what was answered, and nothing else. Other cases: who is waited
 for, and for how long; what standard input may be. The last line is 'N passed, M failed'.
 """
@@ -12,6 +13,9 @@ for, and for how long; what standard input may be. The last line is 'N passed, M
 import concurrent.futures
 import contextlib
 import json
+import os
+import re
+import shlex
 import signal
 import subprocess
 import sys
@@ -92,13 +96,18 @@ def kept(program, file, token):
     return found
 
 
-def in_flight(program, stop, *command):
-    """Stops a program while the clients ask. It is started by the command, or else by its own name."""
+def served(program):
+    """How a program is started over a file in a folder, on a port."""
+    return lambda folder, port: [program, "serve", "--listen", f"127.0.0.1:{port}", "--db", f"{folder}/broker.db",
+                                 "--until-stopped", "--stop-on-input"]
+
+
+def in_flight(program, stop, start):
+    """Stops a program while the clients ask. It is started by the words that `start` answers."""
     with tempfile.TemporaryDirectory() as folder:
-        file, port = str(Path(folder) / "broker.db"), free_port()
-        with subprocess.Popen([*(command or [program]), "serve", "--listen", f"127.0.0.1:{port}", "--db", file,
-                               "--until-stopped", "--stop-on-input"], stdin=subprocess.PIPE,
-                              stdout=subprocess.PIPE) as process:
+        file, port = f"{folder}/broker.db", free_port()
+        with subprocess.Popen(start(folder, port), stdin=subprocess.PIPE, stdout=subprocess.PIPE,
+                              stderr=subprocess.DEVNULL) as process:
             token = process.stdout.readline().decode().split()[-1]
             connect(port).close()
             clients = asked(port, token, lambda: stop(process))
@@ -132,7 +141,7 @@ def end_input(process):
 
 
 def the_end(program):
-    return in_flight(program, end_input)
+    return in_flight(program, end_input, served(program))
 
 
 def a_byte(program):
@@ -140,13 +149,39 @@ def a_byte(program):
         process.stdin.write(b"\n")
         process.stdin.flush()
 
-    return in_flight(program, send_byte)
+    return in_flight(program, send_byte, served(program))
 
 
 def by_signal(program):
     if Path(program).resolve() != TOP / "crates/brokerd/out/brokerd":
         return "skipped: the program is another one"
-    return in_flight(program, lambda process: process.send_signal(signal.SIGTERM), TOP / "bin/brokerd")
+    return in_flight(program, lambda process: process.send_signal(signal.SIGTERM), served(TOP / "bin/brokerd"))
+
+
+def by_the_unit(program):
+    """The commands of the unit, with other paths and another port."""
+    unit = (TOP / "examples/dehluvima.service").read_text(encoding="utf-8").replace("\\\n", "")
+    place, ending = {}, []
+
+    def commands(name):
+        for words in re.findall(rf"^{name}=(.*)$", unit, re.MULTILINE):
+            for old, new in place.items():
+                words = words.replace(old, new)
+            yield shlex.split(words)
+
+    def start(folder, port):
+        place.update({"/usr/local/bin/brokerd": str(Path(program).resolve()), "/run/dehluvima": folder,
+                      "/var/lib/dehluvima": folder, "127.0.0.1:8200": f"127.0.0.1:{port}"})
+        for words in commands("ExecStartPre"):
+            subprocess.run(words, check=True)
+        return next(commands("ExecStart"))
+
+    def stop(process):
+        ending.append(subprocess.Popen(next(commands("ExecStop")), env={**os.environ, "MAINPID": str(process.pid)}))
+
+    met = in_flight(program, stop, start)
+    expect(ending[0].wait(10) == 0, "the unit does not see the end")
+    return met
 
 
 def who_is_waited_for(program):
@@ -215,7 +250,7 @@ def standard_input(program):
 
 def main():
     program = sys.argv[1]
-    cases = [the_end, a_byte, by_signal, who_is_waited_for, the_limit, standard_input]
+    cases = [the_end, a_byte, by_the_unit, by_signal, who_is_waited_for, the_limit, standard_input]
     failed = 0
     with concurrent.futures.ThreadPoolExecutor() as pool:
         for one, (met, wrong) in zip(cases, pool.map(lambda it: tried(it, program), cases)):
