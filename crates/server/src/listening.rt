@@ -44,8 +44,10 @@ pub struct Listening {
     now: u64,
     /// When the limits are to be looked at.
     look_at: u64,
-    /// Whether a stop was asked for, and was not begun yet.
+    /// Whether a stop was asked for.
     is_to_stop: bool,
+    /// Whether it was begun.
+    is_stopping: bool,
 }
 
 impl Listening {
@@ -72,8 +74,8 @@ impl Listening {
         )?;
         Ok(Listening {
             poll,
-            // One for each connection, and one for the listener: a round knows all that can be done.
-            events: Events::with_capacity(rt.alloc(), at_once.saturating_add(1))?,
+            // One for each connection, for the listener, and for standard input: a round knows all that can be done.
+            events: Events::with_capacity(rt.alloc(), at_once.saturating_add(2))?,
             accepting,
             links: Links::new(rt.alloc(), at_once)?,
             start: Instant::now(rt)?,
@@ -81,6 +83,7 @@ impl Listening {
             now: 0,
             look_at: TICK,
             is_to_stop: false,
+            is_stopping: false,
         })
     }
 
@@ -152,8 +155,8 @@ impl Listening {
 
     /// Accepts no more, and has each connection end, if that was asked for.
     fn stop_if_asked(&mut self) {
-        if self.is_to_stop {
-            self.is_to_stop = false;
+        if self.is_to_stop && !self.is_stopping {
+            self.is_stopping = true;
             self.accepting.shut();
             self.links.leave(self.now.saturating_add(LONGEST_EXCHANGE));
         }

@@ -204,12 +204,9 @@ impl Peer {
 
     // ---- the farewell
 
-    /// It is to end once what was begun is done, and at this time at the latest, or at an earlier one that was told
-    /// before.
+    /// It is to end once what was begun is done, and at this time at the latest.
     pub(crate) fn leave(&mut self, by: u64) {
-        if self.leaves_by.is_none() {
-            self.leaves_by = Some(by);
-        }
+        self.leaves_by = Some(by);
     }
 
     /// The last reply was sent. The peer is told so, and what it still sends is taken for a quarter of a second at most:
