@@ -1,10 +1,10 @@
 """Files that were changed: bits, bytes, sectors and pages, in the database or in its log.
 
-Whatever is in the files, the program serves, or ends with `fault 2`, `fault 3` or `fault 4`: within ten seconds, in 500
-MB, and by no signal. What it serves from a database without a log is what the standard library's SQLite reads there, or
-if that reads nothing, what was there before the change; a file that is cut to nothing is a new broker. What it serves
-from a log is the broker after some number of the requests, or a new one. Neither has sums that tell a change in every
-place, so answered requests may be lost, and changed ones served: this is counted.
+Whatever is in the files, the program serves, or ends with `fault 2`, `fault 3` or `fault 4`: within ten seconds of
+processor time, in 500 MB, and by no signal. What it serves from a database without a log is what the standard library's
+SQLite reads there, or if that reads nothing, what was there before the change; a file that is cut to nothing is a new
+broker. What it serves from a log is the broker after some number of the requests, or a new one. Neither has sums that
+tell a change in every place, so answered requests may be lost, and changed ones served: this is counted.
 """
 
 import contextlib
