@@ -45,3 +45,13 @@ def tried(function, *arguments):
             watch.is_over = True
         if watch.longest < DISTURBED or time.monotonic() > until:
             return None, wrong
+
+
+def report(title, outcomes):
+    """Prints what each case has met or what is wrong with it, and the counts. The status of the script."""
+    failed = 0
+    for case, (met, wrong) in outcomes:
+        print(f"{title}, {case.__name__.replace('_', ' ')}: {wrong or met}", flush=True)
+        failed += wrong is not None
+    print(f"{len(outcomes) - failed} passed, {failed} failed")
+    return failed > 0

@@ -16,7 +16,7 @@ import sys
 import time
 
 from broker import connect, exchange, reply, request
-from cases import expect, tried
+from cases import expect, report, tried
 
 LINE = re.compile(r"(\d{4}-\d\d-\d\dT\d\d:\d\d:\d\dZ) (?:(\d{3}|-) (\d+)ms (\w+|-) (\S+)|(.+))")
 SECRET, VERSION = "kept-by-nobody-else", "4711"
@@ -167,13 +167,7 @@ def many_at_once(program):
 
 def main():
     cases = [lines, nobody_reads, the_reader_is_gone, many_at_once]
-    failed = 0
-    for one in cases:
-        met, wrong = tried(one, sys.argv[1])
-        print(f"log, {one.__name__.replace('_', ' ')}: {wrong or met}")
-        failed += wrong is not None
-    print(f"{len(cases) - failed} passed, {failed} failed")
-    return failed > 0
+    return report("log", [(case, tried(case, sys.argv[1])) for case in cases])
 
 
 if __name__ == "__main__":

@@ -11,7 +11,7 @@ use std::alloc::{AllocError, Global};
 #[derive(Drop)]
 pub(crate) struct Asked {
     verb: Verb,
-    /// The path, without its tokens.
+    /// The path, as it is shown.
     path: Vec<u8>,
 }
 
