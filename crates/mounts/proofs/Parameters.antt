@@ -1,6 +1,6 @@
 -- What an operation takes from a path is a path.
 use Rattle.std.specs.Prelude.{◌≡◌, ◌<◌, ◌||◌, ◌++◌, ℕ, List, [], ◌∷◌, suc, length, drop, get_or, Bool, true, false, not, cond, nat_eq, if◌then◌else◌}
-use Rattle.std.specs.Prelude.{Option, Some, None, option_map, Ok, is_ok, unwrap_or}
+use Rattle.std.specs.Prelude.{Some, None, option_map, Ok, is_ok}
 use Rattle.std.specs.List.{list_all, find, starts_with}
 use Rattle.std.proofs.Common.{refl, sym, ◌∙◌, ap, inl, inr}
 use Rattle.std.proofs.lemmas.Bool.{and_parts, and_from, false≢true, eqb-true, lt-ltb}
@@ -11,14 +11,13 @@ use Rattle.broker_types.specs.Path.{is_path}
 use Rattle.broker_types.specs.Refuse.{◌>>=◌, some_or}
 use Rattle.broker_types.specs.declared.ask.Verb.{Verb}
 use Rattle.broker_types.specs.declared.refusal.Refusal.TheVariants as refusal
-use Rattle.records.specs.Splits.{slash, split_once}
-use Rattle.records.specs.SplitLaws.{lacking_split}
+use Rattle.records.specs.Splits.{slash}
 use Rattle.records.specs.ValueLaws.{ok_inj}
 use Rattle.mounts.specs.declared.operation.Operation.{Operation}
 use Rattle.mounts.specs.Forms.{Ending, nothing, segment, segments, form_of, is_ending, is_literal, ends_segment, has_parameter, parameter, are_bytes}
 use Rattle.mounts.specs.Table.{takes_parameter}
 use Rattle.mounts.specs.Patterns.{fits, is_in_order, is_row, reads_as_form, tells, differ, pattern_found}
-use Rattle.mounts.specs.Route.{Route, cut, operation_for, methods_of, route_by}
+use Rattle.mounts.specs.Route.{Route, operation_for, methods_of, route_by}
 use Rattle.mounts.specs.RouteRow.{RouteRow}
 use Rattle.mounts.proofs.FormPatterns.{found_by_form}
 use Rattle.mounts.proofs.PathParts.{IsRest, rest_is_path}
@@ -29,17 +28,6 @@ use Rattle.mounts.proofs.RouteSteps.{begun}
 pub are_bytes_from : (t : Text) → ((k : ℕ) → get_or t k 0 < 256) → are_bytes t ≡ true
 are_bytes_from [] h = refl
 are_bytes_from (x ∷ t) h = and_from _ _ (lt-ltb x 256 (h 0)) (are_bytes_from t (λ k. h (suc k)))
-
-bytes_behind : (a p : Text) → are_bytes (a ++ slash ∷ p) ≡ true → are_bytes p ≡ true
-bytes_behind [] p h = h
-bytes_behind (x ∷ a) p h = bytes_behind a p (and_parts _ _ h).1
-
-pub bytes_of_rest : (path : Text) → are_bytes path ≡ true → are_bytes (cut path).1 ≡ true
-bytes_of_rest path h =
-    elim (split_once slash path) as (λ (o : Option (Text × Text)). split_once slash path ≡ o → are_bytes (unwrap_or o (path, [])).1 ≡ true) [
-      | None ↦ λ _. refl
-      | Some p ↦ λ is. bytes_behind p.0 p.1 (ap are_bytes (sym (lacking_split slash path p is).0) ∙ h)
-    ] refl
 
 -- ---- the form
 

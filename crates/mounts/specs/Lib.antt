@@ -1,4 +1,5 @@
 pub mod Forms
+pub mod FoundLaws
 pub mod Laws
 pub mod MountRows
 pub mod Mounts

@@ -1,7 +1,8 @@
 -- Which operation a verb and a path mean (Vault's documentation, "HTTP API"; RFC 9110, section 15.5.6, for a method
 -- that is not allowed).
-use Rattle.std.specs.Prelude.{List, [], Bool, Option, option_map, Result, Ok, unwrap_or}
+use Rattle.std.specs.Prelude.{List, [], Bool, ◌&&◌, Option, option_map, Result, Ok, unwrap_or}
 use Rattle.std.specs.List.{find, list_any}
+use Rattle.std.specs.Option.{option_map_or}
 use Rattle.broker_types.specs.Text.{Text}
 use Rattle.broker_types.specs.Map.{Map, get}
 use Rattle.broker_types.specs.Broker.{Mount}
@@ -13,11 +14,11 @@ use Rattle.broker_types.specs.declared.refusal.Refusal.{Refusal}
 use Rattle.broker_types.specs.declared.refusal.Refusal.TheVariants as refusal
 use Rattle.records.specs.Splits.{slash, split_once}
 use Rattle.mounts.specs.declared.operation.Operation.{Operation}
-use Rattle.mounts.specs.Forms.{parameter}
+use Rattle.mounts.specs.Forms.{parameter, form_of, has_form}
 use Rattle.mounts.specs.Patterns.{pattern_found, is_row}
 use Rattle.mounts.specs.RouteRow.{RouteRow}
-use Rattle.mounts.specs.Table.{route_rows}
-use Rattle.mounts.specs.Types.{type_at}
+use Rattle.mounts.specs.Table.{route_rows, facts}
+use Rattle.mounts.specs.Types.{fixed_type, type_at}
 
 -- where a request goes: its operation, the name of its mount, and what stands for the pattern's parameter
 pub record Route : Type 0 where
@@ -69,3 +70,22 @@ route_at o v path = do
 -- the route of a path
 abbrev pub route_of : Map Mount → Verb → Text → Result Route Refusal
 route_of mounts v path = route_at (get mounts (cut path).0) v path
+
+-- ---- mounts that are always there
+
+-- the rows of such a mount; another name has none here
+abbrev pub fixed_rows : Text → List RouteRow
+fixed_rows name = option_map_or route_rows (fixed_type name) []
+
+-- the operation of a verb at a path that is a pattern itself
+unfoldable pub operation_at : Verb → Text → Option Operation
+operation_at v path = operation_for (fixed_rows (cut path).0) (cut path).1 v
+
+-- whether a path within the mount has the form of a row's pattern, whose operation asks for `sudo`
+abbrev pub row_asks_sudo : Text → RouteRow → Bool
+row_asks_sudo path r = (facts r.operation).sudo && has_form (form_of r.pattern) path
+
+-- Whether a path asks for the capability `sudo`, whatever the verb: it has the form of a pattern at which an operation
+-- does.
+unfoldable pub asks_sudo : Text → Bool
+asks_sudo path = list_any (row_asks_sudo (cut path).1) (fixed_rows (cut path).0)

@@ -18,7 +18,7 @@ pub use listing::{NamedMount, list};
 pub use mount_type::MountType;
 pub use mounting::{disable, enable};
 pub use operation::{
-    CubbyholeOperation, IssuedOperation, LeaseOperation, MountOperation, Operation,
-    PolicyOperation, Route, SecretOperation, TokenOperation, WrappingOperation,
+    CubbyholeOperation, Facts, IssuedOperation, LeaseOperation, MountOperation, Opens, Operation,
+    PolicyOperation, Route, SecretOperation, Stores, TokenOperation, WrappingOperation,
 };
-pub use routing::route;
+pub use routing::{asks_sudo, operation_at, route};

@@ -1,4 +1,7 @@
-//! What a request can mean, part by part.
+//! What a request can mean, part by part, and what each operation asks for.
+
+ghost use Rattle.std.specs.Prelude.{◌≡◌};
+ghost use Rattle.mounts.specs.Table.{facts};
 
 use std::marker::Model;
 
@@ -159,6 +162,84 @@ pub enum WrappingOperation {
     /// A response is handed out.
     Unwrap,
 }
+
+// ---- what an operation asks for
+
+/// What an operation asks for before the body of its request is read.
+#[derive(Clone, Copy, Debug, PartialEq, Eq)]
+pub struct Facts {
+    /// Whether the caller needs the capability `sudo` too (Vault's documentation, "Policies", root-protected API
+    /// endpoints).
+    pub sudo: bool,
+    /// Whether it needs no caller.
+    pub opens: Opens,
+    /// What it stores.
+    pub stores: Stores,
+}
+
+/// Whether an operation needs no caller (Vault's documentation, "/sys/wrapping").
+#[derive(Clone, Copy, Debug, PartialEq, Eq)]
+pub enum Opens {
+    /// It needs one.
+    Never,
+    /// It needs none.
+    Always,
+    /// It needs none if its body names no token but the client token.
+    WithItsOwn,
+}
+
+/// What a write stores, so that it asks for `create` where nothing is there (Vault's documentation, "Policies",
+/// capabilities).
+#[derive(Clone, Copy, Debug, PartialEq, Eq)]
+pub enum Stores {
+    /// Neither of the others. Such a write asks for `update`, also where it makes something, as a token or a policy.
+    Nothing,
+    /// An object at a path of the caller's cubbyhole.
+    Object,
+    /// A secret of a mount at a path.
+    Secret,
+}
+
+/// What most operations ask for.
+const PLAIN: Facts = Facts {
+    sudo: false,
+    opens: Opens::Never,
+    stores: Stores::Nothing,
+};
+
+impl Operation {
+    /// What it asks for before the body of its request is read.
+    pub fn facts(self) -> Facts
+        ensures { result ≡ facts self }
+    {
+        match self {
+            Operation::Cubbyholes(CubbyholeOperation::Write) => Facts {
+                stores: Stores::Object,
+                ..PLAIN
+            },
+            Operation::Secrets(SecretOperation::Write) => Facts {
+                stores: Stores::Secret,
+                ..PLAIN
+            },
+            Operation::Tokens(TokenOperation::RevokeOrphan | TokenOperation::ListAccessors)
+            | Operation::Leases(LeaseOperation::RevokeUnder) => Facts {
+                sudo: true,
+                ..PLAIN
+            },
+            Operation::Wrappings(WrappingOperation::LookUp) => Facts {
+                opens: Opens::Always,
+                ..PLAIN
+            },
+            Operation::Wrappings(WrappingOperation::Rewrap | WrappingOperation::Unwrap) => Facts {
+                opens: Opens::WithItsOwn,
+                ..PLAIN
+            },
+            _ => PLAIN,
+        }
+    }
+}
+
+// ---- routes
 
 /// Where a request goes.
 #[derive(Debug, Drop)]

@@ -7,6 +7,7 @@ ghost use Rattle.broker_types.specs.Broker.{Mount};
 ghost use Rattle.broker_types.specs.Path.{is_path};
 ghost use Rattle.broker_types.specs.RequestError.{Ends};
 ghost use Rattle.records.specs.Calls.{OnAnswer, IsReading, IsRequestReading, IsReadFault};
+ghost use Rattle.records.specs.Splits.{lacks, slash};
 ghost use Rattle.records.specs.Table.{table};
 ghost use Rattle.records.specs.Transaction.{IsHonest};
 ghost use Rattle.mounts.specs.Forms as forms;
@@ -90,6 +91,42 @@ fn type_of<T: RecordsTx>(tx: &mut T, name: &str) -> Result<Option<MountType>, Fa
     };
     let mount = read_mount(&kept)?;
     Ok(Some(engine_type(mount.engine)))
+}
+
+// ---- mounts that are always there
+
+/// The operation of a verb at a path that is a pattern itself, of a mount that is always there.
+#[tactic(auto, unfolding(crate::specs::Route::operation_at))]
+pub fn operation_at(verb: Verb, path: &str) -> Option<Operation>
+    ensures { result ≡ spec.operation_at verb path.now }
+{
+    let (mount, rest) = cut(path);
+    operation_for(fixed_rows(mount), rest, verb)
+}
+
+/// Whether a path asks for the capability `sudo`, whatever the verb: it has the form of a pattern at which an operation
+/// does (Vault's documentation, "Policies", root-protected API endpoints).
+pub fn asks_sudo(path: &str) -> bool
+    ensures { result ≡ spec.asks_sudo path.now }
+{
+    let (mount, rest) = cut(path);
+    fixed_rows(mount).iter().any(|row| row_asks_sudo(row, rest))
+}
+
+/// The rows of a mount that is always there; another name has none here.
+fn fixed_rows(name: &str) -> &'static [RouteRow]
+    ensures { rows_in result.now ≡ spec.fixed_rows name.now }
+{
+    match fixed_type(name) {
+        Some(mount_type) => route_rows(mount_type),
+        None => &[],
+    }
+}
+
+fn row_asks_sudo(row: &RouteRow, path: &str) -> bool
+    ensures { result ≡ spec.row_asks_sudo path.now (shown row.now) }
+{
+    row.2.facts().sudo && has_form(row.1, path)
 }
 
 // ---- the pattern
@@ -259,6 +296,32 @@ fn parameter<'p>(pattern: &str, path: &'p str) -> &'p str
         Some(rest) => rest,
         None => "",
     }
+}
+
+/// Whether a path within the mount has the form of a pattern.
+fn has_form(pattern: &str, path: &str) -> bool
+    ensures { result ≡ forms.has_form (forms.form_of pattern.now) path.now }
+{
+    match path.strip_prefix(literal_of(pattern)) {
+        Some(rest) => is_ending(pattern, rest),
+        None => false,
+    }
+}
+
+/// Whether a text is what may stand in place of the pattern's parameter; nothing if it has none.
+fn is_ending(pattern: &str, text: &str) -> bool
+    ensures { result ≡ forms.is_ending (forms.form_of pattern.now).ending text.now }
+{
+    let Some((_, parameter)) = pattern.split_once('{') else {
+        return text.is_empty();
+    };
+    !text.is_empty() && (parameter.starts_with("*") || lacks_slash(text))
+}
+
+fn lacks_slash(text: &str) -> bool
+    ensures { result ≡ lacks slash text.now }
+{
+    text.as_bytes().iter().all(|byte| *byte != b'/')
 }
 
 /// The text of a pattern before its parameter.

@@ -11,7 +11,8 @@ use Rattle.mounts.specs.Patterns.{pattern_found, fits}
 use Rattle.mounts.specs.Route.{cut, route_by}
 use Rattle.mounts.specs.Table.{route_rows}
 use Rattle.mounts.proofs.RouteSteps.{ends_refused, ends_found, route_none, route_some, within_none, within_some}
-use Rattle.mounts.proofs.Parameters.{parameter_is_path, bytes_of_rest, are_bytes_from}
+use Rattle.mounts.specs.FoundLaws.{bytes_of_rest}
+use Rattle.mounts.proofs.Parameters.{parameter_is_path, are_bytes_from}
 use Rattle.mounts.proofs.PathParts.{IsRest, rest_of}
 use Rattle.mounts.proofs.Tables.{in_order}
 use Rattle.mounts.proofs.routing.route.Goals as goal
