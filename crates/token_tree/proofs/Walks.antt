@@ -33,7 +33,7 @@ of_one : (p : Text → Bool) (t o : Text) → of_owner (λ q. same q t) o ≡ tr
 of_one p t [] h g = absurd (false≢true h)
 of_one p t (c ∷ o) h g = ap p (sym (same_true (c ∷ o) t h)) ∙ g
 
-to_one : (p : Text → Bool) (t o : Text) → of_owner (λ q. same q t) o ≡ true → p t ≡ true → of_owner p o ≡ true
+pub to_one : (p : Text → Bool) (t o : Text) → of_owner (λ q. same q t) o ≡ true → p t ≡ true → of_owner p o ≡ true
 to_one p t [] h g = absurd (false≢true h)
 to_one p t (c ∷ o) h g = ap p (same_true (c ∷ o) t h) ∙ g
 

@@ -1,5 +1,5 @@
 -- The walk from tokens down to their children, and what it finds (this project's definition).
-use Rattle.std.specs.Prelude.{◌≡◌, ◌&&◌, List, [], true, map, filter, Some, All, Contains}
+use Rattle.std.specs.Prelude.{◌≡◌, ◌&&◌, ◌++◌, List, [], Bool, true, map, filter, Some, All, Contains}
 use Rattle.std.specs.FinMap.{get, entries}
 use Rattle.std.specs.List.{IsDistinct}
 use Rattle.broker_types.specs.Text.{Text, same}
@@ -8,8 +8,9 @@ use Rattle.records.specs.declared.row.Row.{Row}
 use Rattle.records.specs.Kind.{RowKey, is_of_kind}
 use Rattle.records.specs.Table.{table_of}
 use Rattle.records.specs.Transaction.{Rows, rows_under}
-use Rattle.token_tree.specs.Ended.{IsDescent, Start, of_owner}
+use Rattle.token_tree.specs.Ended.{IsClosed, IsDescent, Start, of_owner}
 use Rattle.token_tree.specs.Endings.{AreTokenRows}
+use Rattle.token_tree.specs.Removed.{without_each}
 
 -- the rows of a token's children
 abbrev pub children : Rows → Text → List (RowKey × Row)
@@ -41,3 +42,22 @@ pub record HasDamagedDescent (s : Start) (rows : Rows) : Type 0 where
   pub ended : List Text
   pub descent : IsDescent s (rows_under rows kind.Token []) ended
   pub damage : AreTokenRows ended (table_of rows) → ⊥
+
+-- ---- whatever a walk begins with
+
+-- The list has the first entries, and then rows of tokens that are there, each of a token below one before it: what
+-- holds of the first, and of each child of a token of which it holds, holds of them all.
+pub record Descends (rows : Rows) (first list : List (RowKey × Row)) : Type 0 where
+  pub below : List (RowKey × Row)
+  pub is : list ≡ first ++ below
+  pub there : All (λ e. (e.0.0 ≡ kind.Token) × (get rows e.0 ≡ Some e.1)) below
+  pub least : (p : Text → Bool) → All (λ e. p e.0.1 ≡ true) first → IsClosed p (rows_under rows kind.Token [])
+      → All (λ e. p e.0.1 ≡ true) list
+
+-- The tokens that ended are those of the first entries and others below them. Their rows are gone, with those of the
+-- accessors that the entries tell. No other row has changed.
+pub record EndsListed (first : List (RowKey × Row)) (old : Rows) (ended : List Text) (new : Rows) : Type 0 where
+  pub list : List (RowKey × Row)
+  pub descends : Descends old first list
+  pub texts_are : ended ≡ texts list
+  pub rows : new ≡ without_each list old

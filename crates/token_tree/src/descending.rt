@@ -5,7 +5,7 @@ ghost use Rattle.broker_types.specs.Fault.{IsMemoryOrStorage};
 ghost use Rattle.records.specs.Calls.{IsReading};
 ghost use Rattle.records.specs.Transaction.{IsHonest};
 ghost use Rattle.token_tree.specs.Starts.{starts};
-ghost use Rattle.token_tree.specs.Walks.{children, AreStarted, AreDescending};
+ghost use Rattle.token_tree.specs.Walks.{children, AreStarted, AreDescending, Descends};
 
 use crate::start::Start;
 use broker_types::{Fault, is_same};
@@ -62,6 +62,8 @@ pub(crate) fn descend<T: RecordsTx>(
 ) -> Result<Vec<Entry>, Fault>
     ensures found { IsHonest (T.seen tx.new) → AreStarted (starts start.now) (T.seen tx.old).rows started.items
         → IfOk result (λ list. AreDescending (starts start.now) (T.seen tx.old).rows list.items) }
+    ensures listed { IsHonest (T.seen tx.new)
+        → IfOk result (λ list. Descends (T.seen tx.old).rows started.items list.items) }
     ensures call { IsReading (T.seen tx.old) (T.seen tx.new) result IsMemoryOrStorage }
 {
     let mut ended = started;

@@ -8,7 +8,7 @@ ghost use Rattle.records.specs.Transaction.{IsHonest};
 ghost use Rattle.token_tree.specs.Endings.{EndsDescent};
 ghost use Rattle.token_tree.specs.Removed.{without_token, without_each, IsTokenRow};
 ghost use Rattle.token_tree.specs.Starts.{starts};
-ghost use Rattle.token_tree.specs.Walks.{AreStarted, HasDamagedDescent};
+ghost use Rattle.token_tree.specs.Walks.{AreStarted, EndsListed, HasDamagedDescent};
 
 use crate::descending::descend;
 use crate::start::Start;
@@ -67,6 +67,8 @@ pub(crate) fn end_all<T: RecordsTx>(
     ensures rows { IsHonest (T.seen tx.new) → AreStarted (starts start.now) (T.seen tx.old).rows started.items
         → IfOk result (λ list.
         EndsDescent (starts start.now) (T.seen tx.old).rows list.items (T.seen tx.new).rows) }
+    ensures listed { IsHonest (T.seen tx.new) → IfOk result (λ list.
+        EndsListed started.items (T.seen tx.old).rows list.items (T.seen tx.new).rows) }
     ensures call { IsChange (KeepsOthers of_tokens) (T.seen tx.old) (T.seen tx.new) result
         (IsReadFault (IsHonest (T.seen tx.new) → AreStarted (starts start.now) (T.seen tx.old).rows started.items
         → HasDamagedDescent (starts start.now) (T.seen tx.old).rows)) }

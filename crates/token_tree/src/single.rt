@@ -139,8 +139,9 @@ pub fn spend<T: RecordsTx>(
     Ok(Some(record))
 }
 
-/// Gives a token that was found another end, which is no further ahead than ends are set, and answers what its row says
-/// then. It fails only if memory runs out or the storage fails (Vault's documentation, "Tokens", renew).
+/// Gives a token that was found, and whose row still says so, another end, which is no further ahead than ends are set.
+/// It answers what its row says then. It fails only if memory runs out or the storage fails (Vault's documentation,
+/// "Tokens", renew).
 pub fn renew<T: RecordsTx>(
     alloc: Global,
     tx: &mut T,
@@ -150,6 +151,7 @@ pub fn renew<T: RecordsTx>(
 ) -> Result<TokenRecord, Fault>
     requires near { IsEnd ends }
     requires in_range { IsTokenInRange found }
+    requires there { IsHonest (T.seen tx.old) → IsTokenAt (table (T.seen tx.old)) token.now (Some found) }
     ensures rows { IsHonest (T.seen tx.new) → OnOk result (table (T.seen tx.new)
         ≡ with_row (table (T.seen tx.old)) kind.Token token.now (entry_row (renewed_entry ends found))) }
     ensures told { OfEachBroker RepresentsTokens (T.seen tx.old) (T.seen tx.new) (λ b.

@@ -12,7 +12,7 @@ ghost use Rattle.records.specs.Transaction.{IsHonest};
 ghost use Rattle.token_tree.specs.Ended.{has_come};
 ghost use Rattle.token_tree.specs.Endings.{EndsDescent, IsDamagedDescent};
 ghost use Rattle.token_tree.specs.Tokens.{RepresentsTokens, AreEnded, without_expired};
-ghost use Rattle.token_tree.specs.Walks.{HasDamagedDescent};
+ghost use Rattle.token_tree.specs.Walks.{EndsListed, HasDamagedDescent};
 
 use crate::ending::end_all;
 use crate::start::Start;
@@ -39,13 +39,17 @@ fn tokens_among(alloc: Global, entries: &[Entry]) -> Result<Vec<Entry>, AllocErr
     Ok(list)
 }
 
-/// As `sweep_tokens`, from the list of all rows that are due, so that one list serves the sweeps of all kinds.
+/// As `sweep_tokens`, from the list of all rows that are due, so that one list serves the sweeps of all kinds. Whatever
+/// the list is, its tokens go and tokens below them, and no others.
 pub fn end_due<T: RecordsTx>(
     alloc: Global,
     tx: &mut T,
     due: &[Entry],
     clock: Moment,
 ) -> Result<Vec<TextBuf>, Fault>
+    ensures listed { IsHonest (T.seen tx.new) → IfOk result (λ list.
+        EndsListed (filter (λ e. is_of_kind kind.Token e.0) due.now) (T.seen tx.old).rows list.items
+        (T.seen tx.new).rows) }
     ensures rows { IsHonest (T.seen tx.new) → AreDue (T.seen tx.old).rows clock due.now → IfOk result (λ list.
         EndsDescent (has_come clock) (T.seen tx.old).rows list.items (T.seen tx.new).rows) }
     ensures told { OfEachBroker RepresentsTokens (T.seen tx.old) (T.seen tx.new) (λ b.

@@ -1,7 +1,7 @@
 use Rattle.std.proofs.Common.{◌≡◌, ◌-◌, ◌^◌, false}
 use Rattle.records.specs.Transaction.{IsHonest, GoesOn}
 use Rattle.token_tree.specs.Starts.{starts}
-use Rattle.token_tree.specs.Walks.{AreStarted}
+use Rattle.token_tree.specs.Walks.{AreStarted, Descends}
 use Rattle.token_tree.proofs.Walks.{IsWalk}
 use Rattle.token_tree.proofs.descending.descend.Given as goal
 
@@ -11,6 +11,7 @@ invariant-loop-next g l =
     record {
       walk : IsHonest (seen l.tx) → AreStarted (starts l.start) (seen l.initial.tx).rows l.initial.ended.items
           → IsWalk (starts l.start) (seen l.initial.tx).rows l.ended.items l.next;
+      down : IsHonest (seen l.tx) → Descends (seen l.initial.tx).rows l.initial.ended.items l.ended.items;
       same : IsHonest (seen l.tx) → (seen l.tx).rows ≡ (seen l.initial.tx).rows;
       goes_on : GoesOn (seen l.initial.tx) (seen l.tx) false;
     }

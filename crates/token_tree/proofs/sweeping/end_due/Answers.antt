@@ -1,9 +1,11 @@
-use Rattle.std.proofs.Common.{IfOk, sym, subst}
+use Rattle.std.proofs.Common.{IfOk, List, sym, subst}
 use Rattle.std.proofs.lemmas.Result.{IfOk-weaker}
 use Rattle.records.specs.CallLaws.{fault_then, not_damaged, each_fault}
+use Rattle.records.specs.Kind.{RowKey}
+use Rattle.records.specs.declared.row.Row.{Row}
 use Rattle.token_tree.specs.Ended.{has_come}
 use Rattle.token_tree.specs.Endings.{EndsDescent}
-use Rattle.token_tree.specs.Walks.{AreStarted, HasDamagedDescent}
+use Rattle.token_tree.specs.Walks.{AreStarted, EndsListed, HasDamagedDescent}
 use Rattle.token_tree.proofs.Beginnings.{due_tokens}
 use Rattle.token_tree.proofs.Ends.{on_each, undamaged, expiry_told, expiry_ended}
 use Rattle.token_tree.proofs.sweeping.end_due.Goals as goal
@@ -16,6 +18,13 @@ returns-clause-rows g c honest due =
     subst (λ n. AreStarted (has_come n) rows c.in_ok-started.started.items
     → IfOk c.end_all.result (λ list. EndsDescent (has_come n) rows list.items (seen c.end_all.new.tx).rows))
     c.seconds.ensures.value (c.end_all.ensures.rows honest) started
+
+pub returns-clause-listed : goal.returns-clause-listed
+returns-clause-listed g c honest =
+    let seen = g.T.RecordsTx.seen in
+    subst (λ (first : List (RowKey × Row)). IfOk c.end_all.result (λ list.
+    EndsListed first (seen c.args.tx.now).rows list.items (seen c.end_all.new.tx).rows)) c.in_ok-started.ensures
+    (c.end_all.ensures.listed honest)
 
 pub returns-clause-call : goal.returns-clause-call
 returns-clause-call g c =
