@@ -1,5 +1,5 @@
--- Wrapping, computed on a small broker.
-use Rattle.std.specs.Prelude.{◌≡◌, [], ◌∷◌, None, Some, false, codes}
+-- Wrapping, computed on a small broker; and which paths ask for `sudo`.
+use Rattle.std.specs.Prelude.{◌≡◌, [], ◌∷◌, None, Some, true, false, codes}
 use Rattle.std.specs.Fmt.{digits}
 use Rattle.std.proofs.Common.{refl}
 use Rattle.json.specs.Print.{escape_byte}
@@ -13,6 +13,7 @@ use Rattle.broker_types.specs.Operation.{nothing, reply, plainly}
 use Rattle.broker_types.specs.Time.{civil, day_from_year, day_from_month}
 use Rattle.broker_types.specs.declared.ask.Ask.{Ask}
 use Rattle.broker_types.specs.declared.reply.Reply.{Reply}
+use Rattle.mounts.specs.Route.{asks_sudo}
 use Rattle.api_json.specs.Names.{name_text}
 use Rattle.api_json.specs.Objects.{wrap_object}
 use Rattle.api_json.specs.Printing as printing
@@ -61,3 +62,27 @@ takes_both names r = refl
 -- a 204 is not wrapped
 nothing_to_wrap : (names : Names) → wrap_200 broker (codes "p") 5 names (plainly nothing broker) nothing ≡ unwrapped (plainly nothing broker)
 nothing_to_wrap names = refl
+
+-- ---- paths that ask for `sudo`, by their form
+
+accessors : asks_sudo (codes "auth/token/accessors") ≡ true
+unfolding asks_sudo same
+accessors = refl
+
+orphan_revoked : asks_sudo (codes "auth/token/revoke-orphan") ≡ true
+unfolding asks_sudo same
+orphan_revoked = refl
+
+-- at any prefix
+leases_revoked : asks_sudo (codes "sys/leases/revoke-prefix/secret/data") ≡ true
+unfolding asks_sudo same
+leases_revoked = refl
+
+-- and not at the path of one lease, nor at what looks alike in another mount
+lease_revoked : asks_sudo (codes "sys/leases/revoke") ≡ false
+unfolding asks_sudo same
+lease_revoked = refl
+
+another_mount : asks_sudo (codes "secret/token/accessors") ≡ false
+unfolding asks_sudo same
+another_mount = refl

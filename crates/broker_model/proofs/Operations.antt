@@ -1,71 +1,143 @@
--- What an operation that gives out no identifier keeps.
-use Rattle.std.specs.Prelude.{◌≡◌, List, [], not, Some, None, Ok}
+-- What operations leave that give out no identifier and hand out nothing, by the kind of their effect.
+use Rattle.std.specs.Prelude.{◌≡◌, List, [], not, Option, Some, None, Ok}
 use Rattle.std.proofs.Common.{refl, sym, ◌∙◌, ap, subst, inl}
 use Rattle.broker_types.specs.Text.{Text}
-use Rattle.broker_types.specs.Broker.{Broker, Waiting}
-use Rattle.broker_types.specs.Evolves.{Evolves, WaitedBefore}
 use Rattle.broker_types.specs.Map.{Map, get}
-use Rattle.broker_types.specs.SpendingLaws.{evolves_self}
+use Rattle.broker_types.specs.Broker.{Broker, Mount, Role, Waiting}
 use Rattle.broker_types.specs.Names.{Names}
-use Rattle.broker_types.specs.Operation.{Answered, kept_text, missing, reply, nothing, plainly, Done}
+use Rattle.broker_types.specs.Operation.{reply, missing, nothing, plainly, Done}
 use Rattle.broker_types.specs.Refuse.{unless}
 use Rattle.broker_types.specs.RefuseLaws.{ok_step}
+use Rattle.broker_types.specs.Secret.{Key}
 use Rattle.broker_types.specs.declared.refusal.Refusal.TheVariants as refusal
 use Rattle.broker_types.specs.declared.reply.Reply.{Reply}
+use Rattle.records.specs.Parts.{Part, of_mounts, of_policies, of_roles, of_secrets}
 use Rattle.records.specs.ValueLaws.{ok_inj}
-use Rattle.broker_model.specs.Order.{IsProper}
+use Rattle.broker_model.specs.Command.{Command}
+use Rattle.broker_model.specs.EffectLaws.{secrets_same}
+use Rattle.broker_model.specs.Effects.{AllGiven, Does, IsFated, KeepsMaps, SecretsStay, Stay}
+use Rattle.broker_model.specs.Step.{traits}
+use Rattle.broker_model.specs.Traits.{Fate, stay}
 use Rattle.broker_model.specs.parts.Lists.{are_none, list_reply, listed}
+use Rattle.broker_model.proofs.Staying.{keeps_self, stay_same}
 
--- what waits as it did, waited before
-pub waits_still : (b next : Broker) → next.waiting ≡ b.waiting → (t : Text) (w : Waiting) → get next.waiting t ≡ Some w → WaitedBefore b w
-waits_still b next same t w e = (t, w, ap (λ (m : Map Waiting). get m t) (sym same) ∙ e, refl, refl)
+-- ---- brokers that follow
 
--- an operation that gives out no identifier, answers no 404 with a reply and no kept text
-pub plainly_proper : (b next : Broker) (answered : Answered) → next.used ≡ b.used → next.waiting ≡ b.waiting
-    → ((r : Reply) → answered ≡ missing r → ⊥) → ((t : Text) → answered ≡ kept_text t → ⊥) → Evolves b next
-    → IsProper b [] (plainly answered next)
-plainly_proper b next answered used waiting found own evolves = record {
-  used = used;
-  gives_own = inl refl;
-  none_at_204 = λ _. refl;
-  none_at_404 = λ r e. absurd (found r e);
-  hands_out = λ o e. absurd (cc);
-  keeps_text = λ t e. absurd (own t e);
-  none_born = waits_still b next waiting;
-  evolves = evolves;
-}
+-- what such an operation leaves
+pub record Leaves (changes : Option Part) (b : Broker) (who : Option Text) (next : Broker) : Type 0 where
+  pub waiting : next.waiting ≡ b.waiting
+  pub stays : Stay changes who [] b next
+  pub versions : AllGiven b → SecretsStay b.secrets next.secrets
+  pub keeps : KeepsMaps changes b next
 
--- one that replies, and changes the broker
-pub changed_proper : (b next : Broker) (r : Reply) → next.used ≡ b.used → next.waiting ≡ b.waiting → Evolves b next
-    → IsProper b [] (plainly (reply r None) next)
-changed_proper b next r used waiting evolves =
-    plainly_proper b next (reply r None) used waiting (λ r n. absurd (cc)) (λ t n. absurd (cc)) evolves
+module _ (b : Broker) (who : Option Text) where
+  pub leaves_self : (changes : Option Part) → Leaves changes b who b
+  leaves_self changes = record {
+    waiting = refl;
+    stays = stay_same changes who [] b b refl;
+    versions = λ given. secrets_same b.secrets b.secrets refl;
+    keeps = keeps_self changes b;
+  }
 
--- one that replies, and leaves the broker as it is
-pub shown_proper : (b : Broker) (r : Reply) → IsProper b [] (plainly (reply r None) b)
-shown_proper b r = changed_proper b b r refl refl (evolves_self b)
+  pub leaves_policies : (next : Map Text) → Leaves (Some of_policies) b who (record b { policies = next })
+  leaves_policies next = record {
+    waiting = refl;
+    stays = stay_same (Some of_policies) who [] b (record b { policies = next }) refl;
+    versions = λ given. secrets_same b.secrets b.secrets refl;
+    keeps = record { clock = refl; used = refl; tokens = refl; secrets = refl; waiting = refl; mounts = refl; roles = refl; policies = tt };
+  }
 
--- one that lists children
-pub listed_proper : (b : Broker) (names : Names) (children : List Text) (d : Done) → listed b names children ≡ Ok d → IsProper b [] d
-listed_proper b names children d e =
-    let some = ok_step (unless (not (are_none children)) refusal.NotFound) _ d e in
-    subst (IsProper b []) (ok_inj some.2) (shown_proper b (list_reply names.request children))
+  pub leaves_mounts : (next : Map Mount) → Leaves (Some of_mounts) b who (record b { mounts = next })
+  leaves_mounts next = record {
+    waiting = refl;
+    stays = stay_same (Some of_mounts) who [] b (record b { mounts = next }) refl;
+    versions = λ given. secrets_same b.secrets b.secrets refl;
+    keeps = record { clock = refl; used = refl; tokens = refl; secrets = refl; waiting = refl; mounts = tt; roles = refl; policies = refl };
+  }
 
--- one that answers nothing
-pub silent_proper : (b next : Broker) → next.used ≡ b.used → next.waiting ≡ b.waiting → Evolves b next
-    → IsProper b [] (plainly nothing next)
-silent_proper b next used waiting evolves =
-    plainly_proper b next nothing used waiting (λ r n. absurd (cc)) (λ t n. absurd (cc)) evolves
+  pub leaves_roles : (next : Map Role) → Leaves (Some of_roles) b who (record b { roles = next })
+  leaves_roles next = record {
+    waiting = refl;
+    stays = stay_same (Some of_roles) who [] b (record b { roles = next }) refl;
+    versions = λ given. secrets_same b.secrets b.secrets refl;
+    keeps = record { clock = refl; used = refl; tokens = refl; secrets = refl; waiting = refl; mounts = refl; roles = tt; policies = refl };
+  }
 
--- a 404 with a reply changes nothing
-pub missing_proper : (b : Broker) (r : Reply) → IsProper b [] (plainly (missing r) b)
-missing_proper b r = record {
-  used = refl;
-  gives_own = inl refl;
-  none_at_204 = λ _. refl;
-  none_at_404 = λ r e. (refl, refl);
-  hands_out = λ o e. absurd (cc);
-  keeps_text = λ t e. absurd (cc);
-  none_born = waits_still b b refl;
-  evolves = evolves_self b;
-}
+  pub leaves_secrets : (next : Map Key) → (AllGiven b → SecretsStay b.secrets next)
+      → Leaves (Some of_secrets) b who (record b { secrets = next })
+  leaves_secrets next versions = record {
+    waiting = refl;
+    stays = stay_same (Some of_secrets) who [] b (record b { secrets = next }) refl;
+    versions = versions;
+    keeps = record { clock = refl; used = refl; tokens = refl; secrets = tt; waiting = refl; mounts = refl; roles = refl; policies = refl };
+  }
+
+-- ---- what is done
+
+module _ (b : Broker) (who : Option Text) (names : Names) (command : Command) (fate : (traits command).fate ≡ stay) where
+  fated : (d : Done) → Stay (traits command).changes who d.taken b d.next
+      → IsFated (traits command).fate (traits command).changes b who names d
+  fated d stays = subst (λ (f : Fate). IsFated f (traits command).changes b who names d) (sym fate) stays
+
+  waits_still : (next : Broker) → next.waiting ≡ b.waiting → (t : Text) (w : Waiting) → get next.waiting t ≡ Some w
+      → get b.waiting t ≡ Some w
+  waits_still next same t w e = ap (λ (m : Map Waiting). get m t) (sym same) ∙ e
+
+  module _ (next : Broker) (leaves : Leaves (traits command).changes b who next) where
+    -- one that answers 204
+    pub silent_does : Does b who names command (plainly nothing next)
+    silent_does = record {
+      gives_own = inl refl;
+      none_at_204 = λ _. refl;
+      none_at_404 = λ r e. absurd (cc);
+      hands_out = λ o e. absurd (cc);
+      keeps_text = λ t e. absurd (cc);
+      not_kept = λ _. refl;
+      made = λ r made e. absurd (cc);
+      waiting = λ t w e. inl (waits_still next leaves.waiting t w e);
+      fated = fated (plainly nothing next) leaves.stays;
+      versions = leaves.versions;
+      keeps = leaves.keeps;
+    }
+
+    -- one that replies
+    pub told_does : (r : Reply) → Does b who names command (plainly (reply r None) next)
+    told_does r = record {
+      gives_own = inl refl;
+      none_at_204 = λ _. refl;
+      none_at_404 = λ r e. absurd (cc);
+      hands_out = λ o e. absurd (cc);
+      keeps_text = λ t e. absurd (cc);
+      not_kept = λ _. refl;
+      made = λ r made e. inl (cc);
+      waiting = λ t w e. inl (waits_still next leaves.waiting t w e);
+      fated = fated (plainly (reply r None) next) leaves.stays;
+      versions = leaves.versions;
+      keeps = leaves.keeps;
+    }
+
+  -- one that replies, and leaves the broker as it is
+  pub shown_does : (r : Reply) → Does b who names command (plainly (reply r None) b)
+  shown_does r = told_does b (leaves_self b who (traits command).changes) r
+
+  -- one that lists children
+  pub listed_does : (children : List Text) (d : Done) → listed b names children ≡ Ok d → Does b who names command d
+  listed_does children d e =
+      let some = ok_step (unless (not (are_none children)) refusal.NotFound) _ d e in
+      subst (Does b who names command) (ok_inj some.2) (shown_does (list_reply names.request children))
+
+  -- a 404 with a reply
+  pub missing_does : (r : Reply) → Does b who names command (plainly (missing r) b)
+  missing_does r = record {
+    gives_own = inl refl;
+    none_at_204 = λ _. refl;
+    none_at_404 = λ r e. (refl, refl);
+    hands_out = λ o e. absurd (cc);
+    keeps_text = λ t e. absurd (cc);
+    not_kept = λ _. refl;
+    made = λ r made e. absurd (cc);
+    waiting = λ t w e. inl e;
+    fated = fated (plainly (missing r) b) (stay_same (traits command).changes who [] b b refl);
+    versions = λ given. secrets_same b.secrets b.secrets refl;
+    keeps = keeps_self (traits command).changes b;
+  }

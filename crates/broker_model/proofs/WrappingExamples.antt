@@ -6,10 +6,11 @@ use Rattle.broker_types.specs.declared.ask.Verb.{Verb}
 use Rattle.broker_types.specs.declared.ask.Verb.TheVariants as verb
 use Rattle.broker_types.specs.declared.refusal.Refusal.TheVariants as refusal
 use Rattle.broker_types.specs.declared.refusal.Reason.TheVariants as reason
+use Rattle.mounts.specs.Route.{operation_at}
 use Rattle.api_json.specs.Members.{optional}
 use Rattle.api_json.specs.Readers as reader
 use Rattle.broker_model.specs.declared.commands.WrappingCommand.TheVariants as command
-use Rattle.broker_model.specs.parts.WrappingCommands.{unwrap_meant, token_meant, is_own, looks_up, takes_own, opens}
+use Rattle.broker_model.specs.parts.WrappingCommands.{unwrap_meant, token_meant, is_own, opens}
 use Rattle.broker_model.specs.parts.Wrappings.{found}
 use Rattle.broker_types.specs.Broker.{Broker}
 
@@ -41,23 +42,23 @@ asks : Verb → Text → Option Text → Bool
 asks v path token = opens v path token []
 
 look_up_is_open : asks verb.Write (codes "sys/wrapping/lookup") None ≡ true
-unfolding asks looks_up same
+unfolding asks operation_at same
 look_up_is_open = refl
 
 unwrap_is_open : asks verb.Write (codes "sys/wrapping/unwrap") (Some (codes "hvs.t")) ≡ true
-unfolding asks looks_up takes_own same reader.wrapping_token optional
+unfolding asks operation_at same reader.wrapping_token optional
 unwrap_is_open = refl
 
 rewrap_is_open : asks verb.Write (codes "sys/wrapping/rewrap") None ≡ true
-unfolding asks looks_up takes_own same reader.wrapping_token optional
+unfolding asks operation_at same reader.wrapping_token optional
 rewrap_is_open = refl
 
 wrap_is_not : asks verb.Write (codes "sys/wrapping/wrap") (Some (codes "hvs.t")) ≡ false
-unfolding asks looks_up takes_own same
+unfolding asks operation_at same
 wrap_is_not = refl
 
 get_is_not : asks verb.Get (codes "sys/wrapping/unwrap") (Some (codes "hvs.t")) ≡ false
-unfolding asks looks_up takes_own same
+unfolding asks operation_at same
 get_is_not = refl
 
 -- an unwrap is open if its body names the client token, and not if it names another

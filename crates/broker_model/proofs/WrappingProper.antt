@@ -3,7 +3,7 @@ use Rattle.std.specs.Prelude.{◌≡◌, ◌≢◌, ◌⊎◌, ℕ, List, [], �
 use Rattle.std.specs.Option.{option_map_or}
 use Rattle.std.proofs.Common.{refl, sym, ◌∙◌, ap, subst, inl, inr}
 use Rattle.std.proofs.lemmas.Bool.{false≢true}
-use Rattle.std.proofs.lemmas.Option.{none-some, same_Some}
+use Rattle.std.proofs.lemmas.Option.{none-some}
 use Rattle.broker_types.specs.Text.{Text, same}
 use Rattle.broker_types.specs.TextLaws.{same_true}
 use Rattle.broker_types.specs.Map.{Map, get}
@@ -17,91 +17,37 @@ use Rattle.broker_types.specs.Refuse.{some_or}
 use Rattle.broker_types.specs.RefuseLaws.{ok_step}
 use Rattle.broker_types.specs.Sound.{Forms, Sound, SoundIdentifiers, SoundWaiting, IsSoundWaiting}
 use Rattle.broker_types.specs.Spending.{drop_waiting}
-use Rattle.broker_types.specs.SpendingLaws.{drop_evolves, drop_sound, drop_takes_out, drop_ends_origin}
+use Rattle.broker_types.specs.SpendingLaws.{drop_sound, drop_takes_out, drop_ends_origin}
 use Rattle.broker_types.specs.TokenText.{token_text}
 use Rattle.broker_types.specs.Used.{are_new, use_up}
 use Rattle.broker_types.specs.declared.refusal.Refusal.TheVariants as refusal
 use Rattle.broker_types.specs.declared.refusal.Reason.TheVariants as reason
 use Rattle.broker_types.specs.declared.reply.Reply.{Reply}
 use Rattle.records.specs.ValueLaws.{ok_inj}
-use Rattle.wrapping.specs.ResponseLaws.{rewrap_marks_none, rewrap_adds_none, drop_adds_none, store_adds_one}
+use Rattle.wrapping.specs.ResponseLaws.{store_adds_one}
 use Rattle.wrapping.specs.ResponseLaws.{moved_waits, moved_is_taken_out}
-use Rattle.wrapping.specs.SoundLaws.{store_evolves, rewrap_evolves, store_sound, rewrap_sound}
+use Rattle.wrapping.specs.SoundLaws.{store_evolves, store_sound, rewrap_sound}
 use Rattle.wrapping.specs.Wrapping.{AddsNone, with_waiting, moved}
+use Rattle.broker_model.specs.Command.{on_wrapping}
 use Rattle.broker_model.specs.Order.{IsProper, counted, kept_entry, wrap}
 use Rattle.broker_model.specs.Laws.{AreWrappingNames}
 use Rattle.broker_model.specs.NewIdentifierLaws.{new_after, two_of}
+use Rattle.broker_model.specs.ProperLaws.{proper_of}
+use Rattle.broker_model.specs.Traits.{wrapping_names}
 use Rattle.broker_model.specs.declared.commands.WrappingCommand.{WrappingCommand}
 use Rattle.broker_model.specs.declared.commands.WrappingCommand.TheVariants as command
-use Rattle.broker_model.specs.parts.WrappingCommands.{token_meant, is_own, wrapping_names, wrapping_traits}
+use Rattle.broker_model.specs.parts.WrappingCommands.{token_meant, is_own, wrapping_traits}
 use Rattle.broker_model.specs.parts.Wrappings.{FoundResponse, found_under, found, rewrapped, handed_out, act_on_wrappings}
-use Rattle.broker_model.proofs.Operations.{shown_proper}
+use Rattle.broker_model.proofs.WrappingEffects as effects
+use Rattle.broker_model.proofs.WrappingEffects.{found_is}
 
 -- ---- the part
-
--- what is found waits
-found_is : (b : Broker) (meant : Option Text) (f : FoundResponse) → found b meant ≡ Ok f
-    → get b.waiting f.token ≡ Some f.response
-found_is b None f e = absurd (cc)
-found_is b (Some t) f e = by (get b.waiting t) refl e
-  where
-    by : (o : Option Waiting) → get b.waiting t ≡ o
-        → some_or (refusal.BadRequest reason.InvalidWrappingToken) (option_map (found_under t) o) ≡ Ok f
-        → get b.waiting f.token ≡ Some f.response
-    by None none h = absurd (cc)
-    by (Some w) is h =
-        let one : found_under t w ≡ f = ok_inj h in
-        subst (λ (x : FoundResponse). get b.waiting x.token ≡ Some x.response) one is
-
-rewrapped_proper : (b : Broker) (names : Names) (f : FoundResponse) → are_new b.used (wrapping_names names) ≡ true
-    → IsProper b (wrapping_names names) (rewrapped b names f)
-rewrapped_proper b names f new =
-    let u = token_text names.wrapping_token in
-    let a = names.wrapping_accessor in
-    record {
-      used = rewrap_marks_none b f.token u a b.clock;
-      gives_own = inr refl;
-      none_at_204 = λ e. absurd (cc);
-      none_at_404 = λ r e. absurd (cc);
-      hands_out = λ o e. absurd (cc);
-      keeps_text = λ t e. absurd (cc);
-      none_born = rewrap_adds_none b f.token u a b.clock;
-      evolves = rewrap_evolves b f.token u a b.clock (two_of b.used names.wrapping_token a [] new).one;
-    }
-
-handed_out_proper : (b : Broker) (f : FoundResponse) → get b.waiting f.token ≡ Some f.response
-    → IsProper b [] (handed_out b f)
-handed_out_proper b f is = record {
-  used = refl;
-  gives_own = inl refl;
-  none_at_204 = λ _. refl;
-  none_at_404 = λ r e. absurd (cc);
-  hands_out = λ o e. record {
-    token = f.token;
-    entry = f.response;
-    waited = is;
-    origin = same_Some _ _ e;
-    text = refl;
-    waits = refl;
-  };
-  keeps_text = λ t e none. none-some _ (sym none);
-  none_born = drop_adds_none b f.token;
-  evolves = drop_evolves b f.token;
-}
 
 -- a command that is not refused gives out its own identifiers or none, and lets the broker evolve
 pub acts : (b : Broker) (names : Names) (command : WrappingCommand) (d : Done)
     → are_new b.used ((wrapping_traits command).own names) ≡ true → act_on_wrappings b names command ≡ Ok d
     → IsProper b ((wrapping_traits command).own names) d
-acts b names (command.Wrap text) d new e = subst (IsProper b []) (ok_inj e) (shown_proper b _)
-acts b names (command.LookUp meant) d new e =
-    let f = ok_step (found b meant) _ d e in subst (IsProper b []) (ok_inj f.2) (shown_proper b _)
-acts b names (command.Rewrap meant) d new e =
-    let f = ok_step (found b meant) _ d e in
-    subst (IsProper b (wrapping_names names)) (ok_inj f.2) (rewrapped_proper b names f.0 new)
-acts b names (command.Unwrap meant) d new e =
-    let f = ok_step (found b meant) _ d e in
-    subst (IsProper b []) (ok_inj f.2) (handed_out_proper b f.0 (found_is b meant f.0 f.1))
+acts b names command d new e = proper_of b None names (on_wrapping command) d (effects.acts b None names command d e) new
 
 -- ---- what is sound stays so
 

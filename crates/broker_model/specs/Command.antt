@@ -19,12 +19,12 @@ use Rattle.broker_model.specs.declared.commands.SecretCommand.{SecretCommand}
 use Rattle.broker_model.specs.declared.commands.TokenCommand.{TokenCommand}
 use Rattle.broker_model.specs.declared.commands.WrappingCommand.{WrappingCommand}
 use Rattle.broker_model.specs.parts.Cubbyholes.{cubbyhole_command}
-use Rattle.broker_model.specs.parts.AclPolicyCommands.{policy_command}
+use Rattle.broker_model.specs.parts.AclPolicies.{policy_command}
 use Rattle.broker_model.specs.parts.Issued.{issued_command}
 use Rattle.broker_model.specs.parts.Leases.{lease_command}
 use Rattle.broker_model.specs.parts.Mounts.{mount_command}
 use Rattle.broker_model.specs.parts.Place.{Place, at}
-use Rattle.broker_model.specs.parts.SecretCommands.{secret_command}
+use Rattle.broker_model.specs.parts.Secrets.{secret_command}
 use Rattle.broker_model.specs.parts.TokenCommands.{token_command}
 use Rattle.broker_model.specs.parts.WrappingCommands.{wrapping_command}
 

@@ -26,14 +26,22 @@ use Rattle.mounts.specs.declared.operation.Operation.TheVariants.{Cubbyholes}
 use Rattle.wrapping.specs.Wrapping.{AddsNone, moved}
 use Rattle.broker_model.specs.Act.{act}
 use Rattle.broker_model.specs.Command.{Command}
+use Rattle.broker_model.specs.Effects.{Does}
 use Rattle.broker_model.specs.Order.{IsProper, counted, kept_entry, wrap}
 use Rattle.broker_model.specs.Step.{traits}
+use Rattle.broker_model.specs.Traits.{wrapping_names}
 use Rattle.broker_model.specs.declared.commands.WrappingCommand.{WrappingCommand}
 use Rattle.broker_model.specs.declared.commands.WrappingCommand.TheVariants as command
-use Rattle.broker_model.specs.parts.WrappingCommands.{token_meant, is_own, wrapping_names, wrapping_traits}
+use Rattle.broker_model.specs.parts.WrappingCommands.{token_meant, is_own, wrapping_traits}
 use Rattle.broker_model.specs.parts.Wrappings.{act_on_wrappings}
 
 -- ---- operations
+
+-- each operation leaves what its traits tell
+abbrev pub OperationsDoAsTold : Type 0
+OperationsDoAsTold =
+    (b : Broker) (caller : Option Text) (words : Words) (command : Command) (d : Done)
+    → act b caller (names_of words) command ≡ Ok d → Does b caller (names_of words) command d
 
 -- each operation gives out its own identifiers alone, and lets the broker evolve
 abbrev pub OperationsAreProper : Type 0

@@ -1,10 +1,10 @@
--- Two identifiers that are new, and others that are given out beside them.
-use Rattle.std.specs.Prelude.{◌≡◌, ◌≢◌, ◌⊎◌, ◌||◌, List, [], ◌∷◌, true, false, not, cond, ⊤, Some, None, is_none}
+-- Identifiers that are new, and those that are given out.
+use Rattle.std.specs.Prelude.{◌≡◌, ◌≢◌, ◌⊎◌, ◌&&◌, ◌||◌, List, [], ◌∷◌, true, false, not, cond, ⊤, Some, None, is_none}
 use Rattle.std.specs.List.{list_any}
-use Rattle.std.proofs.Common.{sym, ◌∙◌, ap, subst, inl, inr}
+use Rattle.std.proofs.Common.{refl, sym, ◌∙◌, ap, subst, inl, inr}
 use Rattle.std.proofs.lemmas.Bool.{false≢true, and_parts, not-true, or_parts}
 use Rattle.broker_types.specs.Text.{Text, same}
-use Rattle.broker_types.specs.TextLaws.{same_self}
+use Rattle.broker_types.specs.TextLaws.{same_self, same_true}
 use Rattle.broker_types.specs.Broker.{Broker}
 use Rattle.broker_types.specs.Map.{Map, get}
 use Rattle.broker_types.specs.MapLaws.{get-put}
@@ -55,3 +55,23 @@ two_of used i j others new =
       one_apart = apart.1;
       two_apart = not-true _ second.0;
     }
+
+-- ---- one of many
+
+-- the first of a list is in it
+pub first_in : (i : Text) (is : List Text) → list_any (same i) (i ∷ is) ≡ true
+first_in i is = ap (λ v. v || list_any (same i) is) (same_self i)
+
+-- and so is what comes later
+pub later_in : (i j : Text) (is : List Text) → list_any (same i) is ≡ true → list_any (same i) (j ∷ is) ≡ true
+later_in i j is h = elim (same i j) as (λ v. (v || list_any (same i) is) ≡ true) [ true ↦ refl | false ↦ h ]
+
+-- one of new identifiers is new
+pub member_new : (m : Map ⊤) (is : List Text) (i : Text) → are_new m is ≡ true → list_any (same i) is ≡ true → get m i ≡ None
+member_new m [] i new among = absurd (false≢true among)
+member_new m (j ∷ js) i new among =
+    let p = and_parts (is_none (get m j)) (not (list_any (same j) js) && are_new m js) new in
+    elim (same i j) as (λ v. same i j ≡ v → (v || list_any (same i) js) ≡ true → get m i ≡ None) [
+      | true ↦ λ e _. ap (get m) (same_true i j e) ∙ is_nothing (get m j) p.0
+      | false ↦ λ _ rest. member_new m js i (and_parts (not (list_any (same j) js)) (are_new m js) p.1).1 rest
+    ] refl among

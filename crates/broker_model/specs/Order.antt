@@ -37,6 +37,7 @@ use Rattle.api_json.specs.Reply.{reply_text, wrap_reply}
 use Rattle.api_json.specs.declared.wrapping_objects.WrapObject.{WrapObject}
 use Rattle.broker_model.specs.Responses.{ok, no_content, not_found}
 use Rattle.broker_model.specs.Request.{Request}
+use Rattle.broker_model.specs.Traits.{Traits}
 
 -- ---- what an operation leaves
 
@@ -53,14 +54,6 @@ pub record Outcome : Type 0 where
   pub taken : List Text
   pub handed : Option Text
   pub born : Option Text
-
--- what a command is, beside what it does
-pub record Traits : Type 0 where
-  -- the operation's own identifiers
-  pub own : Names → List Text
-  -- whether its reply is wrapped if a wrap TTL asks for it, and whether it must have one
-  pub may_wrap : Bool
-  pub must_wrap : Bool
 
 -- ---- the caller
 

@@ -1,12 +1,12 @@
 -- What a caller may ask (Vault's documentation, "Policies").
-use Rattle.std.specs.Prelude.{Bool, false, not, ◌||◌, ◌&&◌, nat_eq, codes, Option, Some, None}
-use Rattle.std.specs.List.{starts_with}
+use Rattle.std.specs.Prelude.{Bool, false, not, ◌||◌, ◌&&◌, Option, Some, None}
 use Rattle.std.specs.Option.{option_map_or}
-use Rattle.broker_types.specs.Text.{Text, same}
+use Rattle.broker_types.specs.Text.{Text}
 use Rattle.broker_types.specs.Map.{get}
 use Rattle.broker_types.specs.Token.{Token}
 use Rattle.broker_types.specs.Broker.{Broker}
 use Rattle.broker_types.specs.declared.ask.Verb.{Verb}
+use Rattle.mounts.specs.Route.{asks_sudo}
 use Rattle.policies.specs.Allows.{allows}
 use Rattle.policies.specs.Grants.{rules_of}
 use Rattle.policies.specs.Rules.{Rules}
@@ -14,15 +14,10 @@ use Rattle.policies.specs.declared.capability.Capability.{Capability}
 use Rattle.policies.specs.declared.capability.Capability.TheVariants.{Sudo}
 use Rattle.broker_model.specs.Capabilities.{asked}
 
--- whether a path asks for the capability `sudo` too ("Policies", root-protected API endpoints)
-unfoldable pub needs_sudo : Text → Bool
-needs_sudo path =
-    same path (codes "auth/token/accessors") || same path (codes "auth/token/revoke-orphan")
-    || starts_with nat_eq path (codes "sys/leases/revoke-prefix/")
-
--- whether rules allow the capability at a path, and `sudo` as well if the path asks for it
+-- Whether rules allow the capability at a path, and `sudo` as well if the path asks for it ("Policies", root-protected
+-- API endpoints).
 abbrev pub may : Rules → Text → Capability → Bool
-may rules path c = allows rules path c && (not (needs_sudo path) || allows rules path Sudo)
+may rules path c = allows rules path c && (not (asks_sudo path) || allows rules path Sudo)
 
 -- whether the token x of the caller c may ask with a verb at a path: its policies decide
 abbrev pub may_ask : Broker → Text → Verb → Text → Token → Bool

@@ -8,16 +8,17 @@ use Rattle.broker_types.specs.Names.{names_of}
 use Rattle.broker_model.specs.Command.{Command, on_cubbyhole, on_token, on_secret, on_policy, command_of}
 use Rattle.broker_model.specs.Command.{on_mount, on_lease, on_issued, on_wrapping}
 use Rattle.broker_model.specs.parts.Cubbyholes.{cubbyhole_traits}
-use Rattle.broker_model.specs.parts.AclPolicyCommands.{policy_traits}
+use Rattle.broker_model.specs.parts.AclPolicies.{policy_traits}
 use Rattle.broker_model.specs.parts.Issued.{issued_traits}
 use Rattle.broker_model.specs.parts.Leases.{lease_traits}
 use Rattle.broker_model.specs.parts.Mounts.{mount_traits}
-use Rattle.broker_model.specs.parts.SecretCommands.{secret_traits}
+use Rattle.broker_model.specs.parts.Secrets.{secret_traits}
 use Rattle.broker_model.specs.parts.TokenCommands.{token_traits}
 use Rattle.broker_model.specs.parts.WrappingCommands.{opens, wrapping_traits}
 use Rattle.broker_model.specs.Act.{act}
-use Rattle.broker_model.specs.Order.{Traits, Outcome, ordered}
+use Rattle.broker_model.specs.Order.{Outcome, ordered}
 use Rattle.broker_model.specs.Permission.{permits}
+use Rattle.broker_model.specs.Traits.{Traits}
 
 -- what each command is, part by part
 abbrev pub traits : Command → Traits

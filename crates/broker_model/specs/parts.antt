@@ -1,5 +1,4 @@
 pub mod AclPolicies
-pub mod AclPolicyCommands
 pub mod Bodies
 pub mod Cubbyholes
 pub mod Issued
@@ -7,7 +6,6 @@ pub mod Leases
 pub mod Lists
 pub mod Mounts
 pub mod Place
-pub mod SecretCommands
 pub mod SecretReplies
 pub mod Secrets
 pub mod TokenCommands

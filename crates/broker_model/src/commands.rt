@@ -1,12 +1,30 @@
 //! What requests ask for, once their bodies are read: the commands, part by part. Where a command acts, as a path, stands
 //! beside it.
 
+ghost use Rattle.std.specs.Prelude.{◌≡◌};
+ghost use Rattle.broker_model.specs.parts.Issued.{issued_needs};
+ghost use Rattle.broker_model.specs.parts.TokenCommands.{token_needs};
+ghost use Rattle.broker_model.specs.parts.WrappingCommands.{is_wrap, wrapping_needs};
+
 use crate::making::Making;
 use api_json::{
     Counts, KeySettings, LeaseRenewal, MountCreation, MountSettings, RoleSettings, SecretWrite,
     TokenCreation, TokenRenewal,
 };
 use broker_types::{Seconds, TextBuf};
+
+/// Which identifiers an operation needs, which have to be new.
+#[derive(Clone, Copy)]
+pub enum Needs {
+    /// None.
+    Nothing,
+    /// Those of a token and of its accessor.
+    Token,
+    /// That of a lease, and its credential.
+    Lease,
+    /// Those of a wrapping token and of its accessor.
+    WrappingToken,
+}
 
 /// What an operation does with the caller's cubbyhole, at a path (Vault's documentation, "Cubbyhole secrets engine
 /// (API)").
@@ -143,4 +161,50 @@ pub enum WrappingCommand {
     Rewrap(Option<TextBuf>),
     /// Hands out the response, which is gone then.
     Unwrap(Option<TextBuf>),
+}
+
+impl TokenCommand {
+    /// Which identifiers it needs.
+    pub fn needs(&self) -> Needs
+        ensures { result ≡ token_needs self.now }
+    {
+        match self {
+            TokenCommand::Create(_, _) => Needs::Token,
+            _ => Needs::Nothing,
+        }
+    }
+}
+
+impl IssuedCommand {
+    /// Which identifiers it needs.
+    pub fn needs(&self) -> Needs
+        ensures { result ≡ issued_needs self.now }
+    {
+        match self {
+            IssuedCommand::Issue => Needs::Lease,
+            _ => Needs::Nothing,
+        }
+    }
+}
+
+impl WrappingCommand {
+    /// Which identifiers it needs.
+    pub fn needs(&self) -> Needs
+        ensures { result ≡ wrapping_needs self.now }
+    {
+        match self {
+            WrappingCommand::Rewrap(_) => Needs::WrappingToken,
+            _ => Needs::Nothing,
+        }
+    }
+
+    /// Whether it wraps an object: the reply to it is wrapped, and must be. The others have no wrap TTL.
+    pub fn is_wrap(&self) -> bool
+        ensures { result ≡ is_wrap self.now }
+    {
+        match self {
+            WrappingCommand::Wrap(_) => true,
+            _ => false,
+        }
+    }
 }

@@ -2,7 +2,8 @@
 
 ghost use Rattle.broker_types.specs.declared.ask.Verb.TheVariants as verb;
 ghost use Rattle.mounts.specs.declared.operation.CubbyholeOperation.TheVariants as operations;
-ghost use Rattle.broker_model.specs.Laws.{OperationsAreProper, MeansBelowCubbyhole, ListsTheWhole, AllowsListAlone};
+ghost use Rattle.broker_model.specs.Laws.{OperationsAreProper, OperationsDoAsTold};
+ghost use Rattle.broker_model.specs.Laws.{MeansBelowCubbyhole, ListsTheWhole, AllowsListAlone};
 ghost use Rattle.broker_model.specs.Laws.{IsAlwaysThere};
 ghost use Rattle.broker_model.specs.Laws.{WrappingCommandsAreProper, WrappingCommandsKeepSoundness};
 ghost use Rattle.broker_model.specs.Laws.{RewrapMoves, UnwrapTakesOut, WrapChangesNothing, LookUpChangesNothing};
@@ -11,12 +12,22 @@ ghost use Rattle.broker_model.specs.Laws.{WrappingKeepsSoundness, WrappingEvolve
 
 use mounts::{patterns_are_found_by_form, tables_are_in_order};
 
+/// A law: an operation leaves what the traits of its command tell: only rows of their part change, tokens become what
+/// they say, and what is given out are its own identifiers, or none. Each token stays but for the cubbyhole of the
+/// caller and for leases, unless the command makes, renews or revokes one; each lease was there, or is a new one of the
+/// caller; what waits did so, or moved; and what a version of a secret holds does not change, but that it is destroyed.
+pub fn operations_do_as_told()
+    ensures { OperationsDoAsTold }
+{}
+
 /// A law: an operation gives out its own identifiers or none, none with a 204 or with a 404 that has a
 /// reply; after such a 404 nothing has changed; a response that it hands out waited until then, and its kept
 /// text is the answer; and the broker evolves.
 pub fn operations_are_proper()
     ensures { OperationsAreProper }
-{}
+{
+    operations_do_as_told();
+}
 
 /// A law: a command on responses that wait gives out its own identifiers or none, hands out only what waited until
 /// then, makes no response begin to wait, lets the broker evolve, and leaves a sound broker sound. A response that is

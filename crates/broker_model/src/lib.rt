@@ -7,10 +7,11 @@ mod laws;
 mod making;
 
 pub use commands::{
-    CubbyholeCommand, IssuedCommand, LeaseCommand, MountCommand, PolicyCommand, SecretCommand,
-    TokenCommand, WrappingCommand,
+    CubbyholeCommand, IssuedCommand, LeaseCommand, MountCommand, Needs, PolicyCommand,
+    SecretCommand, TokenCommand, WrappingCommand,
 };
 pub use laws::{
-    cubbyholes_are_routed, operations_are_proper, wrapping_commands_are_proper, wrapping_is_proper,
+    cubbyholes_are_routed, operations_are_proper, operations_do_as_told,
+    wrapping_commands_are_proper, wrapping_is_proper,
 };
 pub use making::Making;

@@ -1,18 +1,44 @@
--- The part of policies: what its commands do to the maps, and what they answer (Vault's documentation,
+-- The part of policies: what its routes mean, by a body, and what they do to the maps (Vault's documentation,
 -- "/sys/policies").
-use Rattle.std.specs.Prelude.{None, Result, Ok}
-use Rattle.api_json.specs.Objects.{keys_object, policy_object}
-use Rattle.api_json.specs.Reply.{plain_reply}
+use Rattle.std.specs.Prelude.{ℕ, List, Option, Some, None, Result, Ok}
+use Rattle.broker_types.specs.declared.refusal.Refusal.{Refusal}
 use Rattle.broker_types.specs.Broker.{Broker}
 use Rattle.broker_types.specs.Names.{Names}
 use Rattle.broker_types.specs.Operation.{nothing, reply, plainly, Done}
 use Rattle.broker_types.specs.Refuse.{◌>>=◌, some_or}
 use Rattle.broker_types.specs.Text.{Text}
-use Rattle.broker_types.specs.declared.refusal.Refusal.{Refusal}
 use Rattle.broker_types.specs.declared.refusal.Refusal.TheVariants as refusal
+use Rattle.records.specs.Parts.{Part, of_policies}
 use Rattle.policies.specs.Policies as policies
+use Rattle.mounts.specs.declared.operation.PolicyOperation.{PolicyOperation}
+use Rattle.mounts.specs.declared.operation.PolicyOperation.TheVariants as operation
+use Rattle.api_json.specs.Objects.{keys_object, policy_object}
+use Rattle.api_json.specs.Reply.{plain_reply}
+use Rattle.api_json.specs.Readers as reader
+use Rattle.broker_model.specs.Traits.{Traits, plain}
 use Rattle.broker_model.specs.declared.commands.PolicyCommand.{PolicyCommand}
 use Rattle.broker_model.specs.declared.commands.PolicyCommand.TheVariants as command
+use Rattle.broker_model.specs.parts.Bodies.{read_as}
+
+-- ---- commands
+
+-- what an operation means, by the body; only what POST and PUT ask for looks at it
+abbrev pub policy_command : PolicyOperation → List ℕ → Result PolicyCommand Refusal
+policy_command operation.List body = Ok command.List
+policy_command operation.Show body = Ok command.Show
+policy_command operation.Set body = read_as reader.policy_text command.Set body
+policy_command operation.Remove body = Ok command.Remove
+
+-- which rows a command may change
+abbrev pub policy_changes : PolicyCommand → Option Part
+policy_changes (command.Set text) = Some of_policies
+policy_changes command.Remove = Some of_policies
+policy_changes _ = None
+
+abbrev pub policy_traits : PolicyCommand → Traits
+policy_traits command = record plain { changes = policy_changes command }
+
+-- ---- what they do
 
 -- the names of all policies
 abbrev pub list : Broker → Names → Result Done Refusal

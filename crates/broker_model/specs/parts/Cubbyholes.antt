@@ -1,6 +1,6 @@
 -- The part of cubbyholes: what its operations mean, and what they do to the maps (Vault's documentation, "Cubbyhole
 -- secrets engine (API)").
-use Rattle.std.specs.Prelude.{ℕ, List, [], true, false, Option, Some, None, Result, Ok}
+use Rattle.std.specs.Prelude.{ℕ, List, Option, Some, None, Result, Ok}
 use Rattle.serde_json.specs.Data.{Members, no_members, member, object}
 use Rattle.serde_json.specs.Written.{compact_text}
 use Rattle.broker_types.specs.Text.{Text}
@@ -11,12 +11,13 @@ use Rattle.broker_types.specs.Refuse.{◌>>=◌, some_or}
 use Rattle.broker_types.specs.declared.refusal.Refusal.{Refusal}
 use Rattle.broker_types.specs.declared.refusal.Refusal.TheVariants as refusal
 use Rattle.broker_types.specs.declared.refusal.Reason.TheVariants as reason
+use Rattle.records.specs.Parts.{Part, of_cubbyholes}
 use Rattle.cubbyhole.specs.Cubbyhole as cubbyhole
 use Rattle.mounts.specs.declared.operation.CubbyholeOperation.{CubbyholeOperation}
 use Rattle.mounts.specs.declared.operation.CubbyholeOperation.TheVariants as operation
 use Rattle.api_json.specs.Json.{body_members}
 use Rattle.api_json.specs.Reply.{plain_reply}
-use Rattle.broker_model.specs.Order.{Traits}
+use Rattle.broker_model.specs.Traits.{Traits, plain}
 use Rattle.broker_model.specs.declared.commands.CubbyholeCommand.{CubbyholeCommand}
 use Rattle.broker_model.specs.declared.commands.CubbyholeCommand.TheVariants as command
 use Rattle.broker_model.specs.parts.Lists.{listed}
@@ -35,9 +36,14 @@ cubbyhole_command operation.Write body = do
   members ← body_members body
   Ok (command.Write (full_text members))
 
--- no operation needs identifiers, and none has to do with wrapping
+-- which rows a command may change
+abbrev pub cubbyhole_changes : CubbyholeCommand → Option Part
+cubbyhole_changes (command.Write full) = Some of_cubbyholes
+cubbyhole_changes command.Delete = Some of_cubbyholes
+cubbyhole_changes _ = None
+
 abbrev pub cubbyhole_traits : CubbyholeCommand → Traits
-cubbyhole_traits command = record { own = λ names. []; may_wrap = true; must_wrap = false }
+cubbyhole_traits command = record plain { changes = cubbyhole_changes command }
 
 -- what a command of the caller c does at a path: the children of a folder are listed, the empty path being that of the
 -- whole cubbyhole; an object without members is 400 `missing data fields`; and a deletion passes over what is not there

@@ -1,6 +1,6 @@
 -- The part of issued credentials: what the routes of a mount that issues them mean, and what they do to the maps (this
 -- project's engine).
-use Rattle.std.specs.Prelude.{ℕ, List, [], ◌∷◌, true, false, Some, None, Result, Ok}
+use Rattle.std.specs.Prelude.{ℕ, ◌||◌, List, Option, Some, None, Result, Ok}
 use Rattle.broker_types.specs.Text.{Text}
 use Rattle.broker_types.specs.Broker.{Broker}
 use Rattle.broker_types.specs.Names.{Names}
@@ -8,6 +8,7 @@ use Rattle.broker_types.specs.Operation.{nothing, reply, plainly, Done}
 use Rattle.broker_types.specs.Refuse.{◌>>=◌, some_or}
 use Rattle.broker_types.specs.declared.refusal.Refusal.{Refusal}
 use Rattle.broker_types.specs.declared.refusal.Refusal.TheVariants as refusal
+use Rattle.records.specs.Parts.{Part, of_leases, of_roles, of_used}
 use Rattle.leases.specs.Leases as leases
 use Rattle.leases.specs.Roles as roles
 use Rattle.leases.specs.Roles.{Issued}
@@ -17,9 +18,11 @@ use Rattle.api_json.specs.Objects.{role_object, credential_object, valid_object}
 use Rattle.api_json.specs.Readers as reader
 use Rattle.api_json.specs.Reply.{plain_reply, lease_reply}
 use Rattle.api_json.specs.declared.issued_bodies.RoleSettings.{RoleSettings}
-use Rattle.broker_model.specs.Order.{Traits}
+use Rattle.broker_model.specs.Traits.{Traits, lease_names, names_needed, plain}
 use Rattle.broker_model.specs.declared.commands.IssuedCommand.{IssuedCommand}
 use Rattle.broker_model.specs.declared.commands.IssuedCommand.TheVariants as command
+use Rattle.broker_model.specs.declared.commands.Needs.{Needs}
+use Rattle.broker_model.specs.declared.commands.Needs.TheVariants as needs
 use Rattle.broker_model.specs.parts.Bodies.{read_as}
 use Rattle.broker_model.specs.parts.Place.{Place}
 
@@ -33,21 +36,25 @@ issued_command operation.RemoveRole body = Ok command.RemoveRole
 issued_command operation.Issue body = Ok command.Issue
 issued_command operation.Verify body = read_as reader.credential command.Verify body
 
--- the identifiers of a new lease: that which its id ends with, and its credential
-abbrev pub lease_names : Names → List Text
-lease_names names = names.lease ∷ names.credential ∷ []
+-- which identifiers a command needs: what is issued has those of a lease
+abbrev pub issued_needs : IssuedCommand → Needs
+issued_needs command.Issue = needs.Lease
+issued_needs _ = needs.Nothing
 
--- which identifiers a command needs: what is issued has them
-abbrev pub own_names : IssuedCommand → Names → List Text
-own_names command.ShowRole names = []
-own_names (command.SetRole asked) names = []
-own_names command.RemoveRole names = []
-own_names command.Issue names = lease_names names
-own_names (command.Verify credential) names = []
+-- leases with their credentials, and the identifiers that were given out
+abbrev pub of_issued : Part
+of_issued k = of_leases k || of_used k
 
--- each reply may be wrapped, but need not be
+-- which rows a command may change
+abbrev pub issued_changes : IssuedCommand → Option Part
+issued_changes (command.SetRole asked) = Some of_roles
+issued_changes command.RemoveRole = Some of_roles
+issued_changes command.Issue = Some of_issued
+issued_changes _ = None
+
 abbrev pub issued_traits : IssuedCommand → Traits
-issued_traits command = record { own = own_names command; may_wrap = true; must_wrap = false }
+issued_traits command =
+    record plain { own = names_needed (issued_needs command); changes = issued_changes command }
 
 -- ---- roles
 

@@ -1,13 +1,13 @@
 -- The part of leases: what the routes under `sys/leases/` mean, and what they do to the maps (Vault's documentation,
 -- "/sys/leases").
-use Rattle.std.specs.Prelude.{ℕ, ◌-◌, List, [], true, false, None, Result, Ok}
+use Rattle.std.specs.Prelude.{ℕ, ◌-◌, List, Option, Some, None, Result, Ok}
 use Rattle.broker_types.specs.Text.{Text}
-use Rattle.broker_types.specs.Token.{Lease}
 use Rattle.broker_types.specs.Broker.{Broker}
 use Rattle.broker_types.specs.Names.{Names}
 use Rattle.broker_types.specs.Operation.{nothing, reply, plainly, Done}
 use Rattle.broker_types.specs.Refuse.{◌>>=◌}
 use Rattle.broker_types.specs.declared.refusal.Refusal.{Refusal}
+use Rattle.records.specs.Parts.{Part, of_leases}
 use Rattle.leases.specs.Leases as leases
 use Rattle.leases.specs.Leases.{Times, times_of}
 use Rattle.mounts.specs.declared.operation.LeaseOperation.{LeaseOperation}
@@ -16,7 +16,7 @@ use Rattle.api_json.specs.Objects.{lease_object}
 use Rattle.api_json.specs.Readers as reader
 use Rattle.api_json.specs.Reply.{plain_reply, lease_reply}
 use Rattle.api_json.specs.declared.lease_objects.LeaseObject.{LeaseObject}
-use Rattle.broker_model.specs.Order.{Traits}
+use Rattle.broker_model.specs.Traits.{Traits, plain}
 use Rattle.broker_model.specs.declared.commands.LeaseCommand.{LeaseCommand}
 use Rattle.broker_model.specs.declared.commands.LeaseCommand.TheVariants as command
 use Rattle.broker_model.specs.parts.Bodies.{read_as, read_none}
@@ -30,9 +30,13 @@ lease_command operation.Renew body = read_as reader.lease_renewal command.Renew 
 lease_command operation.Revoke body = read_as reader.lease_id command.Revoke body
 lease_command operation.RevokeUnder body = read_none command.RevokeUnder body
 
--- no command needs identifiers, and each reply may be wrapped, but need not be
+-- which rows a command may change
+abbrev pub lease_changes : LeaseCommand → Option Part
+lease_changes (command.LookUp id) = None
+lease_changes _ = Some of_leases
+
 abbrev pub lease_traits : LeaseCommand → Traits
-lease_traits command = record { own = λ names. []; may_wrap = true; must_wrap = false }
+lease_traits command = record plain { changes = lease_changes command }
 
 -- ---- what they do
 

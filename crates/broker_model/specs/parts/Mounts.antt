@@ -1,6 +1,6 @@
 -- The part of mounts: what the routes under `sys/mounts` mean, and what they do to the maps (Vault's documentation,
 -- "/sys/mounts").
-use Rattle.std.specs.Prelude.{ℕ, List, [], map, true, false, Option, Some, None, is_some, Result, Ok, codes}
+use Rattle.std.specs.Prelude.{ℕ, ◌||◌, List, map, Option, Some, None, is_some, Result, Ok, codes}
 use Rattle.std.specs.Prelude.{if◌then◌else◌}
 use Rattle.broker_types.specs.Text.{Text}
 use Rattle.broker_types.specs.Map.{get}
@@ -9,6 +9,7 @@ use Rattle.broker_types.specs.Names.{Names}
 use Rattle.broker_types.specs.Operation.{nothing, reply, plainly, Done}
 use Rattle.broker_types.specs.Refuse.{◌>>=◌}
 use Rattle.broker_types.specs.declared.refusal.Refusal.{Refusal}
+use Rattle.records.specs.Parts.{Part, of_leases, of_mounts, of_roles, of_secrets}
 use Rattle.leases.specs.Leases as leases
 use Rattle.leases.specs.Roles as roles
 use Rattle.mounts.specs.Mounts as mounts
@@ -22,7 +23,7 @@ use Rattle.api_json.specs.Readers as reader
 use Rattle.api_json.specs.Reply.{plain_reply}
 use Rattle.api_json.specs.declared.mount_bodies.MountCreation.{MountCreation}
 use Rattle.api_json.specs.declared.mount_objects.MountObject.{MountObject}
-use Rattle.broker_model.specs.Order.{Traits}
+use Rattle.broker_model.specs.Traits.{Traits, plain}
 use Rattle.broker_model.specs.declared.commands.MountCommand.{MountCommand}
 use Rattle.broker_model.specs.declared.commands.MountCommand.TheVariants as command
 use Rattle.broker_model.specs.parts.Bodies.{read_as}
@@ -35,9 +36,22 @@ mount_command operation.List body = Ok command.List
 mount_command operation.Enable body = read_as reader.mount_creation command.Enable body
 mount_command operation.Disable body = Ok command.Disable
 
--- no command needs identifiers, and each reply may be wrapped, but need not be
+-- what is kept under the names of mounts: secrets, roles and leases
+abbrev pub of_kept : Part
+of_kept k = of_secrets k || of_roles k || of_leases k
+
+-- mounts with all that is kept under their names
+abbrev pub of_mounts_and_kept : Part
+of_mounts_and_kept k = of_mounts k || of_kept k
+
+-- which rows a command may change
+abbrev pub mount_changes : MountCommand → Option Part
+mount_changes command.List = None
+mount_changes (command.Enable asked) = Some of_mounts
+mount_changes command.Disable = Some of_mounts_and_kept
+
 abbrev pub mount_traits : MountCommand → Traits
-mount_traits command = record { own = λ names. []; may_wrap = true; must_wrap = false }
+mount_traits command = record plain { changes = mount_changes command }
 
 -- ---- the list of mounts
 

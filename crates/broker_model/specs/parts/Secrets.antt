@@ -1,22 +1,64 @@
--- The part of secrets: what the commands of the routes of a mount of secrets do to the maps (Vault's documentation, "KV
--- secrets engine - version 2 (API)").
-use Rattle.std.specs.Prelude.{ℕ, None, Result, Ok}
+-- The part of versioned secrets: what the routes of a mount of secrets mean, by a body or a version, and what they do to
+-- the maps (Vault's documentation, "KV secrets engine - version 2 (API)").
+use Rattle.std.specs.Prelude.{ℕ, List, Option, Some, None, Result, Ok}
+use Rattle.broker_types.specs.Refuse.{◌>>=◌, some_or}
+use Rattle.broker_types.specs.declared.refusal.Refusal.{Refusal}
 use Rattle.broker_types.specs.Broker.{Broker}
 use Rattle.broker_types.specs.Names.{Names}
 use Rattle.broker_types.specs.Operation.{nothing, reply, plainly, Done}
-use Rattle.broker_types.specs.Refuse.{◌>>=◌, some_or}
-use Rattle.broker_types.specs.declared.refusal.Refusal.{Refusal}
 use Rattle.broker_types.specs.declared.refusal.Refusal.TheVariants as refusal
-use Rattle.kv2.specs.Secrets as secrets
+use Rattle.records.specs.Parts.{Part, of_mounts, of_secrets}
 use Rattle.kv2.specs.Versions.{Settings}
+use Rattle.kv2.specs.Secrets as secrets
+use Rattle.mounts.specs.declared.operation.SecretOperation.{SecretOperation}
+use Rattle.mounts.specs.declared.operation.SecretOperation.TheVariants as operation
 use Rattle.api_json.specs.declared.secret_bodies.SecretWrite.{SecretWrite}
 use Rattle.api_json.specs.declared.secret_bodies.KeySettings.{KeySettings}
 use Rattle.api_json.specs.declared.secret_bodies.MountSettings.{MountSettings}
+use Rattle.api_json.specs.Readers as reader
+use Rattle.broker_model.specs.Traits.{Traits, plain}
 use Rattle.broker_model.specs.declared.commands.SecretCommand.{SecretCommand}
 use Rattle.broker_model.specs.declared.commands.SecretCommand.TheVariants as command
+use Rattle.broker_model.specs.parts.Bodies.{read_as}
 use Rattle.broker_model.specs.parts.Lists.{listed}
 use Rattle.broker_model.specs.parts.Place.{Place}
 use Rattle.broker_model.specs.parts.SecretReplies.{settings_reply, version_answered, written_reply, metadata_reply}
+
+-- ---- commands
+
+-- GET of `data/PATH`, by the version that the query asks for
+abbrev pub read_meant : List ℕ → Result SecretCommand Refusal
+read_meant version = do
+  number ← reader.version_number version
+  Ok (command.Read number)
+
+-- What an operation means, by the version that the query asks for and the body. Only a read looks at the version, and
+-- only what POST and PUT ask for at the body.
+abbrev pub secret_command : SecretOperation → List ℕ → List ℕ → Result SecretCommand Refusal
+secret_command operation.ShowSettings version body = Ok command.ShowSettings
+secret_command operation.SetSettings version body = read_as reader.mount_settings command.SetSettings body
+secret_command operation.Read version body = read_meant version
+secret_command operation.Write version body = read_as reader.secret_write command.Write body
+secret_command operation.DeleteCurrent version body = Ok command.DeleteCurrent
+secret_command operation.Delete version body = read_as reader.versions command.Delete body
+secret_command operation.Undelete version body = read_as reader.versions command.Undelete body
+secret_command operation.Destroy version body = read_as reader.versions command.Destroy body
+secret_command operation.ShowMetadata version body = Ok command.ShowMetadata
+secret_command operation.SetMetadata version body = read_as reader.key_settings command.SetMetadata body
+secret_command operation.Remove version body = Ok command.Remove
+secret_command operation.List version body = Ok command.List
+
+-- which rows a command may change: settings of the mount are in its row, all else in rows of secrets and of versions
+abbrev pub secret_changes : SecretCommand → Option Part
+secret_changes command.ShowSettings = None
+secret_changes (command.SetSettings asked) = Some of_mounts
+secret_changes (command.Read n) = None
+secret_changes command.ShowMetadata = None
+secret_changes command.List = None
+secret_changes _ = Some of_secrets
+
+abbrev pub secret_traits : SecretCommand → Traits
+secret_traits command = record plain { changes = secret_changes command }
 
 -- ---- settings
 

@@ -23,10 +23,10 @@ use Rattle.wrapping.specs.Wrapping as wrapping
 use Rattle.api_json.specs.Objects.{keys_object}
 use Rattle.api_json.specs.Reply.{plain_reply}
 use Rattle.api_json.specs.declared.token_bodies.TokenCreation.{TokenCreation}
+use Rattle.broker_model.specs.Traits.{token_names}
 use Rattle.broker_model.specs.declared.commands.TokenCommand.{TokenCommand}
 use Rattle.broker_model.specs.declared.commands.TokenCommand.TheVariants as command
 use Rattle.broker_model.specs.declared.making.Making.{Making}
-use Rattle.broker_model.specs.parts.TokenCommands.{token_names}
 use Rattle.broker_model.specs.parts.TokenCreation.{making_path, is_privileged, new_policies, may_make, new_parent}
 use Rattle.broker_model.specs.parts.TokenCreation.{new_token, or_longest}
 use Rattle.broker_model.specs.parts.TokenReplies.{auth_reply, token_reply}

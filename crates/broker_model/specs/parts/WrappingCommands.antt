@@ -1,22 +1,26 @@
 -- What the routes under `sys/wrapping/` mean: which command a body is, which wrapping token is meant, what each command
 -- needs, and which requests are open (Vault's documentation, "/sys/wrapping").
-use Rattle.std.specs.Prelude.{ℕ, ◌||◌, ◌&&◌, List, [], ◌∷◌, Bool, true, false, Option, Some, None}
-use Rattle.std.specs.Prelude.{Result, Ok, Err, codes}
+use Rattle.std.specs.Prelude.{◌||◌, ℕ, List, [], ◌∷◌, Bool, true, false, Option, Some, None}
+use Rattle.std.specs.Prelude.{Result, Ok, Err}
 use Rattle.std.specs.Option.{option_map_or}
 use Rattle.serde_json.specs.Data.{object}
 use Rattle.serde_json.specs.Written.{compact_text}
 use Rattle.broker_types.specs.Text.{Text, same}
-use Rattle.broker_types.specs.Names.{Names}
 use Rattle.broker_types.specs.Refuse.{◌>>=◌}
 use Rattle.broker_types.specs.declared.ask.Verb.{Verb}
-use Rattle.broker_types.specs.declared.ask.Verb.TheVariants as verb
 use Rattle.broker_types.specs.declared.refusal.Refusal.{Refusal}
-use Rattle.mounts.specs.Patterns.{same_verb}
+use Rattle.records.specs.Parts.{Part, of_used, of_waiting}
+use Rattle.mounts.specs.Route.{operation_at}
+use Rattle.mounts.specs.Table.{facts}
+use Rattle.mounts.specs.declared.operation.Opens.{Opens}
+use Rattle.mounts.specs.declared.operation.Opens.TheVariants.{Never, Always, WithItsOwn}
 use Rattle.mounts.specs.declared.operation.WrappingOperation.{WrappingOperation}
 use Rattle.mounts.specs.declared.operation.WrappingOperation.TheVariants as operation
 use Rattle.api_json.specs.Json.{body_members}
 use Rattle.api_json.specs.Readers as reader
-use Rattle.broker_model.specs.Order.{Traits}
+use Rattle.broker_model.specs.Traits.{Traits, names_needed, plain}
+use Rattle.broker_model.specs.declared.commands.Needs.{Needs}
+use Rattle.broker_model.specs.declared.commands.Needs.TheVariants as needs
 use Rattle.broker_model.specs.declared.commands.WrappingCommand.{WrappingCommand}
 use Rattle.broker_model.specs.declared.commands.WrappingCommand.TheVariants as command
 use Rattle.broker_model.specs.parts.Bodies.{read_as}
@@ -58,17 +62,35 @@ wrapping_command operation.Unwrap client body = unwrap_meant client body
 
 -- ---- what commands need
 
--- the identifiers of a new wrapping token and of its accessor
-abbrev pub wrapping_names : Names → List Text
-wrapping_names names = names.wrapping_token ∷ names.wrapping_accessor ∷ []
+-- which identifiers a command needs: a rewrap needs those of a new wrapping token
+abbrev pub wrapping_needs : WrappingCommand → Needs
+wrapping_needs (command.Rewrap t) = needs.WrappingToken
+wrapping_needs _ = needs.Nothing
 
--- The reply to a wrap is wrapped, and must be. The others have no wrap TTL, whatever the request says; a rewrap needs
--- the identifiers of a new wrapping token all the same.
+-- whether a command is a wrap: the reply to it is wrapped, and must be; the others have no wrap TTL, whatever the
+-- request says
+abbrev pub is_wrap : WrappingCommand → Bool
+is_wrap (command.Wrap text) = true
+is_wrap _ = false
+
+-- responses that wait, and the identifiers that were given out
+abbrev pub of_moved : Part
+of_moved k = of_waiting k || of_used k
+
+-- which rows a command may change
+abbrev pub wrapping_changes : WrappingCommand → Option Part
+wrapping_changes (command.Rewrap t) = Some of_moved
+wrapping_changes (command.Unwrap t) = Some of_waiting
+wrapping_changes _ = None
+
 abbrev pub wrapping_traits : WrappingCommand → Traits
-wrapping_traits (command.Wrap text) = record { own = λ names. []; may_wrap = true; must_wrap = true }
-wrapping_traits (command.LookUp t) = record { own = λ names. []; may_wrap = false; must_wrap = false }
-wrapping_traits (command.Rewrap t) = record { own = wrapping_names; may_wrap = false; must_wrap = false }
-wrapping_traits (command.Unwrap t) = record { own = λ names. []; may_wrap = false; must_wrap = false }
+wrapping_traits command =
+    record plain {
+      own = names_needed (wrapping_needs command);
+      may_wrap = is_wrap command;
+      must_wrap = is_wrap command;
+      changes = wrapping_changes command;
+    }
 
 -- ---- open requests
 
@@ -87,18 +109,16 @@ is_own_if_read client (Err r) = false
 abbrev pub token_named : List ℕ → Result (Option Text) Refusal
 token_named body = read_as reader.wrapping_token (λ named. named) body
 
--- whether the path is that of the look-up of a wrapping token
-unfoldable pub looks_up : Text → Bool
-looks_up path = same path (codes "sys/wrapping/lookup")
+-- whether a request needs no caller, by what its operation says
+abbrev pub opened_by : Opens → Option Text → List ℕ → Bool
+opened_by Never client body = false
+opened_by Always client body = true
+opened_by WithItsOwn client body = is_own_if_read client (token_named body)
 
--- whether the path is one of those at which the client token may be the wrapping token
-unfoldable pub takes_own : Text → Bool
-takes_own path = same path (codes "sys/wrapping/unwrap") || same path (codes "sys/wrapping/rewrap")
+-- whether the operation of a verb at a path needs no caller; without an operation there a caller is needed
+abbrev pub opening : Verb → Text → Opens
+opening v path = option_map_or (λ o. (facts o).opens) (operation_at v path) Never
 
--- Whether a request needs no caller: POST and PUT of `sys/wrapping/lookup`; and of `sys/wrapping/unwrap` and
--- `sys/wrapping/rewrap`, if the body can be read and names no wrapping token but the client token (Vault's
--- documentation, "/sys/wrapping/unwrap", where the client token may be the wrapping token; the rest is this project's).
--- The wrap TTL plays no part.
+-- whether a request needs no caller; the wrap TTL plays no part
 abbrev pub opens : Verb → Text → Option Text → List ℕ → Bool
-opens v path client body =
-    same_verb v verb.Write && (looks_up path || (takes_own path && is_own_if_read client (token_named body)))
+opens v path client body = opened_by (opening v path) client body

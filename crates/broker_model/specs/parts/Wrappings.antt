@@ -18,9 +18,9 @@ use Rattle.wrapping.specs.Wrapping.{moved}
 use Rattle.api_json.specs.Objects.{waiting_object}
 use Rattle.api_json.specs.Reply.{plain_reply, wrap_reply}
 use Rattle.broker_model.specs.Order.{wrap_info}
+use Rattle.broker_model.specs.Traits.{wrapping_names}
 use Rattle.broker_model.specs.declared.commands.WrappingCommand.{WrappingCommand}
 use Rattle.broker_model.specs.declared.commands.WrappingCommand.TheVariants as command
-use Rattle.broker_model.specs.parts.WrappingCommands.{wrapping_names}
 
 -- ---- the response that is meant
 
