@@ -8,10 +8,11 @@ use Rattle.broker_types.specs.Text.{Text, same}
 use Rattle.broker_types.specs.Map.{get}
 use Rattle.broker_types.specs.Broker.{Broker}
 use Rattle.broker_types.specs.Places.{IsUsed}
+use Rattle.broker_model.specs.NewIdentifierLaws.{member_new}
 use Rattle.histories.specs.History.{Asking, AskedAt, History, given_out}
 use Rattle.histories.proofs.Keeping.{EachKeeps, EachMarks}
 use Rattle.histories.proofs.Lasting.{asked_keeps, evolved_since}
-use Rattle.histories.proofs.Used.{any_left, any_right, member_new, member_used, used_or}
+use Rattle.histories.proofs.Used.{any_left, any_right, member_used, used_or}
 
 -- what is used where a request is asked was used at first, or an earlier event gave it out
 pub used_is_given : (b : Broker) (history : History) (j : ℕ) (x : Asking) (i : Text) → EachMarks b history

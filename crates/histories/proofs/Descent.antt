@@ -1,327 +1,792 @@
--- What becomes of each token by a request, and whose child a new one is.
-use Rattle.std.specs.Prelude.{◌≡◌, ◌≢◌, ◌⊎◌, ◌||◌, ◌-◌, ◌==◌, not, nat_lt, ℕ, max, true, false, is_some, if◌then◌else◌}
-use Rattle.std.specs.Prelude.{Option, Some, None, Result, Ok, Err, option_map}
+-- What becomes of each token by a request, with its cubbyhole and its leases, and which token it makes.
+use Rattle.std.specs.Prelude.{◌≡◌, ◌⊎◌, ◌<◌, ◌-◌, ◌==◌, ℕ, Bool, true, false, not, cond, nat_lt, is_some, if◌then◌else◌}
+use Rattle.std.specs.Prelude.{Option, Some, None, Ok, option_map, option_and_then, ◌≢◌, ⊤}
 use Rattle.std.specs.Option.{option_map_or}
-use Rattle.std.proofs.Common.{refl, sym, ◌∙◌, ap, subst, inl, inr}
-use Rattle.std.proofs.lemmas.Bool.{false≢true}
-use Rattle.std.proofs.lemmas.Option.{none-some, same_Some}
+use Rattle.std.proofs.Common.{refl, sym, ◌∙◌, ap, subst, inl, inr, arith}
+use Rattle.std.proofs.lemmas.Bool.{false≢true, ltb-false, ltb-true, not-true}
+use Rattle.std.proofs.lemmas.Option.{same_Some}
 use Rattle.broker_types.specs.Text.{Text, same}
 use Rattle.broker_types.specs.TextLaws.{same_self, same_true}
-use Rattle.broker_types.specs.Map.{get}
-use Rattle.broker_types.specs.MapLaws.{valued_is}
-use Rattle.broker_types.specs.Broker.{Broker, Waiting, revoke}
-use Rattle.broker_types.specs.Lineage.{is_under}
-use Rattle.broker_types.specs.Names.{Names, names_of}
-use Rattle.broker_types.specs.Operation.{Answered, nothing, reply, Done}
-use Rattle.broker_types.specs.OptionLaws.{found_or_not}
-use Rattle.broker_types.specs.Places.{identifier_at, token_identifier}
-use Rattle.broker_types.specs.Places as place
-use Rattle.broker_types.specs.Refuse.{unless}
+use Rattle.broker_types.specs.Map.{Map, change, get, keep, map_values, put, without}
+use Rattle.broker_types.specs.MapLaws.{get-change, get-keep, get-map_values, get-put, get-without, valued_is}
+use Rattle.broker_types.specs.Broker.{Broker, Mount}
+use Rattle.broker_types.specs.Names.{names_of, Names}
+use Rattle.broker_types.specs.Answer.{Response}
+use Rattle.broker_types.specs.Operation.{nothing, plainly, reply, Done}
+use Rattle.broker_types.specs.Refuse.{some_or, unless}
 use Rattle.broker_types.specs.RefuseLaws.{ok_step}
-use Rattle.broker_types.specs.SearchLaws.{kept_get}
+use Rattle.broker_types.specs.Spending.{is_spent}
+use Rattle.broker_types.specs.Token.{Token, Tokens, Lease}
+use Rattle.broker_types.specs.declared.reply.Reply.{Reply}
+use Rattle.broker_types.specs.Lineage.{is_under, orphaned_by}
+use Rattle.broker_types.specs.LineageLaws.{get-revoke}
+use Rattle.broker_types.specs.TokenText.{token_text}
 use Rattle.broker_types.specs.Sound.{Sound}
-use Rattle.broker_types.specs.Spending.{end_spent, is_spent, one_less}
-use Rattle.broker_types.specs.Token.{Token, Tokens}
-use Rattle.broker_types.specs.TreeLaws.{alive_is, under_self}
-use Rattle.broker_types.specs.Used.{are_new}
-use Rattle.broker_types.specs.declared.refusal.Refusal.{Refusal}
 use Rattle.broker_types.specs.declared.refusal.Refusal.TheVariants as refusal
 use Rattle.broker_types.specs.declared.refusal.Reason.TheVariants as reason
-use Rattle.broker_types.specs.declared.reply.Reply.{Reply}
+use Rattle.records.specs.Parts.{Part}
 use Rattle.records.specs.ValueLaws.{ok_inj}
-use Rattle.broker_model.specs.Act.{act}
-use Rattle.broker_model.specs.Command.{Command, command_of}
+use Rattle.records.specs.TokenEntry.{token_entry}
+use Rattle.records.specs.declared.kind.Kind.TheVariants as kind
+use Rattle.cubbyhole.specs.Cubbyhole as cubbyhole
+use Rattle.token_tree.specs.Tokens as tree
+use Rattle.leases.specs.Roles.{Issued, is_last_use}
+use Rattle.leases.specs.Leases as leases
+use Rattle.leases.specs.Roles as roles
+use Rattle.mounts.specs.Mounts.{disabled}
+use Rattle.api_json.specs.declared.lease_bodies.LeaseRenewal.{LeaseRenewal}
+use Rattle.api_json.specs.declared.token_bodies.TokenCreation.{TokenCreation}
+use Rattle.broker_model.specs.Command.{Command, on_cubbyhole, on_issued, on_lease, on_mount, on_policy, on_secret}
+use Rattle.broker_model.specs.Command.{on_token, on_wrapping}
+use Rattle.broker_model.specs.Step.{traits, step}
+use Rattle.broker_model.specs.Traits.{may_change, stay, Fate, Named, make, orphan, renew, revoke, text_named}
+use Rattle.broker_model.specs.declared.commands.CubbyholeCommand.{CubbyholeCommand}
+use Rattle.broker_model.specs.declared.commands.IssuedCommand.{IssuedCommand}
+use Rattle.broker_model.specs.declared.commands.LeaseCommand.{LeaseCommand}
+use Rattle.broker_model.specs.declared.commands.MountCommand.{MountCommand}
+use Rattle.broker_model.specs.declared.commands.PolicyCommand.{PolicyCommand}
+use Rattle.broker_model.specs.declared.commands.SecretCommand.{SecretCommand}
+use Rattle.broker_model.specs.declared.commands.TokenCommand.{TokenCommand}
+use Rattle.broker_model.specs.declared.commands.WrappingCommand.{WrappingCommand}
+use Rattle.broker_model.specs.parts.AclPolicies.{policy_changes}
+use Rattle.broker_model.specs.parts.Cubbyholes.{cubbyhole_changes}
+use Rattle.broker_model.specs.parts.Issued.{issued_changes}
+use Rattle.broker_model.specs.parts.Leases.{lease_changes}
+use Rattle.broker_model.specs.parts.Mounts.{mount_changes, without_kept}
+use Rattle.broker_model.specs.parts.Place.{Place}
+use Rattle.broker_model.specs.parts.Secrets.{secret_changes}
+use Rattle.broker_model.specs.parts.TokenCommands.{token_changes, token_fate}
+use Rattle.broker_model.specs.parts.WrappingCommands.{wrapping_changes}
+use Rattle.broker_model.specs.Effects.{Both, IsFated, Stay, StaysAt}
+use Rattle.broker_model.specs.declared.making.Making.{Making}
+use Rattle.broker_model.specs.declared.making.Making.TheVariants.{OfCaller, WithoutParent}
+use Rattle.broker_model.specs.parts.TokenCreation.{is_privileged, making_path, may_make, new_parent, new_policies}
+use Rattle.broker_model.specs.parts.TokenCreation.{new_token}
+use Rattle.broker_model.specs.parts.Tokens.{known, new_end}
 use Rattle.broker_model.specs.Forms.{forms}
-use Rattle.broker_model.specs.Order.{Outcome, Wrapped, counted, finish, needed, permission_denied, response_to, serve, unwrapped, wrapped}
-use Rattle.broker_model.specs.Permission.{permits}
-use Rattle.broker_model.specs.Request.{Request}
-use Rattle.broker_model.specs.Step.{request_of, step, traits}
-use Rattle.histories.specs.History.{Asking, clocked}
-use Rattle.histories.specs.Revocation.{IsClient, IsMade, IsOrphaned, WasToken}
-use Rattle.histories.proofs.InOrder.{in_order}
-use Rattle.histories.proofs.Lasting.{waited_before}
-use Rattle.histories.proofs.OperationsDescend.{WasMade, WasOrphaned, WasThere, operations_descend}
-use Rattle.histories.proofs.OrderCases.{IsCaller, spent}
-use Rattle.histories.proofs.OrderKeeps.{wrapped_cases}
-use Rattle.histories.proofs.Requests.{means_at_clock}
+use Rattle.broker_model.specs.Laws.{OperationsDoAsTold}
+use Rattle.broker_model.specs.declared.commands.CubbyholeCommand.TheVariants as of_cubbyhole
+use Rattle.broker_model.specs.declared.commands.IssuedCommand.TheVariants as of_issued
+use Rattle.broker_model.specs.declared.commands.LeaseCommand.TheVariants as of_lease
+use Rattle.broker_model.specs.declared.commands.MountCommand.TheVariants as of_mount
+use Rattle.broker_model.specs.declared.commands.PolicyCommand.TheVariants as of_policy
+use Rattle.broker_model.specs.declared.commands.SecretCommand.TheVariants as of_secret
+use Rattle.broker_model.specs.declared.commands.TokenCommand.TheVariants as of_token
+use Rattle.broker_model.specs.declared.commands.WrappingCommand.TheVariants as of_response
+use Rattle.broker_model.specs.parts.Tokens as tokens
+use Rattle.histories.specs.History.{Asking, clocked, spent_by}
+use Rattle.histories.specs.LeaseEnds.{EndsLease}
+use Rattle.histories.specs.LeaseOwners.{IsIssuedTo}
+use Rattle.histories.specs.Own.{EditsCubbyhole, Edits, IsRevoked, LeaseBecomes, RenewalOf, RenewsToken, Stands}
+use Rattle.histories.specs.Own.{with_changed}
+use Rattle.histories.specs.Revocation.{IsClient, IsMade, IsOrphaned, orphaning_by, parent_asked, WasToken}
+use Rattle.histories.specs.Revocation.{IsGranted, RevokesAlone, left_by_caller, revoked_by}
+use Rattle.histories.proofs.Clients.{CarriesOut, from_clock, Course, FromClock, course, from_itself, left_is}
+use Rattle.histories.proofs.Clients.{left_unspent}
+use Rattle.histories.proofs.OrderCases.{unless_ok, some_ok}
 
--- ---- the end of a caller
+-- ---- parts that change neither
 
--- a token that is left by the end of a spent caller was there
-end_is : (b : Broker) (who : Option Text) (q : Text) (y : Token) → get (end_spent b who).tokens q ≡ Some y → get b.tokens q ≡ Some y
-end_is b None q y e = e
-end_is b (Some c) q y e =
-    elim (option_map_or is_spent (get b.tokens c) false) as
-    (λ v. get (if v then revoke b c else b).tokens q ≡ Some y → get b.tokens q ≡ Some y) [
-      | true ↦ λ left. (kept_get (λ u. not (is_under b.tokens u c)) b.tokens q y left).0
-      | false ↦ λ left. left
-    ] e
+abbrev Neither : Option Part → Type 0
+Neither changes = (may_change changes kind.Cubby ≡ false) × (may_change changes kind.Lease ≡ false)
 
--- and the caller has a use left, if it is
-end_unspent : (b : Broker) (c : Text) (y : Token) → get (end_spent b (Some c)).tokens c ≡ Some y → y.uses_left ≢ Some 0
-end_unspent b c y e =
-    elim (option_map_or is_spent (get b.tokens c) false) as
-    (λ v. option_map_or is_spent (get b.tokens c) false ≡ v → get (if v then revoke b c else b).tokens c ≡ Some y → y.uses_left ≢ Some 0) [
-      | true ↦ λ _ left zero.
-          let k = kept_get (λ u. not (is_under b.tokens u c)) b.tokens c y left in
-          false≢true (sym (ap not (under_self b.tokens c (λ none. none-some _ (sym none ∙ k.0)))) ∙ k.1)
-      | false ↦ λ unspent left zero.
-          false≢true (sym unspent ∙ ap (λ (o : Option Token). option_map_or is_spent o false) left
-          ∙ ap (λ (o : Option ℕ). option_map_or (λ n. n == 0) o false) zero)
-    ] refl e
+tokens_neither : (k : TokenCommand) → token_fate k ≡ stay → Neither (token_changes k)
+tokens_neither (of_token.Revoke t) e = absurd (cc)
+tokens_neither (of_token.RevokeOrphan t) e = absurd (cc)
+tokens_neither (of_token.RevokeAccessor accessor) e = absurd (cc)
+tokens_neither of_token.RevokeSelf e = absurd (cc)
+tokens_neither _ e = (refl, refl)
 
--- ---- the use that a caller spends
+secrets_neither : (k : SecretCommand) → Neither (secret_changes k)
+secrets_neither of_secret.ShowSettings = (refl, refl)
+secrets_neither _ = (refl, refl)
+
+policies_neither : (k : PolicyCommand) → Neither (policy_changes k)
+policies_neither of_policy.List = (refl, refl)
+policies_neither _ = (refl, refl)
+
+responses_neither : (k : WrappingCommand) → Neither (wrapping_changes k)
+responses_neither (of_response.Wrap text) = (refl, refl)
+responses_neither _ = (refl, refl)
+
+-- those that change no cubbyhole
+leases_no_cubbyhole : (k : LeaseCommand) → may_change (lease_changes k) kind.Cubby ≡ false
+leases_no_cubbyhole (of_lease.LookUp id) = refl
+leases_no_cubbyhole _ = refl
+
+mounts_no_cubbyhole : (k : MountCommand) → may_change (mount_changes k) kind.Cubby ≡ false
+mounts_no_cubbyhole of_mount.List = refl
+mounts_no_cubbyhole _ = refl
+
+issued_no_cubbyhole : (k : IssuedCommand) → may_change (issued_changes k) kind.Cubby ≡ false
+issued_no_cubbyhole of_issued.ShowRole = refl
+issued_no_cubbyhole _ = refl
+
+-- and no lease
+cubbyholes_no_lease : (k : CubbyholeCommand) → may_change (cubbyhole_changes k) kind.Lease ≡ false
+cubbyholes_no_lease of_cubbyhole.Read = refl
+cubbyholes_no_lease _ = refl
+
+-- ---- one token
+
+-- what is taken out is none
+without_it : {X : Type 0} (v : Bool) (o : Option X) → cond v None o ≡ (if v then None else o)
+without_it true o = refl
+without_it false o = refl
+
+not_kept : {X : Type 0} (v : Bool) (o : Option X) → cond (not v) o None ≡ (if v then None else o)
+not_kept true o = refl
+not_kept false o = refl
+
+-- more than one use, before one was spent that was not the last
+more_than_one : (n : ℕ) → (n - 1 == 0) ≡ false → 1 < n
+more_than_one n e = by (nat_lt 1 n) refl
+  where
+    by : (v : Bool) → nat_lt 1 n ≡ v → 1 < n
+    by true lt = ltb-true 1 n lt
+    by false ge =
+        let none : n - 1 ≡ 0 = omega (arith, ltb-false 1 n ge) in
+        absurd (false≢true (sym e ∙ ap (λ m. m == 0) none))
+
+module _ (a : Asking) (c : Text) (q : Text) (x y : Token) (was : get (spent_by a c).tokens q ≡ Some x) (d : Done)
+    (is : get d.next.tokens q ≡ Some y) where
+  abbrev b : Broker
+  b = spent_by a c
+
+  edited_is : (f : Text → Token → Token) → d.next.tokens ≡ map_values f b.tokens → y ≡ f q x
+  edited_is f e =
+      let v = valued_is f b.tokens q y (ap (λ (m : Tokens). get m q) (sym e) ∙ is) in
+      v.2 ∙ ap (f q) (same_Some _ _ (sym v.1 ∙ was))
+
+  -- ---- its cubbyhole
+
+  module _ (path : Text) where
+    abbrev AtPath : Type 0
+    AtPath = (get y.cubbyhole path ≡ get x.cubbyhole path) ⊎ EditsCubbyhole a q path (get y.cubbyhole path)
+
+    -- an edit at a path changes no other
+    edited_at : (p : Text) (k : CubbyholeCommand) → CarriesOut a c (on_cubbyhole p k) d
+        → IsClient a q → d.answered ≡ nothing → (edit : Map Text → Map Text) (new : Option Text) → Edits new k
+        → d.next.tokens ≡ (cubbyhole.edited b c edit).tokens
+        → ((m : Map Text) → get (edit m) path ≡ cond (same path p) new (get m path)) → AtPath
+    edited_at p k s client answered edit new edits next at_each =
+        at_path (same path p) refl
+        (ap (λ (z : Token). get z.cubbyhole path)
+        (edited_is (λ u z. if same u c then cubbyhole.with_cubbyhole edit z else z) next
+        ∙ ap (λ u. if same u c then cubbyhole.with_cubbyhole edit x else x)
+        (same_Some _ _ (sym client.token ∙ s.client.token))
+        ∙ ap (λ v. if v then cubbyhole.with_cubbyhole edit x else x) (same_self c))
+        ∙ at_each x.cubbyhole)
+      where
+        at_path : (v : Bool) → same path p ≡ v → get y.cubbyhole path ≡ cond (same path p) new (get x.cubbyhole path)
+            → AtPath
+        at_path true at e = inr (record {
+          client = client;
+          command = k;
+          means = s.means ∙ ap (λ u. Ok (on_cubbyhole u k)) (sym (same_true path p at));
+          edits = subst (λ (o : Option Text). Edits o k)
+              (sym (e ∙ ap (λ v. cond v new (get x.cubbyhole path)) at)) edits;
+          answered = ap (λ (r : Response). r.status) (s.is_204 answered);
+        })
+        at_path false apart e = inl (e ∙ ap (λ v. cond v new (get x.cubbyhole path)) apart)
+
+    at_cubbyhole : (p : Text) (k : CubbyholeCommand) → CarriesOut a c (on_cubbyhole p k) d
+        → IsClient a q → may_change (cubbyhole_changes k) kind.Cubby ≡ true → AtPath
+    at_cubbyhole p (of_cubbyhole.Write full) s client may =
+        let text = ok_step (some_or (refusal.BadRequest reason.MissingData) full) _ d s.acted in
+        edited_at p (of_cubbyhole.Write full) s client (ap (λ (z : Done). z.answered) (sym (ok_inj text.2)))
+        (λ m. put m p text.0) (Some text.0) (sym (some_ok _ full text.1))
+        (ap (λ (z : Done). z.next.tokens) (sym (ok_inj text.2)))
+        (λ m. get-put m p text.0 path)
+    at_cubbyhole p of_cubbyhole.Delete s client may =
+        edited_at p of_cubbyhole.Delete s client (ap (λ (z : Done). z.answered) (sym (ok_inj s.acted)))
+        (λ m. without m p) None refl (ap (λ (z : Done). z.next.tokens) (sym (ok_inj s.acted)))
+        (λ m. get-without m p path)
+    at_cubbyhole p _ s client may = absurd (false≢true may)
+
+    -- what may change a cubbyhole, changes it at its own path alone
+    pub cubbyhole_left : (command : Command) → CarriesOut a c command d → IsClient a q
+        → (traits command).fate ≡ stay → may_change (traits command).changes kind.Cubby ≡ true → AtPath
+    cubbyhole_left (on_cubbyhole p k) s client fate may = at_cubbyhole p k s client may
+    cubbyhole_left (on_token k) s client fate may = absurd (false≢true (sym (tokens_neither k fate).0 ∙ may))
+    cubbyhole_left (on_secret p k) s client fate may = absurd (false≢true (sym (secrets_neither k).0 ∙ may))
+    cubbyhole_left (on_policy name k) s client fate may = absurd (false≢true (sym (policies_neither k).0 ∙ may))
+    cubbyhole_left (on_mount name k) s client fate may = absurd (false≢true (sym (mounts_no_cubbyhole k) ∙ may))
+    cubbyhole_left (on_lease prefix k) s client fate may = absurd (false≢true (sym (leases_no_cubbyhole k) ∙ may))
+    cubbyhole_left (on_issued p k) s client fate may = absurd (false≢true (sym (issued_no_cubbyhole k) ∙ may))
+    cubbyhole_left (on_wrapping k) s client fate may = absurd (false≢true (sym (responses_neither k).0 ∙ may))
+
+  -- ---- its leases
+
+  module _ (lease_id : Text) where
+    abbrev Becomes : Option Lease → Type 0
+    Becomes new = LeaseBecomes a q lease_id (get x.leases lease_id) new
+
+    -- where each token's leases are edited
+    leases_edited : (edit : Text → Map Lease → Map Lease)
+        → d.next.tokens ≡ (leases.edited b edit).tokens → Becomes (get (edit q x.leases) lease_id)
+        → Becomes (get y.leases lease_id)
+    leases_edited edit next becomes =
+        subst Becomes (ap (λ (z : Token). get z.leases lease_id)
+        (sym (edited_is (λ t z. leases.with_leases (edit t z.leases) z) next))) becomes
+
+    -- a lease that was revoked is none, and the others are as they were
+    taken_out : (command : Command) → CarriesOut a c command d → d.answered ≡ nothing → (v : Bool)
+        → (v ≡ true → EndsLease (clocked a) lease_id command) → Becomes (if v then None else get x.leases lease_id)
+    taken_out command s answered true ends = inr (inr (inr (
+      refl,
+      record {
+        command = command;
+        means = s.means;
+        ends = ends refl;
+        answered = ap (λ (r : Response). r.status) (s.is_204 answered);
+      },
+    )))
+    taken_out command s answered false ends = inl refl
+
+    lease_renewed : (prefix : Text) (asked : LeaseRenewal) → CarriesOut a c (on_lease prefix (of_lease.Renew asked)) d
+        → Becomes (get y.leases lease_id)
+    lease_renewed prefix asked s =
+        let f = leases.renewed b.clock asked.increment in
+        let r = ok_step (leases.renew b asked.lease_id asked.increment) _ d s.acted in
+        let l = ok_step (leases.lookup b asked.lease_id) _ r.0 r.1 in
+        leases_edited (λ t m. change m asked.lease_id f)
+        (ap (λ (z : Done). z.next.tokens) (sym (ok_inj r.2))
+        ∙ ap (λ (z : leases.Renewed). z.next.tokens) (sym (ok_inj l.2)))
+        (subst Becomes (sym (get-change x.leases asked.lease_id f lease_id))
+        (by _ (ap (λ (z : Done). z.answered) (sym (ok_inj r.2))) (same lease_id asked.lease_id) refl
+        (get x.leases lease_id)))
+      where
+        by : (r : Reply) → d.answered ≡ reply r None → (v : Bool) → same lease_id asked.lease_id ≡ v
+            → (o : Option Lease)
+            → LeaseBecomes a q lease_id o
+            (option_map (λ l. if v then leases.renewed b.clock asked.increment l else l) o)
+        by r answered v at None = inl refl
+        by r answered false at (Some k) = inl refl
+        by r answered true at (Some k) = inr (inl (record {
+          renews = record {
+            prefix = prefix;
+            asked = asked;
+            means = s.means;
+            names = sym (same_true lease_id asked.lease_id at);
+            answered = s.is_200 r None answered;
+          };
+          earlier = k;
+          there = refl;
+          later = leases.renewed b.clock asked.increment k;
+          is = refl;
+          rest = refl;
+        }))
+
+    at_lease : (prefix : Text) (k : LeaseCommand) → CarriesOut a c (on_lease prefix k) d
+        → may_change (lease_changes k) kind.Lease ≡ true → Becomes (get y.leases lease_id)
+    at_lease prefix (of_lease.LookUp id) s may = absurd (false≢true may)
+    at_lease prefix (of_lease.Renew asked) s may = lease_renewed prefix asked s
+    at_lease prefix (of_lease.Revoke id) s may =
+        leases_edited (λ t m. without m id) (ap (λ (z : Done). z.next.tokens) (sym (ok_inj s.acted)))
+        (subst Becomes (sym (get-without x.leases id lease_id ∙ without_it (same lease_id id) (get x.leases lease_id)))
+        (taken_out (on_lease prefix (of_lease.Revoke id)) s (ap (λ (z : Done). z.answered) (sym (ok_inj s.acted)))
+        (same lease_id id) (λ at. sym (same_true lease_id id at))))
+    at_lease prefix of_lease.RevokeUnder s may =
+        leases_edited (λ t m. keep (λ u. not (leases.is_under prefix u)) m)
+        (ap (λ (z : Done). z.next.tokens) (sym (ok_inj s.acted)))
+        (subst Becomes (sym (get-keep (λ u. not (leases.is_under prefix u)) x.leases lease_id
+        ∙ not_kept (leases.is_under prefix lease_id) (get x.leases lease_id)))
+        (taken_out (on_lease prefix of_lease.RevokeUnder) s (ap (λ (z : Done). z.answered) (sym (ok_inj s.acted)))
+        (leases.is_under prefix lease_id) (λ under. under)))
+
+    -- what is below the name of a mount goes with it, if it was there
+    disabled_left : (name : Text) → CarriesOut a c (on_mount name of_mount.Disable) d
+        → Becomes (get y.leases lease_id)
+    disabled_left name s =
+        let next = ok_step (disabled b.mounts name) _ d s.acted in
+        by next.0 (is_some (get b.mounts name)) refl (ok_inj next.2)
+      where
+        by : (mounts : Map Mount) (v : Bool) → is_some (get b.mounts name) ≡ v
+            → plainly nothing (if v then without_kept (record b { mounts = mounts }) name else b) ≡ d
+            → Becomes (get y.leases lease_id)
+        by mounts true there e =
+            leases_edited (λ t m. keep (λ u. not (leases.is_under name u)) m) (ap (λ (z : Done). z.next.tokens) (sym e))
+            (subst Becomes (sym (get-keep (λ u. not (leases.is_under name u)) x.leases lease_id
+            ∙ not_kept (leases.is_under name lease_id) (get x.leases lease_id)))
+            (taken_out (on_mount name of_mount.Disable) s (ap (λ (z : Done). z.answered) (sym e))
+            (leases.is_under name lease_id)
+            (λ under. (under, λ none. false≢true (sym (ap (λ (o : Option Mount). is_some o) none) ∙ there)))))
+        by mounts false none e =
+            inl (ap (λ (z : Token). get z.leases lease_id)
+            (same_Some _ _ (sym (ap (λ (z : Done). get z.next.tokens q) e ∙ is) ∙ was)))
+
+    at_mount : (name : Text) (k : MountCommand) → CarriesOut a c (on_mount name k) d
+        → may_change (mount_changes k) kind.Lease ≡ true → Becomes (get y.leases lease_id)
+    at_mount name of_mount.Disable s may = disabled_left name s
+    at_mount name _ s may = absurd (false≢true may)
+
+    -- what is issued is the caller's, whose last use this is not
+    issued_left : (p : Place) → CarriesOut a c (on_issued p of_issued.Issue) d
+        → Becomes (get y.leases lease_id)
+    issued_left p s =
+        let names = names_of a.words in
+        let i = ok_step (roles.creds b c p.mount p.path names.lease names.credential) _ d s.acted in
+        let made = ok_step (roles.issued (roles.role b p.mount p.path)
+        (is_last_use b c) b.clock p.mount p.path names.lease names.credential) _ i.0 i.1 in
+        let r = ok_step (some_or refusal.NotFound (roles.role b p.mount p.path)) _ made.0 made.1 in
+        let lasts = ok_step (unless (not (is_last_use b c))
+        (refusal.BadRequest reason.LastUseTakesLease)) _ made.0 r.2 in
+        let id = made.0.lease_id in
+        let l = made.0.lease in
+        let last : is_last_use b c ≡ false = not-true _ (unless_ok _ _ lasts.0 lasts.1) in
+        let w = from_clock a c s.client q x was in
+        let issued : q ≡ c → IsIssuedTo a q l = λ at.
+        let client = subst (IsClient a) (sym at) s.client in
+        record {
+          client = client;
+          place = p;
+          means = s.means;
+          answered = s.is_200 _ _ (ap (λ (z : Done). z.answered) (sym (ok_inj i.2)));
+          own = w.earlier;
+          there = w.there;
+          lasting = λ n few. more_than_one n
+              (sym (ap (λ (o : Option ℕ). option_map_or (λ m. m == 0) o false)
+              (w.uses client ∙ ap (option_map (λ m. m - 1)) few))
+              ∙ sym (ap (λ (o : Option Token). option_map_or is_spent o false) was) ∙ ap (is_last_use b) at ∙ last);
+          credential = ap (λ (z : roles.IssuedLease). z.lease.credential) (sym (ok_inj lasts.2));
+        } in
+        leases_edited (λ u m. if same u c then put m id l else m)
+        (ap (λ (z : Done). z.next.tokens) (sym (ok_inj i.2)) ∙ ap (λ (z : Issued). z.next.tokens) (sym (ok_inj made.2)))
+        (elim (same q c) as (λ v. same q c ≡ v → Becomes (get (if v then put x.leases id l else x.leases) lease_id)) [
+          | true ↦ λ at. subst Becomes (sym (get-put x.leases id l lease_id))
+              (elim (same lease_id id) as (λ v. Becomes (cond v (Some l) (get x.leases lease_id))) [
+                | true ↦ inr (inr (inl (l, refl, issued (same_true q c at))))
+                | false ↦ inl refl
+              ])
+          | false ↦ λ _. inl refl
+        ] refl)
+
+    at_issued : (p : Place) (k : IssuedCommand) → CarriesOut a c (on_issued p k) d
+        → may_change (issued_changes k) kind.Lease ≡ true → Becomes (get y.leases lease_id)
+    at_issued p of_issued.Issue s may = issued_left p s
+    at_issued p _ s may = absurd (false≢true may)
+
+    -- what may change leases renews, revokes or issues
+    pub leases_left : (command : Command) → CarriesOut a c command d
+        → (traits command).fate ≡ stay → may_change (traits command).changes kind.Lease ≡ true
+        → Becomes (get y.leases lease_id)
+    leases_left (on_lease prefix k) s fate may = at_lease prefix k s may
+    leases_left (on_mount name k) s fate may = at_mount name k s may
+    leases_left (on_issued p k) s fate may = at_issued p k s may
+    leases_left (on_cubbyhole p k) s fate may = absurd (false≢true (sym (cubbyholes_no_lease k) ∙ may))
+    leases_left (on_token k) s fate may = absurd (false≢true (sym (tokens_neither k fate).1 ∙ may))
+    leases_left (on_secret p k) s fate may = absurd (false≢true (sym (secrets_neither k).1 ∙ may))
+    leases_left (on_policy name k) s fate may = absurd (false≢true (sym (policies_neither k).1 ∙ may))
+    leases_left (on_wrapping k) s fate may = absurd (false≢true (sym (responses_neither k).1 ∙ may))
+
+-- ---- which commands make, renew and revoke
+
+-- whose child a new token is
+parent_is : (c : Text) (making : Making) (asked : TokenCreation)
+    → new_parent c making asked ≡ parent_asked c making asked
+parent_is c OfCaller asked = refl
+parent_is c WithoutParent asked = refl
+
+creation_of : (k : TokenCommand) (making : Making) (asked : TokenCreation) → token_fate k ≡ make making asked
+    → k ≡ of_token.Create making asked
+creation_of (of_token.Create m x) making asked e = cc
+creation_of _ making asked e = absurd (cc)
+
+creation_is : (command : Command) (making : Making) (asked : TokenCreation) → (traits command).fate ≡ make making asked
+    → command ≡ on_token (of_token.Create making asked)
+creation_is (on_token k) making asked e = ap on_token (creation_of k making asked e)
+creation_is _ making asked e = absurd (cc)
+
+same_renewed : {x y : Named} {n m : ℕ} → renew x n ≡ renew y m → x ≡ y
+same_renewed e = cc
+
+same_revoked : {x y : Named} → revoke x ≡ revoke y → x ≡ y
+same_revoked e = cc
+
+-- where the caller names t
+module _ (b : Broker) (c t : Text) (named : Named) (is : text_named b c named ≡ Some t) where
+  renewal_of : (k : TokenCommand) (increment : ℕ) → token_fate k ≡ renew named increment → RenewalOf c t k
+  renewal_of (of_token.Renew asked) increment e = same_Some _ _ (ap (text_named b c) (same_renewed e) ∙ is)
+  renewal_of (of_token.RenewSelf n) increment e = same_Some _ _ (ap (text_named b c) (same_renewed e) ∙ is)
+  renewal_of _ increment e = absurd (cc)
+
+  renewal_is : (command : Command) (increment : ℕ) → (traits command).fate ≡ renew named increment
+      → (k : TokenCommand) × (command ≡ on_token k) × RenewalOf c t k
+  renewal_is (on_token k) increment e = (k, refl, renewal_of k increment e)
+  renewal_is _ increment e = absurd (cc)
+
+  revocation_of : (k : TokenCommand) → token_fate k ≡ revoke named → revoked_by b c (on_token k) ≡ Some t
+  revocation_of (of_token.Revoke u) e = ap (text_named b c) (same_revoked e) ∙ is
+  revocation_of (of_token.RevokeAccessor accessor) e = ap (text_named b c) (same_revoked e) ∙ is
+  revocation_of of_token.RevokeSelf e = ap (text_named b c) (same_revoked e) ∙ is
+  revocation_of _ e = absurd (cc)
+
+  revocation_is : (command : Command) → (traits command).fate ≡ revoke named → revoked_by b c command ≡ Some t
+  revocation_is (on_token k) e = revocation_of k e
+  revocation_is _ e = absurd (cc)
+
+orphaning_of : (k : TokenCommand) (t : Text) → token_fate k ≡ orphan t → orphaning_by (on_token k) ≡ Some t
+orphaning_of (of_token.RevokeOrphan u) t e = cc
+orphaning_of _ t e = absurd (cc)
+
+orphaning_is : (command : Command) (t : Text) → (traits command).fate ≡ orphan t → orphaning_by command ≡ Some t
+orphaning_is (on_token k) t e = orphaning_of k t e
+orphaning_is _ t e = absurd (cc)
+
+-- a parent is left, or it was t
+parent_left : (t : Text) (o : Option Text)
+    → (option_and_then (λ p. if same p t then None else Some p) o ≡ o)
+    ⊎ ((o ≡ Some t) × (option_and_then (λ p. if same p t then None else Some p) o ≡ None))
+parent_left t None = inl refl
+parent_left t (Some r) =
+    elim (same r t) as
+    (λ v. same r t ≡ v → ((if v then None else Some r) ≡ Some r)
+    ⊎ ((Some r ≡ Some t) × ((if v then None else Some r) ≡ None))) [
+      | true ↦ λ at. inr (ap Some (same_true r t at), refl)
+      | false ↦ λ _. inl refl
+    ] refl
+
+-- ---- what becomes of a token
 
 module _ (a : Asking) where
-  abbrev q_of : Request Command
-  q_of = request_of a.ask
+  -- y is what the operation of the request left of the token x at q
+  pub record Became (q : Text) (x y : Token) : Type 0 where
+    pub parent : (y.parent ≡ x.parent) ⊎ IsOrphaned a x y
+    pub uses : y.uses_left ≡ x.uses_left
+    pub ends : (y.ends ≡ x.ends)
+        ⊎ (RenewsToken a q × (increment : ℕ) × (y.ends ≡ Some (new_end (clocked a).clock (token_entry x) increment)))
+    pub cubbyhole : (path : Text)
+        → (get y.cubbyhole path ≡ get x.cubbyhole path) ⊎ EditsCubbyhole a q path (get y.cubbyhole path)
+    pub leases : (lease_id : Text) → LeaseBecomes a q lease_id (get x.leases lease_id) (get y.leases lease_id)
+    pub rest : y ≡ with_changed y x
 
-  -- what the token q of the clock became by the caller's use
-  pub record FromClock (q : Text) (x : Token) : Type 0 where
-    pub earlier : Token
-    pub there : get (clocked a).tokens q ≡ Some earlier
-    pub parent : x.parent ≡ earlier.parent
-    pub accessor : x.accessor ≡ earlier.accessor
-    pub policies : x.policies ≡ earlier.policies
-    pub issued : x.issued ≡ earlier.issued
-    pub period : x.period ≡ earlier.period
-    pub other_uses : (IsClient a q → ⊥) → x.uses_left ≡ earlier.uses_left
-    pub uses : IsClient a q → x.uses_left ≡ option_map (λ n. n - 1) earlier.uses_left
-
-  -- an open request has no client
-  no_client : IsCaller (clocked a) q_of None → (q : Text) → IsClient a q → ⊥
-  no_client (inl (open_, none)) q client = false≢true (sym client.closed ∙ open_)
-  no_client (inr (t, closed, is_token, caller, no_wait, there)) q client = none-some _ caller
-
-  -- the caller is the client
-  is_client : (t : Text) → IsCaller (clocked a) q_of (Some t) → IsClient a t
-  is_client t (inl (open_, none)) = absurd (none-some _ (sym none))
-  is_client t (inr (u, closed, is_token, caller, no_wait, there)) =
-      record { closed = closed; token = is_token ∙ sym caller }
-
-  from_clock : (caller : Option Text) → IsCaller (clocked a) q_of caller → (q : Text) (x : Token)
-      → get (spent (clocked a) caller).tokens q ≡ Some x → FromClock q x
-  from_clock None asked q x e = record {
-    earlier = x;
-    there = e;
-    parent = refl;
-    accessor = refl;
-    policies = refl;
-    issued = refl;
-    period = refl;
-    other_uses = λ _. refl;
-    uses = λ client. absurd (no_client asked q client);
-  }
-  from_clock (Some t) asked q x e =
-      let client = is_client t asked in
-      let v = valued_is (λ u (z : Token). if same u t then one_less z else z) (clocked a).tokens q x e in
-      elim (same q t) as (λ s. same q t ≡ s → x ≡ (if s then one_less v.0 else v.0) → FromClock q x) [
-        | true ↦ λ at is. record {
-          earlier = v.0;
-          there = v.1;
-          parent = ap (λ (z : Token). z.parent) is;
-          accessor = ap (λ (z : Token). z.accessor) is;
-          policies = ap (λ (z : Token). z.policies) is;
-          issued = ap (λ (z : Token). z.issued) is;
-          period = ap (λ (z : Token). z.period) is;
-          other_uses = λ other. absurd (other (subst (IsClient a) (sym (same_true q t at)) client));
-          uses = λ _. ap (λ (z : Token). z.uses_left) is;
-        }
-        | false ↦ λ apart is. record {
-          earlier = v.0;
-          there = v.1;
-          parent = ap (λ (z : Token). z.parent) is;
-          accessor = ap (λ (z : Token). z.accessor) is;
-          policies = ap (λ (z : Token). z.policies) is;
-          issued = ap (λ (z : Token). z.issued) is;
-          period = ap (λ (z : Token). z.period) is;
-          other_uses = λ _. ap (λ (z : Token). z.uses_left) is;
-          uses = λ it. absurd (false≢true (sym apart ∙ ap (same q) (same_Some _ _ (sym client.token ∙ it.token)) ∙ same_self q));
-        }
-      ] refl v.2
-
--- ---- what a request leaves
-
-no_reply : {x : Answered} {r : Reply} {made : Option Text} → x ≡ nothing → x ≡ reply r made → ⊥
-no_reply none some = apart (sym none ∙ some)
-  where
-    apart : {r : Reply} {made : Option Text} → nothing ≡ reply r made → ⊥
-    apart e = cc
-
-module _ (a : Asking) (sound : Sound forms None a.broker) where
-  abbrev now : Broker
-  now = clocked a
-
-  abbrev q_ : Request Command
-  q_ = request_of a.ask
-
-  abbrev names : Names
-  names = names_of a.words
-
-  -- each token that the outcome leaves was there, or was made
-  abbrev Left : Outcome → Type 0
-  Left o = a.outcome ≡ o → (q : Text) (y : Token) → get o.next.tokens q ≡ Some y → WasToken a q y ⊎ IsMade a q y
-
-  -- a token that is as it was, and not that of a client
-  as_it_was : (q : Text) (y : Token) → get now.tokens q ≡ Some y → (IsClient a q → ⊥) → WasToken a q y
-  as_it_was q y e apart = record {
-    earlier = y;
-    there = e;
-    parent = inl refl;
-    accessor = refl;
-    policies = refl;
-    issued = refl;
-    period = refl;
-    other_uses = λ _. refl;
-    uses = λ client. absurd (apart client);
+  -- nothing, but for its end or its parent
+  became : (q : Text) (x : Token) (parent : Option Text) (ends : Option ℕ)
+      → (parent ≡ x.parent) ⊎ IsOrphaned a x (record x { parent = parent; ends = ends })
+      → (ends ≡ x.ends) ⊎ (RenewsToken a q × (increment : ℕ)
+      × (ends ≡ Some (new_end (clocked a).clock (token_entry x) increment)))
+      → Became q x (record x { parent = parent; ends = ends })
+  became q x parent ends how_parent how_ends = record {
+    parent = how_parent;
+    uses = refl;
+    ends = how_ends;
+    cubbyhole = λ path. inl refl;
+    leases = λ lease_id. inl refl;
+    rest = refl;
   }
 
-  -- no token is a wrapping token
-  not_both : (t : Text) (y : Token) → get now.tokens t ≡ Some y → is_some (get now.waiting t) ≡ true → ⊥
-  not_both t y is waits = elim (found_or_not (get now.waiting t)) [
-    | inl none ↦ false≢true (sym (ap (λ (o : Option Waiting). is_some o) none) ∙ waits)
-    | inr w ↦
-        let x = alive_is (max a.broker.clock a.moment) a.broker.tokens t y is in
-        let v = waited_before a t w.0 w.1 in
-        let here : identifier_at a.broker (place.token t) ≡ Some (token_identifier t) =
-        ap (option_map (λ (z : Token). token_identifier t)) x.1 in
-        let there : identifier_at a.broker (place.wrapping_token t) ≡ Some (token_identifier t) =
-        ap (option_map (λ (z : Waiting). token_identifier t)) v.0 in
-        apart (sound.identifiers.one_place (place.token t) (place.wrapping_token t) (token_identifier t) here there)
-  ]
-    where
-      apart : {t u : Text} → place.token t ≡ place.wrapping_token u → ⊥
-      apart e = cc
+  pub became_itself : (q : Text) (x : Token) → Became q x x
+  became_itself q x = became q x x.parent x.ends (inl refl) (inl refl)
 
-  module _ (caller : Option Text) (asked : IsCaller now q_ caller) where
+  -- the request made the token y, and what its client token was, with the use that it spent, decided
+  pub record Makes (q : Text) (y : Token) : Type 0 where
+    pub made : IsMade a q y
+    pub own : Token
+    pub there : get (spent_by a made.caller).tokens made.caller ≡ Some own
+    pub might : may_make (is_privileged (clocked a) (making_path made.making) own) made.making own
+        (new_policies (is_privileged (clocked a) (making_path made.making) own) own made.asked) made.asked ≡ Ok tt
+    pub is : y ≡ new_token (clocked a).clock (new_parent made.caller made.making made.asked) (names_of a.words).accessor
+        (new_policies (is_privileged (clocked a) (making_path made.making) own) own made.asked) made.asked
+
+  -- what may be after the operation, by what was before
+  abbrev Fated : Text → Option Token → Option Token → Type 0
+  Fated q None None = ⊤
+  Fated q None (Some y) = Makes q y
+  Fated q (Some x) None = IsRevoked a q
+  Fated q (Some x) (Some y) = Became q x y ⊎ Makes q y
+
+  fated_itself : (q : Text) (o : Option Token) → Fated q o o
+  fated_itself q None = tt
+  fated_itself q (Some x) = inl (became_itself q x)
+
+  -- a token that is revoked
+  fated_gone : (q : Text) → IsRevoked a q → (o : Option Token) → Fated q o None
+  fated_gone q revoked None = tt
+  fated_gone q revoked (Some x) = revoked
+
+  fated_made : (q : Text) (y : Token) → Makes q y → (o : Option Token) → Fated q o (Some y)
+  fated_made q y makes None = makes
+  fated_made q y makes (Some x) = inr makes
+
+  module _ (c : Text) (command : Command) (d : Done) (s : CarriesOut a c command d) (q : Text) where
     abbrev start : Broker
-    start = spent now caller
+    start = spent_by a c
 
-    -- the caller has a use left, if it is left
-    unspent : (b : Broker) (q : Text) (y : Token) → IsClient a q → get (end_spent b caller).tokens q ≡ Some y → y.uses_left ≢ Some 0
-    unspent b q y client e = by caller asked e
+    abbrev names : Names
+    names = names_of a.words
+
+    abbrev Here : Type 0
+    Here = Fated q (get start.tokens q) (get d.next.tokens q)
+
+    -- it was granted, if it is a 204
+    granted : d.answered ≡ nothing → IsGranted a c command
+    granted answered =
+        record { caller = s.client.token; closed = s.client.closed; means = s.means; response = s.is_204 answered }
+
+    stays_so : (traits command).fate ≡ stay → Stay (traits command).changes (Some c) d.taken start d.next → Here
+    stays_so fate stays = by (get start.tokens q) (get d.next.tokens q) refl refl (stays.tokens q)
       where
-        by : (who : Option Text) → IsCaller now q_ who → get (end_spent b who).tokens q ≡ Some y → y.uses_left ≢ Some 0
-        by None is left = absurd (no_client a is q client)
-        by (Some t) is left =
-            let at : t ≡ q = same_Some _ _ (sym (is_client a t is).token ∙ client.token) in
-            end_unspent b t y (subst (λ u. get (end_spent b (Some t)).tokens u ≡ Some y) (sym at) left)
+        by : (o n : Option Token) → get start.tokens q ≡ o → get d.next.tokens q ≡ n
+            → Both (StaysAt (traits command).changes (Some c) q) o n → Fated q o n
+        by None None was there both = tt
+        by None (Some y) was there both = absurd both
+        by (Some x) None was there both = absurd both
+        by (Some x) (Some y) was there both = inl (record {
+          parent = inl (ap (λ (z : Token). z.parent) both.rest);
+          uses = ap (λ (z : Token). z.uses_left) both.rest;
+          ends = inl (ap (λ (z : Token). z.ends) both.rest);
+          cubbyhole = λ path. elim both.cubbyhole [
+            | inl same_ ↦ inl (ap (λ (m : Map Text). get m path) same_)
+            | inr (may, is_c) ↦
+                cubbyhole_left a c q x y was d there path command s
+                (subst (IsClient a) (same_Some _ _ is_c) s.client) fate may
+          ];
+          leases = λ lease_id. elim both.leases [
+            | inl same_ ↦ inl (ap (λ (m : Map Lease). get m lease_id) same_)
+            | inr may ↦ leases_left a c q x y was d there lease_id command s fate may
+          ];
+          rest = subst (λ (z : Token). z ≡ with_changed z x) (sym both.rest) refl;
+        })
 
-    -- a refused request spent a use, and nothing else
-    turned_down : (q : Text) (y : Token) → get (end_spent start caller).tokens q ≡ Some y → WasToken a q y
-    turned_down q y e =
-        let x = from_clock a caller asked q y (end_is start caller q y e) in
-        record {
-          earlier = x.earlier;
-          there = x.there;
-          parent = inl x.parent;
-          accessor = x.accessor;
-          policies = x.policies;
-          issued = x.issued;
-          period = x.period;
-          other_uses = x.other_uses;
-          uses = λ client. (x.uses client, unspent start q y client e);
-        }
-
-    module _ (v : Wrapped) (command : Command) (d : Done) (means : q_.command start ≡ Ok command)
-        (acted : act start caller names command ≡ Ok d) (is_wrapped : wrapped permits traits act start q_ names command d ≡ v)
-        (outcome : a.outcome ≡ finish start caller (Ok v)) where
-      -- wrapping leaves the tokens
-      same_tokens : v.done.next.tokens ≡ d.next.tokens
-      same_tokens = ap (λ (x : Wrapped). x.done.next.tokens) (sym is_wrapped) ∙ elim (wrapped_cases permits traits act start q_ names command d) [
-        | inl plain ↦ ap (λ (x : Wrapped). x.done.next.tokens) plain
-        | inr kept ↦ ap (λ (x : Wrapped). x.done.next.tokens) kept.4
-      ]
-
-      means_it : command_of (clocked a).mounts a.ask ≡ Ok command
-      means_it = means_at_clock a caller command means
-
-      -- what was orphaned, was so by a 204
-      orphaned : (x earlier y : Token) → x.parent ≡ earlier.parent → WasOrphaned caller command d x y → IsOrphaned a earlier y
-      orphaned x earlier y same_parent o =
-          let client = is_client a o.caller (subst (IsCaller now q_) o.is_who asked) in
-          let plain : v ≡ unwrapped d = sym is_wrapped ∙ elim (wrapped_cases permits traits act start q_ names command d) [
-            | inl e ↦ e
-            | inr (r, made, wraps_, replied, e) ↦ absurd (no_reply o.answered replied)
-          ] in
-          record {
-            caller = o.caller;
-            above = o.above;
-            alone = record {
-              command = command;
-              granted = record {
-                caller = client.token;
-                closed = client.closed;
-                means = means_it;
-                response = ap (λ (z : Outcome). z.response) outcome ∙ ap (λ (z : Wrapped). response_to z.done.answered) plain
-                    ∙ ap response_to o.answered;
-              };
-              text = o.orphaning;
+    created : (making : Making) (asked : TokenCreation) → command ≡ on_token (of_token.Create making asked)
+        → tokens.create start c names making asked ≡ Ok d → Here
+    created making asked is_creation e =
+        let x = ok_step (known start c) _ d e in
+        let privileged = is_privileged start (making_path making) x.0 in
+        let policies = new_policies privileged x.0 asked in
+        let may = ok_step (may_make privileged making x.0 policies asked) _ d x.2 in
+        let fresh = new_token start.clock (new_parent c making asked) names.accessor policies asked in
+        subst (Fated q (get start.tokens q))
+        (sym (get-put start.tokens (token_text names.token) fresh q)
+        ∙ ap (λ (z : Done). get z.next.tokens q) (ok_inj may.2))
+        (elim (same q (token_text names.token)) as
+        (λ v. same q (token_text names.token) ≡ v → Fated q (get start.tokens q)
+        (cond v (Some fresh) (get start.tokens q))) [
+          | true ↦ λ at. fated_made q fresh (record {
+            made = record {
+              caller = c;
+              client = s.client;
+              making = making;
+              asked = asked;
+              means = s.means ∙ ap Ok is_creation;
+              text = same_true q (token_text names.token) at;
+              accessor = refl;
+              parent = parent_is c making asked;
             };
-            parent = sym same_parent ∙ o.parent;
-            none = o.none;
-          }
+            own = x.0;
+            there = some_ok _ (get start.tokens c) x.1;
+            might = may.1;
+            is = refl;
+          }) (get start.tokens q)
+          | false ↦ λ _. fated_itself q (get start.tokens q)
+        ] refl)
 
-      was_there : (q : Text) (y : Token) → get (end_spent (counted v.done) caller).tokens q ≡ Some y
-          → WasThere start caller command d q y → WasToken a q y
-      was_there q y e s =
-          let x = from_clock a caller asked q s.earlier s.there in
-          record {
-            earlier = x.earlier;
-            there = x.there;
-            parent = elim s.parent [
-              | inl same_parent ↦ inl (same_parent ∙ x.parent)
-              | inr o ↦ inr (orphaned s.earlier x.earlier y x.parent o)
+    renewed : (t : Text) (increment : ℕ) → ((k : TokenCommand) × (command ≡ on_token k) × RenewalOf c t k)
+        → tokens.renew start names t increment ≡ Ok d → Here
+    renewed t increment k e =
+        let x = ok_step (known start t) _ d e in
+        let ending = ok_step (unless (is_some x.0.ends) (refusal.BadRequest reason.TokenNotRenewable)) _ d x.2 in
+        let f = tree.with_end (new_end start.clock (token_entry x.0) increment) in
+        let renews : RenewsToken a t = record {
+          caller = c;
+          client = s.client;
+          command = k.0;
+          means = s.means ∙ ap Ok k.1;
+          names = k.2;
+          answered = s.is_200 _ _ (ap (λ (z : Done). z.answered) (sym (ok_inj ending.2)));
+        } in
+        subst (Fated q (get start.tokens q))
+        (sym (get-change start.tokens t f q) ∙ ap (λ (z : Done). get z.next.tokens q) (ok_inj ending.2))
+        (elim (get start.tokens q) as
+        (λ o. get start.tokens q ≡ o → Fated q o (option_map (λ (z : Token). if same q t then f z else z) o)) [
+          | None ↦ λ _. tt
+          | Some z ↦ λ there. elim (same q t) as (λ v. same q t ≡ v
+              → Became q z (if v then f z else z) ⊎ Makes q (if v then f z else z)) [
+                | true ↦ λ at.
+                    let is_t : q ≡ t = same_true q t at in
+                    let is_x : x.0 ≡ z = same_Some _ _ (sym (some_ok _ (get start.tokens t) x.1)
+                    ∙ ap (get start.tokens) (sym is_t) ∙ there) in
+                    inl (became q z z.parent (f z).ends (inl refl) (inr (
+                      subst (RenewsToken a) (sym is_t) renews,
+                      increment,
+                      ap (λ (w : Token). Some (new_end start.clock (token_entry w) increment)) is_x,
+                    )))
+                | false ↦ λ _. inl (became_itself q z)
+              ] refl
+        ] refl)
+
+    revoked : (t : Text) → revoked_by start c command ≡ Some t → d ≡ tokens.revoke start t → Here
+    revoked t text is =
+        subst (Fated q (get start.tokens q)) (sym (get-revoke start.tokens t q)
+        ∙ ap (λ (z : Done). get z.next.tokens q) (sym is))
+        (elim (is_under start.tokens q t) as
+        (λ v. is_under start.tokens q t ≡ v → Fated q (get start.tokens q) (cond (not v) (get start.tokens q) None)) [
+          | true ↦ λ under. fated_gone q (record {
+            caller = c;
+            how = inl (
+              t,
+              record {
+                command = command;
+                granted = granted
+                    (ap (λ (z : Done). z.answered) is);
+                text = text;
+              },
+              under,
+            );
+          }) (get start.tokens q)
+          | false ↦ λ _. fated_itself q (get start.tokens q)
+        ] refl)
+
+    orphaned : (t : Text) → orphaning_by command ≡ Some t → d ≡ tokens.revoke_alone start t → Here
+    orphaned t text is =
+        let alone : RevokesAlone a c t =
+        record { command = command; granted = granted (ap (λ (z : Done). z.answered) is); text = text } in
+        subst (Fated q (get start.tokens q))
+        (sym (get-map_values (λ u. orphaned_by t) (without start.tokens t) q
+        ∙ ap (option_map (orphaned_by t)) (get-without start.tokens t q))
+        ∙ ap (λ (z : Done). get z.next.tokens q) (sym is))
+        (elim (same q t) as
+        (λ v. same q t ≡ v → Fated q (get start.tokens q)
+        (option_map (orphaned_by t) (cond v None (get start.tokens q)))) [
+          | true ↦ λ at. fated_gone q
+              (record { caller = c; how = inr (subst (RevokesAlone a c) (sym (same_true q t at)) alone) })
+              (get start.tokens q)
+          | false ↦ λ _. elim (get start.tokens q) as (λ o. Fated q o (option_map (orphaned_by t) o)) [
+            | None ↦ tt
+            | Some x ↦ inl (became q x (orphaned_by t x).parent x.ends (elim (parent_left t x.parent) [
+              | inl same_ ↦ inl same_
+              | inr gone ↦ inr (record { caller = c; above = t; alone = alone; parent = gone.0; none = gone.1 })
+            ]) (inl refl))
+          ]
+        ] refl)
+
+    by_fate : (fate : Fate) → (traits command).fate ≡ fate
+        → IsFated fate (traits command).changes start (Some c) names d → Here
+    by_fate stay is stays = stays_so is stays
+    by_fate (make making asked) is (u, is_u, e) =
+        created making asked (creation_is command making asked is)
+        (subst (λ v. tokens.create start v names making asked ≡ Ok d) (sym (same_Some _ _ is_u)) e)
+    by_fate (renew named increment) is (u, t, is_u, named_, e) =
+        renewed t increment (renewal_is start c t named
+        (ap (λ v. text_named start v named) (same_Some _ _ is_u) ∙ named_) command increment is) e
+    by_fate (revoke named) is (u, t, is_u, named_, e) =
+        revoked t (revocation_is start c t named (ap (λ v. text_named start v named) (same_Some _ _ is_u)
+        ∙ named_) command is) e
+    by_fate (orphan t) is (u, is_u, e) = orphaned t (orphaning_is command t is) e
+
+    fated : Here
+    fated = by_fate (traits command).fate refl s.does.fated
+
+    -- each token that is left was there, or was made
+    pub leaves : (y : Token) → get d.next.tokens q ≡ Some y
+        → ((x : Token) × (get start.tokens q ≡ Some x) × Became q x y) ⊎ Makes q y
+    leaves y there = by (get start.tokens q) refl (subst (Fated q (get start.tokens q)) there fated)
+      where
+        by : (o : Option Token) → get start.tokens q ≡ o → Fated q o (Some y)
+            → ((x : Token) × (get start.tokens q ≡ Some x) × Became q x y) ⊎ Makes q y
+        by None was makes = inr makes
+        by (Some x) was (inl became_) = inl (x, was, became_)
+        by (Some x) was (inr makes) = inr makes
+
+    -- and each that was there is left, or was revoked
+    pub keeps : get start.tokens q ≢ None → (IsRevoked a q → ⊥) → get d.next.tokens q ≢ None
+    keeps there free none = by (get start.tokens q) refl (subst (Fated q (get start.tokens q)) none fated)
+      where
+        by : (o : Option Token) → get start.tokens q ≡ o → Fated q o None → ⊥
+        by None was gone = there was
+        by (Some x) was gone = free gone
+
+module _ (a : Asking) where
+  -- y is what became of the token q of the clock; a renewal gave it a new end
+  pub record Stood (q : Text) (y : Token) : Type 0 where
+    pub stands : Stands a q y
+    pub ends : (y.ends ≡ stands.was.earlier.ends)
+        ⊎ ((increment : ℕ) × (y.ends ≡ Some (new_end (clocked a).clock (token_entry stands.was.earlier) increment)))
+
+  -- what became of a token after the use that it may have spent
+  stood : (q : Text) (x y : Token) → FromClock a q x → Became a q x y → (IsClient a q → y.uses_left ≢ Some 0)
+      → Stood q y
+  stood q x y from became unspent =
+      let rest : y ≡ with_changed y from.earlier = became.rest ∙ ap (with_changed y) from.rest in
+      record {
+        stands = record {
+          was = record {
+            earlier = from.earlier;
+            there = from.there;
+            parent = elim became.parent [
+              | inl same_ ↦ inl (same_ ∙ ap (λ (z : Token). z.parent) from.rest)
+              | inr o ↦ inr (record {
+                caller = o.caller;
+                above = o.above;
+                alone = o.alone;
+                parent = ap (λ (z : Token). z.parent) (sym from.rest) ∙ o.parent;
+                none = o.none;
+              })
             ];
-            accessor = s.rest.accessor ∙ x.accessor;
-            policies = s.rest.policies ∙ x.policies;
-            issued = s.rest.issued ∙ x.issued;
-            period = s.rest.period ∙ x.period;
-            other_uses = λ other. s.rest.uses ∙ x.other_uses other;
-            uses = λ client. (s.rest.uses ∙ x.uses client, unspent (counted v.done) q y client e);
-          }
-
-      was_made : (q : Text) (y : Token) → WasMade caller names command q y → IsMade a q y
-      was_made q y m = record {
-        caller = m.caller;
-        client = is_client a m.caller (subst (IsCaller now q_) m.is_who asked);
-        making = m.making;
-        asked = m.asked;
-        means = means_it ∙ ap Ok m.is_creation;
-        text = m.text;
-        accessor = m.accessor;
-        parent = m.parent;
+            accessor = ap (λ (z : Token). z.accessor) rest;
+            policies = ap (λ (z : Token). z.policies) rest;
+            issued = ap (λ (z : Token). z.issued) rest;
+            period = ap (λ (z : Token). z.period) rest;
+            other_uses = λ other. became.uses ∙ from.other_uses other;
+            uses = λ client. (became.uses ∙ from.uses client, unspent client);
+          };
+          ends = elim became.ends [
+            | inl same_ ↦ inl (same_ ∙ ap (λ (z : Token). z.ends) from.rest)
+            | inr renewed ↦ inr renewed.0
+          ];
+          cubbyhole = λ path. subst (λ (m : Map Text). (get y.cubbyhole path ≡ get m path)
+              ⊎ EditsCubbyhole a q path (get y.cubbyhole path))
+              (ap (λ (z : Token). z.cubbyhole) from.rest) (became.cubbyhole path);
+          leases = λ lease_id. subst (λ (m : Map Lease). LeaseBecomes a q lease_id (get m lease_id)
+              (get y.leases lease_id))
+              (ap (λ (z : Token). z.leases) from.rest) (became.leases lease_id);
+          rest = rest;
+        };
+        ends = elim became.ends [
+          | inl same_ ↦ inl (same_ ∙ ap (λ (z : Token). z.ends) from.rest)
+          | inr (renews, increment, is) ↦ inr (
+            increment,
+            is ∙ ap (λ (z : Token). Some (new_end (clocked a).clock (token_entry z) increment)) from.rest,
+          )
+        ];
       }
 
-      served : (q : Text) (y : Token) → get (end_spent (counted v.done) caller).tokens q ≡ Some y → WasToken a q y ⊎ IsMade a q y
-      served q y e =
-          let there = ap (λ (m : Tokens). get m q) (sym same_tokens) ∙ end_is (counted v.done) caller q y e in
-          elim (operations_descend start caller names command d acted q y there) [
-            | inl s ↦ inl (was_there q y e s)
-            | inr m ↦ inr (was_made q y m)
-          ]
-
-    by_result : (r : Result Wrapped Refusal) → serve permits traits act start caller q_ names ≡ r → Left (finish start caller r)
-    by_result (Err why) e outcome q y left = inl (turned_down q y left)
-    by_result (Ok v) e outcome q y left =
-        let p = ok_step (unless (q_.is_open || permits start caller q_.verb q_.path) permission_denied) _ v e in
-        let r = ok_step (q_.command start) _ v p.2 in
-        let n = ok_step (unless (are_new start.used (needed permits traits act q_ names r.0)) refusal.IdentifierUsed) _ v r.2 in
-        let m = ok_step (unless (not (traits r.0).must_wrap || nat_lt 0 q_.wrap_ttl) (refusal.BadRequest reason.WrappingRequired)) _ v n.2 in
-        let f = ok_step (act start caller names r.0) _ v m.2 in
-        served v r.0 f.0 r.1 f.1 (ok_inj f.2) outcome q y left
+  -- the client token has a use left, if it is left
+  unspent_client : (ts : Tokens) (c : Text) → IsClient a c → (q : Text) (y : Token) → left_by_caller ts c q ≡ Some y
+      → IsClient a q → y.uses_left ≢ Some 0
+  unspent_client ts c client q y left it =
+      left_unspent ts c y (subst (λ u. left_by_caller ts c u ≡ Some y)
+      (same_Some _ _ (sym it.token ∙ client.token)) left)
 
   -- each token after a request was there, or was made by it
-  pub descends : a.outcome ≡ step a.broker a.moment a.words a.ask → (q : Text) (y : Token)
-      → get a.outcome.next.tokens q ≡ Some y → WasToken a q y ⊎ IsMade a q y
-  unfolding step
-  descends is q y e =
-      in_order permits traits act a.broker a.moment q_ names Left
-      (λ closed no_caller outcome q y left.
-      inl (as_it_was q y left (λ client. none-some _ (sym (no_caller q client.token) ∙ left))))
-      (λ t closed is_token waits outcome q y left.
-      inl (as_it_was q y left (λ client.
-      let at : q ≡ t = same_Some _ _ (sym client.token ∙ is_token) in
-      not_both t y (subst (λ u. get now.tokens u ≡ Some y) at left) waits)))
-      (λ caller asked. by_result caller asked (serve permits traits act (spent now caller) caller q_ names) refl)
-      is q y (ap (λ (o : Outcome). get o.next.tokens q) (sym is) ∙ e)
+  pub follows : Course a → (q : Text) (y : Token) → get a.outcome.next.tokens q ≡ Some y → Stood q y ⊎ Makes a q y
+  follows went q y e = elim went.way [
+    | inl l ↦
+        let there = ap (λ (m : Tokens). get m q) (sym l.tokens) ∙ e in
+        inl (stood q y y (from_itself a q y there (l.no_client q y there)) (became_itself a q y)
+        (λ client. absurd (l.no_client q y there client)))
+    | inr r ↦ elim r [
+      | inl (c, t) ↦
+          let left = sym (t.left q) ∙ e in
+          inl (stood q y y (from_clock a c t.client q y (left_is (spent_by a c).tokens c q y left))
+          (became_itself a q y)
+          (unspent_client (spent_by a c).tokens c t.client q y left))
+      | inr (c, command, d, s) ↦
+          let left = sym (s.left q) ∙ e in
+          elim (leaves a c command d s q y (left_is d.next.tokens c q y left)) [
+            | inl (x, was, became) ↦ inl (stood q x y (from_clock a c s.client q x was) became
+                (unspent_client d.next.tokens c s.client q y left))
+            | inr made ↦ inr made
+          ]
+    ]
+  ]
+
+-- so it was a token of the clock, or the request asked for it
+pub descends : OperationsDoAsTold → (a : Asking) → Sound forms None a.broker
+    → a.outcome ≡ step a.broker a.moment a.words a.ask
+    → (q : Text) (y : Token) → get a.outcome.next.tokens q ≡ Some y → WasToken a q y ⊎ IsMade a q y
+descends told a sound is q y e = elim (follows a (course told a sound is) q y e) [
+  | inl s ↦ inl s.stands.was
+  | inr m ↦ inr m.made
+]

@@ -14,7 +14,8 @@ use Rattle.broker_types.specs.FirstLaws.{first_sound}
 use Rattle.broker_types.specs.Places.{AllUsed, IsUsed, Place, identifier_at}
 use Rattle.broker_types.specs.Sound.{Forms}
 use Rattle.broker_types.specs.Used.{are_new}
-use Rattle.broker_model.specs.Laws.{OperationsAreProper}
+use Rattle.broker_model.specs.Laws.{OperationsDoAsTold}
+use Rattle.broker_model.specs.NewIdentifierLaws.{member_new}
 use Rattle.histories.specs.History.{AreAsked, AreSteps, Asking, AskedAt, Beginning, History, begun, given_out}
 use Rattle.histories.specs.Identifiers.{AreUsed, EachIsTold, GivesOutNew, NoIdentifierTwice}
 use Rattle.histories.proofs.Cover.{used_is_given}
@@ -23,22 +24,22 @@ use Rattle.histories.proofs.Marked.{are_steps, stay_used, step_at, steps_mark, u
 use Rattle.histories.proofs.Placed.{moment_placed}
 use Rattle.histories.proofs.Requests.{asked_at}
 use Rattle.histories.proofs.RequestsPlace.{requests_tell}
-use Rattle.histories.proofs.Used.{any_left, any_right, join, member_new, new_append, new_differ, used_or}
+use Rattle.histories.proofs.Used.{any_left, any_right, join, new_append, new_differ, used_or}
 
 -- each identifier in a place of a broker that is asked was given out
 abbrev AllUsedAt : History → Type 0
 AllUsedAt history = (j : ℕ) (x : Asking) → AskedAt history j x → AllUsed x.broker
 
-module _ (proper : OperationsAreProper) (b : Broker) (history : History) (steps : AreSteps b history) (used : AllUsedAt history) where
+module _ (told : OperationsDoAsTold) (b : Broker) (history : History) (steps : AreSteps b history) (used : AllUsedAt history) where
   all_new : are_new b.used (given_out history) ≡ true
-  all_new = given_out_new b history (steps_mark proper b history steps)
+  all_new = given_out_new b history (steps_mark told b history steps)
 
   used_or_given : (j : ℕ) (x : Asking) (p : Place) (i : Text) → AskedAt history j x → identifier_at x.broker p ≡ Some i
       → IsUsed b i ⊎ (list_any (same i) (given_out (take j history)) ≡ true)
-  used_or_given j x p i at there = used_is_given b history j x i (steps_mark proper b history steps) at (used j x at p i there)
+  used_or_given j x p i at there = used_is_given b history j x i (steps_mark told b history steps) at (used j x at p i there)
 
   each_is_told : EachIsTold history
-  each_is_told j x p i at there = elim (requests_tell x (step_at b history j x steps at).outcome p i there) [
+  each_is_told j x p i at there = elim (requests_tell told x (step_at b history j x steps at).outcome p i there) [
     | inl was ↦ elim (moment_placed x.broker [] x.moment p i was) [
       | inl before ↦ inl (before, was)
       | inr none ↦ absurd (false≢true none)
@@ -55,7 +56,7 @@ module _ (proper : OperationsAreProper) (b : Broker) (history : History) (steps 
     all = used_or_given;
   }
 
-module _ (proper : OperationsAreProper) (s : Beginning) (history : History) (steps : AreSteps (begun s) history)
+module _ (told : OperationsDoAsTold) (s : Beginning) (history : History) (steps : AreSteps (begun s) history)
     (used : AllUsedAt history) where
   start_new : are_new empty (id s.accessor_word ∷ id s.token_word ∷ []) ≡ true
   start_new =
@@ -70,7 +71,7 @@ module _ (proper : OperationsAreProper) (s : Beginning) (history : History) (ste
       → list_any (same i) (id s.accessor_word ∷ id s.token_word ∷ given_out (take j history)) ≡ true
   all_given j x p i at there =
       let first = id s.accessor_word ∷ id s.token_word ∷ [] in
-      elim (used_or_given proper (begun s) history steps used j x p i at there) [
+      elim (used_or_given told (begun s) history steps used j x p i at there) [
         | inl used ↦ elim (used_or empty first i used) [
           | inl one ↦ any_left i first (given_out (take j history)) one
           | inr none ↦ absurd (none (get-empty text_cmp i))
@@ -82,8 +83,8 @@ module _ (proper : OperationsAreProper) (s : Beginning) (history : History) (ste
   none_twice = record {
     once = new_differ empty (id s.accessor_word ∷ id s.token_word ∷ given_out history)
         (new_append empty (id s.accessor_word ∷ id s.token_word ∷ []) (given_out history) start_new
-        (all_new proper (begun s) history steps used));
-    each = each_is_told proper (begun s) history steps used;
+        (all_new told (begun s) history steps used));
+    each = each_is_told told (begun s) history steps used;
     all = all_given;
   }
 
@@ -93,14 +94,14 @@ all_used : (b : Broker) (history : History) → AreAsked b history → AllUsedAt
 all_used b history h j x at = (asked_at b history j x h at).sound.identifiers.all_used
 
 -- what is given out is new
-pub gives_out_new : OperationsAreProper → (b : Broker) (history : History) → AreAsked b history → GivesOutNew b history
-gives_out_new proper b history h = gives_new proper b history (are_steps b history h) (all_used b history h)
+pub gives_out_new : OperationsDoAsTold → (b : Broker) (history : History) → AreAsked b history → GivesOutNew b history
+gives_out_new told b history h = gives_new told b history (are_steps b history h) (all_used b history h)
 
 -- from a start on, no identifier is given out twice
-pub no_identifier_twice : OperationsAreProper → (s : Beginning) (history : History) → AreAsked (begun s) history
+pub no_identifier_twice : OperationsDoAsTold → (s : Beginning) (history : History) → AreAsked (begun s) history
     → NoIdentifierTwice s history
-no_identifier_twice proper s history h =
-    none_twice proper s history (are_steps (begun s) history h) (all_used (begun s) history h)
+no_identifier_twice told s history h =
+    none_twice told s history (are_steps (begun s) history h) (all_used (begun s) history h)
 
 -- ---- of any brokers
 
@@ -113,18 +114,18 @@ begun_used s =
     record { places = sound.identifiers.all_used; origins = sound.identifiers.origins_used }
 
 -- what is given out is new
-pub any_gives_out_new : OperationsAreProper → (b : Broker) (history : History) → AreSteps b history → AreUsed b → GivesOutNew b history
-any_gives_out_new proper b history steps used =
-    gives_new proper b history steps (λ j x at. (used_at proper b history steps used j x at).places)
+pub any_gives_out_new : OperationsDoAsTold → (b : Broker) (history : History) → AreSteps b history → AreUsed b → GivesOutNew b history
+any_gives_out_new told b history steps used =
+    gives_new told b history steps (λ j x at. (used_at told b history steps used j x at).places)
 
 -- from a start on, no identifier is given out twice
-pub none_twice_by_any : OperationsAreProper → (s : Beginning) (history : History) → AreSteps (begun s) history → NoIdentifierTwice s history
-none_twice_by_any proper s history steps =
-    none_twice proper s history steps (λ j x at. (used_at proper (begun s) history steps (begun_used s) j x at).places)
+pub none_twice_by_any : OperationsDoAsTold → (s : Beginning) (history : History) → AreSteps (begun s) history → NoIdentifierTwice s history
+none_twice_by_any told s history steps =
+    none_twice told s history steps (λ j x at. (used_at told (begun s) history steps (begun_used s) j x at).places)
 
 -- all that is in a place of a later broker was given out
-pub all_stay_used : OperationsAreProper → (b : Broker) (history : History) (j : ℕ) (x : Asking) → AreSteps b history → AreUsed b
+pub all_stay_used : OperationsDoAsTold → (b : Broker) (history : History) (j : ℕ) (x : Asking) → AreSteps b history → AreUsed b
     → AskedAt history j x → AreUsed x.broker × AreUsed x.outcome.next
-all_stay_used proper b history j x steps used at =
-    let before = used_at proper b history steps used j x at in
-    (before, stay_used proper x.broker x (step_at b history j x steps at) before)
+all_stay_used told b history j x steps used at =
+    let before = used_at told b history steps used j x at in
+    (before, stay_used told x.broker x (step_at b history j x steps at) before)

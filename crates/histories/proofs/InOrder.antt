@@ -11,7 +11,8 @@ use Rattle.broker_types.specs.Operation.{Done}
 use Rattle.broker_types.specs.Spending.{spend, drop_waiting}
 use Rattle.broker_types.specs.declared.ask.Verb.{Verb}
 use Rattle.broker_types.specs.declared.refusal.Refusal.{Refusal}
-use Rattle.broker_model.specs.Order.{Outcome, Traits, Wrapped, denied, finish, for_caller, ordered, serve}
+use Rattle.broker_model.specs.Traits.{Traits}
+use Rattle.broker_model.specs.Order.{Outcome, Wrapped, denied, finish, for_caller, ordered, serve}
 use Rattle.broker_model.specs.Request.{Request}
 use Rattle.histories.proofs.OrderCases.{IsCaller, spent}
 

@@ -34,14 +34,15 @@ use Rattle.api_json.specs.Reply.{reply_text, wrap_reply}
 use Rattle.broker_model.specs.Act.{act}
 use Rattle.broker_model.specs.Command.{Command, on_wrapping, command_of}
 use Rattle.broker_model.specs.Forms.{forms}
-use Rattle.broker_model.specs.Laws.{OperationsAreProper}
+use Rattle.broker_model.specs.Laws.{OperationsDoAsTold}
 use Rattle.broker_model.specs.Order.{Outcome, Wrapped, denied, finish, for_caller, response_to, serve, wrap_info, wrapped, wraps}
 use Rattle.broker_model.specs.Permission.{permits}
 use Rattle.broker_model.specs.Responses.{ok}
 use Rattle.broker_model.specs.Step.{request_of, step, traits}
+use Rattle.broker_model.specs.Traits.{wrapping_names}
 use Rattle.broker_model.specs.declared.commands.WrappingCommand.{WrappingCommand}
 use Rattle.broker_model.specs.declared.commands.WrappingCommand.TheVariants as response
-use Rattle.broker_model.specs.parts.WrappingCommands.{wrapping_names, wrapping_traits}
+use Rattle.broker_model.specs.parts.WrappingCommands.{wrapping_traits}
 use Rattle.broker_model.specs.parts.Wrappings.{FoundResponse, found, found_at, found_under, handed_out, rewrapped, shown}
 use Rattle.broker_model.specs.parts.Wrappings.{act_on_wrappings}
 use Rattle.histories.specs.History.{AreAsked, Asking, AskedAt, Beginning, History, begun, clocked, spent_by}
@@ -53,7 +54,7 @@ use Rattle.histories.proofs.Ending.{out_lasts}
 use Rattle.histories.proofs.Keeping.{EachKeeps, Keeps}
 use Rattle.histories.proofs.Lasting.{asked_keeps, evolved_since, handed_once, kept_evolves, left_since, waited_before, waits_since}
 use Rattle.histories.proofs.OrderCases.{some_ok, spent}
-use Rattle.histories.proofs.OrderKeeps.{end_spent_waiting, first_new, own_new, spent_used, spent_waiting, wrapped_cases}
+use Rattle.histories.proofs.OrderKeeps.{end_spent_waiting, first_new, own_new, spent_clock, spent_used, spent_waiting, wrapped_cases}
 use Rattle.histories.proofs.Requests.{acts_same, answers_plainly, asked_at, history_keeps, means_at_clock}
 use Rattle.histories.proofs.RevocationLasts.{orphaning_left, revocation_left}
 use Rattle.histories.proofs.Served.{Served, refused_or_served, served}
@@ -78,7 +79,7 @@ module _ (a : Asking) (is : a.outcome ≡ step a.broker a.moment a.words a.ask) 
       ∙ served_200.acted
 
 -- what an operation left is wrapped or not, and hands out the same
-handed_same : (a : Asking) (s : Served a)
+pub handed_same : (a : Asking) (s : Served a)
     → a.outcome.handed ≡ s.done.handed
 handed_same a s =
     let start = spent (clocked a) s.caller in
@@ -88,11 +89,11 @@ handed_same a s =
       | inr (r, made, wraps_, answered, is_wrapped) ↦ ap (λ (x : Wrapped). x.done.handed) is_wrapped
     ]
 
-abbrev bad : Refusal
+abbrev pub bad : Refusal
 bad = refusal.BadRequest reason.InvalidWrappingToken
 
 -- a 200 to an unwrap handed out
-unwrap_hands_out : (a : Asking) (t o : Text) → a.outcome ≡ step a.broker a.moment a.words a.ask → Unwraps a t o → a.outcome.handed ≡ Some o
+pub unwrap_hands_out : (a : Asking) (t o : Text) → a.outcome ≡ step a.broker a.moment a.words a.ask → Unwraps a t o → a.outcome.handed ≡ Some o
 unwrap_hands_out a t o is u =
     let s = served_200 a is u.success (response.Unwrap (Some t)) u.means in
     let start = spent (clocked a) s.caller in
@@ -108,7 +109,7 @@ found_is : (b : Broker) (meant : Option Text) (f : FoundResponse) → found_at b
 found_is b None f e = absurd (none-some _ e)
 found_is b (Some t) f e = let w = mapped (found_under t) (get b.waiting t) f e in (t, w.0, refl, w.1)
 
-unwrap_found : (a : Asking) (meant : Option Text) → a.outcome ≡ step a.broker a.moment a.words a.ask
+pub unwrap_found : (a : Asking) (meant : Option Text) → a.outcome ≡ step a.broker a.moment a.words a.ask
     → command_of (clocked a).mounts a.ask ≡ Ok (on_wrapping (response.Unwrap meant)) → a.outcome.response.status ≡ status.Success
     → (t : Text) × (o : Text) × (meant ≡ Some t) × Unwraps a t o
 unwrap_found a meant is means success =
@@ -134,12 +135,8 @@ never : (v : Bool) → (v && false) ≡ true → ⊥
 never true e = false≢true e
 never false e = false≢true e
 
-spent_clock : (b : Broker) (caller : Option Text) → (spent b caller).clock ≡ b.clock
-spent_clock b None = refl
-spent_clock b (Some c) = refl
-
 -- what was found waited under the wrapping token that was meant
-found_under_meant : (b : Broker) (meant : Option Text) (f : FoundResponse) → found_at b meant ≡ Some f
+pub found_under_meant : (b : Broker) (meant : Option Text) (f : FoundResponse) → found_at b meant ≡ Some f
     → (t : Text) × (w : Waiting) × (meant ≡ Some t) × (get b.waiting t ≡ Some w) × (f ≡ found_under t w)
 found_under_meant b None f e = absurd (none-some _ e)
 found_under_meant b (Some t) f e = let w = mapped (found_under t) (get b.waiting t) f e in (t, w.0, refl, w.1, w.2)
@@ -184,7 +181,7 @@ module _ (a : Asking) (is : a.outcome ≡ step a.broker a.moment a.words a.ask) 
 -- ---- wrapping tokens that are taken out
 
 -- a rewrap is not wrapped itself
-next_waiting : (a : Asking) {meant : Option Text} (s : Served a)
+pub next_waiting : (a : Asking) {meant : Option Text} (s : Served a)
     → s.command ≡ on_wrapping (response.Rewrap meant) → a.outcome.next.waiting ≡ s.done.next.waiting
 next_waiting a s is =
     let start = spent (clocked a) s.caller in
@@ -365,9 +362,9 @@ plain_200 a o text is born told =
 
 -- ---- the laws
 
-module _ (proper : OperationsAreProper) (b : Broker) (history : History) (h : AreAsked b history) where
+module _ (told : OperationsDoAsTold) (b : Broker) (history : History) (h : AreAsked b history) where
   abbrev keep_all : EachKeeps unwrapped_body b history
-  keep_all = history_keeps proper b history h
+  keep_all = history_keeps told b history h
 
   -- a response is handed out once
   pub hands_out_once : HandedOutOnce history
@@ -438,16 +435,16 @@ module _ (proper : OperationsAreProper) (b : Broker) (history : History) (h : Ar
     same = kept_or_first;
     wraps = λ i a command at ttl means is_wrapped success.
         let is = asked_at b history i a h at in
-        keeps_reply proper a is.sound is.outcome ttl command means is_wrapped success;
+        keeps_reply told a is.sound is.outcome ttl command means is_wrapped success;
   }
 
 -- from a start on, where nothing waits, it is the reply to a request
-pub same_reply : OperationsAreProper → (s : Beginning) (history : History) → AreAsked (begun s) history → SameReply history
-same_reply proper s history h = record {
-  one_birth = (hands_out_kept proper (begun s) history h).one_birth;
-  same = λ j x t o at u. elim ((hands_out_kept proper (begun s) history h).same j x t o at u) [
+pub same_reply : OperationsDoAsTold → (s : Beginning) (history : History) → AreAsked (begun s) history → SameReply history
+same_reply told s history h = record {
+  one_birth = (hands_out_kept told (begun s) history h).one_birth;
+  same = λ j x t o at u. elim ((hands_out_kept told (begun s) history h).same j x t o at u) [
     | inl kept ↦ kept
     | inr first ↦ absurd (no_entry first.token first.entry first.waited)
   ];
-  wraps = (hands_out_kept proper (begun s) history h).wraps;
+  wraps = (hands_out_kept told (begun s) history h).wraps;
 }

@@ -15,11 +15,14 @@ use Rattle.broker_types.specs.Used.{are_new, use_up}
 use Rattle.broker_types.specs.declared.ask.Verb.{Verb}
 use Rattle.broker_types.specs.declared.refusal.Refusal.{Refusal}
 use Rattle.broker_model.specs.Act.{act}
-use Rattle.broker_model.specs.Laws.{OperationsAreProper}
-use Rattle.broker_model.specs.Order.{Outcome, Traits, Wrapped, counted, ordered, wrapped}
+use Rattle.broker_model.specs.Laws.{OperationsDoAsTold}
+use Rattle.broker_model.specs.Traits.{Traits}
+use Rattle.broker_model.specs.Order.{Outcome, Wrapped, counted, ordered, wrapped}
 use Rattle.broker_model.specs.Permission.{permits}
+use Rattle.broker_model.specs.ProperLaws.{are_proper}
 use Rattle.broker_model.specs.Request.{Request}
 use Rattle.broker_model.specs.Step.{request_of, step, traits}
+use Rattle.broker_model.specs.NewIdentifierLaws.{first_in}
 use Rattle.histories.specs.History.{AreAsked, AreSteps, Asking, AskedAt, History, IsStep, clocked}
 use Rattle.histories.specs.Identifiers.{AreUsed}
 use Rattle.histories.proofs.Keeping.{EachMarks, Marks}
@@ -27,7 +30,7 @@ use Rattle.histories.proofs.Lasting.{waited_before}
 use Rattle.histories.proofs.OrderCases.{IsServed, IsTurnedAway, IsTurnedDown, order_cases, spent}
 use Rattle.histories.proofs.OrderKeeps.{AreProper, LeftBy, end_spent_used, end_spent_waiting, left, own_new, spent_used, spent_waiting}
 use Rattle.histories.proofs.OrderKeeps.{used_more}
-use Rattle.histories.proofs.Placed.{first_in, moment_placed}
+use Rattle.histories.proofs.Placed.{moment_placed}
 use Rattle.histories.proofs.RequestsPlace.{requests_tell}
 use Rattle.histories.proofs.Used.{member_used}
 
@@ -91,7 +94,7 @@ module _ {Command : Type 0} (permits : Broker → Option Text → Verb → Text 
 outcome_is : (b : Broker) (a : Asking) → IsStep b a → a.outcome ≡ step a.broker a.moment a.words a.ask
 outcome_is b a is = is.outcome ∙ ap (λ c. step c a.moment a.words a.ask) (sym is.broker)
 
-module _ (proper : OperationsAreProper) where
+module _ (told : OperationsDoAsTold) where
   request_marks : (b : Broker) (a : Asking) → IsStep b a → Marks (clocked a) a.outcome
   unfolding step
   request_marks b a is =
@@ -99,7 +102,7 @@ module _ (proper : OperationsAreProper) where
       let q = request_of a.ask in
       let names = names_of a.words in
       subst (Marks now) (sym (outcome_is b a is))
-      (by_cases permits traits act now q names (λ c caller command d new done. proper c caller a.words command d new done)
+      (by_cases permits traits act now q names (λ c caller command d new done. are_proper told c caller a.words command d new done)
       (ordered permits traits act a.broker a.moment q names) (order_cases permits traits act a.broker a.moment q names))
 
   -- what was given out before a request counts as given out after it
@@ -115,7 +118,7 @@ module _ (proper : OperationsAreProper) where
   -- so all that is in a place counts as given out
   pub stay_used : (b : Broker) (a : Asking) → IsStep b a → AreUsed a.broker → AreUsed a.outcome.next
   stay_used b a is used = record {
-    places = λ p i there. elim (requests_tell a (outcome_is b a is) p i there) [
+    places = λ p i there. elim (requests_tell told a (outcome_is b a is) p i there) [
       | inl was ↦ elim (moment_placed a.broker [] a.moment p i was) [
         | inl before ↦ used_after b a is i (used.places p i before)
         | inr none ↦ absurd (false≢true none)

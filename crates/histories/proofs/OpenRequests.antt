@@ -1,36 +1,41 @@
 -- What an open request means, and what it leaves.
-use Rattle.std.specs.Prelude.{◌≡◌, ◌||◌, ◌&&◌, ℕ, List, [], ◌∷◌, true, false, not, nat_lt}
+use Rattle.std.specs.Prelude.{◌≡◌, ◌||◌, ℕ, List, [], ◌∷◌, true, false, not, nat_lt}
 use Rattle.std.specs.Prelude.{Option, Some, None, Result, Ok, Err, codes, ⊤}
 use Rattle.std.specs.Option.{option_map_or}
 use Rattle.std.proofs.Common.{refl, sym, ◌∙◌, ap, subst, inl, inr}
-use Rattle.std.proofs.lemmas.Bool.{and_parts, false≢true, or_cases}
+use Rattle.std.proofs.lemmas.Bool.{false≢true}
 use Rattle.serde_json.specs.Data.{Members}
 use Rattle.broker_types.specs.Text.{Text, same}
-use Rattle.broker_types.specs.TextLaws.{same_self, same_true}
+use Rattle.broker_types.specs.TextLaws.{same_self}
 use Rattle.broker_types.specs.Map.{Map, get}
 use Rattle.broker_types.specs.Broker.{Broker, Mount, Waiting, at_moment}
 use Rattle.broker_types.specs.Names.{Names, names_of}
 use Rattle.broker_types.specs.Operation.{Done}
 use Rattle.broker_types.specs.Refuse.{◌>>=◌, unless}
 use Rattle.broker_types.specs.RefuseLaws.{no_ok, ok_step}
-use Rattle.broker_types.specs.Spending.{drop_waiting}
-use Rattle.broker_types.specs.TokenText.{token_text}
 use Rattle.broker_types.specs.Used.{are_new, use_up}
 use Rattle.broker_types.specs.declared.ask.Ask.{Ask}
-use Rattle.broker_types.specs.declared.ask.Verb.{Verb}
 use Rattle.broker_types.specs.declared.ask.Verb.TheVariants as verb
 use Rattle.broker_types.specs.declared.refusal.Refusal.{Refusal}
 use Rattle.broker_types.specs.declared.refusal.Refusal.TheVariants as refusal
 use Rattle.broker_types.specs.declared.refusal.Reason.TheVariants as reason
+use Rattle.broker_types.specs.declared.words.Words.{Words}
 use Rattle.records.specs.ValueLaws.{ok_inj}
-use Rattle.mounts.specs.Patterns.{same_verb}
-use Rattle.wrapping.specs.Wrapping.{moved, with_waiting}
+use Rattle.mounts.specs.Route.{Route, cut, operation_at}
+use Rattle.mounts.specs.Table.{facts}
+use Rattle.mounts.specs.declared.operation.Opens.{Opens}
+use Rattle.mounts.specs.declared.operation.Opens.TheVariants.{Never, Always, WithItsOwn}
+use Rattle.mounts.specs.declared.operation.Operation.{Operation}
+use Rattle.mounts.specs.declared.operation.Operation.TheVariants.{Cubbyholes, Tokens, Secrets, Policies, Mounts, Leases}
+use Rattle.mounts.specs.declared.operation.Operation.TheVariants.{Issued, Wrappings}
+use Rattle.mounts.specs.declared.operation.WrappingOperation.TheVariants as of_responses
 use Rattle.api_json.specs.Json.{body_members}
 use Rattle.api_json.specs.Readers as reader
 use Rattle.broker_model.specs.Act.{act}
-use Rattle.broker_model.specs.Command.{Command, on_cubbyhole, on_token, on_secret, on_policy, on_mount, on_lease}
-use Rattle.broker_model.specs.Command.{on_issued, on_wrapping, command_of}
+use Rattle.broker_model.specs.Command.{Command, on_wrapping, command_for, command_of}
 use Rattle.broker_model.specs.Laws.{OwnIsMeant}
+use Rattle.broker_model.specs.Effects.{KeepsMaps}
+use Rattle.broker_model.specs.Laws.{OperationsDoAsTold}
 use Rattle.broker_model.specs.Order.{Outcome, Wrapped, counted, finish, needed, permission_denied, serve, wrap, wrapped}
 use Rattle.broker_model.specs.Permission.{permits}
 use Rattle.broker_model.specs.Request.{Request}
@@ -39,12 +44,12 @@ use Rattle.broker_model.specs.Step.{request_of, step, traits}
 use Rattle.broker_model.specs.declared.commands.WrappingCommand.{WrappingCommand}
 use Rattle.broker_model.specs.declared.commands.WrappingCommand.TheVariants as response
 use Rattle.broker_model.specs.parts.Bodies.{read_as}
-use Rattle.broker_model.specs.parts.WrappingCommands.{is_own, is_own_if_read, looks_up, takes_own, token_meant, token_named}
-use Rattle.broker_model.specs.parts.Wrappings.{act_on_wrappings, found}
+use Rattle.broker_model.specs.parts.WrappingCommands.{is_own, is_own_if_read, opened_by, opening, token_meant, token_named, wrapping_changes}
 use Rattle.histories.specs.Open.{DiffersInWaiting, MeansItsOwn, OpenChangesNoToken, TheseAreOpen}
 use Rattle.histories.specs.Paths.{WrittenMeans, on_named}
 use Rattle.histories.proofs.OrderCases.{with_caller}
 use Rattle.histories.proofs.OrderKeeps.{wrapped_cases}
+use Rattle.histories.proofs.Routes.{OpenedAreRoutes, fixed_route, may_open}
 
 -- ---- what it means
 
@@ -60,13 +65,12 @@ named command body c e =
       ok_inj x.2,
     )
 
-is_write : (v : Verb) → same_verb v verb.Write ≡ true → v ≡ verb.Write
-is_write verb.Write e = refl
-is_write verb.Get e = absurd (false≢true e)
-is_write verb.List e = absurd (false≢true e)
-is_write verb.Delete e = absurd (false≢true e)
+module _ (own_is_meant : OwnIsMeant) (opened : OpenedAreRoutes) (mounts : Map Mount) (a : Ask) (command : Command) (means : command_of mounts a ≡ Ok command) where
+  -- what the operation of the path means, if it may need no caller
+  by_route : (o : Operation) → operation_at a.verb a.path ≡ Some o → may_open o ≡ true
+      → command_of mounts a ≡ command_for (fixed_route (cut a.path).0 o) a
+  by_route o at may = ap (λ (r : Result Route Refusal). r >>= (λ r. command_for r a)) (opened a.verb a.path o at may mounts)
 
-module _ (own_is_meant : OwnIsMeant) (mounts : Map Mount) (a : Ask) (command : Command) (means : command_of mounts a ≡ Ok command) where
   -- a command on the wrapping token that the body names, which is the client token if none other is named
   own_named : (on : Option Text → WrappingCommand) → is_own_if_read a.token (token_named a.body) ≡ true
       → command_of mounts a ≡ on_named on a
@@ -80,34 +84,37 @@ module _ (own_is_meant : OwnIsMeant) (mounts : Map Mount) (a : Ask) (command : C
         own_is_meant a.token x.0 (sym (ap (is_own_if_read a.token) x.1) ∙ own),
       )
 
+  by_operation : (o : Operation) → operation_at a.verb a.path ≡ Some o → opened_by (facts o).opens a.token a.body ≡ true
+      → (k : WrappingCommand) × (command ≡ on_wrapping k) × MeansItsOwn a k
+  by_operation (Cubbyholes o) at open_ = absurd (false≢true open_)
+  by_operation (Tokens o) at open_ = absurd (false≢true open_)
+  by_operation (Secrets o) at open_ = absurd (false≢true open_)
+  by_operation (Policies o) at open_ = absurd (false≢true open_)
+  by_operation (Mounts o) at open_ = absurd (false≢true open_)
+  by_operation (Leases o) at open_ = absurd (false≢true open_)
+  by_operation (Issued o) at open_ = absurd (false≢true open_)
+  by_operation (Wrappings of_responses.Wrap) at open_ = absurd (false≢true open_)
+  by_operation (Wrappings of_responses.LookUp) at open_ =
+      let k = ok_step (read_as reader.wrapping_token (λ named. response.LookUp (token_meant a.token named)) a.body)
+      (λ k. Ok (on_wrapping k)) command (sym (by_route (Wrappings of_responses.LookUp) at refl) ∙ means) in
+      let x = named (λ named. response.LookUp (token_meant a.token named)) a.body k.0 k.1 in
+      (response.LookUp (token_meant a.token x.0), sym (ok_inj k.2) ∙ ap on_wrapping (sym x.2), tt)
+  by_operation (Wrappings of_responses.Rewrap) at open_ =
+      let x = own_named response.Rewrap open_ (by_route (Wrappings of_responses.Rewrap) at refl) in
+      (response.Rewrap x.0, x.1, x.2)
+  by_operation (Wrappings of_responses.Unwrap) at open_ =
+      let x = own_named response.Unwrap open_ (by_route (Wrappings of_responses.Unwrap) at refl) in
+      (response.Unwrap x.0, x.1, x.2)
+
   -- so an open ask means its own
-  pub means_its_own : WrittenMeans (codes "sys/wrapping/lookup") (on_named response.LookUp)
-      → WrittenMeans (codes "sys/wrapping/rewrap") (on_named response.Rewrap)
-      → WrittenMeans (codes "sys/wrapping/unwrap") (on_named response.Unwrap)
-      → is_open a ≡ true → (k : WrappingCommand) × (command ≡ on_wrapping k) × MeansItsOwn a k
-  unfolding looks_up takes_own
-  means_its_own look_up rewrap unwrap open_ =
-      let p = and_parts (same_verb a.verb verb.Write) (looks_up a.path || (takes_own a.path && is_own_if_read a.token (token_named a.body)))
-      open_ in
-      let write = is_write a.verb p.0 in
-      elim (or_cases (looks_up a.path) (takes_own a.path && is_own_if_read a.token (token_named a.body)) p.1) [
-        | inl here ↦
-            let is = look_up mounts a write (same_true a.path (codes "sys/wrapping/lookup") here) in
-            let k = ok_step (read_as reader.wrapping_token (λ named. response.LookUp (token_meant a.token named)) a.body)
-            (λ k. Ok (on_wrapping k)) command (sym is ∙ means) in
-            let x = named (λ named. response.LookUp (token_meant a.token named)) a.body k.0 k.1 in
-            (response.LookUp (token_meant a.token x.0), sym (ok_inj k.2) ∙ ap on_wrapping (sym x.2), tt)
-        | inr there ↦
-            let q = and_parts (takes_own a.path) (is_own_if_read a.token (token_named a.body)) there in
-            elim (or_cases (same a.path (codes "sys/wrapping/unwrap")) (same a.path (codes "sys/wrapping/rewrap")) q.0) [
-              | inl here ↦
-                  let x = own_named response.Unwrap q.1 (unwrap mounts a write (same_true a.path (codes "sys/wrapping/unwrap") here)) in
-                  (response.Unwrap x.0, x.1, x.2)
-              | inr here ↦
-                  let x = own_named response.Rewrap q.1 (rewrap mounts a write (same_true a.path (codes "sys/wrapping/rewrap") here)) in
-                  (response.Rewrap x.0, x.1, x.2)
-            ]
-      ]
+  pub means_its_own : is_open a ≡ true → (k : WrappingCommand) × (command ≡ on_wrapping k) × MeansItsOwn a k
+  means_its_own open_ =
+      elim (operation_at a.verb a.path)
+      as (λ x. operation_at a.verb a.path ≡ x → opened_by (option_map_or (λ o. (facts o).opens) x Never) a.token a.body ≡ true
+      → (k : WrappingCommand) × (command ≡ on_wrapping k) × MeansItsOwn a k) [
+        | None ↦ λ _ k. absurd (false≢true k)
+        | Some o ↦ λ at k. by_operation o at k
+      ] refl open_
 
 -- ---- which asks are open
 
@@ -117,50 +124,49 @@ own_if_meant client None e = refl
 own_if_meant client (Some []) e = refl
 own_if_meant client (Some (c ∷ t)) e = ap (λ (o : Option Text). option_map_or (same (c ∷ t)) o false) (sym e) ∙ same_self (c ∷ t)
 
--- a look-up is open
-look_up_is_open : (a : Ask) → a.verb ≡ verb.Write → a.path ≡ codes "sys/wrapping/lookup" → is_open a ≡ true
-unfolding looks_up
-look_up_is_open a write here =
-    let rest = takes_own a.path && is_own_if_read a.token (token_named a.body) in
-    ap (λ v. same_verb v verb.Write && (looks_up a.path || rest)) write
-    ∙ ap (λ p. same p (codes "sys/wrapping/lookup") || rest) here
-    ∙ ap (λ v. v || rest) (same_self (codes "sys/wrapping/lookup"))
+-- the paths, as the table has them
+look_up_opens : opening verb.Write (codes "sys/wrapping/lookup") ≡ Always
+unfolding operation_at same
+look_up_opens = refl
+
+rewrap_opens : opening verb.Write (codes "sys/wrapping/rewrap") ≡ WithItsOwn
+unfolding operation_at same
+rewrap_opens = refl
+
+unwrap_opens : opening verb.Write (codes "sys/wrapping/unwrap") ≡ WithItsOwn
+unfolding operation_at same
+unwrap_opens = refl
+
+-- what its path says of an ask
+by_path : (a : Ask) (path : Text) (o : Opens) → a.verb ≡ verb.Write → a.path ≡ path → opening verb.Write path ≡ o
+    → is_open a ≡ opened_by o a.token a.body
+by_path a path o write here opens =
+    (λ i. opened_by (opening (write i) (here i)) a.token a.body) ∙ ap (λ x. opened_by x a.token a.body) opens
 
 is_wrapping_of : {x y : WrappingCommand} → on_wrapping x ≡ on_wrapping y → x ≡ y
 is_wrapping_of e = cc
 
--- so is a command on the client token, at a path that takes it
-own_is_open : (mounts : Map Mount) (a : Ask) (on : Option Text → WrappingCommand) → ((x y : Option Text) → on x ≡ on y → x ≡ y)
-    → takes_own a.path ≡ true → a.verb ≡ verb.Write → command_of mounts a ≡ on_named on a
-    → command_of mounts a ≡ Ok (on_wrapping (on a.token)) → is_open a ≡ true
-own_is_open mounts a on one takes write is means =
+-- a command on the client token names no other
+names_own : (mounts : Map Mount) (a : Ask) (on : Option Text → WrappingCommand) → ((x y : Option Text) → on x ≡ on y → x ≡ y)
+    → command_of mounts a ≡ on_named on a → command_of mounts a ≡ Ok (on_wrapping (on a.token))
+    → is_own_if_read a.token (token_named a.body) ≡ true
+names_own mounts a on one is means =
     let k = ok_step (read_as reader.wrapping_token (λ named. on (token_meant a.token named)) a.body) (λ k. Ok (on_wrapping k))
     (on_wrapping (on a.token)) (sym is ∙ means) in
     let x = named (λ named. on (token_meant a.token named)) a.body k.0 k.1 in
-    let own : is_own_if_read a.token (token_named a.body) ≡ true =
     ap (is_own_if_read a.token) x.1
-    ∙ own_if_meant a.token x.0 (one (token_meant a.token x.0) a.token (x.2 ∙ is_wrapping_of (ok_inj k.2))) in
-    ap (λ v. same_verb v verb.Write && (looks_up a.path || (takes_own a.path && is_own_if_read a.token (token_named a.body)))) write
-    ∙ ap (λ v. looks_up a.path || (v && is_own_if_read a.token (token_named a.body))) takes
-    ∙ ap (λ v. looks_up a.path || v) own
-    ∙ elim (looks_up a.path) as (λ v. (v || true) ≡ true) [ true ↦ refl | false ↦ refl ]
-
-unwrap_takes : takes_own (codes "sys/wrapping/unwrap") ≡ true
-unfolding takes_own same
-unwrap_takes = refl
-
-rewrap_takes : takes_own (codes "sys/wrapping/rewrap") ≡ true
-unfolding takes_own same
-rewrap_takes = refl
+    ∙ own_if_meant a.token x.0 (one (token_meant a.token x.0) a.token (x.2 ∙ is_wrapping_of (ok_inj k.2)))
 
 pub these_are_open : WrittenMeans (codes "sys/wrapping/rewrap") (on_named response.Rewrap)
     → WrittenMeans (codes "sys/wrapping/unwrap") (on_named response.Unwrap) → TheseAreOpen
 these_are_open rewrap unwrap = record {
-  look_up = look_up_is_open;
+  look_up = λ a write here. by_path a (codes "sys/wrapping/lookup") Always write here look_up_opens;
   rewrap = λ mounts a write here means.
-      own_is_open mounts a response.Rewrap (λ x y e. one_rewrap e) (ap takes_own here ∙ rewrap_takes) write (rewrap mounts a write here) means;
+      by_path a (codes "sys/wrapping/rewrap") WithItsOwn write here rewrap_opens
+      ∙ names_own mounts a response.Rewrap (λ x y e. one_rewrap e) (rewrap mounts a write here) means;
   unwrap = λ mounts a write here means.
-      own_is_open mounts a response.Unwrap (λ x y e. one_unwrap e) (ap takes_own here ∙ unwrap_takes) write (unwrap mounts a write here) means;
+      by_path a (codes "sys/wrapping/unwrap") WithItsOwn write here unwrap_opens
+      ∙ names_own mounts a response.Unwrap (λ x y e. one_unwrap e) (unwrap mounts a write here) means;
 }
   where
     one_rewrap : {x y : Option Text} → response.Rewrap x ≡ response.Rewrap y → x ≡ y
@@ -170,6 +176,11 @@ these_are_open rewrap unwrap = record {
     one_unwrap e = cc
 
 -- ---- what it leaves
+
+apart : (b c : Broker) → c.clock ≡ b.clock → c.tokens ≡ b.tokens → c.secrets ≡ b.secrets → c.mounts ≡ b.mounts
+    → c.roles ≡ b.roles → c.policies ≡ b.policies → DiffersInWaiting b c
+apart b c clock tokens secrets mounts roles policies =
+    record { clock = clock; tokens = tokens; secrets = secrets; mounts = mounts; roles = roles; policies = policies }
 
 differs_self : (b : Broker) → DiffersInWaiting b b
 differs_self b = record { clock = refl; tokens = refl; secrets = refl; mounts = refl; roles = refl; policies = refl }
@@ -188,36 +199,17 @@ differs_trans b c d one other = record {
 differs : (b : Broker) (waiting : Map Waiting) (used : Map ⊤) → DiffersInWaiting b (record b { waiting = waiting; used = used })
 differs b waiting used = record { clock = refl; tokens = refl; secrets = refl; mounts = refl; roles = refl; policies = refl }
 
--- an operation without a caller
-on_wrappings : (b : Broker) (names : Names) (k : WrappingCommand) (d : Done) → act_on_wrappings b names k ≡ Ok d → DiffersInWaiting b d.next
-on_wrappings b names (response.Wrap text) d e = subst (λ (z : Done). DiffersInWaiting b z.next) (ok_inj e) (differs_self b)
-on_wrappings b names (response.LookUp meant) d e =
-    let f = ok_step (found b meant) _ d e in
-    subst (λ (z : Done). DiffersInWaiting b z.next) (ok_inj f.2) (differs_self b)
-on_wrappings b names (response.Rewrap meant) d e =
-    let f = ok_step (found b meant) _ d e in
-    let t = (f.0).token in
-    let after : Waiting → Broker = λ w.
-    with_waiting (drop_waiting b t) (token_text names.wrapping_token) (moved names.wrapping_accessor b.clock w) in
-    subst (λ (z : Done). DiffersInWaiting b z.next) (ok_inj f.2)
-    (elim (get b.waiting t) as (λ o. DiffersInWaiting b (option_map_or after o b)) [
-      | None ↦ differs_self b
-      | Some w ↦ differs b (after w).waiting b.used
-    ])
-on_wrappings b names (response.Unwrap meant) d e =
-    let f = ok_step (found b meant) _ d e in
-    subst (λ (z : Done). DiffersInWaiting b z.next) (ok_inj f.2)
-    (differs b (drop_waiting b (f.0).token).waiting b.used)
+-- a command on responses changes no other maps
+differs_by : (b next : Broker) (k : WrappingCommand) → KeepsMaps (wrapping_changes k) b next → DiffersInWaiting b next
+differs_by b next (response.Rewrap meant) k = apart b next k.clock k.tokens k.secrets k.mounts k.roles k.policies
+differs_by b next (response.Unwrap meant) k = apart b next k.clock k.tokens k.secrets k.mounts k.roles k.policies
+differs_by b next _ k = apart b next k.clock k.tokens k.secrets k.mounts k.roles k.policies
 
-acts_openly : (b : Broker) (names : Names) (command : Command) (d : Done) → act b None names command ≡ Ok d → DiffersInWaiting b d.next
-acts_openly b names (on_cubbyhole path command) d e = no_ok e
-acts_openly b names (on_token command) d e = no_ok e
-acts_openly b names (on_secret place command) d e = no_ok e
-acts_openly b names (on_policy name command) d e = no_ok e
-acts_openly b names (on_mount name command) d e = no_ok e
-acts_openly b names (on_lease prefix command) d e = no_ok e
-acts_openly b names (on_issued place command) d e = no_ok e
-acts_openly b names (on_wrapping command) d e = on_wrappings b names command d e
+-- an operation without a caller
+acts_openly : OperationsDoAsTold → (b : Broker) (words : Words) (command : Command) (d : Done)
+    → act b None (names_of words) command ≡ Ok d → DiffersInWaiting b d.next
+acts_openly told b words (on_wrapping command) d e = differs_by b d.next command (told b None words (on_wrapping command) d e).keeps
+acts_openly told b words _ d e = no_ok e
 
 -- its reply, wrapped or not
 wrapped_openly : (b : Broker) (q : Request Command) (names : Names) (command : Command) (d : Done) → DiffersInWaiting b d.next
@@ -232,7 +224,10 @@ wrapped_openly b q names command d left =
           (differs d.next v.done.next.waiting (use_up d.next.used v.done.taken))
     ])
 
-module _ (b : Broker) (q : Request Command) (names : Names) where
+module _ (told : OperationsDoAsTold) (b : Broker) (q : Request Command) (words : Words) where
+  abbrev names : Names
+  names = names_of words
+
   by_result : (r : Result Wrapped Refusal) → serve permits traits act b None q names ≡ r → DiffersInWaiting b (finish b None r).next
   by_result (Err why) e = differs_self b
   by_result (Ok v) e =
@@ -242,15 +237,15 @@ module _ (b : Broker) (q : Request Command) (names : Names) where
       let m = ok_step (unless (not (traits r.0).must_wrap || nat_lt 0 q.wrap_ttl) (refusal.BadRequest reason.WrappingRequired)) _ v n.2 in
       let f = ok_step (act b None names r.0) _ v m.2 in
       subst (λ (x : Wrapped). DiffersInWaiting b (counted x.done)) (ok_inj f.2)
-      (wrapped_openly b q names r.0 f.0 (acts_openly b names r.0 f.0 f.1))
+      (wrapped_openly b q names r.0 f.0 (acts_openly told b words r.0 f.0 f.1))
 
 -- an open request changes nothing but which responses wait
-pub changes_no_token : OpenChangesNoToken
+pub changes_no_token : OperationsDoAsTold → OpenChangesNoToken
 unfolding step
-changes_no_token b moment words a open_ =
+changes_no_token told b moment words a open_ =
     let now = at_moment b moment in
     let q = request_of a in
     let names = names_of words in
     subst (λ (o : Outcome). DiffersInWaiting now o.next)
     (sym (with_caller permits traits act b moment q names None (inl (open_, refl))))
-    (by_result now q names (serve permits traits act now None q names) refl)
+    (by_result told now q words (serve permits traits act now None q names) refl)

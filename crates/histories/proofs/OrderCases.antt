@@ -17,7 +17,8 @@ use Rattle.broker_types.specs.declared.refusal.Refusal.TheVariants as refusal
 use Rattle.broker_types.specs.declared.refusal.Reason.TheVariants as reason
 use Rattle.records.specs.ValueLaws.{ok_inj}
 use Rattle.broker_model.specs.Order.{Outcome}
-use Rattle.broker_model.specs.Order.{Traits, Wrapped, denied, for_caller, finish, needed, ordered, permission_denied}
+use Rattle.broker_model.specs.Traits.{Traits}
+use Rattle.broker_model.specs.Order.{Wrapped, denied, for_caller, finish, needed, ordered, permission_denied}
 use Rattle.broker_model.specs.Order.{serve, wrapped}
 use Rattle.broker_model.specs.Request.{Request}
 

@@ -35,7 +35,8 @@ use Rattle.histories.specs.Kept.{KeepsReply, first_entry}
 use Rattle.histories.proofs.Keeping.{HandedOut, IsBorn, Keeps}
 use Rattle.broker_model.specs.Order.{Outcome}
 use Rattle.histories.proofs.Lasting.{waited_before}
-use Rattle.broker_model.specs.Order.{Traits, Wrapped, denied, finish, kept_entry, needed, ordered, response_to}
+use Rattle.broker_model.specs.Traits.{Traits}
+use Rattle.broker_model.specs.Order.{Wrapped, denied, finish, kept_entry, needed, ordered, response_to}
 use Rattle.broker_model.specs.Order.{unwrapped, wrap, wrap_200, wrap_info, wrapped, wraps}
 use Rattle.broker_model.specs.Order.{IsProper}
 use Rattle.histories.proofs.OrderCases.{IsServed, IsTurnedAway, IsTurnedDown, order_cases, spent}
@@ -90,7 +91,7 @@ used_evolves b is = record {
 -- ---- the end of a caller that has spent its last use
 
 -- what revocation leaves, that end leaves
-end_spent_same : {X : Type 0} (f : Broker → X) → ((b : Broker) (t : Text) → f (revoke b t) ≡ f b) → (b : Broker) (who : Option Text)
+pub end_spent_same : {X : Type 0} (f : Broker → X) → ((b : Broker) (t : Text) → f (revoke b t) ≡ f b) → (b : Broker) (who : Option Text)
     → f (end_spent b who) ≡ f b
 end_spent_same f keeps b None = refl
 end_spent_same f keeps b (Some c) =
@@ -109,7 +110,7 @@ pub spent_used : (b : Broker) (who : Option Text) → (spent b who).used ≡ b.u
 spent_used b None = refl
 spent_used b (Some c) = refl
 
-spent_clock : (b : Broker) (who : Option Text) → (spent b who).clock ≡ b.clock
+pub spent_clock : (b : Broker) (who : Option Text) → (spent b who).clock ≡ b.clock
 spent_clock b None = refl
 spent_clock b (Some c) = refl
 

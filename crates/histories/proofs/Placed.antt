@@ -1,10 +1,9 @@
 -- Where the identifiers of a broker come from that follows another one.
-use Rattle.std.specs.Prelude.{◌≡◌, ◌⊎◌, ◌||◌, not, nat_lt, ℕ, max, List, [], ◌∷◌, Bool, true, false, if◌then◌else◌}
+use Rattle.std.specs.Prelude.{◌≡◌, ◌⊎◌, not, nat_lt, ℕ, max, List, Bool, true, false, if◌then◌else◌}
 use Rattle.std.specs.Prelude.{Option, Some, None, option_map, option_and_then}
 use Rattle.std.specs.List.{list_any}
 use Rattle.std.specs.Option.{option_map_or}
 use Rattle.std.proofs.Common.{refl, sym, ◌∙◌, ap, subst, inl, inr}
-use Rattle.std.proofs.lemmas.Option.{none-some}
 use Rattle.broker_types.specs.Text.{Text, same}
 use Rattle.broker_types.specs.Map.{Map, get, keep, map_values, without}
 use Rattle.broker_types.specs.MapLaws.{valued_is, without_is}
@@ -15,21 +14,10 @@ use Rattle.broker_types.specs.Places.{Place, identifier_at, lease_identifier, le
 use Rattle.broker_types.specs.Places as place
 use Rattle.broker_types.specs.SearchLaws.{kept_get}
 use Rattle.broker_types.specs.Spending.{drop_waiting, end_spent, is_spent, one_less}
-use Rattle.broker_types.specs.TextLaws.{same_self}
 use Rattle.broker_types.specs.Token.{Token, Tokens, Lease}
 use Rattle.broker_types.specs.TreeLaws.{alive_is}
+use Rattle.broker_model.specs.EffectLaws.{chained}
 use Rattle.histories.proofs.OrderCases.{spent}
-use Rattle.histories.proofs.Used.{any_right}
-
--- ---- one of many
-
--- the first of a list is in it
-pub first_in : (i : Text) (is : List Text) → list_any (same i) (i ∷ is) ≡ true
-first_in i is = ap (λ v. v || list_any (same i) is) (same_self i)
-
--- and so is what comes later
-pub later_in : (i j : Text) (is : List Text) → list_any (same i) is ≡ true → list_any (same i) (j ∷ is) ≡ true
-later_in i j is h = any_right i (j ∷ []) is h
 
 -- ---- where an identifier was
 
@@ -53,12 +41,6 @@ pub placed_more : (b c : Broker) (given more : List Text)
 placed_more b c given more all h p i e = elim (h p i e) [ inl was ↦ inl was | inr here ↦ inr (all i here) ]
 
 -- ---- tokens, leases and responses
-
--- the value that an option leads to
-pub chained : {X Y : Type 0} (f : X → Option Y) (o : Option X) (y : Y) → option_and_then f o ≡ Some y
-    → (x : X) × (o ≡ Some x) × (f x ≡ Some y)
-chained f None y e = absurd (none-some y e)
-chained f (Some x) y e = (x, refl, e)
 
 -- both identifiers of the lease of the token t were there
 pub record LeaseFrom (b : Broker) (given : List Text) (t lease_id : Text) (l : Lease) : Type 0 where

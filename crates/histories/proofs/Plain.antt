@@ -14,7 +14,8 @@ use Rattle.broker_types.specs.declared.refusal.Refusal.TheVariants as refusal
 use Rattle.broker_types.specs.declared.refusal.Reason.TheVariants as reason
 use Rattle.broker_model.specs.Order.{Outcome}
 use Rattle.broker_model.specs.Responses.{ok}
-use Rattle.broker_model.specs.Order.{Traits, Wrapped, finish, needed, ordered, permission_denied, response_to, serve}
+use Rattle.broker_model.specs.Traits.{Traits}
+use Rattle.broker_model.specs.Order.{Wrapped, finish, needed, ordered, permission_denied, response_to, serve}
 use Rattle.broker_model.specs.Order.{unwrapped, wrapped}
 use Rattle.histories.proofs.OrderCases.{IsServed, spent, with_caller}
 use Rattle.histories.proofs.OrderKeeps.{own_new}

@@ -26,7 +26,7 @@ use Rattle.broker_types.specs.declared.words.Words.{Words}
 use Rattle.records.specs.ValueLaws.{ok_inj}
 use Rattle.broker_model.specs.Act.{act}
 use Rattle.broker_model.specs.Command.{Command, on_wrapping, command_of}
-use Rattle.broker_model.specs.Laws.{OperationsAreProper}
+use Rattle.broker_model.specs.Laws.{OperationsDoAsTold}
 use Rattle.broker_model.specs.Order.{Outcome, Wrapped, counted, finish, needed, permission_denied, response_to, serve}
 use Rattle.broker_model.specs.Order.{unwrapped}
 use Rattle.broker_model.specs.Permission.{may_ask, permits}
@@ -37,11 +37,11 @@ use Rattle.broker_model.specs.declared.commands.WrappingCommand.TheVariants as r
 use Rattle.histories.specs.Refused.{Calls, ChangesNothingElse, PoliciesDecide, RefusedChangeNothing, WrapNeedsTtl, is_granted}
 use Rattle.histories.proofs.InOrder.{in_order}
 use Rattle.histories.proofs.OrderCases.{IsCaller, spent, unless_ok, with_caller}
-use Rattle.histories.proofs.OrderKeeps.{own_new, wrapped_cases}
+use Rattle.histories.proofs.OrderKeeps.{wrapped_cases}
 
 -- ---- refused
 
-module _ (proper : OperationsAreProper) (b : Broker) (moment : ℕ) (words : Words) (a : Ask) where
+module _ (told : OperationsDoAsTold) (b : Broker) (moment : ℕ) (words : Words) (a : Ask) where
   abbrev now : Broker
   now = at_moment b moment
 
@@ -66,8 +66,8 @@ module _ (proper : OperationsAreProper) (b : Broker) (moment : ℕ) (words : Wor
     abbrev start : Broker
     start = spent now caller
 
-    module _ (v : Wrapped) (command : Command) (d : Done) (new : are_new start.used ((traits command).own names) ≡ true)
-        (acted : act start caller names command ≡ Ok d) (plain : v ≡ unwrapped d) where
+    module _ (v : Wrapped) (command : Command) (d : Done) (acted : act start caller names command ≡ Ok d)
+        (plain : v ≡ unwrapped d) where
       code_is : (x : Answered) → d.answered ≡ x
           → status_code (response_to v.done.answered).status ≡ status_code (response_to x).status
       code_is x answered =
@@ -79,7 +79,7 @@ module _ (proper : OperationsAreProper) (b : Broker) (moment : ℕ) (words : Wor
       by_answer (reply r made) answered high = absurd (omega (arith, high, code_is (reply r made) answered))
       by_answer (kept_text t) answered high = absurd (omega (arith, high, code_is (kept_text t) answered))
       by_answer (missing r) answered high =
-          let left = (proper start caller words command d new acted).none_at_404 r answered in
+          let left = (told start caller words command d acted).none_at_404 r answered in
           by_caller caller is (end_spent (counted v.done) caller)
           (ap (λ (w : Wrapped). end_spent (counted w.done) caller) plain
           ∙ ap (λ (taken : List Text). end_spent (record d.next { used = use_up d.next.used taken }) caller) left.1
@@ -93,9 +93,8 @@ module _ (proper : OperationsAreProper) (b : Broker) (moment : ℕ) (words : Wor
         let n = ok_step (unless (are_new start.used (needed permits traits act q names r.0)) refusal.IdentifierUsed) _ v r.2 in
         let m = ok_step (unless (not (traits r.0).must_wrap || nat_lt 0 q.wrap_ttl) (refusal.BadRequest reason.WrappingRequired)) _ v n.2 in
         let f = ok_step (act start caller names r.0) _ v m.2 in
-        let new = own_new permits traits act start.used q names r.0 (unless_ok _ refusal.IdentifierUsed n.0 n.1) in
         elim (wrapped_cases permits traits act start q names r.0 f.0) [
-          | inl plain ↦ by_answer v r.0 f.0 new f.1 (sym (ok_inj f.2) ∙ plain) f.0.answered refl high
+          | inl plain ↦ by_answer v r.0 f.0 f.1 (sym (ok_inj f.2) ∙ plain) f.0.answered refl high
           | inr kept ↦ absurd (omega (
             arith,
             high,
@@ -118,8 +117,8 @@ module _ (proper : OperationsAreProper) (b : Broker) (moment : ℕ) (words : Wor
       })))
       (λ caller is. by_result caller is (serve permits traits act (spent now caller) caller q names) refl)
 
-pub refused_change_nothing : OperationsAreProper → RefusedChangeNothing
-refused_change_nothing proper b moment words a high = leaves_all_else proper b moment words a high
+pub refused_change_nothing : OperationsDoAsTold → RefusedChangeNothing
+refused_change_nothing told b moment words a high = leaves_all_else told b moment words a high
 
 -- ---- without a wrap TTL
 

@@ -31,9 +31,10 @@ use Rattle.broker_model.specs.Act.{act}
 use Rattle.broker_model.specs.Command.{Command, on_cubbyhole, on_token, on_secret, on_policy, on_mount, on_lease}
 use Rattle.broker_model.specs.Command.{on_issued, on_wrapping, command_by, command_for, command_of, meant_by}
 use Rattle.broker_model.specs.Forms.{forms}
-use Rattle.broker_model.specs.Laws.{OperationsAreProper}
+use Rattle.broker_model.specs.Laws.{OperationsDoAsTold}
 use Rattle.broker_model.specs.Order.{Outcome, ordered}
 use Rattle.broker_model.specs.Permission.{permits}
+use Rattle.broker_model.specs.ProperLaws.{are_proper}
 use Rattle.broker_model.specs.Request.{Request}
 use Rattle.broker_model.specs.Responses.{ok}
 use Rattle.broker_model.specs.Step.{request_of, step, traits, unwrapped_ask}
@@ -44,7 +45,6 @@ use Rattle.broker_model.specs.parts.Wrappings.{act_on_wrappings}
 use Rattle.histories.specs.History.{AreAsked, Asking, AskedAt, History, IsAsked, clocked}
 use Rattle.histories.specs.Kept.{answer_by, object_text, unwrapped_answer, unwrapped_body}
 use Rattle.histories.proofs.Keeping.{EachKeeps, Keeps}
-use Rattle.histories.proofs.MadeTold.{made_is}
 use Rattle.histories.proofs.OrderCases.{IsServed, spent}
 use Rattle.histories.proofs.OrderKeeps.{request_keeps}
 use Rattle.histories.proofs.Plain.{plain, plain_tells}
@@ -182,7 +182,7 @@ tells_by b caller names body answer (on_wrapping (response.Wrap wrapped)) d r ma
     ap (λ z. ok (reply_text (plain_reply names.request z))) (object_is wrapped refl)
     ∙ ap ok (same_reply_of (ap (λ (z : Done). z.answered) (ok_inj (sym (acts_same b caller names (response.Wrap wrapped)) ∙ acted)) ∙ answered))
 
-spent_mounts : (b : Broker) (who : Option Text) → (spent b who).mounts ≡ b.mounts
+pub spent_mounts : (b : Broker) (who : Option Text) → (spent b who).mounts ≡ b.mounts
 spent_mounts b None = refl
 spent_mounts b (Some c) = refl
 
@@ -206,15 +206,15 @@ answers_plainly a s r made answered =
     ∙ plain_tells permits traits act a.broker a.moment (request_of a.ask) (names_of a.words) a.outcome s free r made answered)
 
 -- so its body is the text of what was replied; of a token that was made it tells the accessor alone
-pub tells_body : (a : Asking) (s : IsServed permits traits act (clocked a) (request_of a.ask) (names_of a.words) a.outcome)
+pub tells_body : OperationsDoAsTold → (a : Asking) (s : IsServed permits traits act (clocked a) (request_of a.ask) (names_of a.words) a.outcome)
     (r : Reply) (made : Option Text) → s.done.answered ≡ reply r made
     → (reply_text r ≡ unwrapped_body a) × ((made ≡ None) ⊎ (made ≡ Some (names_of a.words).accessor))
-tells_body a s r made answered = (
+tells_body told a s r made answered = (
   sym (ap (λ (x : Response). x.text) (answers_plainly a s r made answered)),
-  made_is (spent (clocked a) s.caller) s.caller (names_of a.words) s.command s.done r made s.acted answered,
+  (told (spent (clocked a) s.caller) s.caller a.words s.command s.done s.acted).made r made answered,
 )
 
-module _ (proper : OperationsAreProper) where
+module _ (told : OperationsDoAsTold) where
   asked_keep : (b : Broker) (a : Asking) → IsAsked b a → Keeps unwrapped_body a
   unfolding step
   asked_keep b a is =
@@ -222,9 +222,9 @@ module _ (proper : OperationsAreProper) where
       let outcome : a.outcome ≡ step a.broker a.moment a.words a.ask =
       is.outcome ∙ ap (λ c. step c a.moment a.words a.ask) (sym is.broker) in
       request_keeps permits traits act unwrapped_body a (request_of a.ask) refl refl
-      (λ c caller command d new done. proper c caller a.words command d new done)
+      (λ c caller command d new done. are_proper told c caller a.words command d new done)
       sound.identifiers sound.waiting
-      (tells_body a)
+      (tells_body told a)
       outcome
 
   pub history_keeps : (b : Broker) (history : History) → AreAsked b history → EachKeeps unwrapped_body b history

@@ -11,15 +11,18 @@ use Rattle.broker_types.specs.declared.ask.Verb.{Verb}
 use Rattle.broker_types.specs.declared.refusal.Refusal.{Refusal}
 use Rattle.wrapping.specs.Wrapping.{with_waiting}
 use Rattle.broker_model.specs.Act.{act}
-use Rattle.broker_model.specs.Order.{Outcome, Traits, Wrapped, counted, kept_entry, ordered, wrapped}
+use Rattle.broker_model.specs.Traits.{Traits}
+use Rattle.broker_model.specs.Laws.{OperationsDoAsTold}
+use Rattle.broker_model.specs.NewIdentifierLaws.{later_in}
+use Rattle.broker_model.specs.Order.{Outcome, Wrapped, counted, kept_entry, ordered, wrapped}
 use Rattle.broker_model.specs.Permission.{permits}
 use Rattle.broker_model.specs.Request.{Request}
 use Rattle.broker_model.specs.Step.{request_of, step, traits}
 use Rattle.histories.specs.History.{Asking, clocked}
-use Rattle.histories.proofs.OperationsPlace.{Tells, accessor_in, operations_tell, stored_placed, token_in}
+use Rattle.histories.proofs.EffectsPlace.{Tells, accessor_in, placed_of, stored_placed, token_in}
 use Rattle.histories.proofs.OrderCases.{IsServed, IsTurnedAway, IsTurnedDown, order_cases, spent}
 use Rattle.histories.proofs.OrderKeeps.{IsWrapped, wrapped_cases}
-use Rattle.histories.proofs.Placed.{Placed, drop_placed, end_placed, later_in, placed_more, placed_self, placed_trans, same_maps, spent_placed}
+use Rattle.histories.proofs.Placed.{Placed, drop_placed, end_placed, placed_more, placed_self, placed_trans, same_maps, spent_placed}
 
 module _ {Command : Type 0} (permits : Broker → Option Text → Verb → Text → Bool) (traits : Command → Traits)
     (act : Broker → Option Text → Names → Command → Result Done Refusal) (now : Broker) (q : Request Command) (names : Names)
@@ -75,12 +78,12 @@ module _ {Command : Type 0} (permits : Broker → Option Text → Verb → Text 
   by_cases o (inr (inr s)) = was_served o s
 
 -- what is in a place after a request was in that place at its clock, or the request gave it out
-pub requests_tell : (a : Asking) → a.outcome ≡ step a.broker a.moment a.words a.ask → Placed (clocked a) a.outcome.taken a.outcome.next
+pub requests_tell : OperationsDoAsTold → (a : Asking) → a.outcome ≡ step a.broker a.moment a.words a.ask → Placed (clocked a) a.outcome.taken a.outcome.next
 unfolding step
-requests_tell a is =
+requests_tell told a is =
     let now = clocked a in
     let q = request_of a.ask in
     let names = names_of a.words in
     subst (λ (o : Outcome). Placed now o.taken o.next) (sym is)
-    (by_cases permits traits act now q names (λ b caller command d e. operations_tell b caller a.words command d e)
+    (by_cases permits traits act now q names (λ b caller command d e. placed_of b caller names command d (told b caller a.words command d e))
     (ordered permits traits act a.broker a.moment q names) (order_cases permits traits act a.broker a.moment q names))

@@ -30,15 +30,14 @@ use Rattle.broker_types.specs.Used.{are_new, use_up}
 use Rattle.broker_types.specs.declared.refusal.Refusal.{Refusal}
 use Rattle.broker_types.specs.declared.refusal.Refusal.TheVariants as refusal
 use Rattle.broker_types.specs.declared.refusal.Reason.TheVariants as reason
-use Rattle.broker_types.specs.declared.reply.Reply.{Reply}
 use Rattle.broker_types.specs.declared.status.Status.TheVariants as status
 use Rattle.broker_types.specs.RefuseLaws.{no_ok, ok_step}
 use Rattle.records.specs.ValueLaws.{ok_inj}
 use Rattle.broker_model.specs.Act.{act}
-use Rattle.broker_model.specs.Command.{Command, on_cubbyhole, on_token, on_secret, on_policy, on_mount, on_lease}
-use Rattle.broker_model.specs.Command.{on_issued, on_wrapping, command_of}
+use Rattle.broker_model.specs.Command.{Command, on_token}
+use Rattle.broker_model.specs.Command.{on_wrapping, command_of}
 use Rattle.broker_model.specs.Forms.{forms}
-use Rattle.broker_model.specs.Laws.{OperationsAreProper}
+use Rattle.broker_model.specs.Laws.{OperationsDoAsTold}
 use Rattle.broker_model.specs.Order.{Outcome, Wrapped, denied, finish, for_caller, needed, permission_denied, response_to}
 use Rattle.broker_model.specs.Order.{serve, unwrapped, wrapped}
 use Rattle.broker_model.specs.Permission.{permits}
@@ -46,12 +45,12 @@ use Rattle.broker_model.specs.Request.{Request}
 use Rattle.broker_model.specs.Responses.{ok, no_content}
 use Rattle.broker_model.specs.Serving.{is_open}
 use Rattle.broker_model.specs.Step.{request_of, step, traits}
+use Rattle.broker_model.specs.Traits.{wrapping_names}
 use Rattle.broker_model.specs.declared.commands.TokenCommand.{TokenCommand}
 use Rattle.broker_model.specs.declared.commands.TokenCommand.TheVariants as token
 use Rattle.broker_model.specs.declared.commands.WrappingCommand.{WrappingCommand}
 use Rattle.broker_model.specs.declared.commands.WrappingCommand.TheVariants as response
 use Rattle.broker_model.specs.parts.Tokens.{act_on_tokens, holder, revoke, revoke_alone}
-use Rattle.broker_model.specs.parts.WrappingCommands.{wrapping_names}
 use Rattle.broker_model.specs.parts.Wrappings.{FoundResponse, found, found_under, rewrapped, act_on_wrappings}
 use Rattle.histories.specs.History.{AreAsked, Asking, AskedAt, History, clocked, spent_by}
 use Rattle.histories.specs.Kept.{unwrapped_body}
@@ -67,7 +66,7 @@ use Rattle.histories.proofs.OrderCases.{IsCaller, some_ok, spent, with_caller}
 use Rattle.histories.proofs.OrderKeeps.{end_spent_waiting, wrapped_cases}
 use Rattle.histories.proofs.Requests.{asked_at, history_keeps, means_at_clock}
 use Rattle.histories.proofs.Revoking.{below_are_gone, below_are_left, children_are_orphans, orphaned_is_gone, others_are_left, others_stay, revoked_are_gone}
-use Rattle.histories.proofs.Served.{Served, refused_or_served, served}
+use Rattle.histories.proofs.Served.{Served, nothing_is_no_reply, refused_or_served, served}
 
 -- ---- a 204
 
@@ -143,25 +142,12 @@ module _ (a : Asking) (is : a.outcome ≡ step a.broker a.moment a.words a.ask) 
   revokes (token.RevokeAccessor accessor) d names done =
       sym (ok_inj (ap (λ o. some_or (refusal.BadRequest reason.InvalidAccessor) o >>= (λ u. Ok (revoke start u))) (sym names) ∙ done))
   revokes token.RevokeSelf d names done = sym (ok_inj done) ∙ ap (revoke start) (same_Some _ _ names)
-  revokes (token.Create making asked) d names done = absurd (none-some _ names)
-  revokes (token.LookUp u) d names done = absurd (none-some _ names)
-  revokes (token.LookUpAccessor u) d names done = absurd (none-some _ names)
-  revokes token.LookUpSelf d names done = absurd (none-some _ names)
-  revokes (token.Renew asked) d names done = absurd (none-some _ names)
-  revokes (token.RenewSelf n) d names done = absurd (none-some _ names)
-  revokes (token.RevokeOrphan u) d names done = absurd (none-some _ names)
-  revokes token.ListAccessors d names done = absurd (none-some _ names)
+  revokes _ d names done = absurd (none-some _ names)
 
   revokes_by : (command : Command) (d : Done) → revoked_by start c command ≡ Some t
       → act start (Some c) (names_of a.words) command ≡ Ok d → d ≡ revoke start t
   revokes_by (on_token command) d names done = revokes command d names done
-  revokes_by (on_cubbyhole path command) d names done = absurd (none-some _ names)
-  revokes_by (on_secret place command) d names done = absurd (none-some _ names)
-  revokes_by (on_policy name command) d names done = absurd (none-some _ names)
-  revokes_by (on_mount name command) d names done = absurd (none-some _ names)
-  revokes_by (on_lease prefix command) d names done = absurd (none-some _ names)
-  revokes_by (on_issued place command) d names done = absurd (none-some _ names)
-  revokes_by (on_wrapping command) d names done = absurd (none-some _ names)
+  revokes_by _ d names done = absurd (none-some _ names)
 
   -- what a revocation left
   pub revocation_left : Revokes a c t → a.outcome.next ≡ end_spent (drop_waiting (broker.revoke start t) t) (Some c)
@@ -172,27 +158,12 @@ module _ (a : Asking) (is : a.outcome ≡ step a.broker a.moment a.words a.ask) 
   orphans : (command : TokenCommand) (d : Done) → orphaning_of command ≡ Some t
       → act_on_tokens start c (names_of a.words) command ≡ Ok d → d ≡ revoke_alone start t
   orphans (token.RevokeOrphan u) d names done = sym (ok_inj done) ∙ ap (revoke_alone start) (same_Some _ _ names)
-  orphans (token.Revoke u) d names done = absurd (none-some _ names)
-  orphans (token.RevokeAccessor accessor) d names done = absurd (none-some _ names)
-  orphans token.RevokeSelf d names done = absurd (none-some _ names)
-  orphans (token.Create making asked) d names done = absurd (none-some _ names)
-  orphans (token.LookUp u) d names done = absurd (none-some _ names)
-  orphans (token.LookUpAccessor u) d names done = absurd (none-some _ names)
-  orphans token.LookUpSelf d names done = absurd (none-some _ names)
-  orphans (token.Renew asked) d names done = absurd (none-some _ names)
-  orphans (token.RenewSelf n) d names done = absurd (none-some _ names)
-  orphans token.ListAccessors d names done = absurd (none-some _ names)
+  orphans _ d names done = absurd (none-some _ names)
 
   orphans_by : (command : Command) (d : Done) → orphaning_by command ≡ Some t
       → act start (Some c) (names_of a.words) command ≡ Ok d → d ≡ revoke_alone start t
   orphans_by (on_token command) d names done = orphans command d names done
-  orphans_by (on_cubbyhole path command) d names done = absurd (none-some _ names)
-  orphans_by (on_secret place command) d names done = absurd (none-some _ names)
-  orphans_by (on_policy name command) d names done = absurd (none-some _ names)
-  orphans_by (on_mount name command) d names done = absurd (none-some _ names)
-  orphans_by (on_lease prefix command) d names done = absurd (none-some _ names)
-  orphans_by (on_issued place command) d names done = absurd (none-some _ names)
-  orphans_by (on_wrapping command) d names done = absurd (none-some _ names)
+  orphans_by _ d names done = absurd (none-some _ names)
 
   -- what a revocation of one token left
   pub orphaning_left : RevokesAlone a c t → a.outcome.next ≡ end_spent (drop_waiting (broker.revoke_orphan start t) t) (Some c)
@@ -215,25 +186,13 @@ answers_204 b c names (token.RevokeOrphan u) d does done = ap (λ (z : Done). z.
 answers_204 b c names token.RevokeSelf d does done = ap (λ (z : Done). z.answered) (sym (ok_inj done))
 answers_204 b c names (token.RevokeAccessor accessor) d does done =
     ap (λ (z : Done). z.answered) (sym (ok_inj (ok_step (holder b accessor) (λ u. Ok (revoke b u)) d done).2))
-answers_204 b c names (token.Create making asked) d does done = absurd (false≢true does)
-answers_204 b c names (token.LookUp u) d does done = absurd (false≢true does)
-answers_204 b c names (token.LookUpAccessor u) d does done = absurd (false≢true does)
-answers_204 b c names token.LookUpSelf d does done = absurd (false≢true does)
-answers_204 b c names (token.Renew asked) d does done = absurd (false≢true does)
-answers_204 b c names (token.RenewSelf n) d does done = absurd (false≢true does)
-answers_204 b c names token.ListAccessors d does done = absurd (false≢true does)
+answers_204 b c names _ d does done = absurd (false≢true does)
 
 -- by a caller, for none else is served
 called_204 : (b : Broker) (caller : Option Text) (names : Names) (command : TokenCommand) (d : Done)
     → (is_revocation command || is_orphaning command) ≡ true → act b caller names (on_token command) ≡ Ok d → d.answered ≡ nothing
 called_204 b None names command d does done = no_ok done
 called_204 b (Some c) names command d does done = answers_204 b c names command d does done
-
-nothing_is_no_reply : {x : Answered} {r : Reply} {made : Option Text} → x ≡ nothing → x ≡ reply r made → ⊥
-nothing_is_no_reply none some = apart (sym none ∙ some)
-  where
-    apart : {r : Reply} {made : Option Text} → nothing ≡ reply r made → ⊥
-    apart e = cc
 
 -- one that is asked is a 204, or refused
 revoking_answer : (a : Asking) → a.outcome ≡ step a.broker a.moment a.words a.ask → (command : TokenCommand)
@@ -263,28 +222,12 @@ revoked_text b c names (token.RevokeAccessor accessor) d does done =
     let t = ok_step (holder b accessor) (λ u. Ok (revoke b u)) d done in
     (t.0, some_ok (refusal.BadRequest reason.InvalidAccessor) (named_by b accessor) t.1)
 revoked_text b c names token.RevokeSelf d does done = (c, refl)
-revoked_text b c names (token.Create making asked) d does done = absurd (false≢true does)
-revoked_text b c names (token.LookUp u) d does done = absurd (false≢true does)
-revoked_text b c names (token.LookUpAccessor u) d does done = absurd (false≢true does)
-revoked_text b c names token.LookUpSelf d does done = absurd (false≢true does)
-revoked_text b c names (token.Renew asked) d does done = absurd (false≢true does)
-revoked_text b c names (token.RenewSelf n) d does done = absurd (false≢true does)
-revoked_text b c names (token.RevokeOrphan u) d does done = absurd (false≢true does)
-revoked_text b c names token.ListAccessors d does done = absurd (false≢true does)
+revoked_text b c names _ d does done = absurd (false≢true does)
 
 -- and one that revokes alone
 orphaned_text : (command : TokenCommand) → is_orphaning command ≡ true → (t : Text) × (orphaning_of command ≡ Some t)
 orphaned_text (token.RevokeOrphan u) does = (u, refl)
-orphaned_text (token.Revoke u) does = absurd (false≢true does)
-orphaned_text (token.RevokeAccessor accessor) does = absurd (false≢true does)
-orphaned_text token.RevokeSelf does = absurd (false≢true does)
-orphaned_text (token.Create making asked) does = absurd (false≢true does)
-orphaned_text (token.LookUp u) does = absurd (false≢true does)
-orphaned_text (token.LookUpAccessor u) does = absurd (false≢true does)
-orphaned_text token.LookUpSelf does = absurd (false≢true does)
-orphaned_text (token.Renew asked) does = absurd (false≢true does)
-orphaned_text (token.RenewSelf n) does = absurd (false≢true does)
-orphaned_text token.ListAccessors does = absurd (false≢true does)
+orphaned_text _ does = absurd (false≢true does)
 
 -- a 204 to a command of tokens was granted to a caller
 module _ (a : Asking) (is : a.outcome ≡ step a.broker a.moment a.words a.ask) (command : TokenCommand)
@@ -340,7 +283,7 @@ called_was a c q there none = elim (found_or_not (get (spent_by a c).tokens q)) 
       none-some _ (sym none ∙ w.1)
 ]
 
-called_tree : (a : Asking) (c : Text) → Sound forms None a.broker → IsTree (spent_by a c).tokens
+pub called_tree : (a : Asking) (c : Text) → Sound forms None a.broker → IsTree (spent_by a c).tokens
 called_tree a c sound =
     values_tree (λ u (z : Token). if same u c then one_less z else z) (clocked a).tokens
     (λ u z. elim (same u c) as (λ v. (if v then one_less z else z).parent ≡ z.parent) [ true ↦ refl | false ↦ refl ])
@@ -358,7 +301,7 @@ due_is_gone a q d = elim (found_or_not (get (clocked a).tokens q)) [
 ]
 
 -- a token that does not, and that is under none that does, stays
-not_due_stays : (a : Asking) (q : Text) (x : Token) → get a.broker.tokens q ≡ Some x → (IsDue a q → ⊥)
+pub not_due_stays : (a : Asking) (q : Text) (x : Token) → get a.broker.tokens q ≡ Some x → (IsDue a q → ⊥)
     → get (clocked a).tokens q ≡ Some (with_later_leases (max a.broker.clock a.moment) x)
 not_due_stays a q x is not_due =
     let now = max a.broker.clock a.moment in
@@ -529,9 +472,9 @@ module _ (a : Asking) (sound : Sound forms None a.broker) (keeps : Keeps unwrapp
             (lease_lasts a.outcome.next b lease_id l e (lease_gone lease_id l was)).gone t other_id k is;
       }
 
-module _ (proper : OperationsAreProper) (b : Broker) (history : History) (h : AreAsked b history) where
+module _ (told : OperationsDoAsTold) (b : Broker) (history : History) (h : AreAsked b history) where
   keep_all : EachKeeps unwrapped_body b history
-  keep_all = history_keeps proper b history h
+  keep_all = history_keeps told b history h
 
   lasts : (i j : ℕ) (a x : Asking) (q : Text) → AskedAt history i a → EndsToken a q → AskedAt history j x → i ≤ j
       → IsGone a q x.outcome.next
@@ -550,7 +493,7 @@ module _ (proper : OperationsAreProper) (b : Broker) (history : History) (h : Ar
   revocation = record {
     descends = λ i a q y at there.
         let is = asked_at b history i a h at in
-        descends a is.sound is.outcome q y there;
+        descends told a is.sound is.outcome q y there;
     stays = λ i a q x at is not_due. not_due_stays a q x is not_due;
     clock = λ i a at. refl;
     spends = λ i a c q at. get-change (clocked a).tokens c one_less q;

@@ -1,25 +1,32 @@
--- What POST and PUT of fixed paths mean.
-use Rattle.std.specs.Prelude.{◌≡◌, ◌||◌, ◌&&◌, List, [], ◌∷◌, Bool, true, not, Option, Some, None, Result, Ok, codes}
+-- What POST and PUT of fixed paths mean, and a request that may need no caller.
+use Rattle.std.specs.Prelude.{◌≡◌, ◌||◌, ◌&&◌, List, [], Bool, true, false, not, Option, Some, None, option_map}
+use Rattle.std.specs.Prelude.{Result, Ok, codes}
 use Rattle.std.specs.List.{list_all}
-use Rattle.std.proofs.Common.{refl, sym, ◌∙◌, ap, subst, inl, inr}
-use Rattle.std.proofs.lemmas.Bool.{and_parts, false≢true, or_cases}
-use Rattle.broker_types.specs.Map.{get}
+use Rattle.std.specs.Option.{option_map_or}
+use Rattle.std.proofs.Common.{refl, sym, ◌∙◌, ap}
+use Rattle.std.proofs.lemmas.Bool.{and_parts}
+use Rattle.std.proofs.lemmas.Option.{none-some}
+use Rattle.broker_types.specs.Map.{Map, get}
 use Rattle.broker_types.specs.Broker.{Mount}
 use Rattle.broker_types.specs.Refuse.{◌>>=◌, some_or}
 use Rattle.broker_types.specs.Text.{Text, same}
 use Rattle.broker_types.specs.TextLaws.{same_true}
+use Rattle.broker_types.specs.declared.ask.Verb.{Verb}
 use Rattle.broker_types.specs.declared.ask.Verb.TheVariants as verb
 use Rattle.broker_types.specs.declared.refusal.Refusal.{Refusal}
 use Rattle.broker_types.specs.declared.refusal.Refusal.TheVariants as refusal
+use Rattle.records.specs.Rows.{or_else}
 use Rattle.mounts.specs.Forms.{form_of, has_form, are_bytes, parameter}
-use Rattle.mounts.specs.Laws.{AreInOrder, FoundByForm, IsForm, NoneFoundByForm}
-use Rattle.mounts.specs.Patterns.{has_pattern, pattern_found}
-use Rattle.mounts.specs.Route.{Route, cut, methods_of, operation_for, route_at, route_by, route_of, within}
+use Rattle.mounts.specs.FoundLaws.{found_alone, is_or_apart, row_of}
+use Rattle.mounts.specs.Laws.{AreInOrder, FoundByForm, NoneFoundByForm}
+use Rattle.mounts.specs.Patterns.{has_pattern}
+use Rattle.mounts.specs.Route.{Route, cut, methods_of, operation_at, operation_for, route_at, route_by, route_of, within}
 use Rattle.mounts.specs.RouteRow.{RouteRow}
-use Rattle.mounts.specs.Table.{route_rows}
-use Rattle.mounts.specs.Types.{type_at}
+use Rattle.mounts.specs.Table.{facts, route_rows}
+use Rattle.mounts.specs.Types.{fixed_type, type_at, type_of}
 use Rattle.mounts.specs.declared.mount_type.MountType.{MountType}
 use Rattle.mounts.specs.declared.mount_type.MountType.TheVariants as mount
+use Rattle.mounts.specs.declared.operation.Opens.TheVariants.{Never, Always, WithItsOwn}
 use Rattle.mounts.specs.declared.operation.Operation.{Operation}
 use Rattle.mounts.specs.declared.operation.Operation.TheVariants.{Tokens, Wrappings}
 use Rattle.mounts.specs.declared.operation.TokenOperation.TheVariants as of_tokens
@@ -29,78 +36,116 @@ use Rattle.broker_model.specs.Command.{Command, command_for}
 use Rattle.broker_model.specs.declared.commands.TokenCommand.TheVariants as token
 use Rattle.broker_model.specs.declared.commands.WrappingCommand.TheVariants as response
 use Rattle.broker_model.specs.declared.making.Making.TheVariants.{OfCaller, WithoutParent}
+use Rattle.histories.specs.LeasePaths.{AskedMeans}
 use Rattle.histories.specs.Paths.{PathsMeanCommands, WrittenMeans, on_found, on_named, on_none, on_object}
 
 -- ---- a pattern that alone has the form of a path
 
--- whether it is the pattern, or one whose form the path has not
-abbrev is_or_apart : Text → Text → Text → Bool
-is_or_apart path pattern other = same other pattern || not (has_form (form_of other) path)
-
--- what each pattern of rows passes, one that is listed passes
-passes : (q : Text → Bool) (rows : List RouteRow) (pattern : Text) → list_all (λ (r : RouteRow). q r.pattern) rows ≡ true
-    → has_pattern rows pattern ≡ true → q pattern ≡ true
-passes q [] pattern all listed = absurd (false≢true listed)
-passes q (r ∷ rows) pattern all listed =
-    let parts = and_parts (q r.pattern) (list_all (λ (r : RouteRow). q r.pattern) rows) all in
-    elim (or_cases (same r.pattern pattern) (has_pattern rows pattern) listed) as (λ _. q pattern ≡ true) [
-      | inl here ↦ subst (λ t. q t ≡ true) (same_true r.pattern pattern here) parts.0
-      | inr later ↦ passes q rows pattern parts.1 later
-    ]
+-- the pattern is of the rows, and the path has its form and that of no other
+pub record StandsFor (rows : List RouteRow) (pattern path : Text) : Type 0 where
+  pub listed : has_pattern rows pattern ≡ true
+  pub form : has_form (form_of pattern) path ≡ true
+  pub alone : list_all (λ (r : RouteRow). is_or_apart path pattern r.pattern) rows ≡ true
 
 -- whether a path is a pattern of the rows, and has its form and that of no other
 abbrev stands_alone : List RouteRow → Text → Bool
 stands_alone rows path =
     has_pattern rows path && (has_form (form_of path) path && list_all (λ (r : RouteRow). is_or_apart path path r.pattern) rows)
 
--- the route to an operation of a mount that is always there
-abbrev fixed_route : Text → Operation → Route
-fixed_route name operation = record { operation = operation; mount = name; parameter = [] }
+stands : (rows : List RouteRow) (path : Text) → stands_alone rows path ≡ true → StandsFor rows path path
+stands rows path alone =
+    let listed = and_parts (has_pattern rows path) _ alone in
+    let form = and_parts (has_form (form_of path) path) _ listed.1 in
+    record { listed = listed.0; form = form.0; alone = form.1 }
+
+-- the route to an operation of a mount that is always there, with what stands for a parameter
+abbrev pub route_to : Text → Operation → Text → Route
+route_to name operation p = record { operation = operation; mount = name; parameter = p }
+
+-- and without a parameter
+abbrev pub fixed_route : Text → Operation → Route
+fixed_route name operation = route_to name operation []
+
+-- ---- operations that may need no caller
+
+abbrev pub may_open : Operation → Bool
+may_open o = elim (facts o).opens as (λ _. Bool) [ Never ↦ false | Always ↦ true | WithItsOwn ↦ true ]
+
+-- whether a row's pattern is a path that stands alone
+abbrev is_alone : List RouteRow → RouteRow → Bool
+is_alone rows r = are_bytes r.pattern && (stands_alone rows r.pattern && same (parameter r.pattern r.pattern) [])
+
+-- each row of such an operation is one
+open_alone : (type : MountType) → list_all (λ (r : RouteRow). not (may_open r.operation) || is_alone (route_rows type) r) (route_rows type) ≡ true
+unfolding same
+open_alone mount.Token = refl
+open_alone mount.System = refl
+open_alone mount.Cubbyhole = refl
+open_alone mount.Kv = refl
+open_alone mount.Issued = refl
+
+-- the operation of a verb at a path, if it may need no caller, is that of its route
+abbrev pub OpenedAreRoutes : Type 0
+OpenedAreRoutes =
+    (v : Verb) (path : Text) (o : Operation) → operation_at v path ≡ Some o → may_open o ≡ true
+    → (mounts : Map Mount) → route_of mounts v path ≡ Ok (fixed_route (cut path).0 o)
 
 module _ (found : FoundByForm) (none : NoneFoundByForm) (ordered : AreInOrder) where
-  module _ (type : MountType) (path : Text) (bytes : are_bytes path ≡ true) (alone : stands_alone (route_rows type) path ≡ true) where
-    abbrev rows : List RouteRow
-    rows = route_rows type
+  -- the route of a path, where the row of the pattern has this operation
+  routed : (type : MountType) (v : Verb) (name rest path pattern p : Text) (operation : Operation)
+      → ((o : Option Mount) → type_at o name ≡ Some type) → cut path ≡ (name, rest) → are_bytes rest ≡ true
+      → StandsFor (route_rows type) pattern rest → operation_for (route_rows type) pattern v ≡ Some operation
+      → parameter pattern rest ≡ p → (mounts : Map Mount) → route_of mounts v path ≡ Ok (route_to name operation p)
+  unfolding route_at
+  routed type v name rest path pattern p operation there at bytes stands row parameter_is mounts =
+      let o = get mounts (cut path).0 in
+      let rows = route_rows type in
+      ap (λ (q : Text × Text). some_or refusal.NotFound (type_at o q.0) >>= (λ t. within (route_rows t) v q.0 q.1)) at
+      ∙ ap (λ z. some_or refusal.NotFound z >>= (λ t. within (route_rows t) v name rest)) (there o)
+      ∙ ap (λ z. some_or refusal.NotFound z >>= route_by rows v name rest)
+      (found_alone found none rows rest pattern (ordered type) bytes stands.listed stands.form stands.alone)
+      ∙ ap (λ z. some_or (refusal.MethodNotAllowed (methods_of rows pattern)) z
+      >>= (λ (x : Operation). Ok (route_to name x (parameter pattern rest)))) row
+      ∙ ap (λ q. Ok (route_to name operation q)) parameter_is
 
-    is : (other : Text) → IsForm rows path other → other ≡ path
-    is other has =
-        let others = (and_parts _ _ (and_parts (has_pattern rows path) _ alone).1).1 in
-        elim (or_cases (same other path) (not (has_form (form_of other) path)) (passes (is_or_apart path path) rows other others has.listed))
-        as (λ _. other ≡ path) [
-          | inl one ↦ same_true other path one
-          | inr apart ↦ absurd (false≢true (sym (ap not has.form) ∙ apart))
-        ]
+  pub opened_are_routes : OpenedAreRoutes
+  unfolding operation_at
+  opened_are_routes v path o at may mounts =
+      elim (fixed_type (cut path).0) as (λ t. fixed_type (cut path).0 ≡ t → operation_for (option_map_or route_rows t []) (cut path).1 v ≡ Some o
+      → route_of mounts v path ≡ Ok (fixed_route (cut path).0 o)) [
+        | None ↦ λ _ e. absurd (none-some _ e)
+        | Some type ↦ λ is e.
+            let rows = route_rows type in
+            let r = row_of (λ (r : RouteRow). not (may_open r.operation) || is_alone rows r) rows (cut path).1 v o (open_alone type) e in
+            let it : is_alone rows r.row ≡ true =
+            sym (ap (λ b. not b || is_alone rows r.row) (ap may_open r.operation_is ∙ may)) ∙ r.passes in
+            let parts = and_parts (are_bytes (r.row).pattern) _ it in
+            let alone = and_parts (stands_alone rows (r.row).pattern) _ parts.1 in
+            let at = sym r.pattern_is in
+            routed type v (cut path).0 (cut path).1 path (cut path).1 [] o (λ m. ap (λ t. or_else t (option_map type_of m)) is) refl
+            (ap are_bytes at ∙ parts.0) (stands rows (cut path).1 (ap (stands_alone rows) at ∙ alone.0)) e
+            (ap (λ t. parameter t t) at ∙ same_true (parameter (r.row).pattern (r.row).pattern) [] alone.1) mounts
+      ] refl at
 
-    by : (o : Option Text) → pattern_found rows path ≡ o → o ≡ Some path
-    by None e =
-        let listed = and_parts (has_pattern rows path) _ alone in
-        let form = (and_parts (has_form (form_of path) path) _ listed.1).0 in
-        absurd (false≢true (sym (none rows path path (ordered type) bytes e listed.0) ∙ form))
-    by (Some other) e = ap Some (is other (found rows path other (ordered type) bytes e))
+  -- what the verb means at it
+  pub asked : (type : MountType) (v : Verb) (name rest path pattern p : Text) (operation : Operation)
+      → ((o : Option Mount) → type_at o name ≡ Some type) → cut path ≡ (name, rest) → are_bytes rest ≡ true
+      → StandsFor (route_rows type) pattern rest → operation_for (route_rows type) pattern v ≡ Some operation
+      → parameter pattern rest ≡ p → AskedMeans v path (command_for (route_to name operation p))
+  asked type v name rest path pattern p operation there at bytes stands row parameter_is mounts a verb_is here =
+      let go : Result Route Refusal → Result Command Refusal = λ x. x >>= (λ r. command_for r a) in
+      ap (λ q. go (route_of mounts a.verb q)) here
+      ∙ ap (λ w. go (route_of mounts w path)) verb_is
+      ∙ ap go (routed type v name rest path pattern p operation there at bytes stands row parameter_is mounts)
 
-    -- such a path finds itself
-    itself : pattern_found rows path ≡ Some path
-    itself = by (pattern_found rows path) refl
-
-  -- what POST and PUT of it mean, where the row of its pattern has this operation
+  -- what POST and PUT of a path mean that is a pattern
   means : (type : MountType) (name rest path : Text) (operation : Operation)
       → ((o : Option Mount) → type_at o name ≡ Some type) → cut path ≡ (name, rest) → are_bytes rest ≡ true
       → stands_alone (route_rows type) rest ≡ true → operation_for (route_rows type) rest verb.Write ≡ Some operation
       → parameter rest rest ≡ []
       → WrittenMeans path (command_for (fixed_route name operation))
-  unfolding route_at
-  means type name rest path operation there at bytes alone row no_parameter mounts a write here =
-      let go : Result Route Refusal → Result Command Refusal = λ x. x >>= (λ r. command_for r a) in
-      let o = get mounts (cut path).0 in
-      let rows = route_rows type in
-      ap (λ p. go (route_of mounts a.verb p)) here
-      ∙ ap (λ v. go (route_of mounts v path)) write
-      ∙ ap (λ (p : Text × Text). go (some_or refusal.NotFound (type_at o p.0) >>= (λ t. within (route_rows t) verb.Write p.0 p.1))) at
-      ∙ ap (λ z. go (some_or refusal.NotFound z >>= (λ t. within (route_rows t) verb.Write name rest))) (there o)
-      ∙ ap (λ z. go (some_or refusal.NotFound z >>= route_by rows verb.Write name rest)) (itself type rest bytes alone)
-      ∙ ap (λ z. go (some_or (refusal.MethodNotAllowed (methods_of rows rest)) z
-      >>= (λ (x : Operation). Ok (record { operation = x; mount = name; parameter = parameter rest rest })))) row
-      ∙ ap (λ p. go (Ok (record { operation = operation; mount = name; parameter = p }))) no_parameter
+  means type name rest path operation there at bytes alone row no_parameter =
+      asked type verb.Write name rest path rest [] operation there at bytes (stands (route_rows type) rest alone) row no_parameter
 
   -- ---- responses that wait
 

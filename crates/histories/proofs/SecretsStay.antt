@@ -30,7 +30,10 @@ use Rattle.kv2.specs.VersionLaws.{get-change_versions}
 use Rattle.kv2.specs.Versions.{destroyed, is_among, with_changed}
 use Rattle.broker_model.specs.Act.{act}
 use Rattle.broker_model.specs.Command.{Command, on_secret, command_of}
+use Rattle.broker_model.specs.EffectLaws.{secrets_same}
+use Rattle.broker_model.specs.Effects.{AllGiven, SecretsStay}
 use Rattle.broker_model.specs.Forms.{forms}
+use Rattle.broker_model.specs.Laws.{OperationsDoAsTold}
 use Rattle.broker_model.specs.Order.{Outcome, Wrapped, counted, finish, needed, permission_denied, serve, wrapped}
 use Rattle.broker_model.specs.Permission.{permits}
 use Rattle.broker_model.specs.Request.{Request}
@@ -39,33 +42,14 @@ use Rattle.broker_model.specs.declared.commands.SecretCommand.TheVariants as com
 use Rattle.broker_model.specs.parts.Place.{Place}
 use Rattle.histories.specs.History.{Asking, clocked}
 use Rattle.histories.specs.Secrets.{AllSecretsStay}
+use Rattle.histories.proofs.EventSecrets.{end_same, spent_same, wrapped_same}
 use Rattle.histories.proofs.InOrder.{in_order}
-use Rattle.histories.proofs.OperationsSecrets.{AllGiven, AllStay, all_same, operations_stay}
 use Rattle.histories.proofs.OrderCases.{spent}
 use Rattle.histories.proofs.OrderKeeps.{wrapped_cases}
 use Rattle.histories.proofs.Requests.{asked_at, means_at_clock}
 use Rattle.histories.proofs.Served.{served}
 
--- the end of a caller leaves the secrets
-end_same : (b : Broker) (who : Option Text) → (end_spent b who).secrets ≡ b.secrets
-end_same b None = refl
-end_same b (Some c) =
-    elim (option_map_or is_spent (get b.tokens c) false) as (λ v. (if v then revoke b c else b).secrets ≡ b.secrets) [ true ↦ refl | false ↦ refl ]
-
--- and so does a use that is spent
-spent_same : (b : Broker) (who : Option Text) → (spent b who).secrets ≡ b.secrets
-spent_same b None = refl
-spent_same b (Some c) = refl
-
--- and so does wrapping
-module _ (q : Request Command) (names : Names) (start : Broker) (k : Command) (d : Done) where
-  wrapped_same : (wrapped permits traits act start q names k d).done.next.secrets ≡ d.next.secrets
-  wrapped_same = elim (wrapped_cases permits traits act start q names k d) [
-    | inl plain ↦ ap (λ (x : Wrapped). x.done.next.secrets) plain
-    | inr kept ↦ ap (λ (x : Wrapped). x.done.next.secrets) kept.4
-  ]
-
-module _ (a : Asking) (sound : Sound forms None a.broker) where
+module _ (told : OperationsDoAsTold) (a : Asking) (sound : Sound forms None a.broker) where
   abbrev now : Broker
   now = clocked a
 
@@ -76,7 +60,7 @@ module _ (a : Asking) (sound : Sound forms None a.broker) where
   names = names_of a.words
 
   abbrev Left : Outcome → Type 0
-  Left o = AllStay a.broker.secrets o.next.secrets
+  Left o = SecretsStay a.broker.secrets o.next.secrets
 
   module _ (caller : Option Text) where
     abbrev start : Broker
@@ -87,7 +71,7 @@ module _ (a : Asking) (sound : Sound forms None a.broker) where
         ((sound.secrets name k (ap (λ (m : Map Key). get m name) (sym (spent_same now caller)) ∙ is)).versions n v there).last
 
     by_result : (r : Result Wrapped Refusal) → serve permits traits act start caller q names ≡ r → Left (finish start caller r)
-    by_result (Err why) e = all_same a.broker.secrets (end_spent start caller).secrets (end_same start caller ∙ spent_same now caller)
+    by_result (Err why) e = secrets_same a.broker.secrets (end_spent start caller).secrets (end_same start caller ∙ spent_same now caller)
     by_result (Ok v) e =
         let p = ok_step (unless (q.is_open || permits start caller q.verb q.path) permission_denied) _ v e in
         let r = ok_step (q.command start) _ v p.2 in
@@ -96,17 +80,17 @@ module _ (a : Asking) (sound : Sound forms None a.broker) where
         let f = ok_step (act start caller names r.0) _ v m.2 in
         let left : (end_spent (counted v.done) caller).secrets ≡ (f.0).next.secrets =
         end_same (counted v.done) caller ∙ ap (λ (x : Wrapped). x.done.next.secrets) (sym (ok_inj f.2)) ∙ wrapped_same q names start r.0 f.0 in
-        subst (AllStay a.broker.secrets) (sym left)
-        (subst (λ (m : Map Key). AllStay m (f.0).next.secrets) (spent_same now caller)
-        (operations_stay start given_ caller names r.0 f.0 f.1))
+        subst (SecretsStay a.broker.secrets) (sym left)
+        (subst (λ (m : Map Key). SecretsStay m (f.0).next.secrets) (spent_same now caller)
+        ((told start caller a.words r.0 f.0 f.1).versions given_))
 
   -- as long as a secret is there, its versions stay
-  versions_stay : a.outcome ≡ step a.broker a.moment a.words a.ask → AllStay a.broker.secrets a.outcome.next.secrets
+  versions_stay : a.outcome ≡ step a.broker a.moment a.words a.ask → SecretsStay a.broker.secrets a.outcome.next.secrets
   unfolding step
   versions_stay is = subst Left (sym is)
       (in_order permits traits act a.broker a.moment q names Left
-      (λ closed no_caller. all_same a.broker.secrets a.broker.secrets refl)
-      (λ t closed is_token waits. all_same a.broker.secrets a.broker.secrets refl)
+      (λ closed no_caller. secrets_same a.broker.secrets a.broker.secrets refl)
+      (λ t closed is_token waits. secrets_same a.broker.secrets a.broker.secrets refl)
       (λ caller is_caller. by_result caller (serve permits traits act (spent now caller) caller q names) refl))
 
 -- ---- what is destroyed
@@ -142,11 +126,11 @@ module _ (p : Place) (ns : List ℕ) where
       (sym (get-change_versions destroyed (is_among ns) x.0.versions n) ∙ ap (λ (z : Key). fin.get z.versions n) (sym is_changed) ∙ held) in
       ap (λ (z : Version). z.secret) (y.2 ∙ ap (λ b. if b then destroyed y.0 else y.0) among)
 
-pub secrets_stay : AllSecretsStay
-secrets_stay b history h = record {
+pub secrets_stay : OperationsDoAsTold → AllSecretsStay
+secrets_stay told b history h = record {
   stay = λ i a q k m at one other.
       let is = asked_at b history i a h at in
-      versions_stay a is.sound is.outcome q k m one other;
+      versions_stay told a is.sound is.outcome q k m one other;
   destroyed = λ i a p ns n m w at means empty_ among there held.
       holds_nothing p ns a (asked_at b history i a h at).outcome means empty_ n m w among there held;
 }

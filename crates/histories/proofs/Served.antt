@@ -1,10 +1,13 @@
 -- A request whose answer is no refusal was served.
-use Rattle.std.specs.Prelude.{◌≡◌, ◌<◌, ◌≤◌, ◌⊎◌, ℕ}
-use Rattle.std.proofs.Common.{sym, ap, subst, inl, inr, arith}
+use Rattle.std.specs.Prelude.{◌≡◌, ◌<◌, ◌≤◌, ◌⊎◌, ℕ, Option}
+use Rattle.std.proofs.Common.{sym, ◌∙◌, ap, subst, inl, inr, arith}
 use Rattle.broker_types.specs.Answer.{IsRefused, refused}
 use Rattle.broker_types.specs.Names.{names_of}
+use Rattle.broker_types.specs.Operation.{Answered, nothing, reply}
 use Rattle.broker_types.specs.Status.{status_code}
+use Rattle.broker_types.specs.Text.{Text}
 use Rattle.broker_types.specs.declared.refusal.Refusal.{Refusal}
+use Rattle.broker_types.specs.declared.reply.Reply.{Reply}
 use Rattle.broker_types.specs.declared.refusal.Refusal.TheVariants as refusal
 use Rattle.broker_model.specs.Act.{act}
 use Rattle.broker_model.specs.Order.{Outcome, permission_denied}
@@ -21,6 +24,21 @@ code a = status_code a.outcome.response.status
 abbrev pub Served : Asking → Type 0
 Served a = IsServed permits traits act (clocked a) (request_of a.ask) (names_of a.words) a.outcome
 
+-- no command that answers nothing replies
+pub nothing_is_no_reply : {x : Answered} {r : Reply} {made : Option Text} → x ≡ nothing → x ≡ reply r made → ⊥
+nothing_is_no_reply none some = apart (sym none ∙ some)
+  where
+    apart : {r : Reply} {made : Option Text} → nothing ≡ reply r made → ⊥
+    apart e = cc
+
+-- a request was turned away, turned down, or served
+pub cases : (a : Asking) → a.outcome ≡ step a.broker a.moment a.words a.ask
+    → IsTurnedAway (clocked a) (request_of a.ask) a.outcome ⊎ (IsTurnedDown (clocked a) a.outcome ⊎ Served a)
+unfolding step
+cases a is = subst (λ (o : Outcome). IsTurnedAway (clocked a) (request_of a.ask) o ⊎ (IsTurnedDown (clocked a) o
+    ⊎ IsServed permits traits act (clocked a) (request_of a.ask) (names_of a.words) o)) (sym is)
+    (order_cases permits traits act a.broker a.moment (request_of a.ask) (names_of a.words))
+
 -- a refusal is 400 or more
 refused_code : (why : Refusal) → 400 ≤ status_code (refused why).status
 refused_code (refusal.BadRequest r) = omega (arith)
@@ -33,24 +51,20 @@ module _ (a : Asking) (is : a.outcome ≡ step a.broker a.moment a.words a.ask) 
   not_refused : (why : Refusal) → code a ≡ status_code (refused why).status → ⊥
   not_refused why e = omega (arith, answered, refused_code why, e)
 
-  by_cases : IsTurnedAway (clocked a) (request_of a.ask) a.outcome ⊎ (IsTurnedDown (clocked a) a.outcome ⊎ Served a) → Served a
-  by_cases (inl s) = absurd (not_refused permission_denied (ap (λ (x : Outcome). status_code x.response.status) s.outcome))
+  by_cases : IsTurnedAway (clocked a) (request_of a.ask) a.outcome ⊎ (IsTurnedDown (clocked a) a.outcome ⊎ Served a)
+      → Served a
+  by_cases (inl s) =
+      absurd (not_refused permission_denied (ap (λ (x : Outcome). status_code x.response.status) s.outcome))
   by_cases (inr (inl s)) = absurd (not_refused s.why (ap (λ (x : Outcome). status_code x.response.status) s.outcome))
   by_cases (inr (inr s)) = s
 
   pub served : Served a
-  unfolding step
-  served = by_cases (subst (λ (o : Outcome). IsTurnedAway (clocked a) (request_of a.ask) o ⊎ (IsTurnedDown (clocked a) o
-      ⊎ IsServed permits traits act (clocked a) (request_of a.ask) (names_of a.words) o)) (sym is)
-      (order_cases permits traits act a.broker a.moment (request_of a.ask) (names_of a.words)))
+  served = by_cases (cases a is)
 
 -- a request was refused, or served
 pub refused_or_served : (a : Asking) → a.outcome ≡ step a.broker a.moment a.words a.ask
     → IsRefused a.outcome.response ⊎ Served a
-unfolding step
-refused_or_served a is = by_case (subst (λ (o : Outcome). IsTurnedAway (clocked a) (request_of a.ask) o ⊎ (IsTurnedDown (clocked a) o
-    ⊎ IsServed permits traits act (clocked a) (request_of a.ask) (names_of a.words) o)) (sym is)
-    (order_cases permits traits act a.broker a.moment (request_of a.ask) (names_of a.words)))
+refused_or_served a is = by_case (cases a is)
   where
     by_case : IsTurnedAway (clocked a) (request_of a.ask) a.outcome ⊎ (IsTurnedDown (clocked a) a.outcome ⊎ Served a)
         → IsRefused a.outcome.response ⊎ Served a

@@ -8,7 +8,6 @@ use Rattle.std.proofs.lemmas.Option.{none-some}
 use Rattle.broker_types.specs.Text.{Text, same}
 use Rattle.broker_types.specs.Map.{Map, get, put}
 use Rattle.broker_types.specs.MapLaws.{get-put}
-use Rattle.broker_types.specs.OptionLaws.{is_nothing}
 use Rattle.broker_types.specs.TextLaws.{same_self, same_true}
 use Rattle.broker_types.specs.Used.{are_new, use_up}
 
@@ -111,16 +110,6 @@ any_left i [] ys h = absurd (false≢true h)
 pub any_right : (i : Text) (xs ys : List Text) → list_any (same i) ys ≡ true → list_any (same i) (xs ++ ys) ≡ true
 any_right i [] ys h = h
 any_right i (x ∷ xs) ys h = elim (same i x) as (λ v. (v || list_any (same i) (xs ++ ys)) ≡ true) [ true ↦ refl | false ↦ any_right i xs ys h ]
-
--- one of new identifiers is new
-pub member_new : (m : Map ⊤) (is : List Text) (i : Text) → are_new m is ≡ true → list_any (same i) is ≡ true → get m i ≡ None
-member_new m [] i new among = absurd (false≢true among)
-member_new m (j ∷ js) i new among =
-    let p = and_parts (is_none (get m j)) (not (list_any (same j) js) && are_new m js) new in
-    elim (same i j) as (λ v. same i j ≡ v → (v || list_any (same i) js) ≡ true → get m i ≡ None) [
-      | true ↦ λ e _. ap (get m) (same_true i j e) ∙ is_nothing (get m j) p.0
-      | false ↦ λ _ rest. member_new m js i (and_parts (not (list_any (same j) js)) (are_new m js) p.1).1 rest
-    ] refl among
 
 -- what is given out is used then
 pub member_used : (m : Map ⊤) (is : List Text) (i : Text) → list_any (same i) is ≡ true → get (use_up m is) i ≢ None

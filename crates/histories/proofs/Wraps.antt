@@ -10,18 +10,18 @@ use Rattle.broker_types.specs.Status.{status_code}
 use Rattle.broker_types.specs.declared.status.Status.TheVariants as status
 use Rattle.records.specs.ValueLaws.{ok_inj}
 use Rattle.broker_model.specs.Act.{act}
-use Rattle.broker_model.specs.Command.{Command, on_cubbyhole, on_token, on_secret, on_policy, on_mount, on_lease}
-use Rattle.broker_model.specs.Command.{on_issued, on_wrapping, command_of}
+use Rattle.broker_model.specs.Command.{Command, on_wrapping, command_of}
+use Rattle.broker_model.specs.Effects.{is_kept}
 use Rattle.broker_model.specs.Forms.{forms}
-use Rattle.broker_model.specs.Laws.{OperationsAreProper}
+use Rattle.broker_model.specs.Laws.{OperationsDoAsTold}
 use Rattle.broker_model.specs.Order.{Outcome, Wrapped, kept_entry, response_to, unwrapped, wrap_200, wrapped, wraps}
 use Rattle.broker_model.specs.Permission.{permits}
+use Rattle.broker_model.specs.ProperLaws.{are_proper}
 use Rattle.broker_model.specs.Request.{Request}
 use Rattle.broker_model.specs.Step.{request_of, step, traits}
 use Rattle.broker_model.specs.declared.commands.WrappingCommand.TheVariants as of_response
 use Rattle.histories.specs.History.{Asking, clocked}
 use Rattle.histories.specs.Kept.{KeepsReply, stays_plain, unwrapped_body}
-use Rattle.histories.proofs.KeptTexts.{is_kept, tells_none}
 use Rattle.histories.proofs.OrderCases.{spent}
 use Rattle.histories.proofs.OrderKeeps.{was_kept}
 use Rattle.histories.proofs.Requests.{means_at_clock, tells_body}
@@ -29,19 +29,12 @@ use Rattle.histories.proofs.Served.{Served, served}
 
 -- the reply to any other command may be wrapped
 may_wrap : (command : Command) → stays_plain command ≡ false → (traits command).may_wrap ≡ true
-may_wrap (on_cubbyhole path command) e = refl
-may_wrap (on_token command) e = refl
-may_wrap (on_secret place command) e = refl
-may_wrap (on_policy name command) e = refl
-may_wrap (on_mount name command) e = refl
-may_wrap (on_lease prefix command) e = refl
-may_wrap (on_issued place command) e = refl
-may_wrap (on_wrapping (of_response.Wrap text)) e = refl
 may_wrap (on_wrapping (of_response.LookUp meant)) e = absurd (false≢true (sym e))
 may_wrap (on_wrapping (of_response.Rewrap meant)) e = absurd (false≢true (sym e))
 may_wrap (on_wrapping (of_response.Unwrap meant)) e = absurd (false≢true (sym e))
+may_wrap _ e = refl
 
-module _ (proper : OperationsAreProper) (a : Asking) (sound : Sound forms None a.broker)
+module _ (told : OperationsDoAsTold) (a : Asking) (sound : Sound forms None a.broker)
     (is : a.outcome ≡ step a.broker a.moment a.words a.ask) (ttl : 0 < a.ask.wrap_ttl) (command : Command)
     (means : command_of (clocked a).mounts a.ask ≡ Ok command) (is_wrapped : stays_plain command ≡ false)
     (success : a.outcome.response.status ≡ status.Success) where
@@ -87,11 +80,11 @@ module _ (proper : OperationsAreProper) (a : Asking) (sound : Sound forms None a
     by_answer nothing answered = absurd (omega (arith, code_is nothing answered (wrapped_as nothing answered)))
     by_answer (missing r) answered = absurd (omega (arith, code_is (missing r) answered (wrapped_as (missing r) answered)))
     by_answer (kept_text t) answered =
-        absurd (false≢true (sym (tells_none start s.caller names s.command s.done (ap stays_plain command_is ∙ is_wrapped) s.acted)
-        ∙ ap is_kept answered))
+        absurd (false≢true (sym ((told start s.caller a.words s.command s.done s.acted).not_kept
+        (may_wrap s.command (ap stays_plain command_is ∙ is_wrapped))) ∙ ap is_kept answered))
     by_answer (reply r made) answered =
-        was_kept permits traits act unwrapped_body a q refl refl (λ c caller k d new done. proper c caller a.words k d new done)
-        sound.identifiers sound.waiting (tells_body a) s (kept_entry start a.ask.path a.ask.wrap_ttl names r)
+        was_kept permits traits act unwrapped_body a q refl refl (λ c caller k d new done. are_proper told c caller a.words k d new done)
+        sound.identifiers sound.waiting (tells_body told a) s (kept_entry start a.ask.path a.ask.wrap_ttl names r)
         (r, made, wraps_it, answered, wrapped_as (reply r made) answered) refl
 
   pub keeps_reply : KeepsReply a (unwrapped_body a) names.wrapping_token

@@ -2,9 +2,13 @@
 use Rattle.std.specs.Prelude.{◌<◌, ℕ}
 use Rattle.broker_types.specs.Broker.{Broker}
 use Rattle.broker_types.specs.Evolves.{Evolves}
+use Rattle.histories.specs.Creations.{MadeAsAllowed}
 use Rattle.histories.specs.History.{AreAsked, AreSteps, Asking, AskedAt, Beginning, History, begun}
 use Rattle.histories.specs.Identifiers.{AreUsed, GivesOutNew, NoIdentifierTwice}
 use Rattle.histories.specs.Kept.{HandedOutOnce, HandsOutKept, SameReply}
+use Rattle.histories.specs.LeaseOwners.{LeasesAreOfCallers}
+use Rattle.histories.specs.Lifetimes.{AllEndInTime, TokensEndInTime}
+use Rattle.histories.specs.Own.{OwnStays}
 use Rattle.histories.specs.Revocation.{Revocation}
 
 -- each request lets the broker evolve
@@ -57,3 +61,24 @@ AllHandOutKept = (b : Broker) (history : History) → AreAsked b history → Han
 -- from a start on, it is the reply to the request that made its origin
 abbrev pub AllAreTheReplies : Type 0
 AllAreTheReplies = (s : Beginning) (history : History) → AreAsked (begun s) history → SameReply history
+
+-- tokens are made by those that might, whatever the first broker is
+abbrev pub AllMadeAsAllowed : Type 0
+AllMadeAsAllowed = (b : Broker) (history : History) → AreAsked b history → MadeAsAllowed history
+
+-- leases are of their callers, whatever the first broker is
+abbrev pub AllLeasesAreOfCallers : Type 0
+AllLeasesAreOfCallers = (b : Broker) (history : History) → AreAsked b history → LeasesAreOfCallers history
+
+-- tokens end in time, from a broker on whose tokens do
+abbrev pub AllTokensEndInTime : Type 0
+AllTokensEndInTime =
+    (b : Broker) (history : History) → AreAsked b history → AllEndInTime b → TokensEndInTime history
+
+-- so from a start on
+abbrev pub TokensEndInTimeSinceStart : Type 0
+TokensEndInTimeSinceStart = (s : Beginning) (history : History) → AreAsked (begun s) history → TokensEndInTime history
+
+-- what is another's stays, whatever the first broker is
+abbrev pub AllOwnStays : Type 0
+AllOwnStays = (b : Broker) (history : History) → AreAsked b history → OwnStays history

@@ -1,6 +1,6 @@
 -- What the paths mean of which the laws over histories speak by their commands (Vault's documentation, "Token auth
 -- method (API)", "/sys/wrapping").
-use Rattle.std.specs.Prelude.{◌≡◌, ℕ, [], ◌∷◌, Option, Some, None, Result, Ok, codes}
+use Rattle.std.specs.Prelude.{◌≡◌, ℕ, [], ◌∷◌, true, Option, Some, None, Result, Ok, codes}
 use Rattle.serde_json.specs.Data.{Members, object}
 use Rattle.serde_json.specs.Written.{compact_text}
 use Rattle.broker_types.specs.Text.{Text}
@@ -10,13 +10,16 @@ use Rattle.broker_types.specs.Refuse.{◌>>=◌}
 use Rattle.broker_types.specs.declared.ask.Ask.{Ask}
 use Rattle.broker_types.specs.declared.ask.Verb.TheVariants as verb
 use Rattle.broker_types.specs.declared.refusal.Refusal.{Refusal}
+use Rattle.mounts.specs.Forms.{are_bytes}
 use Rattle.api_json.specs.Json.{body_members}
 use Rattle.api_json.specs.Readers as reader
+use Rattle.api_json.specs.declared.token_bodies.TokenCreation.{TokenCreation}
 use Rattle.broker_model.specs.Command.{Command, on_token, on_wrapping, command_of, meant_by}
 use Rattle.broker_model.specs.declared.commands.TokenCommand.{TokenCommand}
 use Rattle.broker_model.specs.declared.commands.TokenCommand.TheVariants as token
 use Rattle.broker_model.specs.declared.commands.WrappingCommand.{WrappingCommand}
 use Rattle.broker_model.specs.declared.commands.WrappingCommand.TheVariants as response
+use Rattle.broker_model.specs.declared.making.Making.{Making}
 use Rattle.broker_model.specs.declared.making.Making.TheVariants.{OfCaller, WithoutParent}
 use Rattle.broker_model.specs.parts.Bodies.{read_as, read_none}
 use Rattle.broker_model.specs.parts.WrappingCommands.{token_meant}
@@ -43,6 +46,18 @@ on_found read command a = meant_by on_token (read_as read command a.body)
 -- one that takes nothing from the body, which is an object all the same
 abbrev pub on_none : TokenCommand → Ask → Result Command Refusal
 on_none command a = meant_by on_token (read_none command a.body)
+
+-- the path at which a token is made so
+abbrev pub path_of : Making → Text
+path_of OfCaller = codes "auth/token/create"
+path_of WithoutParent = codes "auth/token/create-orphan"
+
+-- An ask that means a creation is a POST or PUT of that path, if its own path is of bytes. So the path that was asked
+-- tells how the token is made.
+abbrev pub CreatesAtPath : Type 0
+CreatesAtPath =
+    (mounts : Map Mount) (a : Ask) (making : Making) (asked : TokenCreation) → are_bytes a.path ≡ true
+    → command_of mounts a ≡ Ok (on_token (token.Create making asked)) → (a.verb ≡ verb.Write) × (a.path ≡ path_of making)
 
 -- Each of these paths means its command. So what a law says of a command, it says of POST and PUT of the path.
 pub record PathsMeanCommands : Type 0 where

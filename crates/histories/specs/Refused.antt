@@ -12,12 +12,12 @@ use Rattle.broker_types.specs.Status.{status_code}
 use Rattle.broker_types.specs.Token.{Token}
 use Rattle.broker_types.specs.declared.ask.Ask.{Ask}
 use Rattle.broker_types.specs.declared.words.Words.{Words}
+use Rattle.mounts.specs.Route.{asks_sudo}
 use Rattle.policies.specs.Grants.{grants}
 use Rattle.policies.specs.declared.capability.Capability.TheVariants.{Sudo}
 use Rattle.broker_model.specs.Capabilities.{asked}
 use Rattle.broker_model.specs.Command.{on_wrapping, command_of}
 use Rattle.broker_model.specs.Order.{finish, permission_denied}
-use Rattle.broker_model.specs.Permission.{needs_sudo}
 use Rattle.broker_model.specs.Serving.{is_open, operated}
 use Rattle.broker_model.specs.Step.{step}
 use Rattle.broker_model.specs.declared.commands.WrappingCommand.TheVariants as response
@@ -63,7 +63,7 @@ WrapNeedsTtl =
 abbrev pub is_granted : Broker → Text → Token → Ask → Bool
 is_granted b c x a =
     grants b.policies x.policies a.verb a.path (asked b c a.verb a.path)
-    && (not (needs_sudo a.path) || grants b.policies x.policies a.verb a.path Sudo)
+    && (not (asks_sudo a.path) || grants b.policies x.policies a.verb a.path Sudo)
 
 -- the ask is not open, and its client token is x, once it has spent the use
 pub record Calls (now : Broker) (a : Ask) (c : Text) (x : Token) : Type 0 where

@@ -25,13 +25,13 @@ use Rattle.broker_model.specs.Command.{Command, on_token, on_wrapping, command_o
 use Rattle.broker_model.specs.Order.{permission_denied}
 use Rattle.broker_model.specs.Responses.{no_content}
 use Rattle.broker_model.specs.Serving.{is_open}
+use Rattle.broker_model.specs.Traits.{wrapping_names}
 use Rattle.broker_model.specs.declared.commands.TokenCommand.{TokenCommand}
 use Rattle.broker_model.specs.declared.commands.TokenCommand.TheVariants as token
 use Rattle.broker_model.specs.declared.commands.WrappingCommand.{WrappingCommand}
 use Rattle.broker_model.specs.declared.commands.WrappingCommand.TheVariants as response
 use Rattle.broker_model.specs.declared.making.Making.{Making}
 use Rattle.broker_model.specs.declared.making.Making.TheVariants.{OfCaller, WithoutParent}
-use Rattle.broker_model.specs.parts.WrappingCommands.{wrapping_names}
 use Rattle.histories.specs.History.{Asking, AskedAt, History, clocked, spent_by}
 
 -- ---- which commands revoke

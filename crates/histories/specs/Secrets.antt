@@ -1,5 +1,5 @@
 -- The law of versioned secrets over all histories, as statements (Vault's documentation, "KV secrets engine - version 2").
-use Rattle.std.specs.Prelude.{◌≡◌, ◌≢◌, ◌<◌, ◌≤◌, ◌⊎◌, ℕ, List, true, Some, None, Ok}
+use Rattle.std.specs.Prelude.{◌≡◌, ℕ, List, true, Some, None, Ok}
 use Rattle.std.specs.FinMap as fin
 use Rattle.broker_types.specs.Broker.{Broker}
 use Rattle.broker_types.specs.Text.{Text}
@@ -9,19 +9,10 @@ use Rattle.broker_types.specs.declared.status.Status.TheVariants as status
 use Rattle.kv2.specs.Secrets.{secret_name}
 use Rattle.kv2.specs.Versions.{is_among}
 use Rattle.broker_model.specs.Command.{on_secret, command_of}
+use Rattle.broker_model.specs.Effects.{VersionsStay}
 use Rattle.broker_model.specs.declared.commands.SecretCommand.TheVariants as command
 use Rattle.broker_model.specs.parts.Place.{Place}
 use Rattle.histories.specs.History.{AreAsked, Asking, AskedAt, History, clocked}
-
--- the versions of a secret, before and after
-pub record VersionsStay (k m : Key) : Type 0 where
-  -- the last number that was given stays, or grows
-  pub current : k.current ≤ m.current
-  -- a version was there, or its number is greater than each that was given
-  pub numbers : (n : ℕ) → fin.get m.versions n ≢ None → (fin.get k.versions n ≢ None) ⊎ (k.current < n)
-  -- a version that was there holds what it held, or nothing: so what was destroyed does not come back
-  pub held : (n : ℕ) (v w : Version) → fin.get k.versions n ≡ Some v → fin.get m.versions n ≡ Some w
-      → (w.secret ≡ v.secret) ⊎ (w.secret ≡ None)
 
 pub record Secrets (history : History) : Type 0 where
   -- As long as a secret exists, no number is given again, and what a version holds does not change but for good.

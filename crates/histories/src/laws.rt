@@ -1,22 +1,32 @@
 //! Laws over histories, each the contract of a function that does nothing.
 
+ghost use Rattle.histories.specs.Disabled.{AllDisabledMountsGo};
+ghost use Rattle.histories.specs.Documented.{AreAsDocumented};
 ghost use Rattle.histories.specs.Laws.{AllGiveOutNew, NoneIsGivenTwice, AllAreHandedOutOnce, RevocationLasts};
 ghost use Rattle.histories.specs.Laws.{AnyGiveOutNew, NoneIsGivenTwiceByAny, AllStayUsed};
 ghost use Rattle.histories.specs.Laws.{AllHandOutKept, AllAreTheReplies, EachEvolves, LaterOnesEvolved};
+ghost use Rattle.histories.specs.Laws.{AllMadeAsAllowed, AllTokensEndInTime, TokensEndInTimeSinceStart};
+ghost use Rattle.histories.specs.Laws.{AllLeasesAreOfCallers, AllOwnStays};
+ghost use Rattle.histories.specs.KeepsLaws.{AllKeepLaws};
+ghost use Rattle.histories.specs.KeptStay.{AllKeptResponsesStay};
+ghost use Rattle.histories.specs.LeaseEnds.{AllLeasesStayRevoked};
 ghost use Rattle.histories.specs.Open.{OpenMeansItsOwn, OpenChangesNoToken, TheseAreOpen};
-ghost use Rattle.histories.specs.Paths.{PathsMeanCommands};
+ghost use Rattle.histories.specs.LeasePaths.{PathsEndLeases};
+ghost use Rattle.histories.specs.Paths.{CreatesAtPath, PathsMeanCommands};
 ghost use Rattle.histories.specs.Refused.{RefusedChangeNothing, WrapNeedsTtl, PoliciesDecide};
 ghost use Rattle.histories.specs.Secrets.{AllSecretsStay};
+ghost use Rattle.histories.specs.Versions.{AllVersionsFollow};
 
-use broker_model::{operations_are_proper, wrapping_commands_are_proper};
+use broker_model::{operations_do_as_told, wrapping_commands_are_proper};
 use mounts::{patterns_are_found_by_form, tables_are_in_order};
+use policies::granted_as_said;
 
 /// A law: each request lets the broker evolve, and so do all between two of them. So what ended, or is gone, stays so.
 pub fn requests_evolve()
     ensures each { EachEvolves }
     ensures between { LaterOnesEvolved }
 {
-    operations_are_proper();
+    operations_do_as_told();
 }
 
 /// A law: the identifiers that requests give out are new, and no two of them are equal. Nothing else is given out: what
@@ -30,7 +40,7 @@ pub fn identifiers_are_given_out_once()
     ensures of_any_start { NoneIsGivenTwiceByAny }
     ensures stay_used { AllStayUsed }
 {
-    operations_are_proper();
+    operations_do_as_told();
 }
 
 /// A law: each 200 to an unwrap hands out a response that waited. That of an origin is handed out by at most one
@@ -40,7 +50,7 @@ pub fn identifiers_are_given_out_once()
 pub fn responses_are_handed_out_once()
     ensures { AllAreHandedOutOnce }
 {
-    operations_are_proper();
+    operations_do_as_told();
 }
 
 /// A law: a command that revokes is answered with 204, or refused, and each 204 to one is a revocation. A token whose
@@ -51,7 +61,16 @@ pub fn responses_are_handed_out_once()
 pub fn revocation_lasts()
     ensures { RevocationLasts }
 {
-    operations_are_proper();
+    operations_do_as_told();
+}
+
+/// A law: a command that ends leases, by their id, below a prefix, or with their mount, is answered with 204, or refused.
+/// After a 204 no token has a lease that was named, and no later state has one with its identifier or its credential
+/// (Vault's documentation, "Lease, renew, and revoke", "/sys/leases", "/sys/mounts").
+pub fn leases_stay_revoked()
+    ensures { AllLeasesStayRevoked }
+{
+    operations_do_as_told();
 }
 
 /// A law: what is handed out is what was kept. From a start on it is, byte for byte, what the request that made its
@@ -62,7 +81,16 @@ pub fn kept_replies_are_the_replies()
     ensures since { AllHandOutKept }
     ensures since_start { AllAreTheReplies }
 {
-    operations_are_proper();
+    operations_do_as_told();
+}
+
+/// A law: a response that waits before an event waits unchanged after it, unless its time is over, or the event revoked,
+/// spent, rewrapped or unwrapped its wrapping token; a rewrap moves it. It is given out by an unwrap that means its
+/// wrapping token, and by nothing else (Vault's documentation, "Response wrapping").
+pub fn kept_responses_stay()
+    ensures { AllKeptResponsesStay }
+{
+    operations_do_as_told();
 }
 
 /// A law: an open request, which needs no caller, means a look-up, or a rewrap or an unwrap of its own client token, and
@@ -74,16 +102,20 @@ pub fn open_requests_mean_their_own()
     ensures these { TheseAreOpen }
     ensures leaves { OpenChangesNoToken }
 {
+    operations_do_as_told();
     wrapping_commands_are_proper();
     patterns_are_found_by_form();
     tables_are_in_order();
 }
 
 /// A law: POST and PUT of the four paths of `sys/wrapping`, of `auth/token/create`, and of those that revoke, mean their
-/// commands, whatever mounts there are. So what a law says of an unwrap or a revocation, it says of these requests
-/// (Vault's documentation, "/sys/wrapping", "Token auth method (API)").
+/// commands, whatever mounts there are, and so do the paths that end leases. So what a law says of an unwrap or a
+/// revocation, it says of these requests. And an ask that means a creation is one of the path that makes tokens so
+/// (Vault's documentation, "/sys/wrapping", "Token auth method (API)", "/sys/leases", "/sys/mounts").
 pub fn paths_mean_their_commands()
-    ensures { PathsMeanCommands }
+    ensures commands { PathsMeanCommands }
+    ensures ends_of_leases { PathsEndLeases }
+    ensures creations { CreatesAtPath }
 {
     patterns_are_found_by_form();
     tables_are_in_order();
@@ -96,7 +128,7 @@ pub fn refused_requests_change_nothing()
     ensures nothing { RefusedChangeNothing }
     ensures wraps { WrapNeedsTtl }
 {
-    operations_are_proper();
+    operations_do_as_told();
 }
 
 /// A law: a request that needs a caller is denied where the policies of its client token do not grant what it asks for;
@@ -109,4 +141,91 @@ pub fn policies_decide()
 /// but that it holds nothing once it is destroyed (Vault's documentation, "KV secrets engine - version 2").
 pub fn versions_stay()
     ensures { AllSecretsStay }
+{
+    operations_do_as_told();
+}
+
+/// A law: what a secret holds follows the writes, deletions and destructions that were asked for.
+pub fn versions_follow()
+    ensures { AllVersionsFollow }
+{
+    operations_do_as_told();
+}
+
+/// A law: after a 204 to the disabling of a mount nothing is left of it: no secret, no role, and no lease of any token.
+/// What is of other mounts is as it was (Vault's documentation, "/sys/mounts", disable secrets engine).
+pub fn disabled_mounts_leave_nothing()
+    ensures { AllDisabledMountsGo }
+{
+    operations_do_as_told();
+}
+
+/// A law: only `root` lets do everything; a verb asks for its capability, and a write for `create` exactly where it makes
+/// an object of a cubbyhole or a secret that is not there; and a look-up by accessor does not tell the token's text
+/// (Vault's documentation, "Policies", "Token auth method (API)").
+pub fn permission_is_as_documented()
+    ensures { AreAsDocumented }
 {}
+
+/// A law: a token is made by a caller without a limit of uses. That caller is a root token, or has `sudo` on the path that
+/// it asks, or the new token has none but its policies, no period, and it as parent, unless the path makes tokens without.
+/// The policy `root` comes from a token that has it, and a token without end from one without end (Vault's documentation,
+/// "Token auth method (API)", create token).
+pub fn tokens_are_made_as_allowed()
+    ensures { AllMadeAsAllowed }
+{
+    operations_do_as_told();
+    granted_as_said();
+    paths_mean_their_commands();
+}
+
+/// A law: in each state, a token of `root`, without a longest time of its own and without a period, may have no end. Each
+/// other ends: by its own longest time after its issue, if it has one; by its period from now on, if it is periodic; and
+/// else by 32 days after its issue (Vault's documentation, "Tokens", token time-to-live, periodic tokens, explicit max
+/// TTLs).
+pub fn tokens_end_in_time()
+    ensures since { AllTokensEndInTime }
+    ensures since_start { TokensEndInTimeSinceStart }
+{
+    operations_do_as_told();
+}
+
+/// A law: a lease that a token has was its own before the request, with the same credential, or was issued to it by the
+/// request: its client token was this one, and the use that it spent was not its last (Vault's documentation, "Lease,
+/// renew, and revoke").
+pub fn leases_are_of_their_callers()
+    ensures { AllLeasesAreOfCallers }
+{
+    operations_do_as_told();
+}
+
+/// A law: a token goes only by its end, by a revocation, or with the last use of a client token, each of itself or of one
+/// above it; `revoke-orphan` ends none below. As long as it stands, its end changes by a renewal of it, its uses by its own
+/// requests, its parent by `revoke-orphan` of that, its cubbyhole by its own writes and deletions, each of its leases by a
+/// renewal or a revocation of that lease or by one that is issued to it, and nothing else of it does. A cubbyhole is read
+/// and listed by its own token (Vault's documentation, "Tokens", "Cubbyhole secrets engine").
+pub fn tokens_keep_their_own()
+    ensures { AllOwnStays }
+{
+    operations_do_as_told();
+}
+
+/// A law: whatever was asked of a broker, one request after another, keeps the laws over a history together: those of
+/// what is given out, handed out and kept, of tokens and leases, and of secrets and mounts. The answers of a run and of a
+/// server say so of all that their connections asked.
+pub fn all_that_is_asked_keeps_the_laws()
+    ensures { AllKeepLaws }
+{
+    identifiers_are_given_out_once();
+    responses_are_handed_out_once();
+    kept_replies_are_the_replies();
+    kept_responses_stay();
+    revocation_lasts();
+    leases_stay_revoked();
+    tokens_are_made_as_allowed();
+    tokens_end_in_time();
+    leases_are_of_their_callers();
+    tokens_keep_their_own();
+    versions_follow();
+    disabled_mounts_leave_nothing();
+}

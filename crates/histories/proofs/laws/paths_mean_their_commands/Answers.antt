@@ -1,7 +1,14 @@
+use Rattle.histories.proofs.CreationRoutes.{creates_at}
+use Rattle.histories.proofs.LeaseRoutes.{paths_end_leases}
 use Rattle.histories.proofs.Routes.{paths_mean_commands}
 use Rattle.histories.proofs.laws.paths_mean_their_commands.Goals as goal
 
 pub returns : goal.returns
 returns c =
     let by = c.patterns_are_found_by_form.ensures in
-    paths_mean_commands by.found by.none c.tables_are_in_order.ensures
+    let ordered = c.tables_are_in_order.ensures in
+    record {
+      commands = paths_mean_commands by.found by.none ordered;
+      ends_of_leases = paths_end_leases by.found by.none ordered;
+      creations = creates_at by.found ordered;
+    }

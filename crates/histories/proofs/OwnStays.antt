@@ -1,0 +1,315 @@
+-- What is another's stays: what makes a token go, what changes of one that stands, and who reads a cubbyhole.
+use Rattle.std.specs.Prelude.{◌≡◌, ◌≢◌, ◌⊎◌, ◌&&◌, ◌||◌, ◌-◌, ◌==◌, ℕ, zero, suc, [], true, false, not, nat_lt}
+use Rattle.std.specs.Prelude.{if◌then◌else◌, Option, Some, None, Ok, is_none, is_some, option_map}
+use Rattle.std.specs.List.{list_any}
+use Rattle.std.specs.Option.{option_map_or}
+use Rattle.std.proofs.Common.{refl, sym, ◌∙◌, ap, subst, inl, inr, arith}
+use Rattle.std.proofs.lemmas.Bool.{false≢true, and_parts, eqb-true}
+use Rattle.std.proofs.lemmas.Option.{none-some, same_Some}
+use Rattle.std.specs.FinMap.{get-empty}
+use Rattle.broker_types.specs.Text.{Text, same, text_cmp}
+use Rattle.broker_types.specs.Laws.{IsTree}
+use Rattle.broker_types.specs.Map.{Map, get, keys, len}
+use Rattle.broker_types.specs.MapLaws.{valued_none}
+use Rattle.broker_types.specs.Broker.{Broker}
+use Rattle.broker_types.specs.Lineage.{climb, ends_within, is_under}
+use Rattle.broker_types.specs.LineageLaws.{climb_above, climb_at, ends_above, ends_at}
+use Rattle.broker_types.specs.Names.{names_of}
+use Rattle.broker_types.specs.Operation.{reply, Done}
+use Rattle.broker_types.specs.OptionLaws.{found_or_not}
+use Rattle.broker_types.specs.Refuse.{some_or, unless}
+use Rattle.broker_types.specs.RefuseLaws.{no_ok, ok_step}
+use Rattle.broker_types.specs.Sound.{Sound}
+use Rattle.broker_types.specs.Spending.{is_spent, one_less}
+use Rattle.broker_types.specs.Token.{Token, Tokens}
+use Rattle.broker_types.specs.Status.{status_code}
+use Rattle.broker_types.specs.declared.refusal.Refusal.TheVariants as refusal
+use Rattle.broker_types.specs.declared.reply.Reply.{Reply}
+use Rattle.broker_types.specs.declared.status.Status.TheVariants as status
+use Rattle.records.specs.Children.{children, folder}
+use Rattle.records.specs.ValueLaws.{ok_inj}
+use Rattle.cubbyhole.specs.Cubbyhole as of_cubbyhole
+use Rattle.api_json.specs.Objects.{keys_object}
+use Rattle.api_json.specs.Reply.{plain_reply, reply_text}
+use Rattle.broker_model.specs.Act.{act}
+use Rattle.broker_model.specs.Command.{Command, on_cubbyhole, command_of}
+use Rattle.broker_model.specs.CreationLaws.{allowed}
+use Rattle.broker_model.specs.EffectLaws.{chained}
+use Rattle.broker_model.specs.Forms.{forms}
+use Rattle.broker_model.specs.Laws.{OperationsDoAsTold}
+use Rattle.broker_model.specs.Order.{Outcome, Wrapped, response_to}
+use Rattle.broker_model.specs.Permission.{permits}
+use Rattle.broker_model.specs.Responses.{ok}
+use Rattle.broker_model.specs.Step.{request_of, step, traits}
+use Rattle.broker_model.specs.declared.commands.CubbyholeCommand.{CubbyholeCommand}
+use Rattle.broker_model.specs.declared.commands.CubbyholeCommand.TheVariants as cubbyhole
+use Rattle.broker_model.specs.parts.Lists.{are_none}
+use Rattle.broker_model.specs.parts.TokenCreation.{is_privileged, making_path, new_policies}
+use Rattle.histories.specs.History.{Asking, clocked, spent_by}
+use Rattle.histories.specs.Laws.{AllOwnStays}
+use Rattle.histories.specs.Own.{AnswersOwn, EndsWithClient, Goes, IsListAt, IsObjectAt}
+use Rattle.histories.specs.Revocation.{IsClient, has_no_use, left_by_caller}
+use Rattle.histories.proofs.Clients.{CarriesOut, Course, from_clock}
+use Rattle.histories.proofs.Descent.{Makes, follows, keeps, leaves}
+use Rattle.histories.proofs.OrderCases.{IsCaller, some_ok, spent}
+use Rattle.histories.proofs.OrderKeeps.{wrapped_cases}
+use Rattle.histories.proofs.Requests.{answers_plainly, asked_at, means_at_clock}
+use Rattle.histories.proofs.RevocationLasts.{called_tree, not_due_stays}
+use Rattle.histories.proofs.Served.{Served, served}
+use Rattle.histories.proofs.TokenLaws.{asked_course}
+
+-- ---- what is above a token of fewer
+
+-- each token of us is one of ts, with the same parent unless it has none
+abbrev IsPruned : Tokens → Tokens → Type 0
+IsPruned ts us =
+    (t : Text) (y : Token) → get us t ≡ Some y
+    → (x : Token) × (get ts t ≡ Some x) × ((y.parent ≡ x.parent) ⊎ (y.parent ≡ None))
+
+-- a token is under no other than it was, where tokens keep their parents, or lose them
+under_pruned : (n m : ℕ) (ts us : Tokens) (q c : Text) → IsPruned ts us → ends_within m ts q ≡ true
+    → list_any (same c) (climb n us q) ≡ true → list_any (same c) (climb m ts q) ≡ true
+under_pruned zero m ts us q c pruned ends above = absurd (false≢true above)
+under_pruned (suc n) zero ts us q c pruned ends above = elim (found_or_not (get us q)) [
+  | inl none ↦ absurd (false≢true (sym (ap (λ o. list_any (same c) (climb_at n us q o)) none) ∙ above))
+  | inr y ↦ absurd (false≢true (sym (ap is_none (pruned q y.0 y.1).1) ∙ ends))
+]
+under_pruned (suc n) (suc m) ts us q c pruned ends above = elim (found_or_not (get us q)) [
+  | inl none ↦ absurd (false≢true (sym (ap (λ o. list_any (same c) (climb_at n us q o)) none) ∙ above))
+  | inr y ↦
+      let x = pruned q y.0 y.1 in
+      let here : (same c q || list_any (same c) (climb_above n us y.0.parent)) ≡ true =
+      sym (ap (λ o. list_any (same c) (climb_at n us q o)) y.1) ∙ above in
+      let ends_here : ends_above m ts x.0.parent ≡ true = sym (ap (ends_at m ts) x.1) ∙ ends in
+      ap (λ o. list_any (same c) (climb_at m ts q o)) x.1
+      ∙ elim (same c q) as
+      (λ v. (v || list_any (same c) (climb_above n us y.0.parent)) ≡ true
+      → (v || list_any (same c) (climb_above m ts x.0.parent)) ≡ true) [
+        | true ↦ λ _. refl
+        | false ↦ λ rest. by (λ r e u. under_pruned n m ts us r c pruned e u) y.0.parent x.0.parent x.2 ends_here rest
+      ] here
+]
+  where
+    by : ((r : Text) → ends_within m ts r ≡ true → list_any (same c) (climb n us r) ≡ true
+        → list_any (same c) (climb m ts r) ≡ true)
+        → (p r : Option Text) → (p ≡ r) ⊎ (p ≡ None) → ends_above m ts r ≡ true
+        → list_any (same c) (climb_above n us p) ≡ true
+        → list_any (same c) (climb_above m ts r) ≡ true
+    by again None r how ends rest = absurd (false≢true rest)
+    by again (Some p) None how ends rest = elim how [
+      | inl e ↦ absurd (none-some _ (sym e))
+      | inr e ↦ absurd
+          (none-some _ (sym e))
+    ]
+    by again (Some p) (Some r) how ends rest = elim how [
+      | inl e ↦ again r ends (subst (λ u. list_any (same c) (climb n us u) ≡ true) (same_Some _ _ e) rest)
+      | inr e ↦ absurd (none-some _ (sym e))
+    ]
+
+-- ---- the last use
+
+-- the client token that has spent it
+spent_there : (ts : Tokens) (c : Text) → has_no_use ts c ≡ true
+    → (x : Token) × (get ts c ≡ Some x) × (is_spent x ≡ true)
+spent_there ts c none = elim (found_or_not (get ts c)) [
+  | inl away ↦ absurd (false≢true (sym (ap (λ (o : Option Token). option_map_or is_spent o false) away) ∙ none))
+  | inr x ↦ (x.0, x.1, sym (ap (λ (o : Option Token). option_map_or is_spent o false) x.1) ∙ none)
+]
+
+-- what its end leaves
+kept_by_caller : (ts : Tokens) (c q : Text) → get ts q ≢ None → (has_no_use ts c ≡ true → is_under ts q c ≡ true → ⊥)
+    → left_by_caller ts c q ≢ None
+kept_by_caller ts c q there apart none =
+    elim (has_no_use ts c && is_under ts q c) as
+    (λ v. (has_no_use ts c && is_under ts q c) ≡ v → (if v then None else get ts q) ≡ None → ⊥) [
+      | true ↦ λ on _. let both = and_parts (has_no_use ts c) (is_under ts q c) on in apart both.0 both.1
+      | false ↦ λ _ away. there away
+    ] refl none
+
+-- a new token has not spent its last use
+new_unspent : (n : ℕ) → option_map_or (λ m. m == 0) (if n == 0 then None else Some n) false ≡ false
+new_unspent n = elim (n == 0) as
+    (λ v. (n == 0) ≡ v → option_map_or (λ m. m == 0) (if v then None else Some n) false
+    ≡ false) [ true ↦ λ _. refl | false ↦ λ e. e ] refl
+
+-- ---- one request
+
+module _ (a : Asking) where
+  ends_with_client : (c : Text) → IsClient a c → (q : Text) (x : Token) → get (spent_by a c).tokens c ≡ Some x
+      → is_spent x ≡ true
+      → is_under (spent_by a c).tokens q c ≡ true → EndsWithClient a q
+  ends_with_client c client q x there spent_ under =
+      let from = from_clock a c client c x there in
+      let uses : (o : Option ℕ) → from.earlier.uses_left ≡ o
+      → option_map_or (λ m. m == 0) (option_map (λ n. n - 1) o) false ≡ true = λ o e.
+      sym (ap (λ (o : Option ℕ). option_map_or (λ m. m == 0) o false)
+      (from.uses client ∙ ap (option_map (λ n. n - 1)) e)) ∙ spent_ in
+      elim (found_or_not from.earlier.uses_left) [
+        | inl none ↦ absurd (false≢true (uses None none))
+        | inr n ↦ record {
+          caller = c;
+          client = client;
+          own = from.earlier;
+          there = from.there;
+          uses = n.0;
+          limited = n.1;
+          last = omega (arith, eqb-true (n.0 - 1) 0 (uses (Some n.0) n.1));
+          under = under;
+        }
+      ]
+
+  module _ (c : Text) (command : Command) (d : Done) (s : CarriesOut a c command d) (q : Text) where
+    abbrev b : Broker
+    b = spent_by a c
+
+    -- a client token that has spent its last use makes none
+    no_maker : (x y : Token) → get b.tokens c ≡ Some x → y.uses_left ≡ x.uses_left → is_spent y ≡ true
+        → (t : Text) (z : Token)
+        → Makes a t z → ⊥
+    no_maker x y was uses spent_ t z m =
+        let is_c : m.made.caller ≡ c = same_Some _ _ (sym m.made.client.token ∙ s.client.token) in
+        let own : get b.tokens c ≡ Some m.own = subst (λ u. get (spent_by a u).tokens u ≡ Some m.own) is_c m.there in
+        let privileged = is_privileged (clocked a) (making_path m.made.making) m.own in
+        let rules = allowed privileged m.made.making m.own
+        (new_policies privileged m.own m.made.asked) m.made.asked tt m.might in
+        let none : y.uses_left ≡ None = uses ∙ ap (λ (w : Token). w.uses_left) (same_Some _ _ (sym was ∙ own))
+        ∙ rules.unlimited in
+        false≢true (sym (ap (λ (o : Option ℕ). option_map_or (λ n. n == 0) o false) none) ∙ spent_)
+
+    -- so what is under one after the operation was so before
+    under_before : has_no_use d.next.tokens c ≡ true → is_under d.next.tokens q c ≡ true → IsTree b.tokens
+        → EndsWithClient a q
+    under_before none under tree_ =
+        let y = spent_there d.next.tokens c none in
+        elim (leaves a c command d s c y.0 y.1) [
+          | inl (x, was, became) ↦
+              let pruned : IsPruned b.tokens d.next.tokens = λ t z is. elim (leaves a c command d s t z is) [
+                | inl (w, there, so) ↦ (w, there, elim so.parent [ inl e ↦ inl e | inr o ↦ inr o.none ])
+                | inr m ↦ absurd (no_maker x y.0 was became.uses y.2 t z m)
+              ] in
+              ends_with_client c s.client q x was
+              (ap (λ (o : Option ℕ). option_map_or (λ n. n == 0) o false) (sym became.uses) ∙ y.2)
+              (under_pruned (len d.next.tokens) (len b.tokens) b.tokens d.next.tokens q c pruned
+              (tree_.chains_end q) under)
+          | inr m ↦ absurd (false≢true (sym (ap is_spent m.is ∙ new_unspent m.made.asked.num_uses) ∙ y.2))
+        ]
+
+  -- a token of the clock stays, unless it goes
+  stays_there : Sound forms None a.broker → Course a → (q : Text) → get (clocked a).tokens q ≢ None → (Goes a q → ⊥)
+      → get a.outcome.next.tokens q ≢ None
+  stays_there sound went q there free none =
+      let spent_too : (c : Text) → get (spent_by a c).tokens q ≢ None = λ c away.
+      there (valued_none (λ u (z : Token). if same u c then one_less z else z) (clocked a).tokens q away) in
+      elim went.way [
+        | inl l ↦ there (ap (λ (m : Tokens). get m q) (sym l.tokens) ∙ none)
+        | inr r ↦ elim r [
+          | inl (c, t) ↦ kept_by_caller (spent_by a c).tokens c q (spent_too c)
+              (λ last under. let x = spent_there (spent_by a c).tokens c last in
+              free (inr (inr (ends_with_client c t.client q x.0 x.1 x.2 under))))
+              (sym (t.left q) ∙ none)
+          | inr (c, command, d, s) ↦ kept_by_caller d.next.tokens c q
+              (keeps a c command d s q (spent_too c) (λ r. free (inr (inl r))))
+              (λ last under. free (inr (inr (under_before c command d s q last under (called_tree a c sound)))))
+              (sym (s.left q) ∙ none)
+        ]
+      ]
+
+-- ---- who reads a cubbyhole
+
+module _ (a : Asking) (is : a.outcome ≡ step a.broker a.moment a.words a.ask) (path : Text) (k : CubbyholeCommand)
+    (means : command_of (clocked a).mounts a.ask ≡ Ok (on_cubbyhole path k))
+    (success : a.outcome.response.status ≡ status.Success) where
+  was_served : Served a
+  was_served = served a is (omega (arith, ap status_code success))
+
+  abbrev Acted : Option Text → Type 0
+  Acted caller = act (spent (clocked a) caller) caller (names_of a.words) (on_cubbyhole path k) ≡ Ok was_served.done
+
+  -- without a wrap TTL, what was replied is the answer
+  answers_so : (r : Reply) → was_served.done.answered ≡ reply r None → a.ask.wrap_ttl ≡ 0
+      → a.outcome.response ≡ ok (reply_text r)
+  answers_so r answered none =
+      let s = was_served in
+      ap (λ (x : Outcome). x.response) s.outcome
+      ∙ elim (wrapped_cases permits traits act (spent (clocked a) s.caller) (request_of a.ask)
+      (names_of a.words) s.command s.done) [
+        | inl plain ↦ ap (λ (x : Wrapped). response_to x.done.answered) plain ∙ ap response_to answered
+        | inr (other, made, wraps_, replied, kept) ↦
+            absurd (false≢true (sym (ap (λ n. nat_lt 0 n) none)
+            ∙ (and_parts (nat_lt 0 a.ask.wrap_ttl) (traits s.command).may_wrap wraps_).0))
+      ]
+
+  module _ (IsOf : Map Text → Text → Type 0)
+      (tells : (c : Text) (x : Token) → get (spent_by a c).tokens c ≡ Some x → Acted (Some c)
+      → (text : Text) × IsOf x.cubbyhole text × (was_served.done.answered ≡ reply
+      (plain_reply (names_of a.words).request text) None)) where
+    by_caller : (caller : Option Text) → IsCaller (clocked a) (request_of a.ask) caller → Acted caller
+        → AnswersOwn a IsOf
+    by_caller caller (inl (open_, none)) done = no_ok (subst Acted none done)
+    by_caller caller (inr (c, closed, is_token, is_c, no_wait, there)) done = elim
+        (found_or_not (get (spent_by a c).tokens c)) [
+          | inl away ↦ absurd (false≢true (sym (ap (λ (o : Option Token). is_some o)
+              (valued_none (λ u (z : Token). if same u c then one_less z else z) (clocked a).tokens c away)) ∙ there))
+          | inr x ↦
+              let client : IsClient a c = record { closed = closed; token = is_token } in
+              let from = from_clock a c client c x.0 x.1 in
+              let told = tells c x.0 x.1 (subst Acted is_c done) in
+              record {
+                caller = c;
+                client = client;
+                own = from.earlier;
+                there = from.there;
+                shown = told.0;
+                of_own = subst (λ (m : Map Text). IsOf m told.0) (ap (λ (z : Token). z.cubbyhole) from.rest) told.1;
+                unwrapped = answers_plainly a was_served _ None told.2;
+                plain = answers_so _ told.2;
+              }
+        ]
+
+    answers_own : AnswersOwn a IsOf
+    answers_own =
+        let s = was_served in
+        by_caller s.caller s.asked
+        (subst (λ (x : Command). act (spent (clocked a) s.caller) s.caller (names_of a.words) x ≡ Ok s.done)
+        (ok_inj (sym (means_at_clock a s.caller s.command s.means) ∙ means)) s.acted)
+
+-- ---- the law
+
+pub own_stays : OperationsDoAsTold → AllOwnStays
+own_stays told b history h = record {
+  goes = λ i a q at was free.
+      let is = asked_at b history i a h at in
+      stays_there a is.sound (asked_course told a.broker a is) q
+      (λ none. elim (found_or_not (get a.broker.tokens q)) [
+        | inl away ↦ was away
+        | inr x ↦ none-some _ (sym none ∙ not_due_stays a q x.0 x.1 (λ due. free (inl due)))
+      ]) free;
+  stands = λ i a q y at there. elim (follows a (asked_course told a.broker a (asked_at b history i a h at)) q y there) [
+    | inl s ↦ inl s.stands
+    | inr m ↦ inr (record {
+      made = m.made;
+      no_cubbyhole = λ path. ap (λ (z : Token). get z.cubbyhole path) m.is ∙ get-empty text_cmp path;
+      no_lease = λ lease_id. ap (λ (z : Token). get z.leases lease_id) m.is ∙ get-empty text_cmp lease_id;
+    })
+  ];
+  reads = λ i a path at means success.
+      answers_own a (asked_at b history i a h at).outcome path cubbyhole.Read means success (IsObjectAt path)
+      (λ c x there done.
+      let kept = ok_step (some_or refusal.NotFound (of_cubbyhole.object_at (spent_by a c) c path)) _ _ done in
+      let object = chained (λ (z : Token). get z.cubbyhole path) (get (spent_by a c).tokens c) kept.0
+      (some_ok refusal.NotFound _ kept.1) in (
+        kept.0,
+        subst (λ (z : Token). get z.cubbyhole path ≡ Some kept.0) (same_Some _ _ (sym object.1 ∙ there)) object.2,
+        ap (λ (z : Done). z.answered) (sym (ok_inj kept.2)),
+      ));
+  lists = λ i a path at means success.
+      answers_own a (asked_at b history i a h at).outcome path cubbyhole.List means success (IsListAt path)
+      (λ c x there done.
+      let names = of_cubbyhole.list (spent_by a c) c path in
+      let some = ok_step (unless (not (are_none names)) refusal.NotFound) _ _ done in (
+        keys_object names,
+        ap (λ (o : Option Token). keys_object (children (folder path)
+            (option_map_or (λ (z : Token). keys z.cubbyhole) o []))) there,
+        ap (λ (z : Done). z.answered) (sym (ok_inj some.2)),
+      ));
+}

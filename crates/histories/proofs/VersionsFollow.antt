@@ -1,0 +1,394 @@
+-- Versions follow the writes, deletions and destructions that were asked for: each part of the law.
+use Rattle.std.specs.Prelude.{◌≡◌, ◌≢◌, ◌⊎◌, ◌<◌, ◌≤◌, ◌+◌, ◌==◌, ◌||◌, ℕ, zero, suc, List, [], ◌∷◌, Bool, true, false, not, cond}
+use Rattle.std.specs.Prelude.{if◌then◌else◌, is_some, nat_eq, nat_lt, Option, option_map, Some, None, Result, Ok, Err}
+use Rattle.std.specs.FinMap as fin
+use Rattle.std.specs.List.{starts_with}
+use Rattle.std.specs.Ordering.{nat_cmp}
+use Rattle.std.proofs.Common.{refl, sym, ◌∙◌, ap, subst, inl, inr, arith}
+use Rattle.std.proofs.lemmas.Bool.{eqb-false, eqb-true, false≢true, ltb-false, ltb-true}
+use Rattle.std.proofs.lemmas.Option.{none-some, same_Some}
+use Rattle.broker_types.specs.Text.{Text}
+use Rattle.broker_types.specs.Map.{Map, entries, get}
+use Rattle.broker_types.specs.MapLaws.{get-keep, get-put_self, get-without_self}
+use Rattle.broker_types.specs.Broker.{Broker, Mount}
+use Rattle.broker_types.specs.Names.{Names, names_of}
+use Rattle.broker_types.specs.Operation.{missing, reply, Done}
+use Rattle.broker_types.specs.OptionLaws.{found_or_not, mapped}
+use Rattle.broker_types.specs.Refuse.{◌>>=◌, some_or}
+use Rattle.broker_types.specs.RefuseLaws.{no_ok, ok_step}
+use Rattle.broker_types.specs.Secret.{Key, Version}
+use Rattle.broker_types.specs.Spending.{spend}
+use Rattle.broker_types.specs.Status.{status_code}
+use Rattle.broker_types.specs.declared.refusal.Refusal.{Refusal}
+use Rattle.broker_types.specs.declared.refusal.Refusal.TheVariants as refusal
+use Rattle.broker_types.specs.declared.reply.Reply.{Reply}
+use Rattle.broker_types.specs.declared.status.Status.{Status}
+use Rattle.broker_types.specs.declared.status.Status.TheVariants as status
+use Rattle.records.specs.ValueLaws.{ok_inj}
+use Rattle.kv2.specs.Secrets as secrets
+use Rattle.kv2.specs.Secrets.{Written, secret_name, written}
+use Rattle.kv2.specs.Versions.{Found, asked_number, checked, numbered, key_or_new, versions_kept, with_version}
+use Rattle.mounts.specs.Mounts.{disabled}
+use Rattle.api_json.specs.Objects.{secret_object}
+use Rattle.api_json.specs.Reply.{plain_reply, reply_text}
+use Rattle.api_json.specs.declared.secret_bodies.SecretWrite.{SecretWrite}
+use Rattle.broker_model.specs.Act.{act}
+use Rattle.broker_model.specs.Command.{Command, command_of, on_mount, on_secret}
+use Rattle.broker_model.specs.EffectLaws.{chained}
+use Rattle.broker_model.specs.Laws.{OperationsDoAsTold}
+use Rattle.broker_model.specs.Step.{step}
+use Rattle.broker_model.specs.declared.commands.MountCommand.TheVariants as of_mount
+use Rattle.broker_model.specs.declared.commands.SecretCommand.{SecretCommand}
+use Rattle.broker_model.specs.declared.commands.SecretCommand.TheVariants as secret
+use Rattle.broker_model.specs.parts.Mounts.{act_on_mounts, without_kept}
+use Rattle.broker_model.specs.parts.Place.{Place}
+use Rattle.broker_model.specs.parts.SecretReplies.{object_left, version_answered, version_reply, version_shown}
+use Rattle.broker_model.specs.parts.Secrets.{act_on_secrets}
+use Rattle.histories.specs.History.{AreAsked, Asking, IsAsked, AskedAt, History, clocked}
+use Rattle.histories.specs.Versions.{AllVersionsFollow, Commands, DidWrite, DisablesAbove, Goes, Holds, IsNewKey, IsWritten, ReadsVersion}
+use Rattle.histories.specs.Versions.{Stands, StandsUnwritten, VersionsFollow, WroteBefore, Writes, named}
+use Rattle.histories.proofs.EventSecrets.{is_404, served_left}
+use Rattle.histories.proofs.OrderCases.{some_ok, spent}
+use Rattle.histories.proofs.Requests.{asked_at, means_at_clock, tells_body}
+use Rattle.histories.proofs.SecretsFollow.{Moves, is_written, secrets_moved}
+use Rattle.histories.proofs.Served.{Served, served}
+
+-- ---- a request that succeeded
+
+module _ (a : Asking) (is : a.outcome ≡ step a.broker a.moment a.words a.ask) (command : Command)
+    (means : command_of (clocked a).mounts a.ask ≡ Ok command) where
+  abbrev now : Broker
+  now = clocked a
+
+  abbrev names : Names
+  names = names_of a.words
+
+  module _ (s : Served a) where
+    is_command : s.command ≡ command
+    is_command = ok_inj (sym (means_at_clock a s.caller s.command s.means) ∙ means)
+
+    acted : act (spent now s.caller) s.caller names command ≡ Ok s.done
+    acted = subst (λ (x : Command). act (spent now s.caller) s.caller names x ≡ Ok s.done) is_command s.acted
+
+  was_200 : a.outcome.response.status ≡ status.Success → Served a
+  was_200 success = served a is (omega (arith, ap status_code success))
+
+  was_204 : a.outcome.response.status ≡ status.NoContent → Served a
+  was_204 success = served a is (omega (arith, ap status_code success))
+
+-- a command on a secret has a caller
+secret_caller : (b : Broker) (names : Names) (p : Place) (k : SecretCommand) (caller : Option Text) (d : Done) {P : Type 0}
+    → act (spent b caller) caller names (on_secret p k) ≡ Ok d
+    → ((c : Text) → act_on_secrets (spend b c) names p k ≡ Ok d → P) → P
+secret_caller b names p k None d e go = no_ok e
+secret_caller b names p k (Some c) d e go = go c e
+
+-- ---- a write
+
+module _ (a : Asking) (is : a.outcome ≡ step a.broker a.moment a.words a.ask) (q : Text) (asked : SecretWrite) (w : Writes a q asked) where
+  abbrev here : Broker
+  here = clocked a
+
+  abbrev over : Key
+  over = key_or_new here.clock (get here.secrets (secret_name w.place.mount w.place.path))
+
+  was_there : (o : Option Key) → get here.secrets q ≡ o → (get here.secrets q ≡ Some (key_or_new here.clock o))
+      ⊎ ((get here.secrets q ≡ None) × IsNewKey here.clock (key_or_new here.clock o))
+  was_there None none = inr (
+    none,
+    record {
+      created = refl;
+      current = refl;
+      empty = λ n. fin.get-empty nat_cmp n;
+      free = refl;
+      unlimited = refl;
+    },
+  )
+  was_there (Some k) some = inl some
+
+  module _ (s : Served a) (c : Text) (e : act_on_secrets (spend here c) (names_of a.words) w.place (secret.Write asked) ≡ Ok s.done) where
+    wrote_it : DidWrite a q asked
+    wrote_it =
+        let name = secret_name w.place.mount w.place.path in
+        let x = ok_step (secrets.write (spend here c) w.place.mount w.place.path asked.cas asked.object) _ s.done e in
+        let m = ok_step (some_or refusal.NotFound (get here.mounts w.place.mount)) _ x.0 x.1 in
+        let passed = ok_step (checked (over.cas_required || m.0.cas_required) over.current asked.cas) _ x.0 m.2 in
+        let after = with_version here.clock (versions_kept m.0 over) asked.object over in
+        let left : a.outcome.next.secrets ≡ (written (spend here c) m.0 name asked.object over).next.secrets =
+        served_left a s ∙ ap (λ (d : Done). d.next.secrets) (sym (ok_inj x.2)) ∙ ap (λ (z : Written). z.next.secrets) (sym (ok_inj passed.2)) in
+        record {
+          place = w.place;
+          name = w.name;
+          of_mount = m.0;
+          in_mount = some_ok refusal.NotFound (get here.mounts w.place.mount) m.1;
+          before = over;
+          was = subst (λ u. (get here.secrets q ≡ Some (key_or_new here.clock (get here.secrets u)))
+              ⊎ ((get here.secrets q ≡ None) × IsNewKey here.clock (key_or_new here.clock (get here.secrets u)))) w.name
+              (was_there (get here.secrets q) refl);
+          after = after;
+          there = ap (get a.outcome.next.secrets) w.name ∙ ap (λ (z : Map Key). get z name) left ∙ get-put_self here.secrets name after;
+          is = is_written here.clock m.0 asked (get here.secrets name) passed.1;
+        }
+
+  pub did_write : DidWrite a q asked
+  did_write =
+      let s = was_200 a is (on_secret w.place (secret.Write asked)) w.means w.answered in
+      secret_caller here (names_of a.words) w.place (secret.Write asked) s.caller s.done
+      (acted a is (on_secret w.place (secret.Write asked)) w.means s) (wrote_it s)
+
+-- ---- what goes
+
+module _ (a : Asking) (is : a.outcome ≡ step a.broker a.moment a.words a.ask) (q : Text) where
+  removed : Commands a q secret.Remove → get a.outcome.next.secrets q ≡ None
+  removed w =
+      let k = on_secret w.place secret.Remove in
+      let s = was_204 a is k w.means w.answered in
+      let name = secret_name w.place.mount w.place.path in
+      secret_caller (clocked a) (names_of a.words) w.place secret.Remove s.caller s.done (acted a is k w.means s) (λ c e.
+      ap (get a.outcome.next.secrets) w.name ∙ ap (λ (z : Map Key). get z name) (served_left a s ∙ ap (λ (d : Done). d.next.secrets) (sym (ok_inj e)))
+      ∙ get-without_self (clocked a).secrets name)
+
+  disabled_below : DisablesAbove a q → get a.outcome.next.secrets q ≡ None
+  disabled_below w =
+      let s = was_204 a is (on_mount w.name of_mount.Disable) w.means w.answered in
+      by s s.caller (acted a is (on_mount w.name of_mount.Disable) w.means s)
+    where
+      bare : (next : Map Mount) (c : Text) (o : Option Mount) → o ≢ None
+          → get (if is_some o then without_kept (record (spend (clocked a) c) { mounts = next }) w.name else spend (clocked a) c).secrets q ≡ None
+      bare next c None there = absurd (there refl)
+      bare next c (Some m) there =
+          get-keep (λ u. not (starts_with nat_eq u (secret_name w.name []))) (clocked a).secrets q
+          ∙ ap (λ v. cond (not v) (get (clocked a).secrets q) None) w.below
+
+      by : (s : Served a) (caller : Option Text)
+          → act (spent (clocked a) caller) caller (names_of a.words) (on_mount w.name of_mount.Disable) ≡ Ok s.done
+          → get a.outcome.next.secrets q ≡ None
+      by s None e = no_ok e
+      by s (Some c) e =
+          let next = ok_step (disabled (clocked a).mounts w.name) _ s.done e in
+          ap (λ (z : Map Key). get z q) (served_left a s ∙ ap (λ (d : Done). d.next.secrets) (sym (ok_inj next.2)))
+          ∙ bare next.0 c (get (clocked a).mounts w.name) w.there
+
+  pub goes_away : Goes a q → get a.outcome.next.secrets q ≡ None
+  goes_away (inl w) = removed w
+  goes_away (inr w) = disabled_below w
+
+-- ---- a read
+
+-- a version whose object is left
+left_is : (v : Version) → is_some (object_left v) ≡ true → (object : Text) × (v.deleted ≡ None) × (v.secret ≡ Some object)
+left_is v h = by v.deleted refl v.secret refl h
+  where
+    by : (o : Option ℕ) → v.deleted ≡ o → (x : Option Text) → v.secret ≡ x → is_some (if is_some o then None else x) ≡ true
+        → (object : Text) × (v.deleted ≡ None) × (v.secret ≡ Some object)
+    by (Some t) some x is e = absurd (false≢true e)
+    by None none None is e = absurd (false≢true e)
+    by None none (Some object) is e = (object, none, is)
+
+module _ (told : OperationsDoAsTold) (a : Asking) (is : a.outcome ≡ step a.broker a.moment a.words a.ask) (p : Place) (n : ℕ)
+    (means : command_of (clocked a).mounts a.ask ≡ Ok (on_secret p (secret.Read n))) (success : a.outcome.response.status ≡ status.Success) where
+  abbrev request : Text
+  request = (names_of a.words).request
+
+  it : Served a
+  it = was_200 a is (on_secret p (secret.Read n)) means success
+
+  module _ (k : Key) (there : get (clocked a).secrets (secret_name p.mount p.path) ≡ Some k) (v : Version)
+      (kept : fin.get k.versions (asked_number k.current n) ≡ Some v) where
+    abbrev number : ℕ
+    number = asked_number k.current n
+
+    abbrev found : Found
+    found = numbered (entries k.custom_metadata) number v
+
+    number_is : n ≢ 0 → number ≡ n
+    number_is some = by (n == 0) refl
+      where
+        by : (v : Bool) → (n == 0) ≡ v → (if v then k.current else n) ≡ n
+        by true zero_ = absurd (some (eqb-true n 0 zero_))
+        by false _ = refl
+
+    reads : (object : Text) → v.deleted ≡ None → v.secret ≡ Some object → it.done.answered ≡ reply (version_reply request found) None
+        → ReadsVersion a p n
+    reads object not_deleted holds answered = record {
+      key = k;
+      there = there;
+      number = number;
+      by_number = number_is;
+      by_current = λ none. ap (λ m. if m == 0 then k.current else m) none;
+      version = v;
+      is_kept = kept;
+      not_deleted = not_deleted;
+      object = object;
+      holds = holds;
+      shown = version_shown number v;
+      custom_metadata = entries k.custom_metadata;
+      reply = sym (tells_body told a it (version_reply request found) None answered).0
+          ∙ ap (λ o. reply_text (plain_reply request (secret_object o (entries k.custom_metadata) (version_shown number v))))
+          (ap (λ (o : Option ℕ). if is_some o then None else v.secret) not_deleted ∙ holds);
+    }
+
+    by_left : (w : Bool) → is_some (object_left v) ≡ w
+        → it.done.answered ≡ (if w then reply (version_reply request found) None else missing (version_reply request found)) → ReadsVersion a p n
+    by_left true left answered = let x = left_is v left in reads x.0 x.1 x.2 answered
+    by_left false left answered = absurd (apart (sym success ∙ is_404 a it (version_reply request found) answered))
+      where
+        apart : ◌≡◌ {A = Status} status.Success status.NotFound → ⊥
+        apart e = cc
+
+  reads_version : ReadsVersion a p n
+  reads_version =
+      secret_caller (clocked a) (names_of a.words) p (secret.Read n) it.caller it.done
+      (acted a is (on_secret p (secret.Read n)) means it) (λ c e.
+      let v = ok_step (some_or refusal.NotFound (secrets.read (spend (clocked a) c) p.mount p.path n)) _ it.done e in
+      let o = get (clocked a).secrets (secret_name p.mount p.path) in
+      let k = chained (λ (k : Key). option_map (numbered (entries k.custom_metadata) (asked_number k.current n))
+      (fin.get k.versions (asked_number k.current n))) o v.0 (some_ok refusal.NotFound _ v.1) in
+      let x = mapped (numbered (entries (k.0).custom_metadata) (asked_number (k.0).current n)) _ v.0 k.2 in
+      by_left k.0 k.1 x.0 x.1 (is_some (object_left x.0)) refl
+      (ap (λ (d : Done). d.answered) (sym (ok_inj v.2)) ∙ ap (version_answered request) x.2))
+
+-- ---- where what is held comes from
+
+module _ (told : OperationsDoAsTold) (a : Asking) (is : a.outcome ≡ step a.broker a.moment a.words a.ask) (q : Text) (n : ℕ) (object : Text) where
+  -- the event wrote it, as that version
+  abbrev Wrote : Type 0
+  Wrote = (asked : SecretWrite) × (w : DidWrite a q asked) × (w.after.current ≡ n) × (asked.object ≡ object)
+
+  abbrev From : Type 0
+  From = Wrote ⊎ Holds (clocked a) q n object
+
+  module _ (m : Key) (there : get a.outcome.next.secrets q ≡ Some m) (v : Version) (kept : fin.get m.versions n ≡ Some v)
+      (holds : v.secret ≡ Some object) where
+    -- a version that was there before the write
+    from_before : (asked : SecretWrite) (w : DidWrite a q asked) → fin.get w.before.versions n ≡ Some v → From
+    from_before asked w was = elim w.was [
+      | inl k ↦ inr (record { key = w.before; there = k; version = v; is_kept = was; holds = holds })
+      | inr new ↦ absurd (none-some v (sym (new.1.empty n) ∙ was))
+    ]
+
+    from_write : (asked : SecretWrite) → DidWrite a q asked → From
+    from_write asked w =
+        let one : w.after ≡ m = same_Some _ _ (sym w.there ∙ there) in
+        let at : fin.get w.after.versions n ≡ Some v = ap (λ (z : Key). fin.get z.versions n) one ∙ kept in
+        by_number one at (n == w.after.current) refl
+      where
+        by_number : w.after ≡ m → fin.get w.after.versions n ≡ Some v → (x : Bool) → (n == w.after.current) ≡ x → From
+        by_number one at true same_ =
+            let is_number = eqb-true n w.after.current same_ in
+            let new = same_Some _ _ (sym w.is.version ∙ ap (fin.get w.after.versions) (sym is_number) ∙ at) in
+            inl (asked, w, sym is_number, same_Some _ _ (ap (λ (z : Version). z.secret) new ∙ holds))
+        by_number one at false other = by_age (nat_lt w.after.current (n + w.is.kept)) refl (n == 0) refl
+          where
+            by_age : (x : Bool) → nat_lt w.after.current (n + w.is.kept) ≡ x → (y : Bool) → (n == 0) ≡ y → From
+            by_age x young true zero_ = absurd (none-some v (sym (w.is.gone n (inl (eqb-true n 0 zero_))) ∙ at))
+            by_age false old false some =
+                absurd (none-some v (sym (w.is.gone n (inr (ltb-false w.after.current (n + w.is.kept) old))) ∙ at))
+            by_age true young false some =
+                from_before asked w (sym (w.is.left n (eqb-false n 0 some) (eqb-false n w.after.current other)
+                (ltb-true w.after.current (n + w.is.kept) young)) ∙ at)
+
+    from_unwritten : (k : Key) → get (clocked a).secrets q ≡ Some k → StandsUnwritten a q k m → From
+    from_unwritten k was s = elim (found_or_not (fin.get k.versions n)) [
+      | inl none ↦ absurd (none-some v (sym (s.none n none) ∙ kept))
+      | inr x ↦
+          let w = s.versions n x.0 x.1 in
+          let one : w.0 ≡ v = same_Some _ _ (sym w.1 ∙ kept) in
+          elim w.2.secret [
+            | inl same_ ↦ inr (record {
+              key = k;
+              there = was;
+              version = x.0;
+              is_kept = x.1;
+              holds = sym same_ ∙ ap (λ (z : Version). z.secret) one ∙ holds;
+            })
+            | inr gone ↦ absurd (none-some object (sym gone.0 ∙ ap (λ (z : Version). z.secret) one ∙ holds))
+          ]
+    ]
+
+    by_before : (o : Option Key) → get (clocked a).secrets q ≡ o → Moves a q o (Some m) → From
+    by_before (Some k) was (inl (asked, w)) = from_write asked (did_write a is q asked w)
+    by_before (Some k) was (inr s) = from_unwritten k was s
+    by_before None none (inl (asked, w)) = from_write asked (did_write a is q asked w)
+    by_before None none (inr (it, current, empty)) = absurd (none-some v (sym (empty n) ∙ kept))
+
+  held_from : Holds a.outcome.next q n object → From
+  held_from h =
+      by_before h.key h.there h.version h.is_kept h.holds (get (clocked a).secrets q) refl
+      (subst (Moves a q (get (clocked a).secrets q)) h.there (secrets_moved told a is q))
+
+-- ---- over a history
+
+-- what was written at an event of the rest was written before a later place
+later_on : (x : Option Asking) (history : History) (j : ℕ) (q : Text) (n : ℕ) (object : Text) → WroteBefore history j q n object
+    → WroteBefore (x ∷ history) (suc j) q n object
+later_on x history j q n object w = record {
+  place = suc w.place;
+  earlier = omega (arith, w.earlier);
+  asking = w.asking;
+  asked_at = w.asked_at;
+  asked = w.asked;
+  wrote = w.wrote;
+  number = w.number;
+  is = w.is;
+}
+
+given_at : OperationsDoAsTold → (b : Broker) (history : History) (j : ℕ) (x : Asking) (q : Text) (n : ℕ) (object : Text)
+    → AreAsked b history → AskedAt history j x → Holds (clocked x) q n object → WroteBefore history j q n object ⊎ Holds b q n object
+given_at told b [] j x q n object h at holds = absurd (none-some _ at)
+given_at told b (None ∷ later) zero x q n object h at holds = absurd (none-some _ at)
+given_at told b (None ∷ later) (suc j) x q n object h at holds = elim (given_at told b later j x q n object h at holds) [
+  | inl w ↦ inl (later_on None later j q n object w)
+  | inr first ↦ inr first
+]
+given_at told b (Some y ∷ later) zero x q n object (is, h) at holds =
+    inr (subst (λ (z : Broker). Holds z q n object) is.broker
+    (subst (λ (z : Asking). Holds z.broker q n object) (sym (same_Some _ _ at))
+    (record { key = holds.key; there = holds.there; version = holds.version; is_kept = holds.is_kept; holds = holds.holds })))
+given_at told b (Some y ∷ later) (suc j) x q n object (is, h) at holds =
+    elim (given_at told y.outcome.next later j x q n object h at holds) [
+      | inl w ↦ inl (later_on (Some y) later j q n object w)
+      | inr left ↦ elim (held_from told y (outcome_of b y is) q n object left) [
+        | inl (asked, w, number, same_) ↦ inl (record {
+          place = 0;
+          earlier = omega (arith);
+          asking = y;
+          asked_at = refl;
+          asked = asked;
+          wrote = w;
+          number = number;
+          is = same_;
+        })
+        | inr before ↦ inr (subst (λ (z : Broker). Holds z q n object) is.broker (record {
+          key = before.key;
+          there = before.there;
+          version = before.version;
+          is_kept = before.is_kept;
+          holds = before.holds;
+        }))
+      ]
+    ]
+  where
+    outcome_of : (b : Broker) (y : Asking) → IsAsked b y → y.outcome ≡ step y.broker y.moment y.words y.ask
+    outcome_of b y is = is.outcome ∙ ap (λ c. step c y.moment y.words y.ask) (sym is.broker)
+
+pub versions_follow : OperationsDoAsTold → AllVersionsFollow
+versions_follow told b history h = record {
+  written = λ i a q asked at w. did_write a (asked_at b history i a h at).outcome q asked w;
+  stand = λ i a q k m at was there.
+      subst (λ (o : Option Key). Moves a q o (Some m)) was
+      (subst (Moves a q (get (clocked a).secrets q)) there (secrets_moved told a (asked_at b history i a h at).outcome q));
+  go = λ i a q at was none. by_before a q (get (clocked a).secrets q) refl was
+      (subst (Moves a q (get (clocked a).secrets q)) none (secrets_moved told a (asked_at b history i a h at).outcome q));
+  come = λ i a q m at none there.
+      subst (λ (o : Option Key). Moves a q o (Some m)) none
+      (subst (Moves a q (get (clocked a).secrets q)) there (secrets_moved told a (asked_at b history i a h at).outcome q));
+  gone = λ i a q at goes. goes_away a (asked_at b history i a h at).outcome q goes;
+  read = λ i a p n at means success. reads_version told a (asked_at b history i a h at).outcome p n means success;
+  given = λ j x q n object at holds. given_at told b history j x q n object h at holds;
+}
+  where
+    by_before : (a : Asking) (q : Text) (o : Option Key) → get (clocked a).secrets q ≡ o → get (clocked a).secrets q ≢ None
+        → Moves a q o None → Goes a q
+    by_before a q None is was moves = absurd (was is)
+    by_before a q (Some k) is was moves = moves

@@ -1,0 +1,92 @@
+-- What permission and look-ups are to be by the documentation, in its words, as statements (Vault's documentation,
+-- "Policies", root policy, capabilities, root-protected API endpoints; "Token auth method (API)", look up by accessor).
+use Rattle.std.specs.Prelude.{◌≡◌, ◌⊎◌, ◌++◌, ℕ, List, ◌∷◌, Contains, true, codes, Some, None, Ok}
+use Rattle.broker_types.specs.Text.{Text}
+use Rattle.broker_types.specs.Map.{Map, empty, get}
+use Rattle.broker_types.specs.Broker.{Broker}
+use Rattle.broker_types.specs.Names.{Names}
+use Rattle.broker_types.specs.Operation.{Done}
+use Rattle.broker_types.specs.Token.{Token}
+use Rattle.broker_types.specs.declared.ask.Verb.{Verb}
+use Rattle.broker_types.specs.declared.ask.Verb.TheVariants as verb
+use Rattle.cubbyhole.specs.Cubbyhole.{object_at}
+use Rattle.kv2.specs.Secrets.{key_at}
+use Rattle.mounts.specs.Route.{Route, asks_sudo, route_of}
+use Rattle.mounts.specs.declared.operation.CubbyholeOperation.TheVariants as cubbyhole
+use Rattle.mounts.specs.declared.operation.Operation.TheVariants.{Cubbyholes, Secrets}
+use Rattle.mounts.specs.declared.operation.SecretOperation.TheVariants as secret
+use Rattle.policies.specs.Grants.{grants}
+use Rattle.policies.specs.declared.capability.Capability.{Capability}
+use Rattle.policies.specs.declared.capability.Capability.TheVariants as capability
+use Rattle.token_tree.specs.Tokens.{find_accessor}
+use Rattle.broker_model.specs.Capabilities.{asked}
+use Rattle.broker_model.specs.Permission.{permits}
+use Rattle.broker_model.specs.declared.commands.TokenCommand.TheVariants as token
+use Rattle.broker_model.specs.parts.Tokens.{act_on_tokens}
+
+-- ---- root
+
+-- Where there are no policies, who may do anything has the policy `root`; and who has it, may do everything, whatever
+-- the policies are.
+pub record RootAlone : Type 0 where
+  pub only : (names : List Text) (v : Verb) (path : Text) (c : Capability) → grants empty names v path c ≡ true
+      → Contains names (codes "root")
+  pub everything : (policies : Map Text) (names : List Text) (v : Verb) (path : Text) (c : Capability)
+      → Contains names (codes "root") → grants policies names v path c ≡ true
+
+-- ---- capabilities
+
+-- The path leads to a write of an object of a cubbyhole that is not there, by the caller c, or of a secret that is not.
+abbrev pub MakesAnew : Broker → Text → Text → Type 0
+MakesAnew b c path =
+    ((r : Route) × (route_of b.mounts verb.Write path ≡ Ok r) × (r.operation ≡ Cubbyholes cubbyhole.Write)
+    × (object_at b c r.parameter ≡ None))
+    ⊎ ((r : Route) × (route_of b.mounts verb.Write path ≡ Ok r) × (r.operation ≡ Secrets secret.Write)
+    × (key_at b r.mount r.parameter ≡ None))
+
+-- What a caller asks for: GET for `read`, LIST for `list`, DELETE for `delete`; POST and PUT for `create` exactly where
+-- they make anew an object of a cubbyhole or a secret, and else for `update`.
+pub record AsksByVerb (b : Broker) (c path : Text) : Type 0 where
+  pub get : asked b c verb.Get path ≡ capability.Read
+  pub list : asked b c verb.List path ≡ capability.List
+  pub delete : asked b c verb.Delete path ≡ capability.Delete
+  pub write : (asked b c verb.Write path ≡ capability.Update) ⊎ (asked b c verb.Write path ≡ capability.Create)
+  pub anew : asked b c verb.Write path ≡ capability.Create → MakesAnew b c path
+  pub create : MakesAnew b c path → asked b c verb.Write path ≡ capability.Create
+
+-- ---- sudo
+
+-- The root-protected paths, and no other: the list of accessors, the revocation of a token alone, and that of the leases
+-- under a prefix.
+pub record SudoAlone : Type 0 where
+  pub only : (path : Text) → asks_sudo path ≡ true
+      → (path ≡ codes "auth/token/accessors") ⊎ ((path ≡ codes "auth/token/revoke-orphan")
+      ⊎ ((b : ℕ) × (rest : Text) × (path ≡ codes "sys/leases/revoke-prefix/" ++ b ∷ rest)))
+  pub accessors : asks_sudo (codes "auth/token/accessors") ≡ true
+  pub revoke_orphan : asks_sudo (codes "auth/token/revoke-orphan") ≡ true
+  pub revoke_prefix : (b : ℕ) (rest : Text) → asks_sudo (codes "sys/leases/revoke-prefix/" ++ b ∷ rest) ≡ true
+
+-- and where `sudo` is asked for, a caller needs it beside the capability of its verb
+abbrev pub SudoIsNeeded : Type 0
+SudoIsNeeded =
+    (b : Broker) (c : Text) (v : Verb) (path : Text) → permits b (Some c) v path ≡ true → asks_sudo path ≡ true
+    → (x : Token) × (get b.tokens c ≡ Some x) × (grants b.policies x.policies v path capability.Sudo ≡ true)
+
+-- ---- look-ups by accessor
+
+-- What is answered to a look-up by accessor does not depend on the text of the token: at two brokers with the same clock
+-- at which the accessor is that of the same token, under whatever texts, it is the same.
+abbrev pub AccessorsHideTokens : Type 0
+AccessorsHideTokens =
+    (b d : Broker) (caller other : Text) (names : Names) (accessor t u : Text) (x : Token) (done next : Done)
+    → b.clock ≡ d.clock → find_accessor b accessor ≡ Some t → find_accessor d accessor ≡ Some u
+    → get b.tokens t ≡ Some x → get d.tokens u ≡ Some x
+    → act_on_tokens b caller names (token.LookUpAccessor accessor) ≡ Ok done
+    → act_on_tokens d other names (token.LookUpAccessor accessor) ≡ Ok next → done.answered ≡ next.answered
+
+pub record AreAsDocumented : Type 0 where
+  pub root : RootAlone
+  pub capabilities : (b : Broker) (c path : Text) → AsksByVerb b c path
+  pub sudo : SudoAlone
+  pub sudo_needed : SudoIsNeeded
+  pub accessors : AccessorsHideTokens

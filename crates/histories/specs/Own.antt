@@ -1,0 +1,173 @@
+-- The law that what is another's stays, as a statement: what makes a token go, what may change of one that stands, and
+-- who reads a cubbyhole (Vault's documentation, "Tokens"; "Lease, renew, and revoke"; "Cubbyhole secrets engine").
+use Rattle.std.specs.Prelude.{◌≡◌, ◌≢◌, ◌⊎◌, ◌≤◌, ℕ, true, Option, Some, None, Ok}
+use Rattle.broker_types.specs.Text.{Text}
+use Rattle.broker_types.specs.Map.{Map, get, keys}
+use Rattle.broker_types.specs.Token.{Token, Lease}
+use Rattle.broker_types.specs.Lineage.{is_under}
+use Rattle.broker_types.specs.Names.{names_of}
+use Rattle.broker_types.specs.declared.status.Status.TheVariants as status
+use Rattle.records.specs.Children.{children, folder}
+use Rattle.api_json.specs.Objects.{keys_object}
+use Rattle.api_json.specs.Reply.{plain_reply, reply_text}
+use Rattle.api_json.specs.declared.lease_bodies.LeaseRenewal.{LeaseRenewal}
+use Rattle.broker_model.specs.Command.{on_cubbyhole, on_lease, on_token, command_of}
+use Rattle.broker_model.specs.Responses.{ok}
+use Rattle.broker_model.specs.declared.commands.CubbyholeCommand.{CubbyholeCommand}
+use Rattle.broker_model.specs.declared.commands.CubbyholeCommand.TheVariants as cubbyhole
+use Rattle.broker_model.specs.declared.commands.LeaseCommand.TheVariants as lease
+use Rattle.broker_model.specs.declared.commands.TokenCommand.{TokenCommand}
+use Rattle.broker_model.specs.declared.commands.TokenCommand.TheVariants as token
+use Rattle.histories.specs.History.{Asking, AskedAt, History, clocked, spent_by}
+use Rattle.histories.specs.Kept.{unwrapped_answer}
+use Rattle.histories.specs.LeaseEnds.{RevokesLease}
+use Rattle.histories.specs.LeaseOwners.{IsIssuedTo}
+use Rattle.histories.specs.Revocation.{IsClient, IsDue, IsMade, Revokes, RevokesAlone, WasToken}
+
+-- ---- what makes a token go
+
+-- The request was a 204 to a revocation of a token that q is under, or of q alone.
+pub record IsRevoked (a : Asking) (q : Text) : Type 0 where
+  pub caller : Text
+  pub how : ((t : Text) × Revokes a caller t × (is_under (spent_by a caller).tokens q t ≡ true))
+      ⊎ RevokesAlone a caller q
+
+-- The request was the last use of its client token, which q is under.
+pub record EndsWithClient (a : Asking) (q : Text) : Type 0 where
+  pub caller : Text
+  pub client : IsClient a caller
+  pub own : Token
+  pub there : get (clocked a).tokens caller ≡ Some own
+  pub uses : ℕ
+  pub limited : own.uses_left ≡ Some uses
+  pub last : uses ≤ 1
+  pub under : is_under (spent_by a caller).tokens q caller ≡ true
+
+-- The token q goes with the request: by its end, or that of a token that it is under; by a revocation; or with the last
+-- use of a token that it is under, which it may be itself.
+abbrev pub Goes : Asking → Text → Type 0
+Goes a q = IsDue a q ⊎ (IsRevoked a q ⊎ EndsWithClient a q)
+
+-- ---- what changes of one that stands
+
+-- the command of the caller c renews the token q: it names it by its text, or is one to its own
+abbrev pub RenewalOf : Text → Text → TokenCommand → Type 0
+RenewalOf c q (token.Renew asked) = asked.token ≡ q
+RenewalOf c q (token.RenewSelf increment) = c ≡ q
+RenewalOf c q _ = ⊥
+
+-- the request was a 200 to a renewal of the token q
+pub record RenewsToken (a : Asking) (q : Text) : Type 0 where
+  pub caller : Text
+  pub client : IsClient a caller
+  pub command : TokenCommand
+  pub means : command_of (clocked a).mounts a.ask ≡ Ok (on_token command)
+  pub names : RenewalOf caller q command
+  pub answered : a.outcome.response.status ≡ status.Success
+
+-- a write leaves the object of its body, and a deletion none
+abbrev pub Edits : Option Text → CubbyholeCommand → Type 0
+Edits new (cubbyhole.Write full) = new ≡ full
+Edits new cubbyhole.Delete = new ≡ None
+Edits new _ = ⊥
+
+-- The request, whose client token is q, was a 204 to a write or a deletion at this path of its cubbyhole, which has
+-- what that leaves.
+pub record EditsCubbyhole (a : Asking) (q path : Text) (new : Option Text) : Type 0 where
+  pub client : IsClient a q
+  pub command : CubbyholeCommand
+  pub means : command_of (clocked a).mounts a.ask ≡ Ok (on_cubbyhole path command)
+  pub edits : Edits new command
+  pub answered : a.outcome.response.status ≡ status.NoContent
+
+-- the request, of any caller, was a 200 to a renewal of the lease of this id
+pub record RenewsLease (a : Asking) (lease_id : Text) : Type 0 where
+  pub prefix : Text
+  pub asked : LeaseRenewal
+  pub means : command_of (clocked a).mounts a.ask ≡ Ok (on_lease prefix (lease.Renew asked))
+  pub names : asked.lease_id ≡ lease_id
+  pub answered : a.outcome.response.status ≡ status.Success
+
+-- The lease was renewed: only its end, and when it was renewed last, are others.
+pub record IsRenewedLease (a : Asking) (lease_id : Text) (old new : Option Lease) : Type 0 where
+  pub renews : RenewsLease a lease_id
+  pub earlier : Lease
+  pub there : old ≡ Some earlier
+  pub later : Lease
+  pub is : new ≡ Some later
+  pub rest : later ≡ record earlier { ends = later.ends; renewed = later.renewed }
+
+-- What the token q has under the id of a lease: what it had there, or that renewed, or one that was issued to it, or
+-- none after a revocation.
+abbrev pub LeaseBecomes : Asking → Text → Text → Option Lease → Option Lease → Type 0
+LeaseBecomes a q lease_id old new =
+    (new ≡ old)
+    ⊎ (IsRenewedLease a lease_id old new
+    ⊎ (((l : Lease) × (new ≡ Some l) × IsIssuedTo a q l) ⊎ ((new ≡ None) × RevokesLease a lease_id)))
+
+-- the token x, with the parent, end, uses, cubbyhole and leases of y
+abbrev pub with_changed : Token → Token → Token
+with_changed y x =
+    record x { parent = y.parent; ends = y.ends; uses_left = y.uses_left; cubbyhole = y.cubbyhole; leases = y.leases }
+
+-- The token q was there at the request's clock, and y is what it became.
+pub record Stands (a : Asking) (q : Text) (y : Token) : Type 0 where
+  -- its parent and its uses change as in the law of revocation: by `revoke-orphan` of its parent, by its own requests
+  pub was : WasToken a q y
+  -- its end changes by a renewal of it
+  pub ends : (y.ends ≡ was.earlier.ends) ⊎ RenewsToken a q
+  -- its cubbyhole by its own write or deletion, and there alone
+  pub cubbyhole : (path : Text)
+      → (get y.cubbyhole path ≡ get was.earlier.cubbyhole path) ⊎ EditsCubbyhole a q path (get y.cubbyhole path)
+  -- its leases one by one
+  pub leases : (lease_id : Text)
+      → LeaseBecomes a q lease_id (get was.earlier.leases lease_id) (get y.leases lease_id)
+  -- and all else never
+  pub rest : y ≡ with_changed y was.earlier
+
+-- The request made the token y, without anything in its cubbyhole, and without leases.
+pub record Begins (a : Asking) (q : Text) (y : Token) : Type 0 where
+  pub made : IsMade a q y
+  pub no_cubbyhole : (path : Text) → get y.cubbyhole path ≡ None
+  pub no_lease : (lease_id : Text) → get y.leases lease_id ≡ None
+
+-- ---- who reads a cubbyhole
+
+-- The answer is a 200 that shows what the cubbyhole of the client token has: the answer of the request, if it has no
+-- wrap TTL, and else the one that is wrapped.
+pub record AnswersOwn (a : Asking) (IsOf : Map Text → Text → Type 0) : Type 0 where
+  pub caller : Text
+  pub client : IsClient a caller
+  pub own : Token
+  pub there : get (clocked a).tokens caller ≡ Some own
+  pub shown : Text
+  pub of_own : IsOf own.cubbyhole shown
+  pub unwrapped : unwrapped_answer a ≡ ok (reply_text (plain_reply (names_of a.words).request shown))
+  pub plain : a.ask.wrap_ttl ≡ 0
+      → a.outcome.response ≡ ok (reply_text (plain_reply (names_of a.words).request shown))
+
+-- the text is the object at the path
+abbrev pub IsObjectAt : Text → Map Text → Text → Type 0
+IsObjectAt path cubbyhole text = get cubbyhole path ≡ Some text
+
+-- the text is the list of what is in the folder
+abbrev pub IsListAt : Text → Map Text → Text → Type 0
+IsListAt path cubbyhole text = text ≡ keys_object (children (folder path) (keys cubbyhole))
+
+-- ---- the law
+
+pub record OwnStays (history : History) : Type 0 where
+  -- a token that was there before an event, and does not go with it, is there after it
+  pub goes : (i : ℕ) (a : Asking) (q : Text) → AskedAt history i a → get a.broker.tokens q ≢ None → (Goes a q → ⊥)
+      → get a.outcome.next.tokens q ≢ None
+  -- each token after an event stood at its clock, or was made by it
+  pub stands : (i : ℕ) (a : Asking) (q : Text) (y : Token) → AskedAt history i a
+      → get a.outcome.next.tokens q ≡ Some y → Stands a q y ⊎ Begins a q y
+  -- a 200 to a read of a cubbyhole has the object of the client token's own
+  pub reads : (i : ℕ) (a : Asking) (path : Text) → AskedAt history i a
+      → command_of (clocked a).mounts a.ask ≡ Ok (on_cubbyhole path cubbyhole.Read)
+      → a.outcome.response.status ≡ status.Success → AnswersOwn a (IsObjectAt path)
+  -- and one to a list has what is in that
+  pub lists : (i : ℕ) (a : Asking) (path : Text) → AskedAt history i a
+      → command_of (clocked a).mounts a.ask ≡ Ok (on_cubbyhole path cubbyhole.List)
+      → a.outcome.response.status ≡ status.Success → AnswersOwn a (IsListAt path)

@@ -1,0 +1,212 @@
+-- The law of what becomes of versioned secrets, as a statement (Vault's documentation, "KV secrets engine - version 2",
+-- check-and-set, deleting and destroying data, key metadata; "/sys/mounts", disable secrets engine).
+use Rattle.std.specs.Prelude.{◌≡◌, ◌≢◌, ◌⊎◌, ◌<◌, ◌≤◌, ◌+◌, ◌++◌, ℕ, List, [], ◌∷◌, Contains, true, false, nat_eq, Some, None, Ok}
+use Rattle.std.specs.FinMap as fin
+use Rattle.std.specs.List.{starts_with}
+use Rattle.broker_types.specs.Text.{Text}
+use Rattle.broker_types.specs.Map.{get}
+use Rattle.broker_types.specs.Broker.{Broker, Mount}
+use Rattle.broker_types.specs.Names.{names_of}
+use Rattle.broker_types.specs.Secret.{Key, Version}
+use Rattle.broker_types.specs.declared.status.Status.TheVariants as status
+use Rattle.records.specs.Splits.{slash}
+use Rattle.api_json.specs.Objects.{secret_object}
+use Rattle.api_json.specs.Reply.{plain_reply, reply_text}
+use Rattle.api_json.specs.declared.secret_bodies.KeySettings.{KeySettings}
+use Rattle.api_json.specs.declared.secret_bodies.SecretWrite.{SecretWrite}
+use Rattle.api_json.specs.declared.version_list.VersionObject.{VersionObject}
+use Rattle.broker_model.specs.Command.{on_mount, on_secret, command_of}
+use Rattle.broker_model.specs.declared.commands.MountCommand.TheVariants as mount
+use Rattle.broker_model.specs.declared.commands.SecretCommand.{SecretCommand}
+use Rattle.broker_model.specs.declared.commands.SecretCommand.TheVariants as command
+use Rattle.broker_model.specs.parts.Place.{Place}
+use Rattle.histories.specs.History.{AreAsked, Asking, AskedAt, History, clocked}
+use Rattle.histories.specs.Kept.{unwrapped_body}
+
+-- ---- what was asked, and answered
+
+-- the name of a secret: its mount, a slash, and its path there
+abbrev pub named : Place → Text
+named p = p.mount ++ slash ∷ p.path
+
+-- the request was a 200 to this write of the secret q
+pub record Writes (a : Asking) (q : Text) (asked : SecretWrite) : Type 0 where
+  pub place : Place
+  pub means : command_of (clocked a).mounts a.ask ≡ Ok (on_secret place (command.Write asked))
+  pub name : q ≡ named place
+  pub answered : a.outcome.response.status ≡ status.Success
+
+-- the request was a 204 to this command on the secret q
+pub record Commands (a : Asking) (q : Text) (asked : SecretCommand) : Type 0 where
+  pub place : Place
+  pub means : command_of (clocked a).mounts a.ask ≡ Ok (on_secret place asked)
+  pub name : q ≡ named place
+  pub answered : a.outcome.response.status ≡ status.NoContent
+
+-- the request was a 204 to the disabling of the mount, which was there, that the secret q is of
+pub record DisablesAbove (a : Asking) (q : Text) : Type 0 where
+  pub name : Text
+  pub below : starts_with nat_eq q (name ++ slash ∷ []) ≡ true
+  pub means : command_of (clocked a).mounts a.ask ≡ Ok (on_mount name mount.Disable)
+  pub there : get (clocked a).mounts name ≢ None
+  pub answered : a.outcome.response.status ≡ status.NoContent
+
+-- ---- a version that stands
+
+-- the version n, if it is the current one, was deleted by a 204
+abbrev pub Deletes : Asking → Text → ℕ → ℕ → Type 0
+Deletes a q current n =
+    (Commands a q command.DeleteCurrent × (n ≡ current)) ⊎ ((ns : List ℕ) × Commands a q (command.Delete ns) × Contains ns n)
+
+-- What became of the version n of the secret q, whose current one has this number. What it holds goes by a destruction
+-- that names it; a time of deletion comes by a deletion that names it, and goes by its taking back.
+pub record VersionStands (a : Asking) (q : Text) (current n : ℕ) (v w : Version) : Type 0 where
+  pub created : w.created ≡ v.created
+  pub secret : (w.secret ≡ v.secret)
+      ⊎ ((w.secret ≡ None) × ((ns : List ℕ) × Commands a q (command.Destroy ns) × Contains ns n))
+  pub deleted : (w.deleted ≡ v.deleted)
+      ⊎ (((v.deleted ≡ None) × (w.deleted ≡ Some (clocked a).clock) × Deletes a q current n)
+      ⊎ ((w.deleted ≡ None) × (v.secret ≢ None)
+      × ((ns : List ℕ) × Commands a q (command.Undelete ns) × Contains ns n)))
+
+-- ---- a write
+
+-- How many versions are kept: what the secret says, else what its mount says, else ten; 0 says nothing.
+pub record AreKept (own of_mount kept : ℕ) : Type 0 where
+  pub by_own : own ≢ 0 → kept ≡ own
+  pub by_mount : own ≡ 0 → of_mount ≢ 0 → kept ≡ of_mount
+  pub else_ten : own ≡ 0 → of_mount ≡ 0 → kept ≡ 10
+
+-- What a 200 to a write of the secret k, in the mount m, left. Its number is one more. If it told which version it
+-- follows, that is the current one; else neither the secret nor the mount wants to be told. All versions above the
+-- oldest that is kept are as they were, and the others are gone.
+pub record IsWritten (now : ℕ) (m : Mount) (asked : SecretWrite) (k next : Key) : Type 0 where
+  pub told : (n : ℕ) → asked.cas ≡ Some n → n ≡ k.current
+  pub untold : asked.cas ≡ None → (k.cas_required ≡ false) × (m.cas_required ≡ false)
+  pub number : next.current ≡ k.current + 1
+  pub version : fin.get next.versions next.current
+      ≡ Some (record { created = now; deleted = None; secret = Some asked.object })
+  pub kept : ℕ
+  pub are_kept : AreKept k.max_versions m.max_versions kept
+  pub gone : (n : ℕ) → (n ≡ 0) ⊎ (n + kept ≤ next.current) → fin.get next.versions n ≡ None
+  pub left : (n : ℕ) → n ≢ 0 → n ≢ next.current → next.current < n + kept
+      → fin.get next.versions n ≡ fin.get k.versions n
+  pub created : next.created ≡ k.created
+  pub cas_required : next.cas_required ≡ k.cas_required
+  pub max_versions : next.max_versions ≡ k.max_versions
+  pub custom_metadata : next.custom_metadata ≡ k.custom_metadata
+
+-- a secret without versions and without settings of its own, which a write or settings make
+pub record IsNewKey (now : ℕ) (k : Key) : Type 0 where
+  pub created : k.created ≡ now
+  pub current : k.current ≡ 0
+  pub empty : (n : ℕ) → fin.get k.versions n ≡ None
+  pub free : k.cas_required ≡ false
+  pub unlimited : k.max_versions ≡ 0
+
+-- The write wrote: over the secret that was there, or over a new one. So a 200 to a write is no lie.
+pub record DidWrite (a : Asking) (q : Text) (asked : SecretWrite) : Type 0 where
+  pub place : Place
+  pub name : q ≡ named place
+  pub of_mount : Mount
+  pub in_mount : get (clocked a).mounts place.mount ≡ Some of_mount
+  pub before : Key
+  pub was : (get (clocked a).secrets q ≡ Some before)
+      ⊎ ((get (clocked a).secrets q ≡ None) × IsNewKey (clocked a).clock before)
+  pub after : Key
+  pub there : get a.outcome.next.secrets q ≡ Some after
+  pub is : IsWritten (clocked a).clock of_mount asked before after
+
+-- ---- what becomes of a secret
+
+-- The secret was not written: it has the same versions, of which each stands, and the same current one; its settings
+-- change only by a 204 to settings of its own.
+pub record StandsUnwritten (a : Asking) (q : Text) (k m : Key) : Type 0 where
+  pub created : m.created ≡ k.created
+  pub current : m.current ≡ k.current
+  pub versions : (n : ℕ) (v : Version) → fin.get k.versions n ≡ Some v
+      → (w : Version) × (fin.get m.versions n ≡ Some w) × VersionStands a q k.current n v w
+  pub none : (n : ℕ) → fin.get k.versions n ≡ None → fin.get m.versions n ≡ None
+  pub settings : ((m.cas_required ≡ k.cas_required) × (m.max_versions ≡ k.max_versions)
+      × (m.custom_metadata ≡ k.custom_metadata))
+      ⊎ ((asked : KeySettings) × Commands a q (command.SetMetadata asked))
+
+-- the secret stands, written or not
+abbrev pub Stands : Asking → Text → Key → Key → Type 0
+Stands a q k m = ((asked : SecretWrite) × Writes a q asked) ⊎ StandsUnwritten a q k m
+
+-- it goes by its removal, or with its mount
+abbrev pub Goes : Asking → Text → Type 0
+Goes a q = Commands a q command.Remove ⊎ DisablesAbove a q
+
+-- it comes by a write, or without versions by settings of its own
+abbrev pub Comes : Asking → Text → Key → Type 0
+Comes a q m =
+    ((asked : SecretWrite) × Writes a q asked)
+    ⊎ (((asked : KeySettings) × Commands a q (command.SetMetadata asked)) × (m.current ≡ 0)
+    × ((n : ℕ) → fin.get m.versions n ≡ None))
+
+-- ---- what is read
+
+-- The request read this version: the one that it asked for, or the current one if it asked for 0. It is neither deleted
+-- nor destroyed, and the reply, without wrapping, has what it holds, byte for byte.
+pub record ReadsVersion (a : Asking) (p : Place) (asked : ℕ) : Type 0 where
+  pub key : Key
+  pub there : get (clocked a).secrets (named p) ≡ Some key
+  pub number : ℕ
+  pub by_number : asked ≢ 0 → number ≡ asked
+  pub by_current : asked ≡ 0 → number ≡ key.current
+  pub version : Version
+  pub is_kept : fin.get key.versions number ≡ Some version
+  pub not_deleted : version.deleted ≡ None
+  pub object : Text
+  pub holds : version.secret ≡ Some object
+  pub shown : VersionObject
+  pub custom_metadata : List (Text × Text)
+  pub reply : unwrapped_body a
+      ≡ reply_text (plain_reply (names_of a.words).request (secret_object (Some object) custom_metadata shown))
+
+-- the broker has the version n of the secret q, and it holds the object
+pub record Holds (b : Broker) (q : Text) (n : ℕ) (object : Text) : Type 0 where
+  pub key : Key
+  pub there : get b.secrets q ≡ Some key
+  pub version : Version
+  pub is_kept : fin.get key.versions n ≡ Some version
+  pub holds : version.secret ≡ Some object
+
+-- an event before the place j wrote it, as that version
+pub record WroteBefore (history : History) (j : ℕ) (q : Text) (n : ℕ) (object : Text) : Type 0 where
+  pub place : ℕ
+  pub earlier : place < j
+  pub asking : Asking
+  pub asked_at : AskedAt history place asking
+  pub asked : SecretWrite
+  pub wrote : DidWrite asking q asked
+  pub number : wrote.after.current ≡ n
+  pub is : asked.object ≡ object
+
+-- ---- the law
+
+pub record VersionsFollow (b : Broker) (history : History) : Type 0 where
+  -- Each 200 to a write wrote.
+  pub written : (i : ℕ) (a : Asking) (q : Text) (asked : SecretWrite) → AskedAt history i a → Writes a q asked
+      → DidWrite a q asked
+  -- A secret that was there at the clock of an event and is after it, stands.
+  pub stand : (i : ℕ) (a : Asking) (q : Text) (k m : Key) → AskedAt history i a → get (clocked a).secrets q ≡ Some k
+      → get a.outcome.next.secrets q ≡ Some m → Stands a q k m
+  pub go : (i : ℕ) (a : Asking) (q : Text) → AskedAt history i a → get (clocked a).secrets q ≢ None
+      → get a.outcome.next.secrets q ≡ None → Goes a q
+  pub come : (i : ℕ) (a : Asking) (q : Text) (m : Key) → AskedAt history i a → get (clocked a).secrets q ≡ None
+      → get a.outcome.next.secrets q ≡ Some m → Comes a q m
+  -- After a 204 to its removal, or to the disabling of its mount, a secret is gone.
+  pub gone : (i : ℕ) (a : Asking) (q : Text) → AskedAt history i a → Goes a q → get a.outcome.next.secrets q ≡ None
+  -- A 200 to a read has what the version holds.
+  pub read : (i : ℕ) (a : Asking) (p : Place) (n : ℕ) → AskedAt history i a
+      → command_of (clocked a).mounts a.ask ≡ Ok (on_secret p (command.Read n))
+      → a.outcome.response.status ≡ status.Success → ReadsVersion a p n
+  -- And what a version holds was given by the write that made it, or it was there at first.
+  pub given : (j : ℕ) (x : Asking) (q : Text) (n : ℕ) (object : Text) → AskedAt history j x
+      → Holds (clocked x) q n object → WroteBefore history j q n object ⊎ Holds b q n object
+
+abbrev pub AllVersionsFollow : Type 0
+AllVersionsFollow = (b : Broker) (history : History) → AreAsked b history → VersionsFollow b history
