@@ -1,19 +1,19 @@
 //! What an ask means: a command, with where it acts.
 
 ghost use Rattle.std.specs.Prelude.{◌≡◌, ◌||◌, not, nat_lt, IfOk};
-ghost use Rattle.broker_types.specs.Names.{names_of};
+ghost use Rattle.broker_types.specs.Names.{Names, names_of};
 ghost use Rattle.api_json.specs.Reads.{IsReadAs};
 ghost use Rattle.broker_model.specs.Command.{command_for, place_of};
 ghost use Rattle.broker_model.specs.Serving as serving;
 ghost use Rattle.broker_model.specs.Serving.{needed_by};
 ghost use Rattle.broker_model.specs.Step.{traits};
-ghost use Rattle.broker_model.specs.parts.WrappingCommands.{wrapping_traits};
+ghost use Rattle.broker_model.specs.Traits.{names_needed};
 ghost use Rattle.broker_rows.specs.Operating.{ArePrinted, IsWellFormed};
 ghost use Rattle.broker.specs.Meant.{meant, IsInRange, IsWellPlaced};
 
 use broker_model::{
-    CubbyholeCommand, IssuedCommand, LeaseCommand, MountCommand, PolicyCommand, SecretCommand,
-    TokenCommand, WrappingCommand,
+    CubbyholeCommand, IssuedCommand, LeaseCommand, MountCommand, Needs, PolicyCommand,
+    SecretCommand, TokenCommand, WrappingCommand,
 };
 use broker_rows::identifier;
 use broker_types::{Ask, RequestError, TextBuf, Words};
@@ -125,7 +125,7 @@ fn may_wrap(command: &Command<'_>) -> bool
     ensures { result ≡ (traits (meant command.now)).may_wrap }
 {
     match command {
-        Command::OnWrapping(command) => is_wrap(command),
+        Command::OnWrapping(command) => command.is_wrap(),
         _ => true,
     }
 }
@@ -135,18 +135,7 @@ fn must_wrap(command: &Command<'_>) -> bool
     ensures { result ≡ (traits (meant command.now)).must_wrap }
 {
     match command {
-        Command::OnWrapping(command) => is_wrap(command),
-        _ => false,
-    }
-}
-
-/// Whether a command on responses is that to wrap an object.
-fn is_wrap(command: &WrappingCommand) -> bool
-    ensures may { result ≡ (wrapping_traits command.now).may_wrap }
-    ensures must { result ≡ (wrapping_traits command.now).must_wrap }
-{
-    match command {
-        WrappingCommand::Wrap(_) => true,
+        Command::OnWrapping(command) => command.is_wrap(),
         _ => false,
     }
 }
@@ -162,7 +151,7 @@ pub(crate) fn needed_identifiers(
     ensures { IfOk result (λ needed.
         ArePrinted needed.items (needed_by ask.now (names_of words.now) (meant command.now))) }
 {
-    let mut needed = own_identifiers(alloc, words, command)?;
+    let mut needed = broker_rows::needed(alloc, words, needs(command))?;
     if !is_wrapped(ask, command) {
         return Ok(needed);
     }
@@ -173,20 +162,14 @@ pub(crate) fn needed_identifiers(
     Ok(needed)
 }
 
-/// The command's own identifiers.
-fn own_identifiers(
-    alloc: Global,
-    words: &Words,
-    command: &Command<'_>,
-) -> Result<Vec<TextBuf>, AllocError>
-    ensures { IfOk result (λ own. ArePrinted own.items ((traits (meant command.now)).own (names_of words.now))) }
+/// Which identifiers a command itself needs.
+fn needs(command: &Command<'_>) -> Needs
+    ensures { (names : Names) → names_needed result names ≡ (traits (meant command.now)).own names }
 {
     match command {
-        Command::OnToken(command) => token_operations::own_identifiers(alloc, words, command),
-        Command::OnIssued(_, command) => secret_operations::own_identifiers(alloc, words, command),
-        Command::OnWrapping(command) => {
-            system_operations::wrapping_identifiers(alloc, words, command)
-        }
-        _ => Ok(Vec::new(alloc)),
+        Command::OnToken(command) => command.needs(),
+        Command::OnIssued(_, command) => command.needs(),
+        Command::OnWrapping(command) => command.needs(),
+        _ => Needs::Nothing,
     }
 }

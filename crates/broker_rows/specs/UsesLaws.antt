@@ -11,7 +11,6 @@ use Rattle.broker_types.specs.SpendingLaws.{end_spent_sound}
 use Rattle.broker_types.specs.Text.{Text}
 use Rattle.broker_types.specs.Token.{Token}
 use Rattle.records.specs.Determined.{TokenRowsTellTheirEntries}
-use Rattle.records.specs.Parts.{Part}
 use Rattle.records.specs.RangeLaws.{token_in_range}
 use Rattle.records.specs.Ranges.{IsTokenInRange}
 use Rattle.records.specs.Reading.{IsSomeIn}
@@ -23,7 +22,6 @@ use Rattle.records.specs.Transaction.{Rows}
 use Rattle.records.specs.declared.kind.Kind.TheVariants as kind
 use Rattle.broker_model.specs.Forms.{forms}
 use Rattle.broker_rows.specs.Caller.{Caller, IsCallerAt, IsCallerOf}
-use Rattle.broker_rows.specs.Changed.{ChangesOnly}
 use Rattle.broker_rows.specs.Ending.{IsSpentAt, KeepsUses, has_no_uses}
 use Rattle.broker_rows.specs.ReadableLaws.{unspent_gone}
 use Rattle.broker_rows.specs.Representing.{Represents}
@@ -45,11 +43,6 @@ uses_left old new rows t left = elim (rows t) [
   | inl gone ↦ unspent_gone new t gone
   | inr same ↦ uses_at old new t same left
 ]
-
--- so it is where only rows of another part change
-pub uses_elsewhere : (part : Part) (old new : Rows) → part kind.Token ≡ false → ChangesOnly part old new
-    → KeepsUses old new
-uses_elsewhere part old new other others t left = uses_at old new t (others kind.Token t other) left
 
 -- a caller with uses left has them as long as all tokens have theirs
 pub caller_unspent : (old new : Rows) (c : Caller) → IsTokenInRange c.known → IsCallerAt old c → KeepsUses old new

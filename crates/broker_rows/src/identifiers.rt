@@ -4,6 +4,7 @@ ghost use Rattle.std.specs.Prelude.{◌≡◌, ◌∷◌, [], Option, IfOk, OnOk
 ghost use Rattle.broker_types.specs.Broker.{Broker};
 ghost use Rattle.broker_types.specs.Fault.{IsMemoryOrStorage};
 ghost use Rattle.broker_types.specs.Identifier.{id};
+ghost use Rattle.broker_types.specs.Names.{names_of};
 ghost use Rattle.broker_types.specs.Sound.{IsIdentifier};
 ghost use Rattle.broker_types.specs.Text.{Text};
 ghost use Rattle.broker_types.specs.TokenText.{token_text};
@@ -13,16 +14,31 @@ ghost use Rattle.records.specs.Table.{with_row, table};
 ghost use Rattle.records.specs.Transaction.{IsHonest};
 ghost use Rattle.records.specs.declared.kind.Kind.TheVariants as kind;
 ghost use Rattle.records.specs.Calls.{IsCall, IsReading};
+ghost use Rattle.broker_model.specs.Traits.{names_needed};
 ghost use Rattle.broker_rows.specs.Marks.{are_unmarked};
 ghost use Rattle.broker_rows.specs.Operating.{ArePrinted};
 ghost use Rattle.broker_rows.specs.Representing.{Represents};
 
-use broker_types::{Fault, TextBuf, id_text, is_among};
+use broker_model::Needs;
+use broker_types::{Fault, TextBuf, Words, id_text, is_among};
 use records::{Kind, RecordsTx, write_used};
 use std::alloc::{AllocError, Global};
 
+/// The identifiers that an operation needs, which have to be new, printed. The only error is running out of memory.
+#[tactic(auto, unfolding(broker_types::specs::Names::names_of))]
+pub fn needed(alloc: Global, words: &Words, needs: Needs) -> Result<Vec<TextBuf>, AllocError>
+    ensures { IfOk result (λ own. ArePrinted own.items (names_needed needs (names_of words.now))) }
+{
+    match needs {
+        Needs::Nothing => Ok(Vec::new(alloc)),
+        Needs::Token => printed(alloc, words.token(), words.accessor()),
+        Needs::Lease => printed(alloc, words.lease(), words.credential()),
+        Needs::WrappingToken => printed(alloc, words.wrapping_token(), words.wrapping_accessor()),
+    }
+}
+
 /// The identifiers of two words, printed. The only error is running out of memory.
-pub fn printed(alloc: Global, first: u128, second: u128) -> Result<Vec<TextBuf>, AllocError>
+fn printed(alloc: Global, first: u128, second: u128) -> Result<Vec<TextBuf>, AllocError>
     ensures { IfOk result (λ own. ArePrinted own.items (id first ∷ id second ∷ [])) }
 {
     let first = identifier(alloc, first)?;

@@ -18,7 +18,7 @@ pub use caller::{Asker, Caller};
 pub use context::Context;
 pub use ending::{end_spent, leave_nothing};
 pub use expiry::expire;
-pub use identifiers::{are_new, identifier, printed, token_text, use_up};
+pub use identifiers::{are_new, identifier, needed, token_text, use_up};
 pub use laws::{
     rows_represent_one_broker, the_first_broker_is_represented,
     upgraded_rows_represent_the_same_broker,

@@ -43,12 +43,12 @@ use Rattle.leases.specs.Roles as roles
 use Rattle.leases.specs.Roles.{Issued, IssuedLease, role_name, lease_id, new_lease, is_last_use, creds}
 use Rattle.leases.specs.SoundLaws.{shows_in_leases}
 use Rattle.broker_model.specs.Forms.{forms}
+use Rattle.broker_model.specs.parts.Issued.{of_issued}
 use Rattle.broker_rows.specs.Caller.{Caller, IsCallerOf}
 use Rattle.broker_rows.specs.Changed.{ChangesOnly}
 use Rattle.broker_rows.specs.EndingLaws.{neither}
 use Rattle.broker_rows.specs.MarkLaws.{marks_joined, marks_keep}
 use Rattle.broker_rows.specs.Representing.{Represents}
-use Rattle.secret_operations.specs.ChangedRows.{of_issued}
 use Rattle.secret_operations.specs.Issuing.{IsLeased}
 
 -- ---- on any rows

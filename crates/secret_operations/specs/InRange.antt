@@ -1,6 +1,6 @@
 -- Commands that fit into rows: a text that is kept is a short one, of an object, custom metadata are few and short, and a
 -- time that is kept is no longer than one that can be given (this project's row format).
-use Rattle.std.specs.Prelude.{◌≤◌, Some, None, ⊤}
+use Rattle.std.specs.Prelude.{◌≤◌, Some, ⊤}
 use Rattle.broker_types.specs.Duration.{longest_duration}
 use Rattle.api_json.specs.Kept.{IsKept, IsKeptSettings}
 use Rattle.api_json.specs.declared.issued_bodies.RoleSettings.{RoleSettings}
@@ -13,11 +13,8 @@ use Rattle.broker_model.specs.declared.commands.SecretCommand.TheVariants as sec
 
 -- what is written to a cubbyhole
 abbrev pub IsCubbyholeCommandInRange : CubbyholeCommand → Type 0
-IsCubbyholeCommandInRange cubbyhole.Read = ⊤
-IsCubbyholeCommandInRange cubbyhole.List = ⊤
-IsCubbyholeCommandInRange cubbyhole.Delete = ⊤
-IsCubbyholeCommandInRange (cubbyhole.Write None) = ⊤
 IsCubbyholeCommandInRange (cubbyhole.Write (Some text)) = IsKept text
+IsCubbyholeCommandInRange _ = ⊤
 
 -- what is written as a version, or as settings of a secret
 abbrev pub IsSecretCommandInRange : SecretCommand → Type 0

@@ -1,6 +1,4 @@
 pub mod Bodies
-pub mod ChangedRows
-pub mod ChangedRowsLaws
 pub mod InRange
 pub mod Issuing
 pub mod Paths

@@ -15,12 +15,12 @@ ghost use Rattle.cubbyhole.specs.Cubbyhole as cubbyhole;
 ghost use Rattle.mounts.specs.declared.operation.CubbyholeOperation.TheVariants as operations;
 ghost use Rattle.broker_model.specs.declared.commands.CubbyholeCommand.TheVariants as commands;
 ghost use Rattle.broker_model.specs.parts.Cubbyholes as part;
-ghost use Rattle.broker_rows.specs.Changed.{ChangesOnly};
+ghost use Rattle.broker_model.specs.parts.Cubbyholes.{cubbyhole_changes};
+ghost use Rattle.broker_rows.specs.Changed.{Changes, ChangesOnly};
 ghost use Rattle.broker_rows.specs.Context as known;
 ghost use Rattle.broker_rows.specs.Operating.{Performs};
 ghost use Rattle.broker_rows.specs.ReadableRow.{IsReadableObject};
 ghost use Rattle.broker_rows.specs.Reads.{AreReadableObjects};
-ghost use Rattle.secret_operations.specs.ChangedRows.{ChangesObjects};
 ghost use Rattle.secret_operations.specs.InRange.{IsCubbyholeCommandInRange};
 ghost use Rattle.secret_operations.specs.Paths.{needs_object_path};
 
@@ -87,7 +87,7 @@ pub fn act_on_cubbyholes<T: RecordsTx>(
 
     // And what only reads changes no row, and what writes or deletes only rows of cubbyholes.
     ensures rows { IsHonest (T.seen tx.new)
-        → OnAnswer result (ChangesObjects command (T.seen tx.old).rows (T.seen tx.new).rows) }
+        → OnAnswer result (Changes (cubbyhole_changes command) (T.seen tx.old).rows (T.seen tx.new).rows) }
     ensures call { IsRequestCall (T.seen tx.old) (T.seen tx.new) result IsNotBadStart }
 {
     match command {

@@ -9,17 +9,17 @@ ghost use Rattle.records.specs.Transaction.{IsHonest};
 ghost use Rattle.records.specs.Calls.{OnAnswer, IsRequestCall};
 ghost use Rattle.api_json.specs.Readers as reader;
 ghost use Rattle.api_json.specs.Reads.{IsRead};
+ghost use Rattle.broker_model.specs.Traits.{names_needed};
 ghost use Rattle.broker_model.specs.declared.commands.IssuedCommand.TheVariants as commands;
 ghost use Rattle.broker_model.specs.parts.Bodies.{read_as};
 ghost use Rattle.broker_model.specs.parts.Issued as part;
-ghost use Rattle.broker_model.specs.parts.Issued.{issued_command, own_names};
+ghost use Rattle.broker_model.specs.parts.Issued.{issued_changes, issued_command, issued_needs};
+ghost use Rattle.broker_rows.specs.Changed.{Changes};
 ghost use Rattle.broker_rows.specs.Operating.{ArePrinted, PerformsBy};
 ghost use Rattle.broker_rows.specs.Reads.{AreReadableIssued};
-ghost use Rattle.secret_operations.specs.ChangedRows.{ChangesIssued};
 ghost use Rattle.secret_operations.specs.InRange.{IsIssuedCommandInRange};
 
 mod credentials;
-pub(crate) mod identifiers;
 mod roles;
 
 use crate::place::Place;
@@ -84,9 +84,9 @@ pub fn act_on_issued<T: RecordsTx>(
     command: IssuedCommand,
 ) -> Result<Answered, RequestError>
     requires in_range { IsIssuedCommandInRange command }
-    requires own { ArePrinted own.now (own_names command (names_of context.now.words)) }
+    requires own { ArePrinted own.now (names_needed (issued_needs command) (names_of context.now.words)) }
     ensures told { is_mount_name place.now.mount ≡ true
-        → PerformsBy caller.now context.now (own_names command (names_of context.now.words))
+        → PerformsBy caller.now context.now (names_needed (issued_needs command) (names_of context.now.words))
         (T.seen tx.old) (T.seen tx.new)
         (λ b. part.act_on_issued b caller.now.token (names_of context.now.words) place.now command) result }
 
@@ -97,7 +97,7 @@ pub fn act_on_issued<T: RecordsTx>(
     // And what only reads changes no row, what sets or removes a role only rows of roles, and what issues a credential
     // only rows of leases, of credentials and of identifiers given out.
     ensures rows { IsHonest (T.seen tx.new)
-        → OnAnswer result (ChangesIssued command (T.seen tx.old).rows (T.seen tx.new).rows) }
+        → OnAnswer result (Changes (issued_changes command) (T.seen tx.old).rows (T.seen tx.new).rows) }
     ensures call { IsRequestCall (T.seen tx.old) (T.seen tx.new) result IsNotBadStart }
 {
     let mount = place.mount;

@@ -8,8 +8,6 @@ mod place;
 mod secrets;
 
 pub use cubbyholes::{act_on_cubbyholes, read_cubbyhole_command};
-pub use issued::identifiers::own_identifiers;
 pub use issued::{act_on_issued, read_issued_command};
 pub use place::Place;
-pub use secrets::act_on_secrets;
-pub use secrets::bodies::read_secret_command;
+pub use secrets::{act_on_secrets, read_secret_command};

@@ -24,8 +24,8 @@ use Rattle.wrapping.specs.Wrapping.{moved, rewrap, with_waiting}
 use Rattle.broker_model.specs.Forms.{forms}
 use Rattle.broker_model.specs.Laws.{AreWrappingNames, WrappingCommandsKeepSoundness}
 use Rattle.broker_model.specs.Order.{counted}
+use Rattle.broker_model.specs.Traits.{wrapping_names}
 use Rattle.broker_model.specs.declared.commands.WrappingCommand.TheVariants as command
-use Rattle.broker_model.specs.parts.WrappingCommands.{wrapping_names}
 use Rattle.broker_model.specs.parts.Wrappings.{found_under, rewrapped}
 use Rattle.broker_rows.specs.MarkLaws.{marks_joined}
 use Rattle.broker_rows.specs.Operating.{ArePrinted}

@@ -5,7 +5,5 @@ use Rattle.broker_model.specs.declared.commands.PolicyCommand.TheVariants as com
 
 -- four bytes hold the length of the text that a policy is set to
 abbrev pub IsPolicyCommandInRange : PolicyCommand → Type 0
-IsPolicyCommandInRange command.List = ⊤
-IsPolicyCommandInRange command.Show = ⊤
 IsPolicyCommandInRange (command.Set text) = length text < 2 ^ 32
-IsPolicyCommandInRange command.Remove = ⊤
+IsPolicyCommandInRange _ = ⊤

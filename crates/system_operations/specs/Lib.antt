@@ -1,5 +1,4 @@
-pub mod ChangedRows
-pub mod ChangedRowsLaws
 pub mod InRange
 pub mod ResponseChanges
+pub mod ResponseChangesLaws
 pub mod Rewrapping

@@ -9,7 +9,7 @@ use Rattle.broker_types.specs.declared.fault.Fault.{Fault}
 use Rattle.records.specs.Transaction.{Seen, Rows, IsHonest}
 use Rattle.wrapping.specs.Wrapping.{moved}
 use Rattle.broker_model.specs.Order.{counted}
-use Rattle.broker_model.specs.parts.WrappingCommands.{wrapping_names}
+use Rattle.broker_model.specs.Traits.{wrapping_names}
 use Rattle.broker_model.specs.parts.Wrappings.{found_under, rewrapped}
 use Rattle.broker_rows.specs.Context.{Context}
 use Rattle.broker_rows.specs.Operating.{Begins}

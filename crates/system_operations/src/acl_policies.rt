@@ -12,14 +12,13 @@ ghost use Rattle.api_json.specs.Readers as reader;
 ghost use Rattle.api_json.specs.Reads.{IsRead};
 ghost use Rattle.broker_model.specs.declared.commands.PolicyCommand.TheVariants as commands;
 ghost use Rattle.broker_model.specs.parts.AclPolicies as part;
-ghost use Rattle.broker_model.specs.parts.AclPolicyCommands.{policy_command};
+ghost use Rattle.broker_model.specs.parts.AclPolicies.{policy_changes, policy_command};
 ghost use Rattle.broker_model.specs.parts.Bodies.{read_as};
-ghost use Rattle.broker_rows.specs.Changed.{ChangesOnly};
+ghost use Rattle.broker_rows.specs.Changed.{Changes, ChangesOnly};
 ghost use Rattle.broker_rows.specs.Context as known;
 ghost use Rattle.broker_rows.specs.Operating.{Performs};
 ghost use Rattle.broker_rows.specs.ReadableRow.{IsReadablePolicy};
 ghost use Rattle.broker_rows.specs.Reads.{AreReadablePolicies};
-ghost use Rattle.system_operations.specs.ChangedRows.{ChangesPolicies};
 ghost use Rattle.system_operations.specs.InRange.{IsPolicyCommandInRange};
 
 use api_json::{keys_object, policy_object, policy_text, read_body};
@@ -79,7 +78,7 @@ pub fn act_on_policies<T: RecordsTx>(
 
     // And what only reads changes no row, and all else only those of policies.
     ensures rows { IsHonest (T.seen tx.new)
-        → OnAnswer result (ChangesPolicies command (T.seen tx.old).rows (T.seen tx.new).rows) }
+        → OnAnswer result (Changes (policy_changes command) (T.seen tx.old).rows (T.seen tx.new).rows) }
     ensures call { IsRequestCall (T.seen tx.old) (T.seen tx.new) result IsNotBadStart }
 {
     match command {

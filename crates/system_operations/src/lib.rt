@@ -9,5 +9,5 @@ mod token_leases;
 
 pub use acl_policies::{act_on_policies, read_policy_command};
 pub use mounted_engines::{act_on_mounts, read_mount_command};
-pub use responses::{act_on_wrappings, read_wrapping_command, wrapping_identifiers};
+pub use responses::{act_on_wrappings, read_wrapping_command};
 pub use token_leases::{act_on_leases, read_lease_command};

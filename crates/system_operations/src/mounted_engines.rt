@@ -18,13 +18,12 @@ ghost use Rattle.api_json.specs.Reads.{IsRead};
 ghost use Rattle.broker_model.specs.declared.commands.MountCommand.TheVariants as commands;
 ghost use Rattle.broker_model.specs.parts.Bodies.{read_as};
 ghost use Rattle.broker_model.specs.parts.Mounts as part;
-ghost use Rattle.broker_model.specs.parts.Mounts.{mount_command};
-ghost use Rattle.broker_rows.specs.Changed.{ChangesOnly};
+ghost use Rattle.broker_model.specs.parts.Mounts.{mount_changes, mount_command, of_kept, of_mounts_and_kept};
+ghost use Rattle.broker_rows.specs.Changed.{Changes, ChangesOnly};
 ghost use Rattle.broker_rows.specs.Context as known;
 ghost use Rattle.broker_rows.specs.Operating.{Performs};
 ghost use Rattle.broker_rows.specs.Reads.{AreReadableMounts};
 ghost use Rattle.broker_rows.specs.Representing.{Represents};
-ghost use Rattle.system_operations.specs.ChangedRows.{ChangesMounts, of_kept, of_mounts_and_kept};
 
 use api_json::{MountCreation, MountObject, mount_creation, mounts_object, read_body};
 use broker_model::MountCommand;
@@ -77,7 +76,7 @@ pub fn act_on_mounts<T: RecordsTx>(
 
     // And what only reads changes no row, and all else only those of mounts and of what is kept there.
     ensures rows { IsHonest (T.seen tx.new)
-        → OnAnswer result (ChangesMounts command (T.seen tx.old).rows (T.seen tx.new).rows) }
+        → OnAnswer result (Changes (mount_changes command) (T.seen tx.old).rows (T.seen tx.new).rows) }
     ensures call { IsRequestCall (T.seen tx.old) (T.seen tx.new) result IsNotBadStart }
 {
     match command {

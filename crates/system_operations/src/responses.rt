@@ -13,10 +13,10 @@ ghost use Rattle.records.specs.Table.{table};
 ghost use Rattle.wrapping.specs.WaitingRows.{IsReadableWaiting};
 ghost use Rattle.api_json.specs.Reads.{IsRead};
 ghost use Rattle.broker_model.specs.Order.{wrap_info};
+ghost use Rattle.broker_model.specs.Traits.{names_needed, wrapping_names};
 ghost use Rattle.broker_model.specs.declared.commands.WrappingCommand.TheVariants as commands;
 ghost use Rattle.broker_model.specs.parts.Wrappings as part;
-ghost use Rattle.broker_model.specs.parts.WrappingCommands.{token_meant, wrapping_command};
-ghost use Rattle.broker_model.specs.parts.WrappingCommands.{wrapping_names, wrapping_traits};
+ghost use Rattle.broker_model.specs.parts.WrappingCommands.{token_meant, wrapping_command, wrapping_needs};
 ghost use Rattle.broker_rows.specs.Context as known;
 ghost use Rattle.broker_rows.specs.Operating.{ArePrinted, Begins, Performs};
 ghost use Rattle.broker_rows.specs.Reads.{AreReadableResponses};
@@ -25,9 +25,9 @@ ghost use Rattle.system_operations.specs.Rewrapping.{MovesResponse};
 
 use api_json::{WrapObject, read_body, waiting_object, wrap_object, wrap_reply, wrapping_token};
 use broker_model::{WrappingCommand, wrapping_commands_are_proper};
-use broker_rows::{Answered, Context, moment, printed, use_up};
+use broker_rows::{Answered, Context, moment, use_up};
 use broker_types::{
-    CowText, Fault, Moment, Reason, Refusal, RequestError, TextBuf, TokenText, Words, id_text,
+    CowText, Fault, Moment, Reason, Refusal, RequestError, TextBuf, TokenText, id_text,
 };
 use mounts::WrappingOperation;
 use records::RecordsTx;
@@ -95,26 +95,6 @@ fn client_token(alloc: Global, client: &Option<CowText<'_>>) -> Result<Option<Te
     TextBuf::copied_if_some(alloc, client.as_ref().map(|token| token.as_str()))
 }
 
-/// The identifiers that a command on responses needs, which have to be new: those of a wrapping token that it makes and
-/// of its accessor. It fails if memory runs out.
-#[tactic(auto, unfolding(broker_types::specs::Names::names_of))]
-pub fn wrapping_identifiers(
-    alloc: Global,
-    words: &Words,
-    command: &WrappingCommand,
-) -> Result<Vec<TextBuf>, AllocError>
-    ensures { IfOk result (λ own. ArePrinted own.items ((wrapping_traits command.now).own (names_of words.now))) }
-{
-    match command {
-        WrappingCommand::Rewrap(_) => printed(
-            alloc,
-            words.wrapping_token(),
-            words.wrapping_accessor(),
-        ),
-        _ => Ok(Vec::new(alloc)),
-    }
-}
-
 /// Carries out a command on responses, with a caller or without. The identifiers that it needs have been printed. If no
 /// response waits under the wrapping token that is meant, or none is meant, it is refused with 400 `wrapping token is
 /// not valid or does not exist`. It fails with `Memory` if memory runs out, with `Storage` if the transaction's storage
@@ -126,9 +106,9 @@ pub fn act_on_wrappings<T: RecordsTx>(
     own: &[TextBuf],
     command: WrappingCommand,
 ) -> Result<Answered, RequestError>
-    requires own { ArePrinted own.now ((wrapping_traits command).own (names_of context.now.words)) }
+    requires own { ArePrinted own.now (names_needed (wrapping_needs command) (names_of context.now.words)) }
     ensures told { (who : Option Text)
-        → Performs who context.now ((wrapping_traits command).own (names_of context.now.words))
+        → Performs who context.now (names_needed (wrapping_needs command) (names_of context.now.words))
         (T.seen tx.old) (T.seen tx.new)
         (λ b. part.act_on_wrappings b (names_of context.now.words) command) result }
 

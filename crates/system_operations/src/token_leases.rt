@@ -15,12 +15,11 @@ ghost use Rattle.leases.specs.LeaseRows.{AreTimesInRange, IsReadableLease};
 ghost use Rattle.leases.specs.Leases as leases;
 ghost use Rattle.api_json.specs.Reads.{IsRead};
 ghost use Rattle.broker_model.specs.parts.Leases as part;
-ghost use Rattle.broker_model.specs.parts.Leases.{lease_command};
-ghost use Rattle.broker_rows.specs.Changed.{ChangesOnly};
+ghost use Rattle.broker_model.specs.parts.Leases.{lease_changes, lease_command};
+ghost use Rattle.broker_rows.specs.Changed.{Changes, ChangesOnly};
 ghost use Rattle.broker_rows.specs.Context as known;
 ghost use Rattle.broker_rows.specs.Operating.{Performs};
 ghost use Rattle.broker_rows.specs.Reads.{AreReadableLeases};
-ghost use Rattle.system_operations.specs.ChangedRows.{ChangesLeases};
 
 use api_json::{
     EndTime, LeaseObject, LeaseRenewal, lease_id, lease_object, lease_renewal, lease_reply,
@@ -71,7 +70,7 @@ pub fn act_on_leases<T: RecordsTx>(
 
     // And what only reads changes no row, and all else only those of leases and their credentials.
     ensures rows { IsHonest (T.seen tx.new)
-        → OnAnswer result (ChangesLeases command (T.seen tx.old).rows (T.seen tx.new).rows) }
+        → OnAnswer result (Changes (lease_changes command) (T.seen tx.old).rows (T.seen tx.new).rows) }
     ensures call { IsRequestCall (T.seen tx.old) (T.seen tx.new) result IsNotBadStart }
 {
     match command {

@@ -9,7 +9,6 @@ pub mod TokenMade
 pub mod TokenPolicies
 pub mod TokenRecords
 pub mod TokenRenewals
-pub mod TokenRules
 pub mod TokenSets
 pub mod TokenSound
 pub mod TokenTables

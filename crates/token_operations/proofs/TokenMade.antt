@@ -20,6 +20,7 @@ use Rattle.records.specs.declared.kind.Kind.TheVariants as kind
 use Rattle.token_tree.specs.SoundLaws.{create_sound}
 use Rattle.token_tree.specs.Tokens.{MayBeMade, with_token}
 use Rattle.broker_model.specs.Forms.{forms}
+use Rattle.broker_model.specs.parts.TokenCommands.{of_made}
 use Rattle.broker_model.specs.parts.TokenReplies.{auth_reply}
 use Rattle.broker_model.specs.parts.Tokens.{made}
 use Rattle.broker_rows.specs.EndingLaws.{neither}
@@ -28,7 +29,6 @@ use Rattle.broker_rows.specs.Representing.{Represents}
 use Rattle.broker_rows.specs.Done.{IsDone}
 use Rattle.broker_rows.specs.declared.answered.Answered.TheVariants.{Made}
 use Rattle.broker_rows.specs.RepresentingLaws.{tokens_long}
-use Rattle.token_operations.specs.ChangedTokens.{of_made}
 use Rattle.token_operations.proofs.TokenTables.{represents-created}
 
 -- ---- what is made

@@ -26,11 +26,11 @@ use Rattle.api_json.specs.declared.token_bodies.TokenCreation.{TokenCreation}
 use Rattle.records.specs.EntryMapLaws.{each_listed, few_listed}
 use Rattle.records.specs.ValueLaws.{ok_inj}
 use Rattle.token_tree.specs.Tokens.{MayBeMade}
+use Rattle.broker_model.specs.Traits.{token_names}
 use Rattle.broker_model.specs.declared.making.Making.{Making}
 use Rattle.broker_model.specs.parts.TokenCreation.{makes_orphans}
 use Rattle.broker_model.specs.parts.TokenCreation.{new_token, new_parent, or_longest, asked_time, asked_ttl, has_no_end, use_limit}
 use Rattle.broker_model.specs.parts.Tokens.{known}
-use Rattle.broker_model.specs.parts.TokenCommands.{token_names}
 use Rattle.token_operations.specs.TokenRanges.{IsInRange, AreTokenNames}
 use Rattle.token_operations.proofs.TokenPolicies.{ArePolicies, IsPolicyName}
 

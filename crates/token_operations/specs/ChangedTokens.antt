@@ -1,19 +1,16 @@
 -- What a command on tokens that answers makes of the rows, whatever they are (this project's definition).
-use Rattle.std.specs.Prelude.{◌≡◌, ◌||◌, true, Option, Some, None}
+use Rattle.std.specs.Prelude.{true, Option, Some, None}
 use Rattle.broker_types.specs.Text.{Text}
-use Rattle.records.specs.Parts.{Part, of_tokens, of_used}
+use Rattle.records.specs.Parts.{Part}
 use Rattle.records.specs.Table.{table_of}
 use Rattle.records.specs.Transaction.{Rows}
 use Rattle.token_tree.specs.Accessors.{IsFoundAt}
 use Rattle.wrapping.specs.AccessorRows.{DropsAccessor}
+use Rattle.broker_model.specs.Traits.{Fate, by_accessor, by_text, itself, orphan, revoke}
 use Rattle.broker_model.specs.declared.commands.TokenCommand.{TokenCommand}
-use Rattle.broker_model.specs.declared.commands.TokenCommand.TheVariants as token
-use Rattle.broker_rows.specs.Changed.{ChangesOnly}
+use Rattle.broker_model.specs.parts.TokenCommands.{token_changes, token_fate}
+use Rattle.broker_rows.specs.Changed.{Changes}
 use Rattle.broker_rows.specs.Ending.{Revokes, RevokesOne}
-
--- tokens with their accessors, and the identifiers that were given out
-abbrev pub of_made : Part
-of_made k = of_tokens k || of_used k
 
 -- the token that has the accessor was revoked; or, if none has it, the response of the wrapping token that it names is
 -- dropped
@@ -26,17 +23,14 @@ abbrev pub RevokesNamed : Text → Rows → Rows → Type 0
 RevokesNamed accessor old new =
     (found : Option Text) × IsFoundAt (table_of old) accessor found × RevokesHolder accessor found old new
 
--- A look-up changes no row. What is revoked goes as `Revokes` says: by its text, by its accessor, or as the caller. A
--- renewal changes only rows of tokens, and a creation those of identifiers too.
+-- What is revoked goes as `Revokes` says: by its text, by its accessor, or as the caller. All else changes only rows of
+-- the part that it may change.
+abbrev pub ChangesByFate : Text → Fate → Option Part → Rows → Rows → Type 0
+ChangesByFate caller (revoke (by_text t)) changes old new = Revokes t old new
+ChangesByFate caller (revoke (by_accessor accessor)) changes old new = RevokesNamed accessor old new
+ChangesByFate caller (revoke itself) changes old new = Revokes caller old new
+ChangesByFate caller (orphan t) changes old new = RevokesOne t old new
+ChangesByFate caller _ changes old new = Changes changes old new
+
 abbrev pub ChangesTokens : Text → TokenCommand → Rows → Rows → Type 0
-ChangesTokens caller (token.Create making asked) old new = ChangesOnly of_made old new
-ChangesTokens caller (token.LookUp t) old new = new ≡ old
-ChangesTokens caller (token.LookUpAccessor a) old new = new ≡ old
-ChangesTokens caller token.LookUpSelf old new = new ≡ old
-ChangesTokens caller (token.Renew asked) old new = ChangesOnly of_tokens old new
-ChangesTokens caller (token.RenewSelf increment) old new = ChangesOnly of_tokens old new
-ChangesTokens caller (token.Revoke t) old new = Revokes t old new
-ChangesTokens caller (token.RevokeOrphan t) old new = RevokesOne t old new
-ChangesTokens caller (token.RevokeAccessor a) old new = RevokesNamed a old new
-ChangesTokens caller token.RevokeSelf old new = Revokes caller old new
-ChangesTokens caller token.ListAccessors old new = new ≡ old
+ChangesTokens caller command = ChangesByFate caller (token_fate command) (token_changes command)

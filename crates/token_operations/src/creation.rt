@@ -11,14 +11,14 @@ ghost use Rattle.records.specs.Transaction.{IsHonest};
 ghost use Rattle.api_json.specs.Kept.{IsKeptCreation};
 ghost use Rattle.policies.specs.Allows.{allows};
 ghost use Rattle.policies.specs.declared.capability.Capability.TheVariants as capability;
-ghost use Rattle.broker_model.specs.parts.TokenCommands.{token_names};
+ghost use Rattle.broker_model.specs.Traits.{token_names};
+ghost use Rattle.broker_model.specs.parts.TokenCommands.{of_made};
 ghost use Rattle.broker_model.specs.parts.TokenCreation.{making_path};
 ghost use Rattle.broker_model.specs.parts.Tokens as part;
 ghost use Rattle.broker_rows.specs.Caller.{AreItsRules, IsCallerAt};
 ghost use Rattle.broker_rows.specs.Changed.{ChangesOnly};
 ghost use Rattle.broker_rows.specs.Ending.{KeepsUses, has_no_uses};
 ghost use Rattle.broker_rows.specs.Operating.{ArePrinted, PerformsBy};
-ghost use Rattle.token_operations.specs.ChangedTokens.{of_made};
 ghost use Rattle.token_operations.specs.TokenMaking.{MayMakeAt, PutsToken};
 
 use crate::new_policies::new_policies;

@@ -15,16 +15,14 @@ ghost use Rattle.records.specs.Transaction.{IsHonest};
 ghost use Rattle.records.specs.Calls.{OnAnswer, OnRefused, IsRequestCall};
 ghost use Rattle.token_tree.specs.TokenRows.{IsTokenAt};
 ghost use Rattle.broker_model.specs.parts.Tokens as part;
-ghost use Rattle.broker_rows.specs.Caller.{IsCallerAt};
 ghost use Rattle.broker_rows.specs.Changed.{ChangesOnly};
 ghost use Rattle.broker_rows.specs.Ending.{KeepsUses};
-ghost use Rattle.broker_rows.specs.Operating.{ActsAs, Begins, Performs, PerformsBy};
+ghost use Rattle.broker_rows.specs.Operating.{ActsAs, Begins, Performs};
 ghost use Rattle.broker_rows.specs.ReadableRow.{IsReadableToken};
 
 use crate::LONGEST_TTL;
-use crate::copying::copied_token;
 use crate::shown::auth_reply;
-use broker_rows::{Answered, Caller, Context};
+use broker_rows::{Answered, Context};
 use broker_types::{Denial, Moment, Reason, Refusal, RequestError, Seconds, id_text};
 use records::{Due, RecordsTx, TokenRecord};
 use std::alloc::Global;
@@ -59,32 +57,7 @@ pub(crate) fn renew<T: RecordsTx>(
     renew_found(alloc, tx, context, token, found, increment)
 }
 
-/// Gives the caller's token its new end, by what is known of it.
-pub(crate) fn renew_self<T: RecordsTx>(
-    alloc: Global,
-    tx: &mut T,
-    context: &Context<'_>,
-    caller: &Caller<'_>,
-    increment: Seconds,
-) -> Result<Answered, RequestError>
-    requires { IsTokenInRange caller.now.known }
-    ensures told { PerformsBy caller.now context.now [] (T.seen tx.old) (T.seen tx.new)
-        (λ b. part.renew b (names_of context.now.words) caller.now.token increment) result }
-
-    // Whatever the rows are: none changes but those of tokens. No token loses its last use, if the row of the caller
-    // says what is known of it.
-    ensures rows { IsHonest (T.seen tx.new)
-        → OnOk result (ChangesOnly of_tokens (T.seen tx.old).rows (T.seen tx.new).rows) }
-    ensures uses { IsHonest (T.seen tx.new) → IsCallerAt (T.seen tx.old).rows caller.now
-        → OnOk result (KeepsUses (T.seen tx.old).rows (T.seen tx.new).rows) }
-    ensures refused { IsHonest (T.seen tx.new) → OnRefused result ((T.seen tx.new).rows ≡ (T.seen tx.old).rows) }
-    ensures call { IsRequestCall (T.seen tx.old) (T.seen tx.new) result IsNotBadStart }
-{
-    let known = copied_token(alloc, &caller.known)?;
-    renew_found(alloc, tx, context, caller.token, known, increment)
-}
-
-/// Gives a token that was found its new end.
+/// Gives a token that was found, and whose row still says so, its new end.
 fn renew_found<T: RecordsTx>(
     alloc: Global,
     tx: &mut T,
@@ -93,17 +66,16 @@ fn renew_found<T: RecordsTx>(
     found: TokenRecord,
     increment: Seconds,
 ) -> Result<Answered, RequestError>
-    requires { IsTokenInRange found }
+    requires in_range { IsTokenInRange found }
+    requires there { IsHonest (T.seen tx.old) → IsTokenAt (table (T.seen tx.old)) token.now (Some found) }
     ensures told { IsHonest (T.seen tx.new) → (who : Option Text) (b : Broker)
         → Begins who context.now (T.seen tx.old).rows b → Some found ≡ option_map token_entry (get b.tokens token.now)
         → ActsAs who b (T.seen tx.new).rows result (part.renew b (names_of context.now.words) token.now increment) }
 
-    // Whatever the rows are: none changes but those of tokens. No token loses its last use, if the row of this one says
-    // what was found.
+    // Whatever the rows are: none changes but those of tokens, of which none loses its last use.
     ensures rows { IsHonest (T.seen tx.new)
         → OnOk result (ChangesOnly of_tokens (T.seen tx.old).rows (T.seen tx.new).rows) }
-    ensures uses { IsHonest (T.seen tx.new) → IsTokenAt (table (T.seen tx.old)) token.now (Some found)
-        → OnOk result (KeepsUses (T.seen tx.old).rows (T.seen tx.new).rows) }
+    ensures uses { IsHonest (T.seen tx.new) → OnOk result (KeepsUses (T.seen tx.old).rows (T.seen tx.new).rows) }
     ensures refused { IsHonest (T.seen tx.new) → OnRefused result ((T.seen tx.new).rows ≡ (T.seen tx.old).rows) }
     ensures call { IsRequestCall (T.seen tx.old) (T.seen tx.new) result IsNotBadStart }
 {

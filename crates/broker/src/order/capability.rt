@@ -1,18 +1,18 @@
 //! The capability that a request asks for.
 
-ghost use Rattle.std.specs.Prelude.{◌≡◌, ◌≢◌, None, Some, IfOk};
+ghost use Rattle.std.specs.Prelude.{◌≡◌, ◌≢◌, None, Some, Ok, IfOk};
 ghost use Rattle.broker_types.specs.Broker.{Broker};
 ghost use Rattle.broker_types.specs.Fault.{IsMemoryOrStorage};
 ghost use Rattle.broker_types.specs.Map.{get};
 ghost use Rattle.records.specs.Calls.{IsReading};
 ghost use Rattle.records.specs.Transaction.{IsHonest};
 ghost use Rattle.broker_model.specs.Capabilities as capabilities;
-ghost use Rattle.broker_model.specs.Capabilities.{stored_by, has_stored};
+ghost use Rattle.broker_model.specs.Capabilities.{stored, has_stored};
 ghost use Rattle.broker_rows.specs.Representing.{Represents};
 ghost use Rattle.broker.specs.PermittedRows.{has_row};
 
 use broker_types::{Fault, Refusal, Verb};
-use mounts::{CubbyholeOperation, Operation, Route, SecretOperation};
+use mounts::{Route, Stores};
 use policies::Capability;
 use records::RecordsTx;
 use std::alloc::Global;
@@ -51,20 +51,16 @@ fn is_there<T: RecordsTx>(
 ) -> Result<bool, Fault>
     ensures told { IsHonest (T.seen tx.new) → (b : Broker) → Represents (Some caller.now) (T.seen tx.old).rows b
         → get b.tokens caller.now ≢ None → IfOk result (λ v. v ≡ capabilities.stands_there (has_stored b caller.now)
-        (stored_by route.now.operation route.now.mount route.now.parameter)) }
+        (stored (Ok route.now))) }
     ensures found { IsHonest (T.seen tx.new)
         → IfOk result (λ v. v ≡ capabilities.stands_there (has_row (T.seen tx.old).rows caller.now)
-        (stored_by route.now.operation route.now.mount route.now.parameter)) }
+        (stored (Ok route.now))) }
     ensures call { IsReading (T.seen tx.old) (T.seen tx.new) result IsMemoryOrStorage }
 {
-    match route.operation {
-        Operation::Cubbyholes(CubbyholeOperation::Write) => {
-            cubbyhole::is_there(alloc, tx, caller, route.parameter)
-        }
-        Operation::Secrets(SecretOperation::Write) => {
-            kv2::is_there(alloc, tx, route.mount, route.parameter)
-        }
-        _ => Ok(true),
+    match route.operation.facts().stores {
+        Stores::Nothing => Ok(true),
+        Stores::Object => cubbyhole::is_there(alloc, tx, caller, route.parameter),
+        Stores::Secret => kv2::is_there(alloc, tx, route.mount, route.parameter),
     }
 }
 

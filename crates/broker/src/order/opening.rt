@@ -27,42 +27,31 @@ use crate::order::routing::find_route;
 use api_json::{read_body, wrapping_token};
 use broker_rows::{Answered, Context};
 use broker_types::{Answer, Ask, CowText, Fault, RequestError, TextBuf, Verb};
+use mounts::{Opens, operation_at};
 use records::RecordsTx;
 use std::alloc::Global;
 
-/// Whether an ask needs no caller: a look-up of a wrapping token, and an unwrap or a rewrap of the client token. The
+/// Whether an ask needs no caller, as a look-up of a wrapping token, and an unwrap or a rewrap of the client token. The
 /// only fault is running out of memory.
 pub(crate) fn is_open(alloc: Global, ask: &Ask<'_>) -> Result<bool, Fault>
     ensures value { IfOk result (λ v. v ≡ serving.is_open ask.now) }
     ensures memory { IfErr result (λ fault. fault ≡ Memory) }
 {
-    let path = ask.path.as_str();
-    if ask.verb != Verb::Write {
-        return Ok(false);
+    match opening(ask.verb, ask.path.as_str()) {
+        Opens::Never => Ok(false),
+        Opens::Always => Ok(true),
+        Opens::WithItsOwn => names_own(alloc, ask),
     }
-    if looks_up(path) {
-        return Ok(true);
-    }
-    if !takes_own(path) {
-        return Ok(false);
-    }
-    names_own(alloc, ask)
 }
 
-/// Whether the path is that of the look-up of a wrapping token.
-#[tactic(auto, unfolding(broker_types::specs::Text::same, broker_model::specs::parts::WrappingCommands::looks_up))]
-fn looks_up(path: &str) -> bool
-    ensures { result ≡ commands.looks_up path.now }
+/// Whether the operation of a verb at a path needs no caller. Without an operation there a caller is needed.
+fn opening(verb: Verb, path: &str) -> Opens
+    ensures { result ≡ commands.opening verb path.now }
 {
-    path == "sys/wrapping/lookup"
-}
-
-/// Whether the path is one of those at which the client token may be the wrapping token.
-#[tactic(auto, unfolding(broker_types::specs::Text::same, broker_model::specs::parts::WrappingCommands::takes_own))]
-fn takes_own(path: &str) -> bool
-    ensures { result ≡ commands.takes_own path.now }
-{
-    path == "sys/wrapping/unwrap" || path == "sys/wrapping/rewrap"
+    match operation_at(verb, path) {
+        Some(operation) => operation.facts().opens,
+        None => Opens::Never,
+    }
 }
 
 /// Whether the body of an ask can be read and names no wrapping token but the client token.

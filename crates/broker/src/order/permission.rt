@@ -19,7 +19,7 @@ ghost use Rattle.broker.specs.PermittedRows.{IsPermittedAt};
 use crate::order::capability::capability;
 use broker_rows::Caller;
 use broker_types::{Fault, Refusal, Verb};
-use mounts::Route;
+use mounts::{Route, asks_sudo};
 use policies::{Capability, Rules, allows, rules_of};
 use records::RecordsTx;
 use std::alloc::Global;
@@ -62,18 +62,10 @@ pub(crate) fn permitted<T: RecordsTx>(
     Ok(Some(rules))
 }
 
-/// Whether rules allow the capability at a path, and `sudo` too where the path asks for it.
+/// Whether rules allow the capability at a path, and `sudo` too where the path asks for it (Vault's documentation,
+/// "Policies", root-protected API endpoints).
 fn may(rules: &Rules, path: &str, asked: Capability) -> bool
     ensures { result ≡ permission.may rules.now path.now asked }
 {
-    allows(rules, path, asked) && (!needs_sudo(path) || allows(rules, path, Capability::Sudo))
-}
-
-/// Whether a path asks for `sudo` (Vault's documentation, "Policies", root-protected API endpoints).
-fn needs_sudo(path: &str) -> bool
-    ensures { result ≡ permission.needs_sudo path.now }
-{
-    path == "auth/token/accessors"
-        || path == "auth/token/revoke-orphan"
-        || path.as_bytes().starts_with(b"sys/leases/revoke-prefix/")
+    allows(rules, path, asked) && (!asks_sudo(path) || allows(rules, path, Capability::Sudo))
 }

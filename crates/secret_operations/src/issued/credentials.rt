@@ -14,13 +14,13 @@ ghost use Rattle.records.specs.Calls.{OnAnswer, IsRequestCall, IsRequestReading}
 ghost use Rattle.records.specs.Table.{table};
 ghost use Rattle.leases.specs.LeaseRows.{IsReadableCredential};
 ghost use Rattle.leases.specs.RoleRows.{IsReadableRole};
+ghost use Rattle.broker_model.specs.Traits.{lease_names};
 ghost use Rattle.broker_model.specs.parts.Issued as part;
-ghost use Rattle.broker_model.specs.parts.Issued.{lease_names};
+ghost use Rattle.broker_model.specs.parts.Issued.{of_issued};
 ghost use Rattle.broker_model.specs.parts.Place.{at};
 ghost use Rattle.broker_rows.specs.Changed.{ChangesOnly};
 ghost use Rattle.broker_rows.specs.Done.{answered_of};
 ghost use Rattle.broker_rows.specs.Operating.{ArePrinted, Performs, PerformsBy};
-ghost use Rattle.secret_operations.specs.ChangedRows.{of_issued};
 ghost use Rattle.secret_operations.specs.Issuing.{IssuesLease};
 
 use api_json::{credential_object, lease_reply, valid_object};

@@ -18,6 +18,7 @@ returns c =
     let command = meant c.args.command.now in
     let own = c.in_ok-needed.needed.items in
     let wraps : is_wrapped ask command ≡ true = sym c.is_wrapped.ensures ∙ c.if-not-is_wrapped.false in
+    let printed = subst (ArePrinted own) (c.needs.ensures names) c.in_ok-needed.ensures in
     let token = c.in_ok-token.ensures in
     let accessor = c.in_ok-accessor.ensures in
     let token_is = token.value ∙ ap id c.wrapping_token.ensures in
@@ -26,5 +27,5 @@ returns c =
     c.in_ok-insert-2.ensures.items ∙ ap (λ (rest : List Text). c.in_ok-token.token ∷ rest) c.in_ok-insert.ensures.items
     ∙ (λ i. token_is i ∷ accessor_is i ∷ own) in
     subst (λ (needed : List Text). ArePrinted needed (needed_by ask names command)) (sym items)
-    (needed_printed ask names command wraps own c.in_ok-needed.ensures (subst IsIdentifier token_is token.good)
+    (needed_printed ask names command wraps own printed (subst IsIdentifier token_is token.good)
     (subst IsIdentifier accessor_is accessor.good))

@@ -11,9 +11,8 @@ use Rattle.records.specs.CallLaws.{honest_before}
 use Rattle.records.specs.Parts.{of_mounts}
 use Rattle.records.specs.Table.{table_of}
 use Rattle.records.specs.declared.kind.Kind.TheVariants as kind
-use Rattle.broker_model.specs.parts.Mounts.{without_kept}
+use Rattle.broker_model.specs.parts.Mounts.{of_kept, of_mounts_and_kept, without_kept}
 use Rattle.broker_rows.specs.RepresentingLaws.{mounts_there}
-use Rattle.system_operations.specs.ChangedRows.{of_kept, of_mounts_and_kept}
 use Rattle.system_operations.proofs.ChangedRowsAnswers.{only_refused, only_first, only_both}
 use Rattle.system_operations.proofs.MountAnswers.{IsDisabled, acts_refused, acts_absent, is_gone, acts_disabled}
 use Rattle.system_operations.proofs.MountAnswers.{readable_before, refused_readable, absent_readable}

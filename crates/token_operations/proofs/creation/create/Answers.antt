@@ -14,8 +14,9 @@ use Rattle.records.specs.Ranges.{IsTokenInRange}
 use Rattle.records.specs.TokenEntry.{TokenEntry, token_entry}
 use Rattle.policies.specs.Allows.{allows}
 use Rattle.policies.specs.declared.capability.Capability.TheVariants as capability
+use Rattle.broker_model.specs.CreationLaws.{allowed}
 use Rattle.broker_model.specs.Forms.{forms}
-use Rattle.broker_model.specs.parts.TokenCommands.{token_names}
+use Rattle.broker_model.specs.Traits.{token_names}
 use Rattle.broker_model.specs.parts.TokenCreation.{making_path, is_privileged, new_policies, may_make, new_parent}
 use Rattle.broker_model.specs.parts.TokenCreation.{new_token}
 use Rattle.broker_rows.specs.Caller.{Asker, Caller}
@@ -29,7 +30,6 @@ use Rattle.token_operations.proofs.TokenCreations.{each_pair, parent_named, sudo
 use Rattle.token_operations.proofs.TokenCreations.{create_made, same_may, same_policies_told}
 use Rattle.token_operations.proofs.TokenPolicies.{ArePolicies, IsPolicyName, each_passes, new_policies_are}
 use Rattle.token_operations.proofs.TokenRecords.{new_in_range, new_policies_short, same_new}
-use Rattle.token_operations.proofs.TokenRules.{allowed}
 use Rattle.token_operations.proofs.TokenSound.{may_be_made, sound_policies}
 use Rattle.token_operations.proofs.TokenUses.{limit_unspent}
 use Rattle.token_operations.proofs.creation.create.Goals as goal

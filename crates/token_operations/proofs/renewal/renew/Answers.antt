@@ -66,13 +66,17 @@ returns-clause-rows g c honest =
 pub returns-clause-uses : goal.returns-clause-uses
 returns-clause-uses g c honest =
     let seen = g.T.RecordsTx.seen in
-    let t = c.args.token.now in
     let new = (seen c.renew_found.new.tx).rows in
-    let found = c.in-Some.found in
     let before = honest_before (seen c.find.new.tx) (seen c.renew_found.new.tx) _ c.renew_found.ensures.call.goes_on honest in
-    let at = subst (IsTokenAt (table_of (seen c.args.tx.now).rows) t) c.in-Some.is (c.in_ok-found.ensures.found before) in
-    subst (λ (rows : Rows). IsTokenAt (table_of rows) t (Some found) → OnOk c.renew_found.result (KeepsUses rows new))
-    (c.in_ok-found.ensures.call.same before) (c.renew_found.ensures.uses honest) at
+    subst (λ (rows : Rows). OnOk c.renew_found.result (KeepsUses rows new)) (c.in_ok-found.ensures.call.same before)
+    (c.renew_found.ensures.uses honest)
+
+pub renew_found-requires-clause-there : goal.renew_found-requires-clause-there
+renew_found-requires-clause-there g c honest =
+    let seen = g.T.RecordsTx.seen in
+    let t = c.args.token.now in
+    subst (λ (rows : Rows). IsTokenAt (table_of rows) t (Some c.in-Some.found)) (sym (c.in_ok-found.ensures.call.same honest))
+    (subst (IsTokenAt (table_of (seen c.args.tx.now).rows) t) c.in-Some.is (c.in_ok-found.ensures.found honest))
 
 pub returns-clause-refused : goal.returns-clause-refused
 returns-clause-refused g c honest =

@@ -2,6 +2,7 @@ use Rattle.std.specs.Prelude.{Ok, Some, is_some, not}
 use Rattle.std.proofs.Common.{refl, sym, ap, ◌∙◌, subst}
 use Rattle.broker_types.specs.Identifier.{id}
 use Rattle.broker_types.specs.Names.{names_of}
+use Rattle.records.specs.CallLaws.{honest_before}
 use Rattle.records.specs.TokenEntry.{TokenEntry}
 use Rattle.broker_model.specs.Forms.{forms}
 use Rattle.broker_model.specs.parts.TokenReplies.{auth_reply}
@@ -45,7 +46,8 @@ returns-clause-told g c honest who b starts here =
     (c.in_ok-renewed.ensures.call.others honest)))
 
 pub returns-clause-uses : goal.returns-clause-uses
-returns-clause-uses g c honest at =
+returns-clause-uses g c honest =
     let seen = g.T.RecordsTx.seen in
+    let at = c.requires.there (honest_before (seen c.args.tx.now) (seen c.renew.new.tx) _ c.renew.ensures.call.goes_on honest) in
     renewed_keep (seen c.args.tx.now).rows (seen c.renew.new.tx).rows c.args.token.now c.args.found c.new_end-ends.result
     c.new_end-ends.ensures.near at (c.in_ok-renewed.ensures.rows honest)

@@ -1,4 +1,4 @@
-use Rattle.system_operations.specs.ChangedRowsLaws.{responses_keep_uses}
+use Rattle.system_operations.specs.ResponseChangesLaws.{responses_keep_uses}
 use Rattle.broker.proofs.KeptUses.{uses_on_answer}
 use Rattle.broker.proofs.order.operating.act_openly.Goals as goal
 

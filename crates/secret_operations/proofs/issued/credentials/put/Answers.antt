@@ -11,10 +11,10 @@ use Rattle.records.specs.Table.{with_row}
 use Rattle.records.specs.declared.kind.Kind.TheVariants as kind
 use Rattle.leases.specs.Roles.{creds}
 use Rattle.broker_model.specs.Forms.{forms}
+use Rattle.broker_model.specs.parts.Issued.{of_issued}
 use Rattle.broker_rows.specs.Context.{Context}
 use Rattle.broker_rows.specs.Caller.{Caller}
 use Rattle.broker_rows.specs.RepresentingLaws.{represents_leases, still_represented, tells_part}
-use Rattle.secret_operations.specs.ChangedRows.{of_issued}
 use Rattle.secret_operations.specs.Issuing.{IssuesLease}
 use Rattle.secret_operations.proofs.IssuedAnswers.{ends_weaker}
 use Rattle.secret_operations.proofs.IssuedRows.{last_use, id_new, credential_new, leased, only_issued}

@@ -1,0 +1,146 @@
+//! Requests on tokens: what they ask for, and what is done (Vault's documentation, "Token auth method (API)").
+
+ghost use Rattle.std.specs.Prelude.{◌≡◌, OnOk, ◌≤◌, IfOk, length};
+ghost use Rattle.broker_types.specs.Fault.{IsNotBadStart};
+ghost use Rattle.broker_types.specs.Names.{names_of};
+ghost use Rattle.records.specs.Calls.{OnAnswer, OnRefused, IsRequestCall};
+ghost use Rattle.records.specs.Ranges.{IsTokenInRange};
+ghost use Rattle.records.specs.Transaction.{IsHonest};
+ghost use Rattle.broker_model.specs.Traits.{names_needed};
+ghost use Rattle.broker_model.specs.parts.TokenCommands.{token_needs, token_command};
+ghost use Rattle.broker_model.specs.parts.Tokens as part;
+ghost use Rattle.broker_rows.specs.Caller.{AreItsRules, IsCallerAt};
+ghost use Rattle.broker_rows.specs.Ending.{KeepsUses};
+ghost use Rattle.broker_rows.specs.Operating.{ArePrinted, PerformsBy};
+ghost use Rattle.broker_rows.specs.Reads.{AreReadableTokens};
+ghost use Rattle.token_operations.specs.ChangedTokens.{ChangesTokens};
+ghost use Rattle.token_operations.specs.TokenRanges.{IsTokenCommandInRange};
+ghost use Rattle.broker_types.specs.Limits.{longest_body};
+ghost use Rattle.api_json.specs.Readers as reader;
+ghost use Rattle.api_json.specs.Reads.{IsRead};
+ghost use Rattle.broker_model.specs.declared.commands.TokenCommand.TheVariants as command;
+ghost use Rattle.broker_model.specs.parts.Bodies.{read_as};
+
+use crate::creation::create;
+use crate::lookup::{list_accessors, look_up, look_up_accessor, look_up_self};
+use crate::renewal::renew;
+use crate::revocation::{revoke, revoke_accessor, revoke_orphan};
+use api_json::{accessor, increment, read_body, token, token_creation, token_renewal};
+use broker_model::{Making, TokenCommand};
+use broker_rows::{Answered, Asker, Context};
+use broker_types::{RequestError, TextBuf};
+use mounts::TokenOperation;
+use records::RecordsTx;
+use std::alloc::Global;
+
+/// Reads what an operation on tokens asks for. A body that is wrong is refused with 400, as the readers of its members
+/// say. The only fault is running out of memory.
+pub fn read_token_command(
+    alloc: Global,
+    operation: TokenOperation,
+    body: &[u8],
+) -> Result<TokenCommand, RequestError>
+    requires { length body.now ≤ longest_body }
+    ensures reads { IsRead (token_command operation body.now) result }
+    ensures in_range { IfOk result IsTokenCommandInRange }
+{
+    match operation {
+        TokenOperation::Create => creation(alloc, Making::OfCaller, body),
+        TokenOperation::CreateOrphan => creation(alloc, Making::WithoutParent, body),
+        TokenOperation::LookUp => {
+            Ok(TokenCommand::LookUp(token(alloc, &read_body(alloc, body)?)?))
+        }
+        TokenOperation::LookUpSelf => Ok(TokenCommand::LookUpSelf),
+        TokenOperation::LookUpAccessor => {
+            Ok(TokenCommand::LookUpAccessor(accessor(alloc, &read_body(alloc, body)?)?))
+        }
+        TokenOperation::Renew => {
+            Ok(TokenCommand::Renew(token_renewal(alloc, &read_body(alloc, body)?)?))
+        }
+        TokenOperation::RenewSelf => {
+            Ok(TokenCommand::RenewSelf(increment(alloc, &read_body(alloc, body)?)?))
+        }
+        TokenOperation::Revoke => {
+            Ok(TokenCommand::Revoke(token(alloc, &read_body(alloc, body)?)?))
+        }
+        TokenOperation::RevokeOrphan => {
+            Ok(TokenCommand::RevokeOrphan(token(alloc, &read_body(alloc, body)?)?))
+        }
+        TokenOperation::RevokeSelf => {
+            read_body(alloc, body)?;
+            Ok(TokenCommand::RevokeSelf)
+        }
+        TokenOperation::RevokeAccessor => {
+            Ok(TokenCommand::RevokeAccessor(accessor(alloc, &read_body(alloc, body)?)?))
+        }
+        TokenOperation::ListAccessors => Ok(TokenCommand::ListAccessors),
+    }
+}
+
+/// Reads what a body asks of a new token.
+fn creation(alloc: Global, making: Making, body: &[u8]) -> Result<TokenCommand, RequestError>
+    requires { length body.now ≤ longest_body }
+    ensures reads { IsRead (read_as reader.token_creation (command.Create making) body.now) result }
+    ensures in_range { IfOk result IsTokenCommandInRange }
+{
+    let members = read_body(alloc, body)?;
+    Ok(TokenCommand::Create(making, token_creation(alloc, &members)?))
+}
+
+/// Carries out a command on tokens of the caller who asks. The identifiers that it needs have been printed. It may be
+/// refused. It fails with `Memory` if memory runs out, with
+/// `Storage` if the transaction's storage failed, and with `Damaged` if a row that it asks for cannot be read.
+pub fn act_on_tokens<T: RecordsTx>(
+    alloc: Global,
+    tx: &mut T,
+    context: &Context<'_>,
+    asker: &Asker<'_>,
+    own: &[TextBuf],
+    command: TokenCommand,
+) -> Result<Answered, RequestError>
+    requires in_range { IsTokenCommandInRange command }
+    requires known { IsTokenInRange asker.now.caller.known }
+    requires own { ArePrinted own.now (names_needed (token_needs command) (names_of context.now.words)) }
+    ensures told { AreItsRules (T.seen tx.old).rows asker.now
+        → PerformsBy asker.now.caller context.now (names_needed (token_needs command) (names_of context.now.words))
+        (T.seen tx.old) (T.seen tx.new)
+        (λ b. part.act_on_tokens b asker.now.caller.token (names_of context.now.words) command) result }
+
+    // Whatever the rows are: it is neither answered nor refused if a row that the command reads is damaged. That of the
+    // caller was read before.
+    ensures readable { IsHonest (T.seen tx.new) → IsCallerAt (T.seen tx.old).rows asker.now.caller
+        → OnAnswer result (AreReadableTokens (T.seen tx.old).rows asker.now.caller.token command) }
+
+    // And a look-up changes no row, what is revoked is gone, and no other row; a token that is made or renewed changes
+    // only rows of tokens, and of the identifiers that are given out; and what is refused changes no row.
+    ensures rows { IsHonest (T.seen tx.new) → OnOk result
+        (ChangesTokens asker.now.caller.token command (T.seen tx.old).rows (T.seen tx.new).rows) }
+
+    // And each token that had uses left, or was not there, has some left by a row that can be read, or is not there.
+    ensures uses { IsHonest (T.seen tx.new) → IsCallerAt (T.seen tx.old).rows asker.now.caller
+        → OnOk result (KeepsUses (T.seen tx.old).rows (T.seen tx.new).rows) }
+    ensures refused { IsHonest (T.seen tx.new) → OnRefused result ((T.seen tx.new).rows ≡ (T.seen tx.old).rows) }
+    ensures call { IsRequestCall (T.seen tx.old) (T.seen tx.new) result IsNotBadStart }
+{
+    match command {
+        TokenCommand::Create(making, asked) => create(
+            alloc, tx, context, asker, own, making, asked,
+        ),
+        TokenCommand::LookUp(token) => look_up(alloc, tx, context, token.as_str(), token.as_str()),
+        TokenCommand::LookUpAccessor(accessor) => {
+            look_up_accessor(alloc, tx, context, accessor.as_str())
+        }
+        TokenCommand::LookUpSelf => Ok(look_up_self(alloc, context, &asker.caller)?),
+        TokenCommand::Renew(asked) => {
+            renew(alloc, tx, context, asked.token.as_str(), asked.increment)
+        }
+        TokenCommand::RenewSelf(increment) => {
+            renew(alloc, tx, context, asker.caller.token, increment)
+        }
+        TokenCommand::Revoke(token) => revoke(alloc, tx, token.as_str()),
+        TokenCommand::RevokeOrphan(token) => revoke_orphan(alloc, tx, token.as_str()),
+        TokenCommand::RevokeAccessor(accessor) => revoke_accessor(alloc, tx, accessor.as_str()),
+        TokenCommand::RevokeSelf => revoke(alloc, tx, asker.caller.token),
+        TokenCommand::ListAccessors => list_accessors(alloc, tx, context),
+    }
+}
