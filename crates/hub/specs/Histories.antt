@@ -5,10 +5,10 @@ use Rattle.std.specs.declared.alloc.Global.{Global}
 use Rattle.broker_types.specs.Broker.{Broker}
 use Rattle.broker_types.specs.declared.fault.Fault.{Fault}
 use Rattle.broker.specs.Kept.{Kept, IsHonestStore}
-use Rattle.histories.specs.History.{Asking, Beginning, History, begun}
+use Rattle.histories.specs.History.{Asking, History}
 use Rattle.hub.specs.Asking.{EventAsks, IsReplyTo}
 use Rattle.hub.specs.Representing.{HubRepresents, hub_store}
-use Rattle.hub.specs.World.{Next, World, new_world}
+use Rattle.hub.specs.World.{Next, World}
 use Rattle.hub.specs.declared.event.Event.{Event}
 use Rattle.hub.specs.declared.hub.Hub.{Hub}
 
@@ -54,11 +54,3 @@ abbrev pub Lawful : {S : Type 0} → (S → Kept) → Hub S → Hub S → List E
 Lawful seen old new events result Law =
     IsHonestStore (hub_store seen new) → (w : World) → HubRepresents seen old w
     → AnsweredKeep w events result (Law w.broker)
-
--- From a hub over a store that was just started, on which no connection was seen, the law holds from the start on.
-abbrev pub LawfulFromStart : {S : Type 0} → (S → Kept) → Hub S → Hub S → List Event
-    → Result (Vec (Vec ℕ Global) Global) (ℕ × Vec (Vec ℕ Global) Global × Fault) → (Beginning → History → Type 0)
-    → Type 0
-LawfulFromStart seen old new events result Law =
-    IsHonestStore (hub_store seen new) → (s : Beginning) → HubRepresents seen old (new_world (begun s))
-    → AnsweredKeep (new_world (begun s)) events result (Law s)

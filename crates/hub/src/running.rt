@@ -2,11 +2,9 @@ ghost use Rattle.std.specs.Prelude.{◌≡◌, ◌≢◌, ◌⊎◌, ◌<◌, Is
 ghost use Rattle.std.specs.List.{All};
 ghost use Rattle.broker_types.specs.Fault.{IsMemoryOrStorage};
 ghost use Rattle.broker.specs.Kept.{IsHonestStore};
-ghost use Rattle.histories.specs.Identifiers.{GivesOutNew, NoIdentifierTwice};
-ghost use Rattle.histories.specs.Kept.{HandedOutOnce, HandsOutKept, SameReply};
-ghost use Rattle.histories.specs.Revocation.{Revocation};
+ghost use Rattle.histories.specs.KeepsLaws.{KeepsLaws};
 ghost use Rattle.hub.specs.Feeding.{IsLater};
-ghost use Rattle.hub.specs.Histories.{Lawful, LawfulFromStart};
+ghost use Rattle.hub.specs.Histories.{Lawful};
 ghost use Rattle.hub.specs.Listed.{IsListedReply};
 ghost use Rattle.hub.specs.Representing.{ConnectionsRepresent, HubRepresents, hub_store};
 ghost use Rattle.hub.specs.Runs.{bytes_of, Answers, HadNoRoom, StopsAt, StopsTurns, TookTurns};
@@ -16,10 +14,7 @@ use crate::event::Event;
 use crate::hub::Hub;
 use broker::Store;
 use broker_types::Fault;
-use histories::{
-    identifiers_are_given_out_once, kept_replies_are_the_replies, responses_are_handed_out_once,
-    revocation_lasts,
-};
+use histories::all_that_is_asked_keeps_the_laws;
 use std::alloc::Global;
 
 /// Feeds the events in turn, and answers their replies, one an event; an event without a reply has an
@@ -41,18 +36,11 @@ pub fn run<S: Store>(
         (w : World) → HubRepresents S.seen hub.old w
         → Answers S.seen w events.now (bytes_of replies.items) hub.new) }
 
-    // From a new hub, whatever the events are, up to a fault: no identifier is given out twice; a response is
-    // handed out once, in time, and through no wrapping token that was taken out; what was revoked, or ended in
-    // another way, does not come back; and what is handed out is the reply that was kept.
-    ensures no_identifier_twice { LawfulFromStart S.seen hub.old hub.new events.now result NoIdentifierTwice }
-    ensures handed_out_once { Lawful S.seen hub.old hub.new events.now result (λ b. HandedOutOnce) }
-    ensures revocation { Lawful S.seen hub.old hub.new events.now result (λ b. Revocation) }
-    ensures same_reply { LawfulFromStart S.seen hub.old hub.new events.now result (λ start. SameReply) }
-
-    // The second and the third hold from any hub, as one over a store that was opened. So do the others, where
-    // what was given out before counts as given out, and what waited before as kept.
-    ensures gives_out_new { Lawful S.seen hub.old hub.new events.now result GivesOutNew }
-    ensures hands_out_kept { Lawful S.seen hub.old hub.new events.now result HandsOutKept }
+    // Whatever the events are, up to a fault, what they asked keeps the laws over a history: those of what is given
+    // out, handed out and kept, of tokens and leases, and of secrets and mounts. They hold from any hub, as one over a
+    // store that was opened, where what was given out before counts as given out, and what waited before as kept; two of
+    // them say more from a new one.
+    ensures lawful { Lawful S.seen hub.old hub.new events.now result KeepsLaws }
 
     // Whatever the rows are, each event took its turn, with its reply, or the run stopped at the fault of
     // one; and each refusal is a listed one.
@@ -89,10 +77,7 @@ pub fn run<S: Store>(
         → (hub_store S.seen hub.new).is_open ≡ (hub_store S.seen hub.old).is_open) }
     ensures later { IsLater (hub_store S.seen hub.old) (hub_store S.seen hub.new) }
 {
-    identifiers_are_given_out_once();
-    responses_are_handed_out_once();
-    revocation_lasts();
-    kept_replies_are_the_replies();
+    all_that_is_asked_keeps_the_laws();
     let mut replies = Vec::new(alloc);
     if let Err(_) = replies.reserve(events.len()) {
         return Err((0, replies, Fault::Memory));

@@ -18,7 +18,7 @@ use Rattle.hub.specs.declared.hub.Hub.{Hub}
 use Rattle.hub.specs.declared.serve.ConnectionFault.{ConnectionFault}
 use Rattle.hub.specs.declared.serve.ConnectionFault.TheVariants.{Broker}
 use Rattle.hub.specs.declared.turn.Turn.{Turn}
-use Rattle.server.specs.Laws.{AllKeepLaws}
+use Rattle.histories.specs.KeepsLaws.{AllKeepLaws}
 use Rattle.server.specs.Serving.{ClosesSome, LeavesBelow, LeavesSeen, LeavesServed, ServesLawfully, is_skipped}
 
 -- ---- nothing is done

@@ -1,5 +1,4 @@
 pub mod Drawn
-pub mod Laws
 pub mod LogLine
 pub mod Moments
 pub mod Noting

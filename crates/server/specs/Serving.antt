@@ -10,7 +10,7 @@ use Rattle.hub.specs.declared.event.Event.{Event}
 use Rattle.hub.specs.declared.hub.Hub.{Hub}
 use Rattle.hub.specs.declared.serve.ConnectionFault.{ConnectionFault}
 use Rattle.hub.specs.declared.serve.ConnectionFault.TheVariants.{Broker, Read, Write}
-use Rattle.server.specs.Laws.{KeepsLaws}
+use Rattle.histories.specs.KeepsLaws.{KeepsLaws}
 
 -- whether the others are served on after this fault of one: running out of memory, reading and writing (1, 5, 6)
 abbrev pub is_skipped : ConnectionFault → Bool

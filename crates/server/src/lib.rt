@@ -4,7 +4,6 @@
 
 mod accepting;
 mod drawn;
-mod laws;
 mod links;
 mod listening;
 mod log;
@@ -20,7 +19,6 @@ mod system_clock;
 mod waiting;
 
 pub use drawn::{DrawnWords, seeded};
-pub use laws::all_that_is_asked_keeps_the_laws;
 pub use listening::Listening;
 pub use preparing::prepare;
 pub use serving::serve;

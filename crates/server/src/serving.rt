@@ -3,10 +3,10 @@ ghost use Rattle.hub.specs.Supplies.{Supplies};
 ghost use Rattle.hub.specs.World.{Connections};
 ghost use Rattle.server.specs.Serving.{LeavesBelow, LeavesSeen, LeavesServed, ServesLawfully};
 
-use crate::laws::all_that_is_asked_keeps_the_laws;
 use crate::listening::Listening;
 use broker::Store;
 use broker_types::Fault;
+use histories::all_that_is_asked_keeps_the_laws;
 use hub::{Hub, WordSource};
 use std::time::Clock;
 
@@ -31,9 +31,8 @@ pub fn serve<S: Store, C: hub::Clock, D: WordSource, R: Clock>(
     // Whatever the rows are, no connection that was seen before changes.
     ensures others { (all : Connections) → ConnectionsRepresent hub.old all → LeavesSeen all hub.new }
 
-    // All that was asked, over all the connections, keeps the laws over every run: no identifier is given out twice; a
-    // response is handed out once, and is the reply that was kept; what was revoked, or ended in another way, does not
-    // come back.
+    // All that was asked, over all the connections, keeps the laws over a history: those of what is given out, handed
+    // out and kept, of tokens and leases, and of secrets and mounts.
     ensures lawful { ServesLawfully S.seen
         (Supplies C.may_tell clock.old clock.new D.may_give words.old words.new) hub.old hub.new }
 {

@@ -11,12 +11,10 @@ use Rattle.hub.specs.Listed.{IsListedReply}
 use Rattle.hub.specs.Representing.{hub_store}
 use Rattle.hub.specs.Runs.{bytes_of, Answers, TookTurns}
 use Rattle.broker.specs.Kept.{Kept}
-use Rattle.histories.specs.History.{AreAsked, History, begun}
-use Rattle.histories.specs.Identifiers.{GivesOutNew, NoIdentifierTwice}
-use Rattle.histories.specs.Kept.{HandedOutOnce, HandsOutKept, SameReply}
-use Rattle.histories.specs.Revocation.{Revocation}
+use Rattle.histories.specs.History.{AreAsked, History}
+use Rattle.histories.specs.KeepsLaws.{KeepsLaws}
 use Rattle.hub.specs.Histories.{RunKeeps}
-use Rattle.hub.specs.World.{Run, World, new_world}
+use Rattle.hub.specs.World.{Run, World}
 use Rattle.hub.specs.declared.event.Event.{Event}
 use Rattle.hub.specs.declared.hub.Hub.{Hub}
 use Rattle.hub.proofs.AnswersLemmas.{answers_none, answers_more, answers_all, stops_at, honest_before, later_still, turns_more, turns_stop, turns_all}
@@ -143,122 +141,21 @@ keeps_none : (w : World) (replies : List (List ℕ)) (Law : History → Type 0) 
     → ((history : History) → AreAsked w.broker history → Law history) → RunKeeps w [] replies Law
 keeps_none w replies Law none law = subst (λ (l : List (List ℕ)). RunKeeps w [] l Law) (sym none) ([], w, refl, law [] tt)
 
-pub returns-clause-no_identifier_twice : goal.returns-clause-no_identifier_twice
-returns-clause-no_identifier_twice g c = λ honest s represents.
-    let w = new_world (begun s) in
-    keeps_law g.S.Store.seen w c.args.events.now (bytes_of c.loop-i.replies.items) c.loop-i.hub (NoIdentifierTwice s)
-    (c.identifiers_are_given_out_once.ensures.since_start s)
+pub returns-clause-lawful : goal.returns-clause-lawful
+returns-clause-lawful g c = λ honest w represents.
+    keeps_law g.S.Store.seen w c.args.events.now (bytes_of c.loop-i.replies.items) c.loop-i.hub (KeepsLaws w.broker)
+    (c.all_that_is_asked_keeps_the_laws.ensures w.broker)
     (answers_all g.S.Store.seen w c.args.events.now c.loop-i.i (bytes_of c.loop-i.replies.items) c.loop-i.hub c.loop-i-test.false
     (c.loop-i.invariant.answers honest w represents))
 
-pub returns-in-Err-clause-no_identifier_twice : goal.returns-in-Err-clause-no_identifier_twice
-returns-in-Err-clause-no_identifier_twice g c = λ honest s represents.
+pub returns-in-Err-clause-lawful : goal.returns-in-Err-clause-lawful
+returns-in-Err-clause-lawful g c = λ honest w represents.
     let none : bytes_of c.reserve.new.self.items ≡ [] = ap bytes_of (c.reserve.ensures.items ∙ c.new-replies.ensures.items) in
-    let w = new_world (begun s) in
-    keeps_none w (bytes_of c.reserve.new.self.items) (NoIdentifierTwice s) none (c.identifiers_are_given_out_once.ensures.since_start s)
+    keeps_none w (bytes_of c.reserve.new.self.items) (KeepsLaws w.broker) none (c.all_that_is_asked_keeps_the_laws.ensures w.broker)
 
-pub returns-in-Err-feed-clause-no_identifier_twice : goal.returns-in-Err-feed-clause-no_identifier_twice
-returns-in-Err-feed-clause-no_identifier_twice g c = λ honest s represents.
-    let w = new_world (begun s) in
+pub returns-in-Err-feed-clause-lawful : goal.returns-in-Err-feed-clause-lawful
+returns-in-Err-feed-clause-lawful g c = λ honest w represents.
     let before = honest_before (hub_store g.S.Store.seen c.loop-i.hub) (hub_store g.S.Store.seen c.feed.new.self)
     c.feed.ensures.keeps.later.mismatches honest in
-    keeps_law g.S.Store.seen w (take c.loop-i.i c.args.events.now) (bytes_of c.loop-i.replies.items) c.loop-i.hub (NoIdentifierTwice s)
-    (c.identifiers_are_given_out_once.ensures.since_start s) (c.loop-i.invariant.answers before w represents)
-
-pub returns-clause-handed_out_once : goal.returns-clause-handed_out_once
-returns-clause-handed_out_once g c = λ honest w represents.
-    keeps_law g.S.Store.seen w c.args.events.now (bytes_of c.loop-i.replies.items) c.loop-i.hub HandedOutOnce
-    (c.responses_are_handed_out_once.ensures w.broker)
-    (answers_all g.S.Store.seen w c.args.events.now c.loop-i.i (bytes_of c.loop-i.replies.items) c.loop-i.hub c.loop-i-test.false
-    (c.loop-i.invariant.answers honest w represents))
-
-pub returns-in-Err-clause-handed_out_once : goal.returns-in-Err-clause-handed_out_once
-returns-in-Err-clause-handed_out_once g c = λ honest w represents.
-    let none : bytes_of c.reserve.new.self.items ≡ [] = ap bytes_of (c.reserve.ensures.items ∙ c.new-replies.ensures.items) in
-    keeps_none w (bytes_of c.reserve.new.self.items) HandedOutOnce none (c.responses_are_handed_out_once.ensures w.broker)
-
-pub returns-in-Err-feed-clause-handed_out_once : goal.returns-in-Err-feed-clause-handed_out_once
-returns-in-Err-feed-clause-handed_out_once g c = λ honest w represents.
-    let before = honest_before (hub_store g.S.Store.seen c.loop-i.hub) (hub_store g.S.Store.seen c.feed.new.self)
-    c.feed.ensures.keeps.later.mismatches honest in
-    keeps_law g.S.Store.seen w (take c.loop-i.i c.args.events.now) (bytes_of c.loop-i.replies.items) c.loop-i.hub HandedOutOnce
-    (c.responses_are_handed_out_once.ensures w.broker) (c.loop-i.invariant.answers before w represents)
-
-pub returns-clause-revocation : goal.returns-clause-revocation
-returns-clause-revocation g c = λ honest w represents.
-    keeps_law g.S.Store.seen w c.args.events.now (bytes_of c.loop-i.replies.items) c.loop-i.hub Revocation
-    (c.revocation_lasts.ensures w.broker)
-    (answers_all g.S.Store.seen w c.args.events.now c.loop-i.i (bytes_of c.loop-i.replies.items) c.loop-i.hub c.loop-i-test.false
-    (c.loop-i.invariant.answers honest w represents))
-
-pub returns-in-Err-clause-revocation : goal.returns-in-Err-clause-revocation
-returns-in-Err-clause-revocation g c = λ honest w represents.
-    let none : bytes_of c.reserve.new.self.items ≡ [] = ap bytes_of (c.reserve.ensures.items ∙ c.new-replies.ensures.items) in
-    keeps_none w (bytes_of c.reserve.new.self.items) Revocation none (c.revocation_lasts.ensures w.broker)
-
-pub returns-in-Err-feed-clause-revocation : goal.returns-in-Err-feed-clause-revocation
-returns-in-Err-feed-clause-revocation g c = λ honest w represents.
-    let before = honest_before (hub_store g.S.Store.seen c.loop-i.hub) (hub_store g.S.Store.seen c.feed.new.self)
-    c.feed.ensures.keeps.later.mismatches honest in
-    keeps_law g.S.Store.seen w (take c.loop-i.i c.args.events.now) (bytes_of c.loop-i.replies.items) c.loop-i.hub Revocation
-    (c.revocation_lasts.ensures w.broker) (c.loop-i.invariant.answers before w represents)
-
-pub returns-clause-same_reply : goal.returns-clause-same_reply
-returns-clause-same_reply g c = λ honest s represents.
-    let w = new_world (begun s) in
-    keeps_law g.S.Store.seen w c.args.events.now (bytes_of c.loop-i.replies.items) c.loop-i.hub SameReply
-    (c.kept_replies_are_the_replies.ensures.since_start s)
-    (answers_all g.S.Store.seen w c.args.events.now c.loop-i.i (bytes_of c.loop-i.replies.items) c.loop-i.hub c.loop-i-test.false
-    (c.loop-i.invariant.answers honest w represents))
-
-pub returns-in-Err-clause-same_reply : goal.returns-in-Err-clause-same_reply
-returns-in-Err-clause-same_reply g c = λ honest s represents.
-    let none : bytes_of c.reserve.new.self.items ≡ [] = ap bytes_of (c.reserve.ensures.items ∙ c.new-replies.ensures.items) in
-    let w = new_world (begun s) in
-    keeps_none w (bytes_of c.reserve.new.self.items) SameReply none (c.kept_replies_are_the_replies.ensures.since_start s)
-
-pub returns-in-Err-feed-clause-same_reply : goal.returns-in-Err-feed-clause-same_reply
-returns-in-Err-feed-clause-same_reply g c = λ honest s represents.
-    let w = new_world (begun s) in
-    let before = honest_before (hub_store g.S.Store.seen c.loop-i.hub) (hub_store g.S.Store.seen c.feed.new.self)
-    c.feed.ensures.keeps.later.mismatches honest in
-    keeps_law g.S.Store.seen w (take c.loop-i.i c.args.events.now) (bytes_of c.loop-i.replies.items) c.loop-i.hub SameReply
-    (c.kept_replies_are_the_replies.ensures.since_start s) (c.loop-i.invariant.answers before w represents)
-
-pub returns-clause-gives_out_new : goal.returns-clause-gives_out_new
-returns-clause-gives_out_new g c = λ honest w represents.
-    keeps_law g.S.Store.seen w c.args.events.now (bytes_of c.loop-i.replies.items) c.loop-i.hub (GivesOutNew w.broker)
-    (c.identifiers_are_given_out_once.ensures.since w.broker)
-    (answers_all g.S.Store.seen w c.args.events.now c.loop-i.i (bytes_of c.loop-i.replies.items) c.loop-i.hub c.loop-i-test.false
-    (c.loop-i.invariant.answers honest w represents))
-
-pub returns-in-Err-clause-gives_out_new : goal.returns-in-Err-clause-gives_out_new
-returns-in-Err-clause-gives_out_new g c = λ honest w represents.
-    let none : bytes_of c.reserve.new.self.items ≡ [] = ap bytes_of (c.reserve.ensures.items ∙ c.new-replies.ensures.items) in
-    keeps_none w (bytes_of c.reserve.new.self.items) (GivesOutNew w.broker) none (c.identifiers_are_given_out_once.ensures.since w.broker)
-
-pub returns-in-Err-feed-clause-gives_out_new : goal.returns-in-Err-feed-clause-gives_out_new
-returns-in-Err-feed-clause-gives_out_new g c = λ honest w represents.
-    let before = honest_before (hub_store g.S.Store.seen c.loop-i.hub) (hub_store g.S.Store.seen c.feed.new.self)
-    c.feed.ensures.keeps.later.mismatches honest in
-    keeps_law g.S.Store.seen w (take c.loop-i.i c.args.events.now) (bytes_of c.loop-i.replies.items) c.loop-i.hub (GivesOutNew w.broker)
-    (c.identifiers_are_given_out_once.ensures.since w.broker) (c.loop-i.invariant.answers before w represents)
-
-pub returns-clause-hands_out_kept : goal.returns-clause-hands_out_kept
-returns-clause-hands_out_kept g c = λ honest w represents.
-    keeps_law g.S.Store.seen w c.args.events.now (bytes_of c.loop-i.replies.items) c.loop-i.hub (HandsOutKept w.broker)
-    (c.kept_replies_are_the_replies.ensures.since w.broker)
-    (answers_all g.S.Store.seen w c.args.events.now c.loop-i.i (bytes_of c.loop-i.replies.items) c.loop-i.hub c.loop-i-test.false
-    (c.loop-i.invariant.answers honest w represents))
-
-pub returns-in-Err-clause-hands_out_kept : goal.returns-in-Err-clause-hands_out_kept
-returns-in-Err-clause-hands_out_kept g c = λ honest w represents.
-    let none : bytes_of c.reserve.new.self.items ≡ [] = ap bytes_of (c.reserve.ensures.items ∙ c.new-replies.ensures.items) in
-    keeps_none w (bytes_of c.reserve.new.self.items) (HandsOutKept w.broker) none (c.kept_replies_are_the_replies.ensures.since w.broker)
-
-pub returns-in-Err-feed-clause-hands_out_kept : goal.returns-in-Err-feed-clause-hands_out_kept
-returns-in-Err-feed-clause-hands_out_kept g c = λ honest w represents.
-    let before = honest_before (hub_store g.S.Store.seen c.loop-i.hub) (hub_store g.S.Store.seen c.feed.new.self)
-    c.feed.ensures.keeps.later.mismatches honest in
-    keeps_law g.S.Store.seen w (take c.loop-i.i c.args.events.now) (bytes_of c.loop-i.replies.items) c.loop-i.hub (HandsOutKept w.broker)
-    (c.kept_replies_are_the_replies.ensures.since w.broker) (c.loop-i.invariant.answers before w represents)
+    keeps_law g.S.Store.seen w (take c.loop-i.i c.args.events.now) (bytes_of c.loop-i.replies.items) c.loop-i.hub (KeepsLaws w.broker)
+    (c.all_that_is_asked_keeps_the_laws.ensures w.broker) (c.loop-i.invariant.answers before w represents)
