@@ -1,9 +1,9 @@
 #!/bin/bash
 # Refuses memory to the programs as they are built, one allocation after another: to five rows of tests/rows over each
 # of the two stores, to `client`, and to `brokerd serve --db`. tests/hostile says what is right then. It takes some 30
-# seconds. tests/refused.sh --all [STEP] takes all rows, and each allocation, or each STEPth; the gate does not do it.
-# BROKERD, CLIENT and TRIAL_STORES name other programs. The last line is 'N passed, M failed'; the status is 0 if
-# nothing failed.
+# seconds. tests/refused.sh --all [STEP [OPTION..]] takes all rows, and each allocation, or each STEPth; the options are
+# those of refused_rows.py, such as --minutes. The gate does not do it. BROKERD, CLIENT and TRIAL_STORES name other
+# programs. The last line is 'N passed, M failed'; the status is 0 if nothing failed.
 set -u
 cd "$(dirname "$0")/.."
 
@@ -36,9 +36,11 @@ client=${CLIENT:-crates/client/out/client}
 trial_stores=${TRIAL_STORES:-crates/trial_stores/out/trial_stores}
 
 if [ "${1:-}" = --all ]; then
-    count python3 tests/hostile/refused_rows.py --all "${2:-1}" "$brokerd" "$trial_stores"
+    count python3 tests/hostile/refused_rows.py --all "${2:-1}" "${@:3}" "$brokerd" "$trial_stores"
+    rows=$(tail -n 2 "$log" | head -n 1)
     count python3 tests/hostile/refused_client.py "$client"
     count python3 tests/hostile/refused_server.py "$brokerd" "${2:-1}"
+    echo "$rows; $(tail -n 2 "$log" | head -n 1)"
 else
     count python3 tests/hostile/refused_rows.py "$brokerd" "$trial_stores"
     count python3 tests/hostile/refused_client.py "$client"

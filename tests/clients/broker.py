@@ -76,6 +76,11 @@ def processor_seconds(process):
     return int(Path(f"/proc/{process}/schedstat").read_text(encoding="ascii").split()[0]) / 1e9
 
 
+def seconds_without_processor(process):
+    """For how long a process of one thread could have run, and had no processor."""
+    return int(Path(f"/proc/{process}/schedstat").read_text(encoding="ascii").split()[1]) / 1e9
+
+
 class Broker:
     """A program that serves on a free port until the block ends. A root token is given if it was started before. To see
     whether it listens takes one of its connections. `options` are those of its process."""
@@ -209,3 +214,7 @@ class Broker:
     def processor(self):
         """The processor seconds that the program has taken."""
         return processor_seconds(self.process.pid)
+
+    def waited(self):
+        """For how many seconds the program has waited for a processor."""
+        return seconds_without_processor(self.process.pid)

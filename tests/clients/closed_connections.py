@@ -20,6 +20,7 @@ from broker import Broker, connect, reply
 FIRST = 1000
 AT_ONCE = 200
 MOST = 100  # kilobytes
+PATIENCE = 60  # seconds until the program has closed all connections, also beside much other work
 WANTED = (404, b'{"errors":[]}\n', b"")
 
 
@@ -51,10 +52,12 @@ def close(connection, closes):
 
 
 def open_and_close(port, count, order):
-    """So many connections that are open at once, and closed in an order."""
-    connections = [(connect(port), number % 2 == 0) for number in range(count)]
-    for connection, closes in connections:
-        ask(connection, closes)
+    """So many connections that are open at once, and closed in an order. Each asks when it is opened: the broker lets one
+    go that asks nothing for some seconds."""
+    connections = []
+    for number in range(count):
+        connections.append((connect(port), number % 2 == 0))
+        ask(*connections[-1])
     for connection, closes in order(connections):
         close(connection, closes)
 
@@ -78,7 +81,7 @@ def part(broker, count, at_once, order):
 
 def settled(broker):
     """The memory of the program, when it has closed all connections."""
-    until = time.monotonic() + 5
+    until = time.monotonic() + PATIENCE
     while broker.held():
         if time.monotonic() > until:
             raise AssertionError(f"{len(broker.held())} connections are still held")

@@ -24,7 +24,8 @@ LONGEST_WAIT = 0.25  # seconds for another client, beside the peer; a large repl
 WATCHED = 3  # seconds for which an idle peer is looked at, which has its place for longer
 PEERS = []
 TWENTY = 20
-NEXT = 180  # seconds that a client waits for its reply behind twenty peers
+FEWEST_WAITS = 5  # requests beside twenty peers
+NEXT = 600  # seconds that a client waits for its reply behind twenty peers, also beside much other work
 
 
 def peer(least, most, stays=False):
@@ -193,48 +194,58 @@ def close_all(connections):
 
 
 def behind_twenty(broker):
-    """How long the client waits for its reply that comes after twenty peers."""
-    begin = time.monotonic()
+    """How long the client waits for its reply that comes after twenty peers, and for how much of it the program waits for
+    a processor."""
+    begin, without = time.monotonic(), broker.waited()
     with connect(broker.port) as connection:
         connection.settimeout(NEXT)
         first_reply(connection, look_up(broker))
-    return time.monotonic() - begin
+    return time.monotonic() - begin, broker.waited() - without
 
 
 def twenty_beside(program):
-    """Another client is answered at once while twenty peers send a byte a second, until each is let go."""
-    with Broker(program) as broker:
-        begin, waits, gone = time.monotonic(), [], []
+    """Another client is answered at once while twenty peers send a byte a second, until each is let go. On a busy machine
+    any client may wait for a processor, so waits are judged by those of the client of a broker without peers: the longest,
+    and that which nine in ten do not exceed."""
+    with Broker(program) as broker, Broker(program) as other:
+        begin, waits, alone, gone = time.monotonic(), [], [], []
         connections = twenty_peers(broker, a_byte_a_second)
-        while len(gone) < TWENTY and time.monotonic() < begin + 40:
+        while len(gone) < TWENTY and time.monotonic() < begin + 40 + broker.waited():
             waits.append(next_client(broker))
+            alone.append(next_client(other))
             gone += [time.monotonic() - begin] * (TWENTY - broker.hold(connections) - len(gone))
             time.sleep(0.2)
         close_all(connections)
-    expect(len(gone) == TWENTY, f"{len(gone)} are let go in 40 s")
+    expect(len(gone) == TWENTY, f"{len(gone)} are let go in {time.monotonic() - begin:.0f} s")
     expect(gone[0] >= 18, f"one is let go after {gone[0]:.1f} s")
-    expect(len(waits) > 50 and max(waits) <= LONGEST_WAIT, f"of {len(waits)} requests one waits {max(waits):.2f} s")
-    return f"{len(waits)} requests beside them in {max(waits):.2f} s at most, let go after {gone[0]:.1f} to {gone[-1]:.1f} s"
+    nine_in_ten, of_others = (sorted(some)[len(some) * 9 // 10] for some in (waits, alone))
+    told = (f"{len(waits)} requests beside them in {max(waits):.2f} s at most, nine in ten in {nine_in_ten:.2f} s, and "
+            f"without peers in {max(alone):.2f} s and {of_others:.2f} s")
+    expect(len(waits) >= FEWEST_WAITS, told)
+    expect(nine_in_ten <= LONGEST_WAIT + of_others and max(waits) <= LONGEST_WAIT + 2 * max(alone), told)
+    return f"{told}, let go after {gone[0]:.1f} to {gone[-1]:.1f} s"
 
 
 def twenty_in_all_places(program):
     """Twenty peers have all places: another client waits until one of them is let go."""
     with Broker(program, "--at-once", f"{TWENTY}") as broker:
         connections = twenty_peers(broker, a_byte_a_second)
-        waited = behind_twenty(broker)
+        waited, without = behind_twenty(broker)
         close_all(connections)
-    expect(18 <= waited <= 30, f"behind twenty places another client waits {waited:.1f} s")
-    return f"behind twenty places {waited:.1f} s"
+    told = f"behind twenty places {waited:.1f} s, {without:.1f} s of them for a processor"
+    expect(18 <= waited <= 30 + without, told)
+    return told
 
 
 def twenty_in_line(program):
     """Twenty peers with half a request each come before another client, and there is one place."""
     with Broker(program, "--at-once", "1") as broker:
         connections = twenty_peers(broker, half_a_request)
-        waited = behind_twenty(broker)
+        waited, without = behind_twenty(broker)
         close_all(connections)
-    expect(3.5 * TWENTY <= waited <= 8 * TWENTY, f"behind twenty peers for one place another client waits {waited:.1f} s")
-    return f"behind twenty for one place {waited:.1f} s"
+    told = f"behind twenty for one place {waited:.1f} s, {without:.1f} s of them for a processor"
+    expect(3.5 * TWENTY <= waited <= 8 * TWENTY + without, told)
+    return told
 
 
 def run_twenty(program):

@@ -133,6 +133,11 @@ class Running:
                 self.memory, self.seconds = usage.ru_maxrss, usage.ru_utime + usage.ru_stime
         return self.process.returncode is not None
 
+    def spent(self):
+        """The processor seconds that the program has taken so far."""
+        with open(f"/proc/{self.process.pid}/schedstat", encoding="ascii") as times:
+            return int(times.read().split()[0]) / 1e9
+
     def told_root(self):
         """The root token, which a program prints that starts a broker; None if it has ended. Raises TooSlow."""
         while not self.printed.endswith(b"\n"):

@@ -1,7 +1,7 @@
 #!/usr/bin/env python3
 """Refuses memory to rows of tests/rows, one allocation after another, over both stores.
 
-    python3 tests/hostile/refused_rows.py [--all [STEP]] BROKERD TRIAL_STORES
+    python3 tests/hostile/refused_rows.py [--all [STEP]] [--minutes M] [--seed S] BROKERD TRIAL_STORES
 
 `TRIAL_STORES retry list` and `retry sql` send a request that met a fault once more, on another connection. Where one
 allocation is refused, each run has to give the usual replies, and to tell the one fault that it met, or none; or else
@@ -13,7 +13,8 @@ the list a fault is always `fault 1`, over SQL also `fault 2`. The usual replies
 Without `--all` five rows are run, and each allocation is refused alone; each seventh with all later ones, and by `retry
 sql`, which compares rows. `retry` leaves out the start but for the first row. With `--all` all rows are run, and each
 allocation is refused, or each STEPth. A row in which an event is not one whole request on an open connection is not run
-by `retry`.
+by `retry`. With `--seed` the rows have a drawn order, and the allocations of each begin with one of the first STEP. With
+`--minutes` no further row is begun after so many minutes, but for the first five.
 
 A run with a refused allocation is forked from the usual one. A few are made from the start, and have to end in the
 same way; there, and with `--all`, memory is overwritten when it is given and when it is freed (`MALLOC_PERTURB_`), so
@@ -29,9 +30,11 @@ import functools
 import itertools
 import json
 import os
+import random
 import re
 import subprocess
 import sys
+import time
 from pathlib import Path
 
 from hostile import HEAP, HERE, Report, Tally, build, children, environment, replies_of, scratch
@@ -40,14 +43,16 @@ ROWS = HERE.parent / "rows"
 FIVE = ["first_run", "orphan_survives", "check_and_set", "wrapped_reply_once", "lease_ends_with_token"]
 SEVENTH = 7
 SPARSE = 20  # where mistakes are looked for
-DENSE = 8  # each request has more allocations than this
+DENSE = 8  # each request of the five rows has more allocations than this, and each row more that are faults of each kind
 SAMPLE = 4  # runs from the start
 SECONDS = 1200  # for a run with its child processes
 NUMBERS = itertools.count()  # of runs
 
-# The fewest allocations of an event on average, without the start, and the fewest runs of a hundred with an allocation
-# after the start refused in which the request has to be sent once more; in one run it may be otherwise.
+# The fewest allocations of an event on average, without the start, in the five rows and in others, of which some have
+# requests that are refused by their heads; and the fewest runs of a hundred with an allocation after the start refused in
+# which the request has to be sent once more; in one run it may be otherwise.
 ALLOCATIONS = {"list": 50, "sql": 150}
+ALLOCATIONS_OF_OTHERS = {"list": 10, "sql": 30}
 SENT = {"list": 95, "sql": 95}
 FAULTS = {"list": "1", "sql": "12"}
 
@@ -258,15 +263,17 @@ class Judge:
         told = [f"{count} times fault {fault}" for fault, count in sorted(self.faults.items())]
         told += [f"{self.kinds[kind]} times {text}" for kind, text in KINDS.items() if self.kinds[kind]]
         self.tell(f"{self.name}: {self.count} allocations, {tried} refused: {', '.join(told)}")
-        for fault in FAULTS[store]:
+        is_one_of_five, step = self.runs.replay.stem in FIVE, self.way.step
+        for fault in FAULTS[store] if is_one_of_five or step <= DENSE else ():
             self.expect(self.faults[fault] > 0, f"{self.name}: no fault {fault}")
         if self.way.retries:
             sent, after = self.kinds["again"], tried - self.kinds["started"]
-            self.expect(after * self.way.step >= ALLOCATIONS[store] * self.events,
+            least = (ALLOCATIONS if is_one_of_five else ALLOCATIONS_OF_OTHERS)[store]
+            self.expect((after + 1) * step > least * self.events,
                         f"{self.name}: {after} allocations of the events were refused")
             is_enough = 100 * sent >= SENT[store] * after or after - sent == 1
             self.expect(is_enough, f"{self.name}: sent once more in {sent} of {after} runs")
-            for event in range(1, self.events + 1) if self.way.step <= DENSE else ():
+            for event in range(1, self.events + 1) if step == 1 or is_one_of_five and step <= DENSE else ():
                 self.expect(self.sent[event] > 0, f"{self.name}: event {event} was never sent once more")
 
 
@@ -292,15 +299,15 @@ def check_sample(tally, runs, numbers, count, found):
                      f"{runs.name}: allocation {number}, from the start: {ended}, {changed} were refused")
 
 
-def try_row(tally, pool, runs, has_start):
-    """Refuses the allocations of a replay, one after another. Without the start, those by which it may end are left
-    out."""
+def try_row(tally, pool, runs, has_start, shift=0):
+    """Refuses the allocations of a replay, one after another, but for so many at the beginning. Without the start, those
+    by which it may end are left out."""
     ended, _, count, changed = runs.run("0")
     is_usual = (ended, changed) == (usual_of(runs.replay)[0], 0)
     if not tally.expect(is_usual, f"{runs.name}: without refusal {outcome_of(runs.way, runs.replay, ended)}"):
         return
     first = 1 if has_start else runs.first_after_the_start(count)
-    numbers = range(first, count + 1, runs.way.step)
+    numbers = range(first + shift, count + 1, runs.way.step)
     found = refuse_all(tally, pool, runs, numbers)
     judge = Judge(tally, runs, count)
     for number in sorted(found):
@@ -339,22 +346,34 @@ def ways_of(brokerd, trial_stores, step):
 def main():
     parser = argparse.ArgumentParser(description="refuses memory to rows, one allocation after another")
     parser.add_argument("--all", nargs="?", type=int, const=1, default=0, metavar="STEP")
+    parser.add_argument("--minutes", type=float)
+    parser.add_argument("--seed")
     parser.add_argument("brokerd", type=os.path.abspath)
     parser.add_argument("trial_stores", type=os.path.abspath)
     arguments = parser.parse_args()
     replays = [ROWS / f"{name}.replay" for name in FIVE]
     if arguments.all:
         replays = [*sorted(ROWS.glob("*.replay")), HERE / "tree_revoked.replay"]
-    tally = Tally("refused, rows")
+    draw = random.Random(arguments.seed)
+    if arguments.seed:
+        draw.shuffle(replays)
+    until = None if arguments.minutes is None else time.monotonic() + 60 * arguments.minutes
+    tried, tally = 0, Tally("refused, rows")
     variables = {"MALLOC_PERTURB_": "165"} if arguments.all else {}
     with scratch() as folder, concurrent.futures.ThreadPoolExecutor(os.cpu_count()) as pool:
         library = build(folder)
         ways = ways_of(arguments.brokerd, arguments.trial_stores, arguments.all)
-        for replay, way in itertools.product(replays, ways):
-            if not way.retries or is_whole(replay):
-                has_start = arguments.all or not way.retries or replay.stem == FIVE[0]
-                try_row(tally, pool, Runs(library, folder, way, replay, variables), has_start)
+        for replay in replays:
+            if until is not None and tried >= len(FIVE) and time.monotonic() > until:
+                break
+            tried += 1
+            for way in ways:
+                if not way.retries or is_whole(replay):
+                    has_start = arguments.all or not way.retries or replay.stem == FIVE[0]
+                    shift = draw.randrange(way.step) if arguments.seed else 0
+                    try_row(tally, pool, Runs(library, folder, way, replay, variables), has_start, shift)
         try_mistakes(tally, pool, library, folder, [way for way in ways if way.retries])
+    tally.tell(f"{tried} of {len(replays)} rows, each {arguments.all or 1}. allocation")
     return tally.end()
 
 

@@ -40,7 +40,7 @@ sys.path.append(str(HERE.parent / "clients"))
 from broker import request  # noqa: E402  what the clients' scripts share
 
 SECONDS = 60.0  # for a start, a reply and an end
-SETTLED = 0.2  # seconds until a program that will end has ended, and one that listens allocates nothing
+SETTLED = 0.2  # seconds in which a program that goes on, and waits for clients, takes no processor time
 MOST = 3  # tokens that are left before they are revoked
 LEAST = 90  # allocations of a request, and of a start
 KEYS = 20  # of a file: more than a start rewrites at once
@@ -100,12 +100,23 @@ class Served:
             return False
 
     def is_alive(self):
-        """Whether it goes on, some time after it has closed a connection or has not taken it."""
-        try:
-            self.process.wait(SETTLED)
-        except subprocess.TimeoutExpired:
-            return True
-        return False
+        """Whether it goes on, after it has closed a connection or has not taken it: it sleeps, and does nothing. On a busy
+        machine a program that will end may wait long for a processor."""
+        before = None
+        while True:
+            try:
+                self.process.wait(SETTLED)
+                return False
+            except subprocess.TimeoutExpired:
+                now = self.work()
+            if now == before and now[0] == "S":
+                return True
+            before = now
+
+    def work(self):
+        """Whether it runs or sleeps, and how much processor time it has taken."""
+        state = Path(f"/proc/{self.process.pid}/stat").read_text(encoding="ascii").rpartition(")")[2].split()[0]
+        return state, Path(f"/proc/{self.process.pid}/schedstat").read_text(encoding="ascii").split()[0]
 
     def read(self):
         return Report(self.report)

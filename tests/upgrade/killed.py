@@ -30,20 +30,23 @@ from trial import temporary_folder
 
 DISK = "pwrite,fsync,fdatasync,ftruncate"
 OPENED = "bind:1:kill"
-PATIENCE = 300  # seconds for a start
+LONGEST_START = 300  # seconds of processor time
 READ = 5  # secrets that are read after a kill
 LAST = 6  # calls of a start before each of which it is stopped
 LEAST = {"kills at a moment": 2, "kills before a call": 2, "old": 2, "new": 1}
 
 
 def connected(running):
-    """Whether the program listens in the end; it has ended if not. Raises Wrong."""
-    until = time.monotonic() + PATIENCE
+    """Whether the program listens in the end; it has ended if not. On a busy machine it may wait long for a processor.
+    Raises Wrong."""
+    before = 0.0
     while True:
         try:
             return running.connect() is not None
         except TooSlow:
-            expect(time.monotonic() < until, f"it does not listen for {PATIENCE} seconds")
+            spent = running.spent()
+            expect(before < spent < LONGEST_START, f"it does not listen after {spent:.1f} s of processor time")
+            before = spent
 
 
 class Old:
