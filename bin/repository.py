@@ -56,22 +56,30 @@ class Route:
     needs_sudo: bool
 
 
+def read_facts(text):
+    """What operations ask for, from the text of `Operation::facts`: for each field the operations that have it."""
+    having = {}
+    arms = text.partition("pub fn facts(")[2].partition("\n}")[0]
+    for pattern, fields in re.findall(r"((?:\|?\s*Operation::\w+\([^)]*\)\s*)+)=> Facts \{(.*?)\}", arms, re.DOTALL):
+        for part, variants in re.findall(r"Operation::(\w+)\(([^)]*)\)", pattern):
+            for field in re.findall(r"(\w+):[^:]", fields):
+                having.setdefault(field, set()).update(f"{part}({it.strip()})" for it in variants.split("|"))
+    return having
+
+
 def read_routes():
     """The routes of the code, in the order of its table."""
-    files = ("mounts/src/table.rt", "broker/src/order/capability.rt", "broker/src/order/permission.rt")
-    table, of_writes, of_paths = ((TOP / "crates" / file).read_text(encoding="utf-8") for file in files)
-    can_create = re.findall(r"Operation::(\w+\(\w+::\w+\)) =>", of_writes)
-    of_sudo = of_paths.partition("fn needs_sudo(")[2].partition("\n}")[0]
-    exact = re.findall(r'== "([^"]*)"', of_sudo)
-    prefixes = tuple(re.findall(r'starts_with\(b"([^"]*)"\)', of_sudo))
+    files = ("mounts/src/table.rt", "mounts/src/operation.rt")
+    table, operations = ((TOP / "crates" / file).read_text(encoding="utf-8") for file in files)
+    facts = read_facts(operations)
     row = re.compile(r'RouteRow\(\s*(\w+),\s*"([^"]*)",\s*(\w+\(\w+::\w+\)),?\s*\)')
     routes = []
     for mount, rows in re.findall(r"^const (\w+): &\[RouteRow\](.*?)^\];", table, re.MULTILINE | re.DOTALL):
         for verb, pattern, operation in row.findall(rows):
             path = f"{MOUNTS[mount]}/{pattern}".rstrip("/").replace("{name}", "NAME").replace("{*path}", "PATH")
             methods, capability = VERBS[verb]
-            capabilities = ("create", capability) if operation in can_create else (capability,)
-            routes.append(Route(path, methods, capabilities, path in exact or path.startswith(prefixes)))
+            capabilities = ("create", capability) if operation in facts["stores"] else (capability,)
+            routes.append(Route(path, methods, capabilities, operation in facts["sudo"]))
     if len(routes) != len(re.findall(r"(?<!struct )RouteRow\(", table)):
         raise AssertionError("crates/mounts/src/table.rt has a row of another form")
     return routes
