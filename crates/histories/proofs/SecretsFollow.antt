@@ -85,7 +85,7 @@ unwritten_self a q k = record {
   current = refl;
   versions = λ n v there. (v, there, version_self a q k.current n v);
   none = λ n none. none;
-  settings = inl (refl, refl, refl);
+  settings = inl (refl, refl, refl, refl);
 }
 
 same_moves : (a : Asking) (q : Text) (o : Option Key) → Moves a q o o
@@ -112,7 +112,7 @@ changed_stands a q k f ns stands = record {
     ] refl,
   );
   none = λ n none. get-change_versions f (is_among ns) k.versions n ∙ ap (option_map (λ w. if is_among ns n then f w else w)) none;
-  settings = inl (refl, refl, refl);
+  settings = inl (refl, refl, refl, refl);
 }
 
 deleted_stands : (a : Asking) (q : Text) (current n : ℕ) (v : Version) → Deletes a q current n
@@ -315,6 +315,7 @@ module _ (now : ℕ) (m : Mount) (asked : SecretWrite) (o : Option Key)
     gone = gone;
     left = left;
     created = refl;
+    updated = refl;
     cas_required = refl;
     max_versions = refl;
     custom_metadata = refl;

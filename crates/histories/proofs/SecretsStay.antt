@@ -1,14 +1,15 @@
 -- What becomes of the versions of each secret by a request.
-use Rattle.std.specs.Prelude.{◌≡◌, ◌||◌, not, nat_lt, ℕ, List, true, false, if◌then◌else◌}
+use Rattle.std.specs.Prelude.{◌≡◌, ◌==◌, ◌||◌, not, nat_lt, ℕ, List, true, if◌then◌else◌}
 use Rattle.std.specs.Prelude.{Option, Some, None, Result, Ok, Err}
 use Rattle.std.specs.FinMap as fin
-use Rattle.std.specs.Option.{option_map_or}
-use Rattle.std.proofs.Common.{refl, sym, ◌∙◌, ap, subst, inl, inr, arith}
+use Rattle.std.proofs.Common.{refl, sym, ◌∙◌, ap, subst, arith}
+use Rattle.std.proofs.lemmas.Bool.{eq-eqb}
+use Rattle.broker_types.specs.ListLaws.{any_contained}
 use Rattle.broker_types.specs.Text.{Text, same}
 use Rattle.broker_types.specs.TextLaws.{same_self}
 use Rattle.broker_types.specs.Map.{Map, get}
 use Rattle.broker_types.specs.MapLaws.{valued_is}
-use Rattle.broker_types.specs.Broker.{Broker, revoke}
+use Rattle.broker_types.specs.Broker.{Broker}
 use Rattle.broker_types.specs.Names.{Names, names_of}
 use Rattle.broker_types.specs.Operation.{Done, nothing, plainly}
 use Rattle.broker_types.specs.OptionLaws.{mapped}
@@ -16,7 +17,7 @@ use Rattle.broker_types.specs.Refuse.{unless}
 use Rattle.broker_types.specs.RefuseLaws.{no_ok, ok_step}
 use Rattle.broker_types.specs.Secret.{Key, Version}
 use Rattle.broker_types.specs.Sound.{Sound}
-use Rattle.broker_types.specs.Spending.{end_spent, is_spent}
+use Rattle.broker_types.specs.Spending.{end_spent}
 use Rattle.broker_types.specs.Status.{status_code}
 use Rattle.broker_types.specs.Used.{are_new}
 use Rattle.broker_types.specs.declared.refusal.Refusal.{Refusal}
@@ -45,7 +46,6 @@ use Rattle.histories.specs.Secrets.{AllSecretsStay}
 use Rattle.histories.proofs.EventSecrets.{end_same, spent_same, wrapped_same}
 use Rattle.histories.proofs.InOrder.{in_order}
 use Rattle.histories.proofs.OrderCases.{spent}
-use Rattle.histories.proofs.OrderKeeps.{wrapped_cases}
 use Rattle.histories.proofs.Requests.{asked_at, means_at_clock}
 use Rattle.histories.proofs.Served.{served}
 
@@ -131,6 +131,7 @@ secrets_stay told b history h = record {
   stay = λ i a q k m at one other.
       let is = asked_at b history i a h at in
       versions_stay told a is.sound is.outcome q k m one other;
-  destroyed = λ i a p ns n m w at means empty_ among there held.
-      holds_nothing p ns a (asked_at b history i a h at).outcome means empty_ n m w among there held;
+  destroyed = λ i a p ns n m w at means empty_ one there held.
+      holds_nothing p ns a (asked_at b history i a h at).outcome means empty_ n m w
+      (any_contained (λ k. k == n) ns n one (eq-eqb n n refl)) there held;
 }

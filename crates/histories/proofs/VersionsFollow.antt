@@ -1,37 +1,43 @@
 -- Versions follow the writes, deletions and destructions that were asked for: each part of the law.
-use Rattle.std.specs.Prelude.{◌≡◌, ◌≢◌, ◌⊎◌, ◌<◌, ◌≤◌, ◌+◌, ◌==◌, ◌||◌, ℕ, zero, suc, List, [], ◌∷◌, Bool, true, false, not, cond}
-use Rattle.std.specs.Prelude.{if◌then◌else◌, is_some, nat_eq, nat_lt, Option, option_map, Some, None, Result, Ok, Err}
+use Rattle.std.specs.Prelude.{◌≡◌, ◌≢◌, ◌⊎◌, ◌+◌, ◌==◌, ◌||◌, ℕ, zero, suc, List, [], ◌∷◌, Bool, true, false, not, cond}
+use Rattle.std.specs.Prelude.{if◌then◌else◌, is_none, is_some, Contains, nat_eq, nat_lt, Option, option_map, unwrap_or}
+use Rattle.std.specs.Prelude.{Some, None, Ok}
 use Rattle.std.specs.FinMap as fin
 use Rattle.std.specs.List.{starts_with}
+use Rattle.std.specs.Option.{option_map_or}
 use Rattle.std.specs.Ordering.{nat_cmp}
 use Rattle.std.proofs.Common.{refl, sym, ◌∙◌, ap, subst, inl, inr, arith}
-use Rattle.std.proofs.lemmas.Bool.{eqb-false, eqb-true, false≢true, ltb-false, ltb-true}
+use Rattle.std.proofs.lemmas.Bool.{eq-eqb, eqb-false, eqb-true, false≢true, ltb-false, ltb-true}
 use Rattle.std.proofs.lemmas.Option.{none-some, same_Some}
-use Rattle.broker_types.specs.Text.{Text}
+use Rattle.broker_types.specs.ListLaws.{any_contained}
+use Rattle.broker_types.specs.Text.{Text, same}
+use Rattle.broker_types.specs.TextLaws.{same_self}
 use Rattle.broker_types.specs.Map.{Map, entries, get}
-use Rattle.broker_types.specs.MapLaws.{get-keep, get-put_self, get-without_self}
+use Rattle.broker_types.specs.MapLaws.{get-keep, get-put_self, get-without_self, valued_is}
 use Rattle.broker_types.specs.Broker.{Broker, Mount}
 use Rattle.broker_types.specs.Names.{Names, names_of}
-use Rattle.broker_types.specs.Operation.{missing, reply, Done}
+use Rattle.broker_types.specs.Operation.{missing, nothing, plainly, reply, Done}
 use Rattle.broker_types.specs.OptionLaws.{found_or_not, mapped}
-use Rattle.broker_types.specs.Refuse.{◌>>=◌, some_or}
+use Rattle.broker_types.specs.Refuse.{some_or}
 use Rattle.broker_types.specs.RefuseLaws.{no_ok, ok_step}
 use Rattle.broker_types.specs.Secret.{Key, Version}
 use Rattle.broker_types.specs.Spending.{spend}
 use Rattle.broker_types.specs.Status.{status_code}
-use Rattle.broker_types.specs.declared.refusal.Refusal.{Refusal}
 use Rattle.broker_types.specs.declared.refusal.Refusal.TheVariants as refusal
-use Rattle.broker_types.specs.declared.reply.Reply.{Reply}
 use Rattle.broker_types.specs.declared.status.Status.{Status}
 use Rattle.broker_types.specs.declared.status.Status.TheVariants as status
 use Rattle.records.specs.ValueLaws.{ok_inj}
 use Rattle.kv2.specs.Secrets as secrets
-use Rattle.kv2.specs.Secrets.{Written, secret_name, written}
-use Rattle.kv2.specs.Versions.{Found, asked_number, checked, numbered, key_or_new, versions_kept, with_version}
+use Rattle.kv2.specs.Secrets.{Written, secret_name, with_key, written}
+use Rattle.kv2.specs.VersionLaws.{get-change_versions}
+use Rattle.kv2.specs.Versions.{Found, asked_number, checked, described, destroyed, is_among, numbered, key_or_new}
+use Rattle.kv2.specs.Versions.{restored, soft_deleted, versions_kept, with_changed, with_version}
 use Rattle.mounts.specs.Mounts.{disabled}
 use Rattle.api_json.specs.Objects.{secret_object}
 use Rattle.api_json.specs.Reply.{plain_reply, reply_text}
+use Rattle.api_json.specs.declared.secret_bodies.KeySettings.{KeySettings}
 use Rattle.api_json.specs.declared.secret_bodies.SecretWrite.{SecretWrite}
+use Rattle.api_json.specs.declared.version_list.VersionObject.{VersionObject}
 use Rattle.broker_model.specs.Act.{act}
 use Rattle.broker_model.specs.Command.{Command, command_of, on_mount, on_secret}
 use Rattle.broker_model.specs.EffectLaws.{chained}
@@ -40,13 +46,14 @@ use Rattle.broker_model.specs.Step.{step}
 use Rattle.broker_model.specs.declared.commands.MountCommand.TheVariants as of_mount
 use Rattle.broker_model.specs.declared.commands.SecretCommand.{SecretCommand}
 use Rattle.broker_model.specs.declared.commands.SecretCommand.TheVariants as secret
-use Rattle.broker_model.specs.parts.Mounts.{act_on_mounts, without_kept}
+use Rattle.broker_model.specs.parts.Mounts.{without_kept}
 use Rattle.broker_model.specs.parts.Place.{Place}
 use Rattle.broker_model.specs.parts.SecretReplies.{object_left, version_answered, version_reply, version_shown}
-use Rattle.broker_model.specs.parts.Secrets.{act_on_secrets}
+use Rattle.broker_model.specs.parts.Secrets.{act_on_secrets, given}
 use Rattle.histories.specs.History.{AreAsked, Asking, IsAsked, AskedAt, History, clocked}
-use Rattle.histories.specs.Versions.{AllVersionsFollow, Commands, DidWrite, DisablesAbove, Goes, Holds, IsNewKey, IsWritten, ReadsVersion}
-use Rattle.histories.specs.Versions.{Stands, StandsUnwritten, VersionsFollow, WroteBefore, Writes, named}
+use Rattle.histories.specs.Versions.{AllVersionsFollow, AreSet, Commands, Deletes, DidSet, DidWrite, DisablesAbove}
+use Rattle.histories.specs.Versions.{Goes, Holds, IsAsAsked, IsNewKey, ReadsVersion, StandsUnwritten}
+use Rattle.histories.specs.Versions.{WroteBefore, Writes, named}
 use Rattle.histories.proofs.EventSecrets.{is_404, served_left}
 use Rattle.histories.proofs.OrderCases.{some_ok, spent}
 use Rattle.histories.proofs.Requests.{asked_at, means_at_clock, tells_body}
@@ -85,26 +92,39 @@ secret_caller b names p k (Some c) d e go = go c e
 
 -- ---- a write
 
+-- a secret that was there, or a new one
+was_there : (a : Asking) (q : Text) (o : Option Key) → get (clocked a).secrets q ≡ o
+    → (get (clocked a).secrets q ≡ Some (key_or_new (clocked a).clock o))
+    ⊎ ((get (clocked a).secrets q ≡ None) × IsNewKey (clocked a).clock (key_or_new (clocked a).clock o))
+was_there a q None none = inr (
+  none,
+  record {
+    created = refl;
+    current = refl;
+    empty = λ n. fin.get-empty nat_cmp n;
+    free = refl;
+    unlimited = refl;
+  },
+)
+was_there a q (Some k) some = inl some
+
+-- by the name that a place has
+was_named : (a : Asking) (q : Text) (p : Place) → q ≡ named p
+    → (get (clocked a).secrets q ≡ Some (key_or_new (clocked a).clock (get (clocked a).secrets (named p))))
+    ⊎ ((get (clocked a).secrets q ≡ None)
+    × IsNewKey (clocked a).clock (key_or_new (clocked a).clock (get (clocked a).secrets (named p))))
+was_named a q p name =
+    subst (λ u. (get (clocked a).secrets q ≡ Some (key_or_new (clocked a).clock (get (clocked a).secrets u)))
+    ⊎ ((get (clocked a).secrets q ≡ None)
+    × IsNewKey (clocked a).clock (key_or_new (clocked a).clock (get (clocked a).secrets u)))) name
+    (was_there a q (get (clocked a).secrets q) refl)
+
 module _ (a : Asking) (is : a.outcome ≡ step a.broker a.moment a.words a.ask) (q : Text) (asked : SecretWrite) (w : Writes a q asked) where
   abbrev here : Broker
   here = clocked a
 
   abbrev over : Key
   over = key_or_new here.clock (get here.secrets (secret_name w.place.mount w.place.path))
-
-  was_there : (o : Option Key) → get here.secrets q ≡ o → (get here.secrets q ≡ Some (key_or_new here.clock o))
-      ⊎ ((get here.secrets q ≡ None) × IsNewKey here.clock (key_or_new here.clock o))
-  was_there None none = inr (
-    none,
-    record {
-      created = refl;
-      current = refl;
-      empty = λ n. fin.get-empty nat_cmp n;
-      free = refl;
-      unlimited = refl;
-    },
-  )
-  was_there (Some k) some = inl some
 
   module _ (s : Served a) (c : Text) (e : act_on_secrets (spend here c) (names_of a.words) w.place (secret.Write asked) ≡ Ok s.done) where
     wrote_it : DidWrite a q asked
@@ -122,9 +142,7 @@ module _ (a : Asking) (is : a.outcome ≡ step a.broker a.moment a.words a.ask) 
           of_mount = m.0;
           in_mount = some_ok refusal.NotFound (get here.mounts w.place.mount) m.1;
           before = over;
-          was = subst (λ u. (get here.secrets q ≡ Some (key_or_new here.clock (get here.secrets u)))
-              ⊎ ((get here.secrets q ≡ None) × IsNewKey here.clock (key_or_new here.clock (get here.secrets u)))) w.name
-              (was_there (get here.secrets q) refl);
+          was = was_named a q w.place w.name;
           after = after;
           there = ap (get a.outcome.next.secrets) w.name ∙ ap (λ (z : Map Key). get z name) left ∙ get-put_self here.secrets name after;
           is = is_written here.clock m.0 asked (get here.secrets name) passed.1;
@@ -135,6 +153,43 @@ module _ (a : Asking) (is : a.outcome ≡ step a.broker a.moment a.words a.ask) 
       let s = was_200 a is (on_secret w.place (secret.Write asked)) w.means w.answered in
       secret_caller here (names_of a.words) w.place (secret.Write asked) s.caller s.done
       (acted a is (on_secret w.place (secret.Write asked)) w.means s) (wrote_it s)
+
+-- ---- settings
+
+-- those that are given, and the others as they were
+are_set : (now : ℕ) (asked : KeySettings) (k : Key) → AreSet now asked k (described now (given asked) k)
+are_set now asked k = record {
+  updated = refl;
+  cas_required = λ v e. ap (λ (o : Option Bool). unwrap_or o k.cas_required) e;
+  same_cas_required = λ e. ap (λ (o : Option Bool). unwrap_or o k.cas_required) e;
+  max_versions = λ n e. ap (λ (o : Option ℕ). unwrap_or o k.max_versions) e;
+  same_max_versions = λ e. ap (λ (o : Option ℕ). unwrap_or o k.max_versions) e;
+  custom_metadata = λ pairs e. ap pairs_left e;
+  same_custom_metadata = λ e. ap pairs_left e;
+}
+  where
+    pairs_left : Option (List (Text × Text)) → Map Text
+    pairs_left o = option_map_or fin.from_entries o k.custom_metadata
+
+module _ (a : Asking) (is : a.outcome ≡ step a.broker a.moment a.words a.ask) (q : Text) (asked : KeySettings)
+    (w : Commands a q (secret.SetMetadata asked)) where
+  did_set : DidSet a q asked
+  did_set =
+      let k = on_secret w.place (secret.SetMetadata asked) in
+      let s = was_204 a is k w.means w.answered in
+      let old = get (clocked a).secrets (named w.place) in
+      let after = described (clocked a).clock (given asked) (key_or_new (clocked a).clock old) in
+      secret_caller (clocked a) (names_of a.words) w.place (secret.SetMetadata asked) s.caller s.done
+      (acted a is k w.means s) (λ c e. record {
+        before = key_or_new (clocked a).clock old;
+        was = was_named a q w.place w.name;
+        after = after;
+        there = ap (get a.outcome.next.secrets) w.name
+            ∙ ap (λ (z : Map Key). get z (named w.place))
+            (served_left a s ∙ ap (λ (d : Done). d.next.secrets) (sym (ok_inj e)))
+            ∙ get-put_self (clocked a).secrets (named w.place) after;
+        is = are_set (clocked a).clock asked (key_or_new (clocked a).clock old);
+      })
 
 -- ---- what goes
 
@@ -173,6 +228,83 @@ module _ (a : Asking) (is : a.outcome ≡ step a.broker a.moment a.words a.ask) 
   goes_away (inl w) = removed w
   goes_away (inr w) = disabled_below w
 
+-- ---- a change of versions
+
+-- a version that is deleted is so afterwards
+left_deleted : (now : ℕ) (v w : Version) → w ≡ soft_deleted now v → w.deleted ≢ None
+left_deleted now v w at none = by v.deleted refl (ap (λ (z : Version). z.deleted) (sym at) ∙ none)
+  where
+    by : (o : Option ℕ) → v.deleted ≡ o
+        → (if is_none o then record v { deleted = Some now } else v).deleted ≡ None → ⊥
+    by None was e = none-some _ (sym e)
+    by (Some t) was e = none-some _ (sym e ∙ was)
+
+-- and one that is taken back is not, unless it is destroyed
+left_restored : (v w : Version) → w ≡ restored v → (w.deleted ≡ None) ⊎ (w.secret ≡ None)
+left_restored v w at =
+    subst (λ (z : Version). (z.deleted ≡ None) ⊎ (z.secret ≡ None)) (sym at) (by v.secret refl)
+  where
+    by : (o : Option Text) → v.secret ≡ o
+        → ((if is_none o then v else record v { deleted = None }).deleted ≡ None)
+        ⊎ ((if is_none o then v else record v { deleted = None }).secret ≡ None)
+    by None none = inr none
+    by (Some t) some = inl refl
+
+module _ (a : Asking) (is : a.outcome ≡ step a.broker a.moment a.words a.ask) (q : Text) (m : Key)
+    (there : get a.outcome.next.secrets q ≡ Some m) where
+  -- a command that changes a secret left it changed
+  was_changed : (asked : SecretCommand) (w : Commands a q asked) (f : Key → Key)
+      → ((c : Text) (d : Done) → act_on_secrets (spend (clocked a) c) (names_of a.words) w.place asked ≡ Ok d
+      → d ≡ plainly nothing (with_key (spend (clocked a) c) w.place.mount w.place.path f))
+      → (k : Key) × (m ≡ f k)
+  was_changed asked w f changes =
+      let s = was_204 a is (on_secret w.place asked) w.means w.answered in
+      let name = secret_name w.place.mount w.place.path in
+      secret_caller (clocked a) (names_of a.words) w.place asked s.caller s.done
+      (acted a is (on_secret w.place asked) w.means s) (λ c e.
+      let left = served_left a s ∙ ap (λ (d : Done). d.next.secrets) (changes c s.done e) in
+      let x = valued_is (λ u (z : Key). if same u name then f z else z) (clocked a).secrets name m
+      (ap (λ (z : Map Key). get z name) (sym left) ∙ ap (get a.outcome.next.secrets) (sym w.name) ∙ there) in
+      (x.0, x.2 ∙ ap (λ v. if v then f x.0 else x.0) (same_self name)))
+
+  module _ (n : ℕ) (v : Version) (kept : fin.get m.versions n ≡ Some v) where
+    -- and each version that was named is a changed one
+    named_changed : (g : Version → Version) (ns : List ℕ) (k : Key) → m ≡ with_changed g ns k → Contains ns n
+        → (u : Version) × (v ≡ g u)
+    named_changed g ns k at one =
+        let among = any_contained (λ k. k == n) ns n one (eq-eqb n n refl) in
+        let u = mapped (λ (z : Version). if is_among ns n then g z else z) (fin.get k.versions n) v
+        (sym (get-change_versions g (is_among ns) k.versions n)
+        ∙ ap (λ (z : Key). fin.get z.versions n) (sym at) ∙ kept) in
+        (u.0, u.2 ∙ ap (λ b. if b then g u.0 else u.0) among)
+
+    is_deleted : Deletes a q m.current n → v.deleted ≢ None
+    is_deleted (inl (it, current)) =
+        let f = soft_deleted (clocked a).clock in
+        let k = was_changed secret.DeleteCurrent it (λ z. with_changed f (z.current ∷ []) z)
+        (λ c d e. sym (ok_inj e)) in
+        let number = sym (current ∙ ap (λ (z : Key). z.current) k.1) in
+        let u = named_changed f ((k.0).current ∷ []) k.0 k.1 (0, omega (arith), number) in
+        left_deleted (clocked a).clock u.0 v u.1
+    is_deleted (inr (ns, it, one)) =
+        let f = soft_deleted (clocked a).clock in
+        let k = was_changed (secret.Delete ns) it (with_changed f ns) (λ c d e. sym (ok_inj e)) in
+        let u = named_changed f ns k.0 k.1 one in
+        left_deleted (clocked a).clock u.0 v u.1
+
+    as_asked : IsAsAsked a q m.current n v
+    as_asked = record {
+      deleted = is_deleted;
+      taken_back = λ ns it one.
+          let k = was_changed (secret.Undelete ns) it (with_changed restored ns) (λ c d e. sym (ok_inj e)) in
+          let u = named_changed restored ns k.0 k.1 one in
+          left_restored u.0 v u.1;
+      destroyed = λ ns it one.
+          let k = was_changed (secret.Destroy ns) it (with_changed destroyed ns) (λ c d e. sym (ok_inj e)) in
+          let u = named_changed destroyed ns k.0 k.1 one in
+          ap (λ (z : Version). z.secret) u.1;
+    }
+
 -- ---- a read
 
 -- a version whose object is left
@@ -208,6 +340,9 @@ module _ (told : OperationsDoAsTold) (a : Asking) (is : a.outcome ≡ step a.bro
         by true zero_ = absurd (some (eqb-true n 0 zero_))
         by false _ = refl
 
+    abbrev told_so : Bool → Option ℕ → VersionObject
+    told_so gone time = record { created = v.created; deleted = time; destroyed = gone; version = number }
+
     reads : (object : Text) → v.deleted ≡ None → v.secret ≡ Some object → it.done.answered ≡ reply (version_reply request found) None
         → ReadsVersion a p n
     reads object not_deleted holds answered = record {
@@ -222,7 +357,8 @@ module _ (told : OperationsDoAsTold) (a : Asking) (is : a.outcome ≡ step a.bro
       object = object;
       holds = holds;
       shown = version_shown number v;
-      custom_metadata = entries k.custom_metadata;
+      is_shown = ap (told_so (is_none v.secret)) not_deleted
+          ∙ ap (λ (o : Option Text). told_so (is_none o) None) holds;
       reply = sym (tells_body told a it (version_reply request found) None answered).0
           ∙ ap (λ o. reply_text (plain_reply request (secret_object o (entries k.custom_metadata) (version_shown number v))))
           (ap (λ (o : Option ℕ). if is_some o then None else v.secret) not_deleted ∙ holds);
@@ -375,9 +511,11 @@ given_at told b (Some y ∷ later) (suc j) x q n object (is, h) at holds =
 pub versions_follow : OperationsDoAsTold → AllVersionsFollow
 versions_follow told b history h = record {
   written = λ i a q asked at w. did_write a (asked_at b history i a h at).outcome q asked w;
+  set = λ i a q asked at w. did_set a (asked_at b history i a h at).outcome q asked w;
   stand = λ i a q k m at was there.
       subst (λ (o : Option Key). Moves a q o (Some m)) was
       (subst (Moves a q (get (clocked a).secrets q)) there (secrets_moved told a (asked_at b history i a h at).outcome q));
+  as_asked = λ i a q m n v at there kept. as_asked a (asked_at b history i a h at).outcome q m there n v kept;
   go = λ i a q at was none. by_before a q (get (clocked a).secrets q) refl was
       (subst (Moves a q (get (clocked a).secrets q)) none (secrets_moved told a (asked_at b history i a h at).outcome q));
   come = λ i a q m at none there.

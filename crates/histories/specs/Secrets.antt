@@ -1,5 +1,5 @@
 -- The law of versioned secrets over all histories, as statements (Vault's documentation, "KV secrets engine - version 2").
-use Rattle.std.specs.Prelude.{◌≡◌, ℕ, List, true, Some, None, Ok}
+use Rattle.std.specs.Prelude.{◌≡◌, ℕ, List, Contains, Some, None, Ok}
 use Rattle.std.specs.FinMap as fin
 use Rattle.broker_types.specs.Broker.{Broker}
 use Rattle.broker_types.specs.Text.{Text}
@@ -7,7 +7,6 @@ use Rattle.broker_types.specs.Map.{get}
 use Rattle.broker_types.specs.Secret.{Key, Version}
 use Rattle.broker_types.specs.declared.status.Status.TheVariants as status
 use Rattle.kv2.specs.Secrets.{secret_name}
-use Rattle.kv2.specs.Versions.{is_among}
 use Rattle.broker_model.specs.Command.{on_secret, command_of}
 use Rattle.broker_model.specs.Effects.{VersionsStay}
 use Rattle.broker_model.specs.declared.commands.SecretCommand.TheVariants as command
@@ -19,9 +18,9 @@ pub record Secrets (history : History) : Type 0 where
   pub stay : (i : ℕ) (a : Asking) (q : Text) (k m : Key) → AskedAt history i a → get a.broker.secrets q ≡ Some k
       → get a.outcome.next.secrets q ≡ Some m → VersionsStay k m
   -- After a 204 that destroyed versions, each of them that is still there holds nothing.
-  pub destroyed : (i : ℕ) (a : Asking) (p : Place) (ns : List ℕ) (n : ℕ) (m : Key) (w : Version) → AskedAt history i a
-      → command_of (clocked a).mounts a.ask ≡ Ok (on_secret p (command.Destroy ns))
-      → a.outcome.response.status ≡ status.NoContent → is_among ns n ≡ true
+  pub destroyed : (i : ℕ) (a : Asking) (p : Place) (ns : List ℕ) (n : ℕ) (m : Key) (w : Version)
+      → AskedAt history i a → command_of (clocked a).mounts a.ask ≡ Ok (on_secret p (command.Destroy ns))
+      → a.outcome.response.status ≡ status.NoContent → Contains ns n
       → get a.outcome.next.secrets (secret_name p.mount p.path) ≡ Some m → fin.get m.versions n ≡ Some w
       → w.secret ≡ None
 

@@ -1,6 +1,7 @@
 -- The law of what becomes of versioned secrets, as a statement (Vault's documentation, "KV secrets engine - version 2",
 -- check-and-set, deleting and destroying data, key metadata; "/sys/mounts", disable secrets engine).
-use Rattle.std.specs.Prelude.{◌≡◌, ◌≢◌, ◌⊎◌, ◌<◌, ◌≤◌, ◌+◌, ◌++◌, ℕ, List, [], ◌∷◌, Contains, true, false, nat_eq, Some, None, Ok}
+use Rattle.std.specs.Prelude.{◌≡◌, ◌≢◌, ◌⊎◌, ◌<◌, ◌≤◌, ◌+◌, ◌++◌, ℕ, List, [], ◌∷◌, Contains, Bool, true, false, nat_eq}
+use Rattle.std.specs.Prelude.{Some, None, Ok}
 use Rattle.std.specs.FinMap as fin
 use Rattle.std.specs.List.{starts_with}
 use Rattle.broker_types.specs.Text.{Text}
@@ -69,6 +70,14 @@ pub record VersionStands (a : Asking) (q : Text) (current n : ℕ) (v w : Versio
       ⊎ ((w.deleted ≡ None) × (v.secret ≢ None)
       × ((ns : List ℕ) × Commands a q (command.Undelete ns) × Contains ns n)))
 
+-- What a 204 asked of the version n of the secret q, whose current one has this number, was done: a deletion that names
+-- it leaves it deleted, a taking back not deleted unless it is destroyed, and a destruction without what it held.
+pub record IsAsAsked (a : Asking) (q : Text) (current n : ℕ) (v : Version) : Type 0 where
+  pub deleted : Deletes a q current n → v.deleted ≢ None
+  pub taken_back : (ns : List ℕ) → Commands a q (command.Undelete ns) → Contains ns n
+      → (v.deleted ≡ None) ⊎ (v.secret ≡ None)
+  pub destroyed : (ns : List ℕ) → Commands a q (command.Destroy ns) → Contains ns n → v.secret ≡ None
+
 -- ---- a write
 
 -- How many versions are kept: what the secret says, else what its mount says, else ten; 0 says nothing.
@@ -92,6 +101,7 @@ pub record IsWritten (now : ℕ) (m : Mount) (asked : SecretWrite) (k next : Key
   pub left : (n : ℕ) → n ≢ 0 → n ≢ next.current → next.current < n + kept
       → fin.get next.versions n ≡ fin.get k.versions n
   pub created : next.created ≡ k.created
+  pub updated : next.updated ≡ now
   pub cas_required : next.cas_required ≡ k.cas_required
   pub max_versions : next.max_versions ≡ k.max_versions
   pub custom_metadata : next.custom_metadata ≡ k.custom_metadata
@@ -117,10 +127,32 @@ pub record DidWrite (a : Asking) (q : Text) (asked : SecretWrite) : Type 0 where
   pub there : get a.outcome.next.secrets q ≡ Some after
   pub is : IsWritten (clocked a).clock of_mount asked before after
 
+-- ---- settings
+
+-- What a 204 to settings of the secret k left of them: those that are given, and the others as they were.
+pub record AreSet (now : ℕ) (asked : KeySettings) (k next : Key) : Type 0 where
+  pub updated : next.updated ≡ now
+  pub cas_required : (v : Bool) → asked.cas_required ≡ Some v → next.cas_required ≡ v
+  pub same_cas_required : asked.cas_required ≡ None → next.cas_required ≡ k.cas_required
+  pub max_versions : (n : ℕ) → asked.max_versions ≡ Some n → next.max_versions ≡ n
+  pub same_max_versions : asked.max_versions ≡ None → next.max_versions ≡ k.max_versions
+  pub custom_metadata : (pairs : List (Text × Text)) → asked.custom_metadata ≡ Some pairs
+      → next.custom_metadata ≡ fin.from_entries pairs
+  pub same_custom_metadata : asked.custom_metadata ≡ None → next.custom_metadata ≡ k.custom_metadata
+
+-- The settings were set: those of the secret that was there, or of a new one.
+pub record DidSet (a : Asking) (q : Text) (asked : KeySettings) : Type 0 where
+  pub before : Key
+  pub was : (get (clocked a).secrets q ≡ Some before)
+      ⊎ ((get (clocked a).secrets q ≡ None) × IsNewKey (clocked a).clock before)
+  pub after : Key
+  pub there : get a.outcome.next.secrets q ≡ Some after
+  pub is : AreSet (clocked a).clock asked before after
+
 -- ---- what becomes of a secret
 
--- The secret was not written: it has the same versions, of which each stands, and the same current one; its settings
--- change only by a 204 to settings of its own.
+-- The secret was not written: it has the same versions, of which each stands, and the same current one; its settings,
+-- and the time when it was updated, change only by a 204 to settings of its own.
 pub record StandsUnwritten (a : Asking) (q : Text) (k m : Key) : Type 0 where
   pub created : m.created ≡ k.created
   pub current : m.current ≡ k.current
@@ -128,7 +160,7 @@ pub record StandsUnwritten (a : Asking) (q : Text) (k m : Key) : Type 0 where
       → (w : Version) × (fin.get m.versions n ≡ Some w) × VersionStands a q k.current n v w
   pub none : (n : ℕ) → fin.get k.versions n ≡ None → fin.get m.versions n ≡ None
   pub settings : ((m.cas_required ≡ k.cas_required) × (m.max_versions ≡ k.max_versions)
-      × (m.custom_metadata ≡ k.custom_metadata))
+      × (m.custom_metadata ≡ k.custom_metadata) × (m.updated ≡ k.updated))
       ⊎ ((asked : KeySettings) × Commands a q (command.SetMetadata asked))
 
 -- the secret stands, written or not
@@ -149,7 +181,8 @@ Comes a q m =
 -- ---- what is read
 
 -- The request read this version: the one that it asked for, or the current one if it asked for 0. It is neither deleted
--- nor destroyed, and the reply, without wrapping, has what it holds, byte for byte.
+-- nor destroyed, and the reply, without wrapping, has what it holds, byte for byte, its number and its time, and the
+-- custom metadata of the secret.
 pub record ReadsVersion (a : Asking) (p : Place) (asked : ℕ) : Type 0 where
   pub key : Key
   pub there : get (clocked a).secrets (named p) ≡ Some key
@@ -162,9 +195,10 @@ pub record ReadsVersion (a : Asking) (p : Place) (asked : ℕ) : Type 0 where
   pub object : Text
   pub holds : version.secret ≡ Some object
   pub shown : VersionObject
-  pub custom_metadata : List (Text × Text)
+  pub is_shown : shown ≡ record { created = version.created; deleted = None; destroyed = false; version = number }
   pub reply : unwrapped_body a
-      ≡ reply_text (plain_reply (names_of a.words).request (secret_object (Some object) custom_metadata shown))
+      ≡ reply_text (plain_reply (names_of a.words).request
+      (secret_object (Some object) (fin.entries key.custom_metadata) shown))
 
 -- the broker has the version n of the secret q, and it holds the object
 pub record Holds (b : Broker) (q : Text) (n : ℕ) (object : Text) : Type 0 where
@@ -191,9 +225,15 @@ pub record VersionsFollow (b : Broker) (history : History) : Type 0 where
   -- Each 200 to a write wrote.
   pub written : (i : ℕ) (a : Asking) (q : Text) (asked : SecretWrite) → AskedAt history i a → Writes a q asked
       → DidWrite a q asked
+  -- And each 204 to settings of a secret set them.
+  pub set : (i : ℕ) (a : Asking) (q : Text) (asked : KeySettings) → AskedAt history i a
+      → Commands a q (command.SetMetadata asked) → DidSet a q asked
   -- A secret that was there at the clock of an event and is after it, stands.
   pub stand : (i : ℕ) (a : Asking) (q : Text) (k m : Key) → AskedAt history i a → get (clocked a).secrets q ≡ Some k
       → get a.outcome.next.secrets q ≡ Some m → Stands a q k m
+  -- And each of its versions that a 204 named, is as that asked.
+  pub as_asked : (i : ℕ) (a : Asking) (q : Text) (m : Key) (n : ℕ) (v : Version) → AskedAt history i a
+      → get a.outcome.next.secrets q ≡ Some m → fin.get m.versions n ≡ Some v → IsAsAsked a q m.current n v
   pub go : (i : ℕ) (a : Asking) (q : Text) → AskedAt history i a → get (clocked a).secrets q ≢ None
       → get a.outcome.next.secrets q ≡ None → Goes a q
   pub come : (i : ℕ) (a : Asking) (q : Text) (m : Key) → AskedAt history i a → get (clocked a).secrets q ≡ None

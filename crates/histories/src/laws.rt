@@ -145,7 +145,8 @@ pub fn versions_stay()
     operations_do_as_told();
 }
 
-/// A law: what a secret holds follows the writes, deletions and destructions that were asked for.
+/// A law: what a secret holds follows the writes, deletions and destructions that were asked for, and each that succeeded
+/// was done. A read shows the version that was asked for (Vault's documentation, "KV secrets engine - version 2").
 pub fn versions_follow()
     ensures { AllVersionsFollow }
 {
