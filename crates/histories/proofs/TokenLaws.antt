@@ -31,7 +31,7 @@ use Rattle.broker_model.specs.declared.making.Making.{Making}
 use Rattle.broker_model.specs.declared.making.Making.TheVariants.{OfCaller, WithoutParent}
 use Rattle.broker_model.specs.parts.TokenCreation.{asked_time, asked_ttl, has_no_end, have_root, is_privileged}
 use Rattle.broker_model.specs.parts.TokenCreation.{makes_orphans, making_path, new_parent, new_policies, new_token}
-use Rattle.broker_model.specs.parts.TokenCreation.{or_longest}
+use Rattle.broker_model.specs.parts.TokenCreation.{or_longest, use_limit}
 use Rattle.broker_model.specs.parts.Tokens.{new_end, prolonged_end}
 use Rattle.broker_model.specs.EffectLaws.{chained}
 use Rattle.broker_model.specs.Laws.{OperationsDoAsTold}
@@ -174,6 +174,13 @@ module _ (only : OnlyWhatIsGranted) (creates : CreatesAtPath) (a : Asking) (q : 
               | inl none ↦ is_nothing m.own.ends none
               | inr some ↦ absurd (false≢true (sym (ap not endless) ∙ some))
             ];
+        issued = ap (λ (z : Token). z.issued) m.is;
+        uses = λ some.
+            ap (λ (z : Token). z.uses_left) m.is
+            ∙ ap (λ v. if v then None else Some asked.num_uses) (is_some_time asked.num_uses some);
+        no_limit = λ none. ap (λ (z : Token). z.uses_left) m.is ∙ ap use_limit none;
+        longest = ap (λ (z : Token). z.explicit_max_ttl) m.is;
+        period = ap (λ (z : Token). z.period) m.is;
       }
 
 -- ---- when it ends

@@ -1,6 +1,6 @@
 -- The law of who may make which token, as a statement (Vault's documentation, "Token auth method (API)", create token;
 -- "Tokens", token hierarchies and orphan tokens, root tokens, periodic tokens; what `sudo` allows is this project's).
-use Rattle.std.specs.Prelude.{◌≡◌, ◌⊎◌, ℕ, true, Some, None, codes}
+use Rattle.std.specs.Prelude.{◌≡◌, ◌≢◌, ◌⊎◌, ℕ, min, true, Some, None, codes}
 use Rattle.broker_types.specs.Text.{Text}
 use Rattle.broker_types.specs.Map.{get}
 use Rattle.broker_types.specs.Token.{Token}
@@ -48,6 +48,12 @@ pub record MightMake (a : Asking) (q : Text) (y : Token) : Type 0 where
   pub root : HasRoot y → HasRoot own
   -- and a token without end from one without end
   pub endless : y.ends ≡ None → own.ends ≡ None
+  -- it is issued now, with the uses, of which 0 are no limit, the longest time and the period that were asked for
+  pub issued : y.issued ≡ (clocked a).clock
+  pub uses : made.asked.num_uses ≢ 0 → y.uses_left ≡ Some made.asked.num_uses
+  pub no_limit : made.asked.num_uses ≡ 0 → y.uses_left ≡ None
+  pub longest : y.explicit_max_ttl ≡ made.asked.explicit_max_ttl
+  pub period : y.period ≡ min made.asked.period 2764800
 
 -- each token after an event was there at its clock, or the event's caller might make it
 abbrev pub MadeAsAllowed : History → Type 0
