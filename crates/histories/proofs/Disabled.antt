@@ -1,21 +1,19 @@
 -- A mount that is disabled leaves nothing, and what is of other mounts stays.
-use Rattle.std.specs.Prelude.{◌≡◌, ◌≢◌, ◌⊎◌, true, false, not, cond, if◌then◌else◌, is_some, Option, Some, None, Ok, Bool, option_and_then, ⊤}
+use Rattle.std.specs.Prelude.{◌≡◌, ◌≢◌, true, false, not, cond, if◌then◌else◌, is_some, Option, Some, None, Ok, Bool, option_and_then, ⊤}
 use Rattle.std.proofs.Common.{refl, sym, ◌∙◌, ap, subst, inl, inr, arith}
-use Rattle.std.proofs.lemmas.Bool.{false≢true}
-use Rattle.std.proofs.lemmas.Option.{none-some, same_Some}
 use Rattle.broker_types.specs.Text.{Text, same}
 use Rattle.broker_types.specs.TextLaws.{same_self, same_true}
 use Rattle.broker_types.specs.Map.{Map, get, keep, without}
 use Rattle.broker_types.specs.MapLaws.{get-change, get-keep, get-without, valued_is}
 use Rattle.broker_types.specs.Broker.{Broker, Mount, Waiting}
-use Rattle.broker_types.specs.Names.{Names, names_of}
+use Rattle.broker_types.specs.Names.{names_of}
 use Rattle.broker_types.specs.Operation.{Done}
 use Rattle.broker_types.specs.OptionLaws.{found_or_not, mapped}
 use Rattle.broker_types.specs.Places.{lease_of}
 use Rattle.broker_types.specs.RefuseLaws.{no_ok, ok_step}
 use Rattle.broker_types.specs.Spending.{one_less, spend}
 use Rattle.broker_types.specs.Status.{status_code}
-use Rattle.broker_types.specs.Token.{Token, Tokens, Lease}
+use Rattle.broker_types.specs.Token.{Token, Tokens}
 use Rattle.records.specs.ValueLaws.{ok_inj}
 use Rattle.leases.specs.Leases as leases
 use Rattle.mounts.specs.Mounts.{disabled, may_go}

@@ -11,8 +11,6 @@ use Rattle.broker_types.specs.Map.{Map, empty, get}
 use Rattle.broker_types.specs.Broker.{Broker}
 use Rattle.broker_types.specs.Names.{Names}
 use Rattle.broker_types.specs.Operation.{reply, Done}
-use Rattle.broker_types.specs.OptionLaws.{is_nothing}
-use Rattle.broker_types.specs.Refuse.{some_or}
 use Rattle.broker_types.specs.RefuseLaws.{ok_step}
 use Rattle.broker_types.specs.Secret.{Key}
 use Rattle.broker_types.specs.Text.{Text, same, text_cmp}
@@ -41,7 +39,7 @@ use Rattle.policies.specs.Patterns.{tried}
 use Rattle.policies.specs.declared.pattern.Pattern.{Pattern}
 use Rattle.policies.specs.Policies.{is_root}
 use Rattle.policies.specs.Reading.{policy_of}
-use Rattle.policies.specs.Rules.{Rule, Rules}
+use Rattle.policies.specs.Rules.{Rule}
 use Rattle.policies.specs.declared.capability.Capability.{Capability}
 use Rattle.policies.specs.declared.capability.Capability.TheVariants.{Create, Sudo, Update}
 use Rattle.token_tree.specs.Tokens.{find_accessor}
@@ -49,8 +47,8 @@ use Rattle.broker_model.specs.Capabilities.{asked, asked_by, capability, has_sto
 use Rattle.broker_model.specs.Permission.{may_ask}
 use Rattle.broker_model.specs.declared.commands.TokenCommand.TheVariants as token
 use Rattle.broker_model.specs.parts.TokenReplies.{token_reply}
-use Rattle.broker_model.specs.parts.Tokens.{act_on_tokens, known, look_up, named}
-use Rattle.histories.specs.Documented.{AccessorsHideTokens, AreAsDocumented, AsksByVerb, MakesAnew, RootAlone, SudoIsNeeded}
+use Rattle.broker_model.specs.parts.Tokens.{act_on_tokens, known, named}
+use Rattle.histories.specs.Documented.{AccessorsHideTokens, AreAsDocumented, AsksByVerb, MakesAnew, SudoIsNeeded}
 use Rattle.histories.proofs.CreationRoutes.{whole}
 use Rattle.histories.proofs.OrderCases.{some_ok}
 

@@ -1,19 +1,18 @@
 -- What a request leaves of the secrets, and its status.
-use Rattle.std.specs.Prelude.{◌≡◌, ◌⊎◌, if◌then◌else◌, true, false, Option, Some, None, Ok, Err}
+use Rattle.std.specs.Prelude.{◌≡◌, ◌⊎◌, if◌then◌else◌, true, false, Option, Some, None}
 use Rattle.std.specs.Option.{option_map_or}
 use Rattle.std.proofs.Common.{refl, sym, ◌∙◌, ap, subst, inl, inr}
 use Rattle.broker_types.specs.Text.{Text}
-use Rattle.broker_types.specs.Map.{Map, get}
+use Rattle.broker_types.specs.Map.{get}
 use Rattle.broker_types.specs.Broker.{Broker, revoke}
 use Rattle.broker_types.specs.Names.{Names, names_of}
 use Rattle.broker_types.specs.Operation.{Answered, nothing, missing, reply, Done}
-use Rattle.broker_types.specs.Secret.{Key}
 use Rattle.broker_types.specs.Spending.{end_spent, is_spent}
 use Rattle.broker_types.specs.declared.reply.Reply.{Reply}
 use Rattle.broker_types.specs.declared.status.Status.TheVariants as status
 use Rattle.broker_model.specs.Act.{act}
 use Rattle.broker_model.specs.Command.{Command}
-use Rattle.broker_model.specs.Order.{Outcome, Wrapped, counted, finish, response_to, wrapped}
+use Rattle.broker_model.specs.Order.{Outcome, Wrapped, counted, response_to, wrapped}
 use Rattle.broker_model.specs.Permission.{permits}
 use Rattle.broker_model.specs.Request.{Request}
 use Rattle.broker_model.specs.Step.{request_of, step, traits}

@@ -1,5 +1,5 @@
 -- What POST and PUT of fixed paths mean, and a request that may need no caller.
-use Rattle.std.specs.Prelude.{◌≡◌, ◌||◌, ◌&&◌, List, [], Bool, true, false, not, Option, Some, None, option_map}
+use Rattle.std.specs.Prelude.{◌≡◌, ◌||◌, ◌&&◌, ◌++◌, ◌∷◌, ℕ, List, [], Bool, true, false, not, Option, Some, None, option_map}
 use Rattle.std.specs.Prelude.{Result, Ok, codes}
 use Rattle.std.specs.List.{list_all}
 use Rattle.std.specs.Option.{option_map_or}
@@ -26,18 +26,22 @@ use Rattle.mounts.specs.Table.{facts, route_rows}
 use Rattle.mounts.specs.Types.{fixed_type, type_at, type_of}
 use Rattle.mounts.specs.declared.mount_type.MountType.{MountType}
 use Rattle.mounts.specs.declared.mount_type.MountType.TheVariants as mount
+use Rattle.mounts.specs.declared.operation.CubbyholeOperation.TheVariants as of_cubbyholes
+use Rattle.mounts.specs.declared.operation.LeaseOperation.TheVariants as of_leases
 use Rattle.mounts.specs.declared.operation.Opens.TheVariants.{Never, Always, WithItsOwn}
 use Rattle.mounts.specs.declared.operation.Operation.{Operation}
-use Rattle.mounts.specs.declared.operation.Operation.TheVariants.{Tokens, Wrappings}
+use Rattle.mounts.specs.declared.operation.Operation.TheVariants.{Cubbyholes, Leases, Tokens, Wrappings}
 use Rattle.mounts.specs.declared.operation.TokenOperation.TheVariants as of_tokens
 use Rattle.mounts.specs.declared.operation.WrappingOperation.TheVariants as of_responses
 use Rattle.api_json.specs.Readers as reader
-use Rattle.broker_model.specs.Command.{Command, command_for}
+use Rattle.broker_model.specs.Command.{Command, command_for, on_token}
+use Rattle.broker_model.specs.declared.commands.CubbyholeCommand.TheVariants as cubbyhole
+use Rattle.broker_model.specs.declared.commands.LeaseCommand.TheVariants as lease
 use Rattle.broker_model.specs.declared.commands.TokenCommand.TheVariants as token
 use Rattle.broker_model.specs.declared.commands.WrappingCommand.TheVariants as response
 use Rattle.broker_model.specs.declared.making.Making.TheVariants.{OfCaller, WithoutParent}
 use Rattle.histories.specs.LeasePaths.{AskedMeans}
-use Rattle.histories.specs.Paths.{PathsMeanCommands, WrittenMeans, on_found, on_named, on_none, on_object}
+use Rattle.histories.specs.Paths.{PathsMeanCommands, WrittenMeans, on_found, on_found_lease, on_named, on_none, on_object, on_path}
 
 -- ---- a pattern that alone has the form of a path
 
@@ -211,6 +215,70 @@ module _ (found : FoundByForm) (none : NoneFoundByForm) (ordered : AreInOrder) w
       means mount.Token (codes "auth") (codes "token/revoke-accessor") (codes "auth/token/revoke-accessor") (Tokens of_tokens.RevokeAccessor)
       (λ o. refl) refl refl refl refl refl
 
+  -- ---- what is looked up, renewed, read and deleted
+
+  pub looks_up_token : WrittenMeans (codes "auth/token/lookup") (on_found reader.token token.LookUp)
+  unfolding same
+  looks_up_token =
+      asked mount.Token verb.Write (codes "auth") (codes "token/lookup") (codes "auth/token/lookup") (codes "token/lookup") [] (Tokens of_tokens.LookUp)
+      (λ o. refl) refl refl (stands (route_rows mount.Token) (codes "token/lookup") refl) refl refl
+
+  pub looks_up_accessor : WrittenMeans (codes "auth/token/lookup-accessor") (on_found reader.accessor token.LookUpAccessor)
+  unfolding same
+  looks_up_accessor =
+      asked mount.Token verb.Write (codes "auth") (codes "token/lookup-accessor") (codes "auth/token/lookup-accessor") (codes "token/lookup-accessor") [] (Tokens of_tokens.LookUpAccessor)
+      (λ o. refl) refl refl (stands (route_rows mount.Token) (codes "token/lookup-accessor") refl) refl refl
+
+  pub looks_up_self : AskedMeans verb.Get (codes "auth/token/lookup-self") (λ a. Ok (on_token token.LookUpSelf))
+  unfolding same
+  looks_up_self =
+      asked mount.Token verb.Get (codes "auth") (codes "token/lookup-self") (codes "auth/token/lookup-self") (codes "token/lookup-self") [] (Tokens of_tokens.LookUpSelf)
+      (λ o. refl) refl refl (stands (route_rows mount.Token) (codes "token/lookup-self") refl) refl refl
+
+  pub lists_accessors : AskedMeans verb.List (codes "auth/token/accessors") (λ a. Ok (on_token token.ListAccessors))
+  unfolding same
+  lists_accessors =
+      asked mount.Token verb.List (codes "auth") (codes "token/accessors") (codes "auth/token/accessors") (codes "token/accessors") [] (Tokens of_tokens.ListAccessors)
+      (λ o. refl) refl refl (stands (route_rows mount.Token) (codes "token/accessors") refl) refl refl
+
+  pub renews : WrittenMeans (codes "auth/token/renew") (on_found reader.token_renewal token.Renew)
+  unfolding same
+  renews =
+      asked mount.Token verb.Write (codes "auth") (codes "token/renew") (codes "auth/token/renew") (codes "token/renew") [] (Tokens of_tokens.Renew)
+      (λ o. refl) refl refl (stands (route_rows mount.Token) (codes "token/renew") refl) refl refl
+
+  pub renews_self : WrittenMeans (codes "auth/token/renew-self") (on_found reader.increment token.RenewSelf)
+  unfolding same
+  renews_self =
+      asked mount.Token verb.Write (codes "auth") (codes "token/renew-self") (codes "auth/token/renew-self") (codes "token/renew-self") [] (Tokens of_tokens.RenewSelf)
+      (λ o. refl) refl refl (stands (route_rows mount.Token) (codes "token/renew-self") refl) refl refl
+
+  pub looks_up_lease : WrittenMeans (codes "sys/leases/lookup") (on_found_lease reader.lease_id lease.LookUp)
+  unfolding same
+  looks_up_lease =
+      means mount.System (codes "sys") (codes "leases/lookup") (codes "sys/leases/lookup") (Leases of_leases.LookUp)
+      (λ o. refl) refl refl refl refl refl
+
+  pub renews_lease : WrittenMeans (codes "sys/leases/renew") (on_found_lease reader.lease_renewal lease.Renew)
+  unfolding same
+  renews_lease =
+      means mount.System (codes "sys") (codes "leases/renew") (codes "sys/leases/renew") (Leases of_leases.Renew)
+      (λ o. refl) refl refl refl refl refl
+
+  pub reads_object : (c : ℕ) (path : Text) → are_bytes (c ∷ path) ≡ true
+      → AskedMeans verb.Get (codes "cubbyhole/" ++ c ∷ path) (on_path (c ∷ path) cubbyhole.Read)
+  unfolding same
+  reads_object c path bytes =
+      asked mount.Cubbyhole verb.Get (codes "cubbyhole") (c ∷ path) (codes "cubbyhole/" ++ c ∷ path) (codes "{*path}") (c ∷ path)
+      (Cubbyholes of_cubbyholes.Read) (λ o. refl) refl bytes (record { listed = refl; form = refl; alone = refl }) refl refl
+
+  pub deletes_object : (c : ℕ) (path : Text) → are_bytes (c ∷ path) ≡ true
+      → AskedMeans verb.Delete (codes "cubbyhole/" ++ c ∷ path) (on_path (c ∷ path) cubbyhole.Delete)
+  unfolding same
+  deletes_object c path bytes =
+      asked mount.Cubbyhole verb.Delete (codes "cubbyhole") (c ∷ path) (codes "cubbyhole/" ++ c ∷ path) (codes "{*path}") (c ∷ path)
+      (Cubbyholes of_cubbyholes.Delete) (λ o. refl) refl bytes (record { listed = refl; form = refl; alone = refl }) refl refl
+
   -- ---- all of them
 
   pub paths_mean_commands : PathsMeanCommands
@@ -225,6 +293,16 @@ module _ (found : FoundByForm) (none : NoneFoundByForm) (ordered : AreInOrder) w
     revoke_self = revokes_self;
     revoke_orphan = revokes_orphan;
     revoke_accessor = revokes_accessor;
+    look_up_token = looks_up_token;
+    look_up_accessor = looks_up_accessor;
+    look_up_self = looks_up_self;
+    list_accessors = lists_accessors;
+    renew = renews;
+    renew_self = renews_self;
+    look_up_lease = looks_up_lease;
+    renew_lease = renews_lease;
+    read_object = reads_object;
+    delete_object = deletes_object;
     named = λ client c t. refl;
     not_named = λ client. (refl, refl);
   }

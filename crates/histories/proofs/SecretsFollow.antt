@@ -1,31 +1,26 @@
 -- What becomes of each secret by a request: versions follow the writes, deletions and destructions that were asked for.
-use Rattle.std.specs.Prelude.{◌≡◌, ◌≢◌, ◌⊎◌, ◌<◌, ◌≤◌, ◌+◌, ◌-◌, ◌==◌, ◌||◌, ◌++◌, ℕ, zero, suc, List, [], ◌∷◌, Bool, true, false, not, cond}
-use Rattle.std.specs.Prelude.{if◌then◌else◌, Contains, codes, is_none, is_some, nat_eq, nat_lt, Option, Some, None, Result, Ok, Err, option_map, ⊤}
+use Rattle.std.specs.Prelude.{◌≡◌, ◌≢◌, ◌⊎◌, ◌<◌, ◌≤◌, ◌+◌, ◌-◌, ◌==◌, ◌||◌, ℕ, zero, suc, List, [], ◌∷◌, Bool, true, false, not, cond}
+use Rattle.std.specs.Prelude.{if◌then◌else◌, Contains, is_none, is_some, nat_eq, Option, Some, None, Ok, option_map, ⊤}
 use Rattle.std.specs.FinMap as fin
-use Rattle.std.specs.List.{list_any, starts_with}
+use Rattle.std.specs.List.{starts_with}
 use Rattle.std.proofs.Common.{refl, sym, ◌∙◌, ap, subst, inl, inr, arith}
 use Rattle.std.proofs.lemmas.Bool.{eq-eqb, eqb-true, false≢true, le-ltb, lt-ltb, ne_eqb, not-false, or_parts}
-use Rattle.std.proofs.lemmas.Option.{none-some, same_Some}
+use Rattle.std.proofs.lemmas.Option.{none-some}
 use Rattle.broker_types.specs.Text.{Text, same}
 use Rattle.broker_types.specs.TextLaws.{same_true}
 use Rattle.broker_types.specs.ListLaws.{passing}
 use Rattle.broker_types.specs.Map.{Map, get, keep, change, put, without}
 use Rattle.broker_types.specs.MapLaws.{get-change, get-keep, get-put, get-without}
 use Rattle.broker_types.specs.Broker.{Broker, Mount}
-use Rattle.broker_types.specs.Limits.{greatest_version}
 use Rattle.broker_types.specs.Names.{Names, names_of}
 use Rattle.broker_types.specs.Operation.{nothing, reply, Done}
-use Rattle.broker_types.specs.OptionLaws.{mapped}
-use Rattle.broker_types.specs.Refuse.{◌>>=◌, some_or, unless}
+use Rattle.broker_types.specs.Refuse.{some_or, unless}
 use Rattle.broker_types.specs.RefuseLaws.{no_ok, ok_step}
 use Rattle.broker_types.specs.Secret.{Key, Version}
 use Rattle.broker_types.specs.Spending.{spend}
-use Rattle.broker_types.specs.declared.refusal.Refusal.{Refusal}
 use Rattle.broker_types.specs.declared.refusal.Refusal.TheVariants as refusal
 use Rattle.broker_types.specs.declared.refusal.Reason.TheVariants as reason
 use Rattle.broker_types.specs.declared.reply.Reply.{Reply}
-use Rattle.broker_types.specs.declared.status.Status.TheVariants as status
-use Rattle.records.specs.Parts.{Part}
 use Rattle.records.specs.ValueLaws.{ok_inj}
 use Rattle.records.specs.declared.kind.Kind.TheVariants as kind
 use Rattle.kv2.specs.Secrets as secrets
@@ -59,8 +54,8 @@ use Rattle.broker_model.specs.parts.Mounts.{act_on_mounts, without_kept}
 use Rattle.broker_model.specs.parts.Place.{Place}
 use Rattle.broker_model.specs.parts.Secrets.{act_on_secrets, given}
 use Rattle.histories.specs.History.{Asking, clocked}
-use Rattle.histories.specs.Versions.{AreKept, Commands, Comes, Deletes, DidWrite, Goes, IsNewKey, IsWritten, Stands, StandsUnwritten}
-use Rattle.histories.specs.Versions.{VersionStands, Writes, named}
+use Rattle.histories.specs.Versions.{AreKept, Commands, Comes, Deletes, Goes, IsWritten, Stands, StandsUnwritten}
+use Rattle.histories.specs.Versions.{VersionStands, Writes}
 use Rattle.histories.proofs.EventSecrets.{is_200, is_204, same_or_served, served_left, spent_same}
 use Rattle.histories.proofs.OrderCases.{spent}
 use Rattle.histories.proofs.Requests.{means_at_clock}

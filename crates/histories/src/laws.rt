@@ -108,10 +108,11 @@ pub fn open_requests_mean_their_own()
     tables_are_in_order();
 }
 
-/// A law: POST and PUT of the four paths of `sys/wrapping`, of `auth/token/create`, and of those that revoke, mean their
-/// commands, whatever mounts there are, and so do the paths that end leases. So what a law says of an unwrap or a
+/// A law: the paths of `sys/wrapping`, those of `auth/token`, those of `sys/leases` and the disabling of a mount, and GET
+/// and DELETE of a cubbyhole's path mean their commands, whatever mounts there are. So what a law says of an unwrap or a
 /// revocation, it says of these requests. And an ask that means a creation is one of the path that makes tokens so
-/// (Vault's documentation, "/sys/wrapping", "Token auth method (API)", "/sys/leases", "/sys/mounts").
+/// (Vault's documentation, "/sys/wrapping", "Token auth method (API)", "/sys/leases", "/sys/mounts", "Cubbyhole secrets
+/// engine (API)").
 pub fn paths_mean_their_commands()
     ensures commands { PathsMeanCommands }
     ensures ends_of_leases { PathsEndLeases }
