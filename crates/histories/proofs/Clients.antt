@@ -138,7 +138,7 @@ module _ (a : Asking) where
         ⊎ (((c : Text) × TurnsDown c) ⊎ ((c : Text) × (command : Command) × (d : Done) × CarriesOut c command d))
 
   -- the caller is the client token
-  is_client : (c : Text) → IsCaller (clocked a) (request_of a.ask) (Some c) → IsClient a c
+  pub is_client : (c : Text) → IsCaller (clocked a) (request_of a.ask) (Some c) → IsClient a c
   is_client c (inl (open_, none)) = absurd (none-some _ (sym none))
   is_client c (inr (u, closed, is_token, caller, no_wait, there)) =
       record { closed = closed; token = is_token ∙ sym caller }

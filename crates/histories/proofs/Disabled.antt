@@ -51,7 +51,7 @@ module _ {X : Type 0} (f : Broker → X) (by_tokens : (b : Broker) (ts : Tokens)
       ]
 
 -- and of the tokens: each was left by the operation
-token_left : (a : Asking) (s : Served a) (q : Text) (y : Token) → get a.outcome.next.tokens q ≡ Some y
+pub token_left : (a : Asking) (s : Served a) (q : Text) (y : Token) → get a.outcome.next.tokens q ≡ Some y
     → get (s.done).next.tokens q ≡ Some y
 token_left a s q y e =
     let start = spent (clocked a) s.caller in

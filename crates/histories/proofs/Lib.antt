@@ -1,6 +1,7 @@
 pub mod Clients
 pub mod Cover
 pub mod CreationRoutes
+pub mod CubbyholeEdits
 pub mod Descent
 pub mod Disabled
 pub mod Documented

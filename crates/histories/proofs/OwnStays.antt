@@ -50,6 +50,7 @@ use Rattle.histories.specs.Laws.{AllOwnStays}
 use Rattle.histories.specs.Own.{AnswersOwn, EndsWithClient, Goes, IsListAt, IsObjectAt}
 use Rattle.histories.specs.Revocation.{IsClient, has_no_use, left_by_caller}
 use Rattle.histories.proofs.Clients.{CarriesOut, Course, from_clock}
+use Rattle.histories.proofs.CubbyholeEdits.{edits_stand}
 use Rattle.histories.proofs.Descent.{Makes, follows, keeps, leaves}
 use Rattle.histories.proofs.OrderCases.{IsCaller, some_ok, spent}
 use Rattle.histories.proofs.OrderKeeps.{wrapped_cases}
@@ -292,6 +293,8 @@ own_stays told b history h = record {
       no_lease = λ lease_id. ap (λ (z : Token). get z.leases lease_id) m.is ∙ get-empty text_cmp lease_id;
     })
   ];
+  edited = λ i a q path command y at client means answered there.
+      edits_stand a (asked_at b history i a h at).outcome q path client answered y there command means;
   reads = λ i a path at means success.
       answers_own a (asked_at b history i a h at).outcome path cubbyhole.Read means success (IsObjectAt path)
       (λ c x there done.

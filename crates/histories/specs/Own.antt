@@ -1,6 +1,6 @@
 -- The law that what is another's stays, as a statement: what makes a token go, what may change of one that stands, and
 -- who reads a cubbyhole (Vault's documentation, "Tokens"; "Lease, renew, and revoke"; "Cubbyhole secrets engine").
-use Rattle.std.specs.Prelude.{◌≡◌, ◌≢◌, ◌⊎◌, ◌≤◌, ℕ, true, Option, Some, None, Ok}
+use Rattle.std.specs.Prelude.{◌≡◌, ◌≢◌, ◌⊎◌, ◌≤◌, ℕ, true, Option, Some, None, Ok, ⊤}
 use Rattle.broker_types.specs.Text.{Text}
 use Rattle.broker_types.specs.Map.{Map, get, keys}
 use Rattle.broker_types.specs.Token.{Token, Lease}
@@ -70,6 +70,12 @@ abbrev pub Edits : Option Text → CubbyholeCommand → Type 0
 Edits new (cubbyhole.Write full) = new ≡ full
 Edits new cubbyhole.Delete = new ≡ None
 Edits new _ = ⊥
+
+-- the same, of the commands that leave something
+abbrev pub LeavesAt : Option Text → CubbyholeCommand → Type 0
+LeavesAt new (cubbyhole.Write full) = new ≡ full
+LeavesAt new cubbyhole.Delete = new ≡ None
+LeavesAt new _ = ⊤
 
 -- The request, whose client token is q, was a 204 to a write or a deletion at this path of its cubbyhole, which has
 -- what that leaves.
@@ -163,6 +169,11 @@ pub record OwnStays (history : History) : Type 0 where
   -- each token after an event stood at its clock, or was made by it
   pub stands : (i : ℕ) (a : Asking) (q : Text) (y : Token) → AskedAt history i a
       → get a.outcome.next.tokens q ≡ Some y → Stands a q y ⊎ Begins a q y
+  -- after a 204 to a write or a deletion the client token's cubbyhole has there what that leaves
+  pub edited : (i : ℕ) (a : Asking) (q path : Text) (command : CubbyholeCommand) (y : Token) → AskedAt history i a
+      → IsClient a q → command_of (clocked a).mounts a.ask ≡ Ok (on_cubbyhole path command)
+      → a.outcome.response.status ≡ status.NoContent → get a.outcome.next.tokens q ≡ Some y
+      → LeavesAt (get y.cubbyhole path) command
   -- a 200 to a read of a cubbyhole has the object of the client token's own
   pub reads : (i : ℕ) (a : Asking) (path : Text) → AskedAt history i a
       → command_of (clocked a).mounts a.ask ≡ Ok (on_cubbyhole path cubbyhole.Read)
