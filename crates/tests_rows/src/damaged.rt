@@ -98,7 +98,12 @@ fn rows_of_responses(rt: HostRuntime) -> Result<(), Fail> {
 fn expect_damaged_mounts(rt: &(impl Abort + AllocGlobal), body: &str) -> Result<(), Fail> {
     let alloc = rt.alloc();
     let mut tx = with_row(alloc, Kind::Mount, "team", body)?;
-    let found = mounts::route(alloc, &mut tx, Verb::Get, "team/data/a");
+    let found = mounts::route(
+        &mounts::Routers::new(alloc)?,
+        &mut tx,
+        Verb::Get,
+        "team/data/a",
+    );
     assert!(rt; matches!(found, Err(RequestError::Fault(Fault::Damaged))));
     assert!(rt; matches!(mounts::list(alloc, &mut tx), Err(Fault::Damaged)));
     assert!(rt; matches!(kv2::config(&mut tx, "team"), Err(Fault::Damaged)));
@@ -122,7 +127,8 @@ fn expect_damaged_policies(rt: &(impl Abort + AllocGlobal), body: &str) -> Resul
     let mut tx = with_row(alloc, Kind::Policy, "p", body)?;
     assert!(rt; matches!(policies::get(alloc, &mut tx, "p"), Err(Fault::Damaged)));
     let names = [TextBuf::copied(alloc, "p")?];
-    let rules = policies::rules_of(alloc, &mut tx, &names, Verb::Get);
+    let mut memory = policies::PolicyMemory::new(alloc);
+    let rules = policies::rules_of(&mut memory, alloc, &mut tx, &names, Verb::Get);
     assert!(rt; matches!(rules, Err(Fault::Damaged)));
     Ok(())
 }

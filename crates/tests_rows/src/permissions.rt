@@ -2,8 +2,9 @@
 //! are refused is in `forms_of_policies`, `chosen_patterns` and `names_of_policies` of `tests/rows`.
 
 use broker_types::{Reason, Refusal, RequestError, TextBuf, Verb};
-use policies::{Capability, Policy, allows, delete, get, list, rules_of, set};
+use policies::{Capability, Policy, PolicyMemory, allows, delete, get, list, rules_of, set};
 use records::{ListRecords, ListTx};
+use std::alloc::Global;
 use std::test::Fail;
 
 /// A transaction with these texts as policies of these names
@@ -42,7 +43,8 @@ fn the_exact_pattern_and_then_the_longest_prefix(rt: HostRuntime) -> Result<(), 
         TextBuf::copied(alloc, "p")?,
         TextBuf::copied(alloc, "absent")?,
     ];
-    let rules = rules_of(alloc, &mut tx, &names, Verb::Get)?;
+    let mut memory = PolicyMemory::new(alloc);
+    let rules = rules_of(&mut memory, alloc, &mut tx, &names, Verb::Get)?;
     assert!(rt; allows(&rules, "d/x", Capability::Read));
     assert!(rt; allows(&rules, "d/ab", Capability::Read));
     assert!(rt; !allows(&rules, "d/a", Capability::Read));
@@ -70,5 +72,55 @@ fn policies_are_kept(rt: HostRuntime) -> Result<(), Fail> {
             .zip(&expected)
             .all(|(name, wanted)| name.as_str() == *wanted)
     );
+    Ok(())
+}
+
+const READ: &str = "{\"path\":{\"d/*\":{\"capabilities\":[\"read\"]}}}";
+
+const DENY: &str = "{\"path\":{\"d/*\":{\"capabilities\":[\"deny\"]}}}";
+
+/// Whether the policy `p` lets a path be read.
+fn may_read(memory: &mut PolicyMemory, alloc: Global, tx: &mut ListTx) -> Result<bool, Fail> {
+    let names = [TextBuf::copied(alloc, "p")?];
+    let rules = rules_of(memory, alloc, tx, &names, Verb::Get)?;
+    Ok(allows(&rules, "d/x", Capability::Read))
+}
+
+/// A policy that is remembered is set anew, deleted and set again, and each takes effect.
+#[test]
+fn changes_of_remembered_policies(rt: HostRuntime) -> Result<(), Fail> {
+    let alloc = rt.alloc();
+    let mut tx = kept(&rt, &[("p", READ)])?;
+    let mut memory = PolicyMemory::new(alloc);
+    for _ in 0..3 {
+        assert!(rt; may_read(&mut memory, alloc, &mut tx)?);
+    }
+    set(alloc, &mut tx, "p", DENY)?;
+    assert!(rt; !may_read(&mut memory, alloc, &mut tx)?);
+    delete(&mut tx, "p")?;
+    assert!(rt; !may_read(&mut memory, alloc, &mut tx)?);
+    set(alloc, &mut tx, "p", READ)?;
+    assert!(rt; may_read(&mut memory, alloc, &mut tx)?);
+    Ok(())
+}
+
+/// More texts than have a place are each answered by itself, twice over.
+#[test]
+fn more_policies_than_places(rt: HostRuntime) -> Result<(), Fail> {
+    let alloc = rt.alloc();
+    let mut tx = kept(&rt, &[])?;
+    let mut memory = PolicyMemory::new(alloc);
+    for number in 0..140_u32 {
+        let text = format!(in alloc;
+            "{{\"name\":\"{}\",\"path\":{{\"d/*\":{{\"capabilities\":[\"{}\"]}}}}}}",
+            number % 70,
+            if number % 2 == 0 { "read" } else { "deny" }
+        )?;
+        if text.as_str().len() > 4096 {
+            return Err(Fail::from("a long text"));
+        }
+        set(alloc, &mut tx, "p", text.as_str())?;
+        assert!(rt; may_read(&mut memory, alloc, &mut tx)? == (number % 2 == 0));
+    }
     Ok(())
 }

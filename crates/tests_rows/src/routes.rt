@@ -2,8 +2,8 @@ use broker_types::Verb::{self, Delete, Get, List, Write};
 use broker_types::{Methods, Reason, Refusal, RequestError};
 use mounts::{
     CubbyholeOperation, IssuedOperation, LeaseOperation, MountOperation, MountType, NamedMount,
-    Operation, PolicyOperation, SecretOperation, TokenOperation, WrappingOperation, disable,
-    enable, list, route,
+    Operation, PolicyOperation, Routers, SecretOperation, TokenOperation, WrappingOperation,
+    disable, enable, list, route,
 };
 use records::{ListRecords, ListTx};
 use std::process::Abort;
@@ -275,11 +275,12 @@ fn with_mounts(rt: &(impl AllocGlobal + Abort)) -> Result<ListTx, Fail> {
 
 #[test]
 fn routes_of_the_profile(rt: HostRuntime) -> Result<(), Fail> {
+    let routers = Routers::new(rt.alloc())?;
     let mut tx = with_mounts(&rt)?;
     for line in LINES {
         for verb in VERBS {
             let expected = served(line, *verb);
-            match route(rt.alloc(), &mut tx, *verb, line.0) {
+            match route(&routers, &mut tx, *verb, line.0) {
                 Ok(found) => assert!(rt; expected == Some(found.operation)),
                 Err(RequestError::Refused(found)) => {
                     assert!(rt; expected.is_none() && found == refusal(line))
@@ -293,8 +294,9 @@ fn routes_of_the_profile(rt: HostRuntime) -> Result<(), Fail> {
 
 #[test]
 fn a_route_has_its_mount_and_its_parameter(rt: HostRuntime) -> Result<(), Fail> {
+    let routers = Routers::new(rt.alloc())?;
     let mut tx = with_mounts(&rt)?;
-    let Ok(found) = route(rt.alloc(), &mut tx, Get, "cubbyhole/a/b") else {
+    let Ok(found) = route(&routers, &mut tx, Get, "cubbyhole/a/b") else {
         return Err(Fail::from("no route"));
     };
     assert_eq!(rt; found.mount, "cubbyhole");
