@@ -183,14 +183,15 @@ ok_with Q P (Err e) q p = tt
 -- what is permitted once the route is found, by one path and text, is so by the same before
 pub permitted_before : (old new : Rows) (t u path q : Text) (verb : Verb) (found : Result Route Refusal) (v w : Bool) → new ≡ old → t ≡ u → path ≡ q
     → v ≡ w → (readable : IsReadableAt (table_of old) (cut path).0) → found ≡ route_at readable.0 verb path
-    → ((mount : Option Mount) → IsKnownAt (table_of new) (cut path).0 mount → found ≡ route_at mount verb path → IsPermittedAt new t verb path v)
+    → ((mount : Option Mount) → IsKnownAt (table_of new) (cut q).0 mount → found ≡ route_at mount verb q → IsPermittedAt new t verb q v)
     → IsPermittedAt old u verb q w
 permitted_before old new t u path q verb found v w same_rows at same_path is readable routed permitted =
-    let known = subst (λ (rows : Rows). IsKnownAt (table_of rows) (cut path).0 readable.0) (sym same_rows) readable.1 in
+    let known = subst (λ (rows : Rows). IsKnownAt (table_of rows) (cut q).0 readable.0) (sym same_rows)
+    (subst (λ (z : Text). IsKnownAt (table_of old) (cut z).0 readable.0) same_path readable.1) in
     subst (IsPermittedAt old u verb q) is
-    (subst (λ z. IsPermittedAt old u verb z v) same_path
-    (subst (λ z. IsPermittedAt old z verb path v) at
-    (subst (λ (rows : Rows). IsPermittedAt rows t verb path v) same_rows (permitted readable.0 known routed))))
+    (subst (λ z. IsPermittedAt old z verb q v) at
+    (subst (λ (rows : Rows). IsPermittedAt rows t verb q v) same_rows
+    (permitted readable.0 known (routed ∙ ap (route_at readable.0 verb) same_path))))
 
 -- a use is spent, and an ask means the same
 pub asks_spent : (old new : Rows) (t : Text) (a : Ask) (c : Command) → ChangesToken t spent_entry (table_of old) (table_of new) → Asks old a c

@@ -1,5 +1,5 @@
 -- A reply that is kept: its identifiers, its rows, and the broker that they represent.
-use Rattle.std.specs.Prelude.{◌≡◌, ℕ, List, false, Option, None}
+use Rattle.std.specs.Prelude.{◌≡◌, List, false, Option, None}
 use Rattle.std.specs.List.{list_any}
 use Rattle.std.proofs.Common.{sym, ◌∙◌, subst}
 use Rattle.broker_types.specs.Broker.{Broker, Waiting}
@@ -32,12 +32,11 @@ use Rattle.broker_rows.specs.MarkLaws.{marks_joined}
 use Rattle.broker_rows.specs.Representing.{Represents}
 use Rattle.broker_rows.specs.declared.answered.Answered.{Answered}
 use Rattle.broker.specs.Stages.{IsServed}
-use Rattle.broker.specs.Wraps.{MayWrap, kept_in, waiting_from, with_kept}
+use Rattle.broker.specs.Wraps.{MayWrap, Wrapping, kept_in, waiting_from, with_kept}
 
 -- ---- the identifiers
 
-module _ (x : Context) (token accessor : Text) (b : Broker) (own : List Text) (d : Done)
-    (may : MayWrap x token accessor b own d) where
+module _ (x : Context) (w : Wrapping) (b : Broker) (own : List Text) (d : Done) (may : MayWrap x w b own d) where
   abbrev names : Names
   names = names_of x.words
 
@@ -48,35 +47,36 @@ module _ (x : Context) (token accessor : Text) (b : Broker) (own : List Text) (d
   left = new_after b own d may.proper.used may.proper.gives_own
 
   -- both are new after the operation
-  pub token_new : IsNew (counted d) token
-  token_new = subst (IsNew (counted d)) (sym may.token_named) (left names.wrapping_token two.one two.one_apart)
+  pub token_new : IsNew (counted d) w.token
+  token_new = subst (IsNew (counted d)) (sym may.token) (left names.wrapping_token two.one two.one_apart)
 
-  pub accessor_new : IsNew (counted d) accessor
-  accessor_new = subst (IsNew (counted d)) (sym may.accessor_named) (left names.wrapping_accessor two.two two.two_apart)
+  pub accessor_new : IsNew (counted d) w.accessor
+  accessor_new = subst (IsNew (counted d)) (sym may.accessor) (left names.wrapping_accessor two.two two.two_apart)
 
   -- ---- the broker
 
-  module _ {who : Option Text} (path : Text) (ttl : ℕ) (r : Reply) (made : Option Text) (old new : Rows)
+  module _ {who : Option Text} (r : Reply) (made : Option Text) (old new : Rows)
       (st : Represents who old (counted d)) (law : WrappingKeepsSoundness) where
     abbrev entry : Waiting
-    entry = waiting_from x.clock path ttl token accessor (reply_text r)
+    entry = waiting_from x.clock w (reply_text r)
 
-    kept : entry ≡ kept_entry b path ttl names r
-    kept i = waiting_from (sym may.clock i) path ttl (may.token_named i) (may.accessor_named i) (reply_text r)
+    kept : entry ≡ kept_entry b w.path w.ttl names r
+    kept i =
+        waiting_from (sym may.clock i) (record w { token = may.token i; accessor = may.accessor i }) (reply_text r)
 
     -- the reply was kept, and the answer tells of its wrapping token
-    pub kept_served : (a : Answered) → IsSoundWaiting (token_text token) entry
-        → table_of new ≡ rows_of (kept_in (counted d) (token_text token) entry)
-        → answered_of a ≡ operation.reply (wrap_reply names.request (wrap_info (token_text token) entry made)) None
-        → IsServed who new a (wrap b path ttl names d r made)
+    pub kept_served : (a : Answered) → IsSoundWaiting (token_text w.token) entry
+        → table_of new ≡ rows_of (kept_in (counted d) (token_text w.token) entry)
+        → answered_of a ≡ operation.reply (wrap_reply names.request (wrap_info (token_text w.token) entry made)) None
+        → IsServed who new a (wrap b w.path w.ttl names d r made)
     kept_served a sound is told =
         let good = subst (λ (e : Text × Waiting). IsSoundWaiting (token_text e.0) e.1)
-        (λ i. (may.token_named i, kept i)) sound in (
+        (λ i. (may.token i, kept i)) sound in (
           told ∙ (λ i. operation.reply
-              (wrap_reply names.request (wrap_info (token_text (may.token_named i)) (kept i) made)) None),
+              (wrap_reply names.request (wrap_info (token_text (may.token i)) (kept i) made)) None),
           record {
-            rows = is ∙ (λ i. rows_of (kept_in (counted d) (token_text (may.token_named i)) (kept i)));
-            sound = law forms who b path ttl names own d r made may.new may.proper.used may.proper.gives_own good
+            rows = is ∙ (λ i. rows_of (kept_in (counted d) (token_text (may.token i)) (kept i)));
+            sound = law forms who b w.path w.ttl names own d r made may.new may.proper.used may.proper.gives_own good
                 st.sound;
           },
         )

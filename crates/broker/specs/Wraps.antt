@@ -1,8 +1,10 @@
 -- When a reply may be wrapped, and which rows that puts (this project's definition).
-use Rattle.std.specs.Prelude.{◌≡◌, ◌∷◌, ℕ, List, true}
+use Rattle.std.specs.Prelude.{◌≡◌, ◌<◌, ◌∷◌, ℕ, List, true}
 use Rattle.broker_types.specs.Broker.{Broker, Waiting}
 use Rattle.broker_types.specs.Names.{names_of}
 use Rattle.broker_types.specs.Operation.{Answered, nothing, reply, kept_text, missing, Done}
+use Rattle.broker_types.specs.Path.{is_path}
+use Rattle.broker_types.specs.Sound.{IsIdentifier}
 use Rattle.broker_types.specs.Text.{Text}
 use Rattle.broker_types.specs.Used.{are_new}
 use Rattle.broker_types.specs.declared.reply.Reply.{Reply}
@@ -15,24 +17,39 @@ use Rattle.broker_model.specs.Order.{IsProper}
 use Rattle.broker_rows.specs.Context.{Context}
 use Rattle.broker_rows.specs.MarkLaws.{marked}
 
+-- how the reply to a request is to be wrapped: the path of the request, how many seconds the response waits, and the
+-- identifiers of the wrapping token and of its accessor
+pub record Wrapping : Type 0 where
+  pub path : Text
+  pub ttl : ℕ
+  pub token : Text
+  pub accessor : Text
+
+-- what waits by it is sound
+pub record IsSoundWrapping (w : Wrapping) : Type 0 where
+  pub path : is_path w.path ≡ true
+  pub waits : 0 < w.ttl
+  pub token : IsIdentifier w.token
+  pub accessor : IsIdentifier w.accessor
+
 -- The request is one at the broker's clock, and these are its identifiers of a wrapping token and of its accessor. They
 -- are new beside those of the operation, which was a proper one.
-pub record MayWrap (x : Context) (token accessor : Text) (b : Broker) (own : List Text) (d : Done) : Type 0 where
+pub record MayWrap (x : Context) (w : Wrapping) (b : Broker) (own : List Text) (d : Done) : Type 0 where
   pub clock : b.clock ≡ x.clock
-  pub token_named : token ≡ (names_of x.words).wrapping_token
-  pub accessor_named : accessor ≡ (names_of x.words).wrapping_accessor
+  pub token : w.token ≡ (names_of x.words).wrapping_token
+  pub accessor : w.accessor ≡ (names_of x.words).wrapping_accessor
   pub new : are_new b.used ((names_of x.words).wrapping_token ∷ (names_of x.words).wrapping_accessor ∷ own) ≡ true
   pub proper : IsProper b own d
 
 -- a text, as it waits from this clock on
-abbrev pub waiting_from : ℕ → Text → ℕ → Text → Text → Text → Waiting
-waiting_from clock path ttl token accessor text =
+abbrev pub waiting_from : ℕ → Wrapping → Text → Waiting
+waiting_from clock w text =
     record {
-      accessor = accessor;
+      accessor = w.accessor;
       created = clock;
-      ttl = ttl;
-      path = path;
-      origin = token;
+      ttl = w.ttl;
+      path = w.path;
+      origin = w.token;
       reply = text;
     }
 

@@ -106,37 +106,24 @@ fn place_of<'r>(route: &Route<'r>) -> Place<'r>
     }
 }
 
-/// Whether the reply to a command of an ask is wrapped: a wrap TTL asks for it, and it may be.
+/// Whether the reply to a command of an ask is wrapped: a wrap TTL asks for it. Of those on responses that wait only a
+/// wrap is.
 pub(crate) fn is_wrapped(ask: &Ask<'_>, command: &Command<'_>) -> bool
     ensures { result ≡ serving.is_wrapped ask.now (meant command.now) }
 {
-    ask.wrap_ttl.count() > 0 && may_wrap(command)
-}
-
-/// Whether an ask has the wrap TTL that its command must have, or needs none.
-pub(crate) fn has_wrap_ttl(ask: &Ask<'_>, command: &Command<'_>) -> bool
-    ensures { result ≡ (not (traits (meant command.now)).must_wrap || nat_lt 0 ask.now.wrap_ttl) }
-{
-    !must_wrap(command) || ask.wrap_ttl.count() > 0
-}
-
-/// Whether the reply to a command is wrapped if a wrap TTL asks for it.
-fn may_wrap(command: &Command<'_>) -> bool
-    ensures { result ≡ (traits (meant command.now)).may_wrap }
-{
     match command {
-        Command::OnWrapping(command) => command.is_wrap(),
-        _ => true,
+        Command::OnWrapping(command) if !command.is_wrap() => false,
+        _ => ask.wrap_ttl.count() > 0,
     }
 }
 
-/// Whether the reply to a command must be wrapped.
-fn must_wrap(command: &Command<'_>) -> bool
-    ensures { result ≡ (traits (meant command.now)).must_wrap }
+/// Whether an ask has the wrap TTL that its command must have, or needs none, as all but a wrap.
+pub(crate) fn has_wrap_ttl(ask: &Ask<'_>, command: &Command<'_>) -> bool
+    ensures { result ≡ (not (traits (meant command.now)).must_wrap || nat_lt 0 ask.now.wrap_ttl) }
 {
     match command {
-        Command::OnWrapping(command) => command.is_wrap(),
-        _ => false,
+        Command::OnWrapping(command) if command.is_wrap() => ask.wrap_ttl.count() > 0,
+        _ => true,
     }
 }
 

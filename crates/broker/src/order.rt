@@ -3,9 +3,9 @@
 pub(crate) mod caller;
 pub(crate) mod capability;
 pub(crate) mod finishing;
-pub(crate) mod keeping;
 pub(crate) mod opening;
 pub(crate) mod operating;
 pub(crate) mod permission;
 pub(crate) mod routing;
 pub(crate) mod serving;
+pub(crate) mod wrap;

@@ -102,7 +102,11 @@ impl<S: Alter + Drop> SqlStore<S> {
         ensures bad_start { result ≡ Err Fault.BadStart → LacksClock S.Store records }
         ensures faults { IfErr result (λ fault. IsMemoryOrStorage fault ⊎ (fault ≡ Fault.BadStart)) }
     {
-        let mut store = SqlStore { alloc, records };
+        let mut store = SqlStore {
+            alloc,
+            records,
+            aids: None,
+        };
         store.is_started()?;
         store.upgrade()?;
         Ok(store)

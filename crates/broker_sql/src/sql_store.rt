@@ -21,7 +21,7 @@ ghost use Rattle.broker_sql.specs.Atomic.{IsAtomic};
 ghost use Rattle.broker_sql.specs.SqlKept.{kept_records, sql_kept};
 
 use crate::emptiness::is_empty;
-use broker::{Store, handle};
+use broker::{Aids, Store, handle_with};
 use broker_rows::write_first_rows;
 use broker_types::{Answer, Ask, Fault, Moment, TokenText, Words};
 use ram_disk::RamFile;
@@ -34,6 +34,7 @@ use std::alloc::Global;
 pub struct SqlStore<S: Alter> {
     pub(crate) alloc: Global,
     pub(crate) records: SqlRecords<S>,
+    pub(crate) aids: Option<Aids>,
 }
 
 impl SqlStore<FileStore<RamFile>> {
@@ -45,7 +46,11 @@ impl SqlStore<FileStore<RamFile>> {
         ensures storage { IfErr result (λ fault. fault ≡ Fault.Storage) }
     {
         let records = SqlRecords::in_memory(alloc)?;
-        Ok(SqlStore { alloc, records })
+        Ok(SqlStore {
+            alloc,
+            records,
+            aids: None,
+        })
     }
 }
 
@@ -54,7 +59,11 @@ impl<S: Alter> SqlStore<S> {
     pub fn into_records(self) -> SqlRecords<S>
         ensures { kept_records S.Store result ≡ sql_kept S.Store self }
     {
-        let SqlStore { alloc: _, records } = self;
+        let SqlStore {
+            alloc: _,
+            records,
+            aids: _,
+        } = self;
         records
     }
 
@@ -145,7 +154,8 @@ impl<S: Alter> SqlStore<S> {
         ensures atomic { IsAtomic (sql_kept S.Store self.old) (sql_kept S.Store self.new) result }
     {
         let mut tx = self.records.begin()?;
-        let answer = handle(self.alloc, &mut tx, moment, words, ask)?;
+        let aids = Aids::kept(&mut self.aids, self.alloc)?;
+        let answer = handle_with(aids, self.alloc, &mut tx, moment, words, ask)?;
         tx.commit()?;
         Ok(answer)
     }

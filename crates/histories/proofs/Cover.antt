@@ -24,10 +24,11 @@ used_is_given b (Some a ∷ later) zero x i (is, marks, h) at used =
     inl (subst (λ c. IsUsed c i) is (subst (λ (z : Asking). IsUsed z.broker i) (sym (same_Some _ _ at)) used))
 used_is_given b (Some a ∷ later) (suc j) x i (is, marks, h) at used =
     elim (used_is_given a.outcome.next later j x i h at used) [
-      | inl before ↦ elim (used_or a.broker.used a.outcome.taken i (λ none. before (ap (λ m. get m i) marks.marked ∙ none))) [
-        | inl here ↦ inr (any_left i a.outcome.taken (given_out (take j later)) here)
-        | inr old ↦ inl (subst (λ c. IsUsed c i) is old)
-      ]
+      | inl before ↦ elim (used_or a.broker.used a.outcome.taken i
+          (λ none. before (ap (λ m. get m i) marks.marked ∙ none))) [
+            | inl here ↦ inr (any_left i a.outcome.taken (given_out (take j later)) here)
+            | inr old ↦ inl (subst (λ c. IsUsed c i) is old)
+          ]
       | inr rest ↦ inr (any_right i a.outcome.taken (given_out (take j later)) rest)
     ]
 
@@ -40,7 +41,8 @@ module _ (body : Asking → Text) (b : Broker) (history : History) (h : EachKeep
       let k = asked_keeps body b history i a h one in
       let l = asked_keeps body b history j x h other in
       (evolved_since body b history i j a x h one other lt).used o
-      (λ none. member_used a.broker.used a.outcome.taken o (k.born_is_taken o born) (ap (λ m. get m o) (sym k.taken_are_used) ∙ none))
+      (λ none. member_used a.broker.used a.outcome.taken o (k.born_is_taken o born)
+      (ap (λ m. get m o) (sym k.taken_are_used) ∙ none))
       (member_new x.broker.used x.outcome.taken o l.taken_are_new (l.born_is_taken o again))
 
   -- an origin is made once

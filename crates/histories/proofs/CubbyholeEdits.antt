@@ -39,7 +39,8 @@ edited_is b c edit y e =
     (x.0, ap (λ (z : Token). z.cubbyhole) (x.2 ∙ ap (λ v. if v then with_cubbyhole edit x.0 else x.0) (same_self c)))
 
 module _ (a : Asking) (is : a.outcome ≡ step a.broker a.moment a.words a.ask) (q path : Text) (client : IsClient a q)
-    (answered : a.outcome.response.status ≡ status.NoContent) (y : Token) (there : get a.outcome.next.tokens q ≡ Some y) where
+    (answered : a.outcome.response.status ≡ status.NoContent) (y : Token)
+    (there : get a.outcome.next.tokens q ≡ Some y) where
   it : Served a
   it = served a is (omega (arith, ap status_code answered))
 
@@ -66,6 +67,8 @@ module _ (a : Asking) (is : a.outcome ≡ step a.broker a.moment a.words a.ask) 
   pub edits_stand : (command : CubbyholeCommand) → command_of (clocked a).mounts a.ask ≡ Ok (on_cubbyhole path command)
       → LeavesAt (get y.cubbyhole path) command
   edits_stand command means =
-      let is_command : it.command ≡ on_cubbyhole path command = ok_inj (sym (means_at_clock a it.caller it.command it.means) ∙ means) in
+      let is_command : it.command ≡ on_cubbyhole path command =
+      ok_inj (sym (means_at_clock a it.caller it.command it.means) ∙ means) in
       left it.caller it.asked command
-      (subst (λ (x : Command). act (spent (clocked a) it.caller) it.caller (names_of a.words) x ≡ Ok it.done) is_command it.acted)
+      (subst (λ (x : Command). act (spent (clocked a) it.caller) it.caller (names_of a.words) x ≡ Ok it.done)
+      is_command it.acted)

@@ -1,5 +1,6 @@
 -- A mount that is disabled leaves nothing, and what is of other mounts stays.
-use Rattle.std.specs.Prelude.{◌≡◌, ◌≢◌, true, false, not, cond, if◌then◌else◌, is_some, Option, Some, None, Ok, Bool, option_and_then, ⊤}
+use Rattle.std.specs.Prelude.{◌≡◌, ◌≢◌, true, false, not, cond, if◌then◌else◌, is_some}
+use Rattle.std.specs.Prelude.{Option, Some, None, Ok, Bool, option_and_then, ⊤}
 use Rattle.std.proofs.Common.{refl, sym, ◌∙◌, ap, subst, inl, inr, arith}
 use Rattle.broker_types.specs.Text.{Text, same}
 use Rattle.broker_types.specs.TextLaws.{same_self, same_true}
@@ -79,14 +80,16 @@ module _ (a : Asking) (is : a.outcome ≡ step a.broker a.moment a.words a.ask) 
 
   acted : act (spent now it.caller) it.caller (names_of a.words) (on_mount name mount.Disable) ≡ Ok it.done
   acted =
-      let is_command : it.command ≡ on_mount name mount.Disable = ok_inj (sym (means_at_clock a it.caller it.command it.means) ∙ d.means) in
+      let is_command : it.command ≡ on_mount name mount.Disable =
+      ok_inj (sym (means_at_clock a it.caller it.command it.means) ∙ d.means) in
       subst (λ (x : Command). act (spent now it.caller) it.caller (names_of a.words) x ≡ Ok it.done) is_command it.acted
 
   -- the broker without the mount, and what was kept there
   abbrev bare : Text → Broker
   bare c = without_kept (record (spend now c) { mounts = without now.mounts name }) name
 
-  done_is : (caller : Option Text) → act (spent now caller) caller (names_of a.words) (on_mount name mount.Disable) ≡ Ok it.done
+  done_is : (caller : Option Text) → act (spent now caller) caller (names_of a.words) (on_mount name mount.Disable)
+      ≡ Ok it.done
       → (c : Text) × (it.done.next ≡ bare c)
   done_is None e = no_ok e
   done_is (Some c) e =
@@ -105,26 +108,31 @@ module _ (a : Asking) (is : a.outcome ≡ step a.broker a.moment a.words a.ask) 
 
   module _ (c : Text) (left_it : it.done.next ≡ bare c) where
     mounts_are : a.outcome.next.mounts ≡ without now.mounts name
-    mounts_are = left (λ (b : Broker). b.mounts) (λ _ _. refl) (λ _ _. refl) (λ _ _. refl) a it ∙ ap (λ (b : Broker). b.mounts) left_it
+    mounts_are = left (λ (b : Broker). b.mounts) (λ _ _. refl) (λ _ _. refl) (λ _ _. refl) a it
+        ∙ ap (λ (b : Broker). b.mounts) left_it
 
     secrets_are : a.outcome.next.secrets ≡ keep (λ q. not (is_below name q)) now.secrets
-    secrets_are = left (λ (b : Broker). b.secrets) (λ _ _. refl) (λ _ _. refl) (λ _ _. refl) a it ∙ ap (λ (b : Broker). b.secrets) left_it
+    secrets_are = left (λ (b : Broker). b.secrets) (λ _ _. refl) (λ _ _. refl) (λ _ _. refl) a it
+        ∙ ap (λ (b : Broker). b.secrets) left_it
 
     roles_are : a.outcome.next.roles ≡ keep (λ q. not (is_below name q)) now.roles
-    roles_are = left (λ (b : Broker). b.roles) (λ _ _. refl) (λ _ _. refl) (λ _ _. refl) a it ∙ ap (λ (b : Broker). b.roles) left_it
+    roles_are = left (λ (b : Broker). b.roles) (λ _ _. refl) (λ _ _. refl) (λ _ _. refl) a it
+        ∙ ap (λ (b : Broker). b.roles) left_it
 
     -- the leases of a token that is left are those of its clock that are not below the mount
     leases_are : (t : Text) (y : Token) → get a.outcome.next.tokens t ≡ Some y
         → (x : Token) × (get now.tokens t ≡ Some x) × (y.leases ≡ keep (λ q. not (is_below name q)) x.leases)
     leases_are t y e =
         let there = ap (λ (b : Broker). get b.tokens t) (sym left_it) ∙ token_left a it t y e in
-        let w = valued_is (λ u (x : Token). leases.with_leases (keep (λ q. not (leases.is_under name q)) x.leases) x) (spend now c).tokens t y there in
+        let w = valued_is (λ u (x : Token). leases.with_leases (keep (λ q. not (leases.is_under name q)) x.leases) x)
+        (spend now c).tokens t y there in
         let x = mapped (λ (x : Token). if same t c then one_less x else x) (get now.tokens t) w.0
         (sym (get-change now.tokens c one_less t) ∙ w.1) in (
           x.0,
           x.1,
           ap (λ (z : Token). z.leases) w.2
-              ∙ ap (λ (z : Token). keep (λ q. not (is_below name q)) z.leases) x.2 ∙ ap (keep (λ q. not (is_below name q))) (spent_leases (same t c) x.0),
+              ∙ ap (λ (z : Token). keep (λ q. not (is_below name q)) z.leases) x.2
+              ∙ ap (keep (λ q. not (is_below name q))) (spent_leases (same t c) x.0),
         )
       where
         spent_leases : (v : Bool) (x : Token) → (if v then one_less x else x).leases ≡ x.leases
@@ -146,12 +154,15 @@ module _ (a : Asking) (is : a.outcome ≡ step a.broker a.moment a.words a.ask) 
         | inl none ↦ inr none
         | inr y ↦
             let x = leases_are t y.0 y.1 in
-            inl (ap (option_and_then (λ (z : Token). get z.leases q)) y.1 ∙ without_those name (y.0).leases (x.0).leases x.2 q
-            ∙ ap (λ v. cond (not v) (get (x.0).leases q) None) other ∙ ap (option_and_then (λ (z : Token). get z.leases q)) (sym x.1))
+            inl (ap (option_and_then (λ (z : Token). get z.leases q)) y.1
+            ∙ without_those name (y.0).leases (x.0).leases x.2 q
+            ∙ ap (λ v. cond (not v) (get (x.0).leases q) None) other
+            ∙ ap (option_and_then (λ (z : Token). get z.leases q)) (sym x.1))
       ];
     }
 
-    nothing_left : ((t q : Text) → is_below name q ≡ true → lease_of a.outcome.next t q ≡ None) → LeavesNothing a.outcome.next name
+    nothing_left : ((t q : Text) → is_below name q ≡ true → lease_of a.outcome.next t q ≡ None)
+        → LeavesNothing a.outcome.next name
     nothing_left no_lease = record {
       mount = ap (λ (m : Map Mount). get m name) mounts_are ∙ get-without now.mounts name name
           ∙ ap (λ v. cond v None (get now.mounts name)) (same_self name);

@@ -1,5 +1,7 @@
 -- Permission and look-ups are as they are documented.
-use Rattle.std.specs.Prelude.{◌≡◌, ◌⊎◌, ◌||◌, ◌++◌, ℕ, drop, length, nat_eq, not, if◌then◌else◌, List, [], ◌∷◌, Contains, Bool, true, false, is_some, codes, Option, Some, None, Result, Ok, Err, option_and_then, unwrap_or}
+use Rattle.std.specs.Prelude.{◌≡◌, ◌⊎◌, ◌||◌, ◌++◌, ℕ, drop, length, nat_eq, not, if◌then◌else◌}
+use Rattle.std.specs.Prelude.{List, [], ◌∷◌, Contains, Bool, true, false, is_some, codes}
+use Rattle.std.specs.Prelude.{Option, Some, None, Result, Ok, Err, option_and_then, unwrap_or}
 use Rattle.std.specs.FinMap.{get-empty}
 use Rattle.std.specs.List.{find, flat_map, list_any, starts_with}
 use Rattle.std.specs.Option.{option_map_or}
@@ -31,7 +33,8 @@ use Rattle.mounts.specs.Table.{facts, route_rows}
 use Rattle.mounts.specs.declared.mount_type.MountType.TheVariants as mount
 use Rattle.mounts.specs.declared.operation.CubbyholeOperation.TheVariants as cubbyhole
 use Rattle.mounts.specs.declared.operation.Operation.{Operation}
-use Rattle.mounts.specs.declared.operation.Operation.TheVariants.{Cubbyholes, Issued, Leases, Mounts, Policies, Secrets, Tokens, Wrappings}
+use Rattle.mounts.specs.declared.operation.Operation.TheVariants.{Cubbyholes, Issued, Leases, Mounts}
+use Rattle.mounts.specs.declared.operation.Operation.TheVariants.{Policies, Secrets, Tokens, Wrappings}
 use Rattle.mounts.specs.declared.operation.SecretOperation.TheVariants as secret
 use Rattle.policies.specs.Allows.{allows, is_granted, is_named}
 use Rattle.policies.specs.Grants.{grants, rules_named, rules_of}
@@ -61,28 +64,34 @@ none_named name = ap (λ o. unwrap_or (option_and_then policy_of o) []) (get-emp
 
 no_rules : (names : List Text) → flat_map (rules_named empty) names ≡ []
 no_rules [] = refl
-no_rules (name ∷ names) = ap (λ (rs : List Rule). rs ++ flat_map (rules_named empty) names) (none_named name) ∙ no_rules names
+no_rules (name ∷ names) = ap (λ (rs : List Rule). rs ++ flat_map (rules_named empty) names) (none_named name)
+    ∙ no_rules names
 
 -- and without rules no pattern is chosen
 none_chosen : (ps : List Pattern) → find (is_named []) ps ≡ None
 none_chosen [] = refl
 none_chosen (p ∷ ps) = none_chosen ps
 
-root_only : (names : List Text) (v : Verb) (path : Text) (c : Capability) → grants empty names v path c ≡ true → Contains names (codes "root")
+root_only : (names : List Text) (v : Verb) (path : Text) (c : Capability) → grants empty names v path c ≡ true
+    → Contains names (codes "root")
 unfolding rules_of allows
 root_only names v path c h =
     let any : list_any is_root names ≡ true =
     or_none (list_any is_root names)
-    (ap (λ (rs : List Rule). list_any is_root names || option_map_or (is_granted c rs) (find (is_named rs) (tried v path)) false) (sym (no_rules names))
+    (ap (λ (rs : List Rule). list_any is_root names || option_map_or (is_granted c rs)
+    (find (is_named rs) (tried v path)) false) (sym (no_rules names))
     ∙ h) in
     let x = passing is_root names any in
     subst (Contains names) (same_true x.0 (codes "root") x.2) x.1
   where
-    or_none : (w : Bool) → (w || option_map_or (is_granted c []) (find (is_named []) (tried v path)) false) ≡ true → w ≡ true
+    or_none : (w : Bool) → (w || option_map_or (is_granted c []) (find (is_named []) (tried v path)) false) ≡ true
+        → w ≡ true
     or_none true e = refl
-    or_none false e = absurd (false≢true (sym (ap (λ o. option_map_or (is_granted c []) o false) (none_chosen (tried v path))) ∙ e))
+    or_none false e = absurd (false≢true
+        (sym (ap (λ o. option_map_or (is_granted c []) o false) (none_chosen (tried v path))) ∙ e))
 
-root_everything : (policies : Map Text) (names : List Text) (v : Verb) (path : Text) (c : Capability) → Contains names (codes "root")
+root_everything : (policies : Map Text) (names : List Text) (v : Verb) (path : Text) (c : Capability)
+    → Contains names (codes "root")
     → grants policies names v path c ≡ true
 unfolding rules_of allows
 root_everything policies names v path c has_root =
@@ -108,8 +117,10 @@ module _ (b : Broker) (c path : Text) where
   none_if None e = refl
   none_if (Some x) e = absurd (false≢true (sym e))
 
-  by_route : (o : Operation) (mount parameter : Text) → found ≡ Ok (record { operation = o; mount = mount; parameter = parameter })
-      → stands_there (has_stored b c) (stored (Ok (record { operation = o; mount = mount; parameter = parameter }))) ≡ false
+  by_route : (o : Operation) (mount parameter : Text)
+      → found ≡ Ok (record { operation = o; mount = mount; parameter = parameter })
+      → stands_there (has_stored b c) (stored (Ok (record { operation = o; mount = mount; parameter = parameter })))
+      ≡ false
       → MakesAnew b c path
   by_route (Cubbyholes cubbyhole.Write) mount parameter is e = inl (_, is, refl, none_if (object_at b c parameter) e)
   by_route (Cubbyholes _) mount parameter is e = absurd (false≢true (sym e))
@@ -122,18 +133,21 @@ module _ (b : Broker) (c path : Text) where
   by_route (Issued o) mount parameter is e = absurd (false≢true (sym e))
   by_route (Wrappings o) mount parameter is e = absurd (false≢true (sym e))
 
-  by_found : (r : Result Route Refusal) → found ≡ r → stands_there (has_stored b c) (stored r) ≡ false → MakesAnew b c path
+  by_found : (r : Result Route Refusal) → found ≡ r → stands_there (has_stored b c) (stored r) ≡ false
+      → MakesAnew b c path
   by_found (Err why) is e = absurd (false≢true (sym e))
   by_found (Ok r) is e = by_route r.operation r.mount r.parameter is e
 
   makes : MakesAnew b c path → asked b c verb.Write path ≡ Create
   makes (inl (r, is, write, none)) =
       ap (λ (x : Result Route Refusal). asked_by (has_stored b c) verb.Write x) is
-      ∙ ap (λ o. capability verb.Write (stands_there (has_stored b c) (stored_at (facts o).stores r.mount r.parameter))) write
+      ∙ ap (λ o. capability verb.Write (stands_there (has_stored b c)
+      (stored_at (facts o).stores r.mount r.parameter))) write
       ∙ ap (λ (o : Option Text). capability verb.Write (is_some o)) none
   makes (inr (r, is, write, none)) =
       ap (λ (x : Result Route Refusal). asked_by (has_stored b c) verb.Write x) is
-      ∙ ap (λ o. capability verb.Write (stands_there (has_stored b c) (stored_at (facts o).stores r.mount r.parameter))) write
+      ∙ ap (λ o. capability verb.Write (stands_there (has_stored b c)
+      (stored_at (facts o).stores r.mount r.parameter))) write
       ∙ ap (λ (o : Option Key). capability verb.Write (is_some o)) none
 
   asks : AsksByVerb b c path
@@ -149,7 +163,8 @@ module _ (b : Broker) (c path : Text) where
 -- ---- sudo
 
 -- a text that begins with a literal, and has something behind it
-begun_by : (literal q : Text) → starts_with nat_eq q literal ≡ true → is_ending segments (drop (length literal) q) ≡ true
+begun_by : (literal q : Text) → starts_with nat_eq q literal ≡ true
+    → is_ending segments (drop (length literal) q) ≡ true
     → (b : ℕ) × (rest : Text) × (q ≡ literal ++ b ∷ rest)
 begun_by [] [] begins ends = absurd (false≢true ends)
 begun_by [] (b ∷ rest) begins ends = (b, rest, refl)
@@ -166,11 +181,13 @@ OneOfThem path =
     ⊎ ((b : ℕ) × (rest : Text) × (path ≡ codes "sys/leases/revoke-prefix/" ++ b ∷ rest)))
 
 -- a path by its mount and what follows
-joined : (path : Text) (P : Type 0) → ((cut path).1 ≡ [] → P) → ((name rest : Text) → path ≡ name ++ slash ∷ rest → name ≡ (cut path).0 → rest ≡ (cut path).1 → P) → P
+joined : (path : Text) (P : Type 0) → ((cut path).1 ≡ [] → P)
+    → ((name rest : Text) → path ≡ name ++ slash ∷ rest → name ≡ (cut path).0 → rest ≡ (cut path).1 → P) → P
 joined path P none some =
     elim (split_once slash path) as (λ (o : Option (Text × Text)). split_once slash path ≡ o
     → ((unwrap_or o (path, [])).1 ≡ [] → P)
-    → ((name rest : Text) → path ≡ name ++ slash ∷ rest → name ≡ (unwrap_or o (path, [])).0 → rest ≡ (unwrap_or o (path, [])).1 → P) → P) [
+    → ((name rest : Text) → path ≡ name ++ slash ∷ rest → name ≡ (unwrap_or o (path, [])).0
+    → rest ≡ (unwrap_or o (path, [])).1 → P) → P) [
       | None ↦ λ _ first _. first refl
       | Some p ↦ λ is _ second. second p.0 p.1 (lacking_split slash path p is).0 refl refl
     ] refl none some
@@ -187,13 +204,14 @@ module _ (rest : Text) where
 
   of_tokens : list_any (row_asks_sudo rest) (route_rows mount.Token) ≡ true
       → (rest ≡ codes "token/accessors") ⊎ (rest ≡ codes "token/revoke-orphan")
-  of_tokens h = elim (or_cases (has_form (form_of (codes "token/revoke-orphan")) rest) (has_form (form_of (codes "token/accessors")) rest || false) h) [
-    | inl form ↦ inr (literal_of (codes "token/revoke-orphan") rest form)
-    | inr more ↦ elim (or_cases (has_form (form_of (codes "token/accessors")) rest) false more) [
-      | inl form ↦ inl (literal_of (codes "token/accessors") rest form)
-      | inr none ↦ absurd (false≢true none)
-    ]
-  ]
+  of_tokens h = elim (or_cases (has_form (form_of (codes "token/revoke-orphan")) rest)
+      (has_form (form_of (codes "token/accessors")) rest || false) h) [
+        | inl form ↦ inr (literal_of (codes "token/revoke-orphan") rest form)
+        | inr more ↦ elim (or_cases (has_form (form_of (codes "token/accessors")) rest) false more) [
+          | inl form ↦ inl (literal_of (codes "token/accessors") rest form)
+          | inr none ↦ absurd (false≢true none)
+        ]
+      ]
 
   of_system : list_any (row_asks_sudo rest) (route_rows mount.System) ≡ true
       → (b : ℕ) × (more : Text) × (rest ≡ codes "leases/revoke-prefix/" ++ b ∷ more)
@@ -202,9 +220,11 @@ module _ (rest : Text) where
     | inr none ↦ absurd (false≢true none)
   ]
 
-  within : (name : Text) (x : Bool) → same name (codes "auth") ≡ x → (y : Bool) → same name (codes "sys") ≡ y → (z : Bool)
+  within : (name : Text) (x : Bool) → same name (codes "auth") ≡ x → (y : Bool) → same name (codes "sys") ≡ y
+      → (z : Bool)
       → list_any (row_asks_sudo rest) (option_map_or route_rows
-      (if x then Some mount.Token else (if y then Some mount.System else (if z then Some mount.Cubbyhole else None))) []) ≡ true
+      (if x then Some mount.Token else (if y then Some mount.System else (if z then Some mount.Cubbyhole else None)))
+      []) ≡ true
       → Within name
   within name true at y _ z h = inl (same_true name (codes "auth") at, of_tokens h)
   within name false _ true at z h = inr (same_true name (codes "sys") at, of_system h)
@@ -216,7 +236,8 @@ unfolding asks_sudo
 sudo_only path h =
     let name = (cut path).0 in
     let rest = (cut path).1 in
-    let found = within rest name (same name (codes "auth")) refl (same name (codes "sys")) refl (same name (codes "cubbyhole")) h in
+    let found = within rest name (same name (codes "auth")) refl (same name (codes "sys")) refl
+    (same name (codes "cubbyhole")) h in
     joined path (OneOfThem path)
     (λ none. elim found [
       | inl (at, its) ↦ elim its [
@@ -227,8 +248,10 @@ sudo_only path h =
     ])
     (λ front behind is is_name is_rest. elim found [
       | inl (at, its) ↦ elim its [
-        | inl it ↦ inl (is ∙ ap (λ n. n ++ slash ∷ behind) (is_name ∙ at) ∙ ap (λ r. codes "auth" ++ slash ∷ r) (is_rest ∙ it))
-        | inr it ↦ inr (inl (is ∙ ap (λ n. n ++ slash ∷ behind) (is_name ∙ at) ∙ ap (λ r. codes "auth" ++ slash ∷ r) (is_rest ∙ it)))
+        | inl it ↦ inl (is ∙ ap (λ n. n ++ slash ∷ behind) (is_name ∙ at)
+            ∙ ap (λ r. codes "auth" ++ slash ∷ r) (is_rest ∙ it))
+        | inr it ↦ inr (inl (is ∙ ap (λ n. n ++ slash ∷ behind) (is_name ∙ at)
+            ∙ ap (λ r. codes "auth" ++ slash ∷ r) (is_rest ∙ it)))
       ]
       | inr deep ↦ inr (inr (
         deep.1.0,
@@ -280,7 +303,8 @@ module _ (b : Broker) (caller : Text) (names : Names) (accessor t : Text) (x : T
       let u = ok_step (named b accessor) _ d e in
       let same_ : t ≡ u.0 = same_Some _ _ (sym is ∙ some_ok _ (find_accessor b accessor) u.1) in
       let y = ok_step (known b u.0) _ d u.2 in
-      let same_token : x ≡ y.0 = same_Some _ _ (sym there ∙ ap (get b.tokens) same_ ∙ some_ok _ (get b.tokens u.0) y.1) in
+      let same_token : x ≡ y.0 =
+      same_Some _ _ (sym there ∙ ap (get b.tokens) same_ ∙ some_ok _ (get b.tokens u.0) y.1) in
       ap (λ (z : Done). z.answered) (sym (ok_inj y.2))
       ∙ ap (λ (z : Token). reply (token_reply names.request b.clock [] (token_entry z)) None) (sym same_token)
 
@@ -294,7 +318,12 @@ pub as_documented : AreAsDocumented
 as_documented = record {
   root = record { only = root_only; everything = root_everything };
   capabilities = asks;
-  sudo = record { only = sudo_only; accessors = accessors_ask; revoke_orphan = orphans_ask; revoke_prefix = prefix_asks };
+  sudo = record {
+    only = sudo_only;
+    accessors = accessors_ask;
+    revoke_orphan = orphans_ask;
+    revoke_prefix = prefix_asks;
+  };
   sudo_needed = sudo_needed;
   accessors = hide_tokens;
 }

@@ -31,11 +31,13 @@ use Rattle.broker_model.specs.NewIdentifierLaws.{first_in, later_in}
 use Rattle.broker_model.specs.Step.{traits}
 use Rattle.broker_model.specs.Traits.{Fate, make, orphan, renew, revoke, stay, token_names}
 use Rattle.broker_model.specs.declared.making.Making.{Making}
-use Rattle.broker_model.specs.parts.TokenCreation.{is_privileged, making_path, may_make, new_parent, new_policies, new_token}
+use Rattle.broker_model.specs.parts.TokenCreation.{is_privileged, making_path, may_make}
+use Rattle.broker_model.specs.parts.TokenCreation.{new_parent, new_policies, new_token}
 use Rattle.broker_model.specs.parts.Tokens as tokens
 use Rattle.broker_model.specs.parts.Tokens.{known, made, new_end}
 use Rattle.histories.proofs.Placed.{LeaseFrom, Placed, TokenFrom, WaitingFrom, drop_placed, from_maps, orphan_placed}
-use Rattle.histories.proofs.Placed.{other_tokens, other_value, other_waiting, placed_trans, revoke_placed, same_parts, stays_self, token_from}
+use Rattle.histories.proofs.Placed.{other_tokens, other_value, other_waiting, placed_trans}
+use Rattle.histories.proofs.Placed.{revoke_placed, same_parts, stays_self, token_from}
 use Rattle.histories.proofs.Placed.{waiting_from}
 
 -- what an operation left has only what was there, or what it gave out
@@ -45,7 +47,8 @@ Tells b d = Placed b d.taken d.next
 -- ---- responses
 
 -- a response that begins to wait, or waits under another wrapping token
-pub stored_placed : (b : Broker) (given : List Text) (t : Text) (w : Waiting) → list_any (same (token_identifier t)) given ≡ true
+pub stored_placed : (b : Broker) (given : List Text) (t : Text) (w : Waiting)
+    → list_any (same (token_identifier t)) given ≡ true
     → list_any (same w.accessor) given ≡ true → Placed b given (with_waiting b t w)
 stored_placed b given t w identifier accessor = other_waiting b given (with_waiting b t w) refl (λ q v e.
     put_is b.waiting t w q v _ e
@@ -63,7 +66,8 @@ token_in names more = first_in names.wrapping_token (names.wrapping_accessor ∷
 pub accessor_in : (names : Names) (more : List Text)
     → list_any (same names.wrapping_accessor) (names.wrapping_token ∷ names.wrapping_accessor ∷ more) ≡ true
 accessor_in names more =
-    later_in names.wrapping_accessor names.wrapping_token (names.wrapping_accessor ∷ more) (first_in names.wrapping_accessor more)
+    later_in names.wrapping_accessor names.wrapping_token (names.wrapping_accessor ∷ more)
+    (first_in names.wrapping_accessor more)
 
 -- ---- a token that is made
 
@@ -105,21 +109,25 @@ module _ (b : Broker) (who : Option Text) (names : Names) (d : Done) where
   stays_placed : (changes : Option Part) → Stay changes who d.taken b d.next
       → (q : Text) (y : Token) → get d.next.tokens q ≡ Some y → TokenFrom b d.taken q y
   stays_placed changes stays q y there =
-      let x = both_there (StaysAt changes who q) (get b.tokens q) y (subst (Both (StaysAt changes who q) (get b.tokens q)) there (stays.tokens q)) in
+      let x = both_there (StaysAt changes who q) (get b.tokens q) y
+      (subst (Both (StaysAt changes who q) (get b.tokens q)) there (stays.tokens q)) in
       record {
         identifier = inl (ap (option_map (λ (z : Token). token_identifier q)) x.1);
-        accessor = inl (ap (option_map (λ (z : Token). z.accessor)) x.1 ∙ ap Some (sym (ap (λ (z : Token). z.accessor) x.2.rest)));
+        accessor = inl (ap (option_map (λ (z : Token). z.accessor)) x.1
+            ∙ ap Some (sym (ap (λ (z : Token). z.accessor) x.2.rest)));
         leases = lease_placed changes stays q y there;
       }
 
-  created_placed : (c : Text) (making : Making) (asked : TokenCreation) → tokens.create b c names making asked ≡ Ok d → Tells b d
+  created_placed : (c : Text) (making : Making) (asked : TokenCreation) → tokens.create b c names making asked ≡ Ok d
+      → Tells b d
   created_placed c making asked e =
       let x = ok_step (known b c) _ d e in
       let privileged = is_privileged b (making_path making) x.0 in
       let policies = new_policies privileged x.0 asked in
       let may = ok_step (may_make privileged making x.0 policies asked) _ d x.2 in
       subst (Tells b) (ok_inj may.2)
-      (made_placed b names (new_token b.clock (new_parent c making asked) names.accessor policies asked) refl (λ id l is. no_entry id l is))
+      (made_placed b names (new_token b.clock (new_parent c making asked) names.accessor policies asked) refl
+      (λ id l is. no_entry id l is))
 
   renewed_placed : (t : Text) (increment : ℕ) → tokens.renew b names t increment ≡ Ok d → Tells b d
   renewed_placed t increment e =
@@ -136,12 +144,15 @@ module _ (b : Broker) (who : Option Text) (names : Names) (d : Done) where
   fated_placed changes (renew named increment) (c, t, is, named_, e) waiting = renewed_placed t increment e
   fated_placed changes (revoke named) (c, t, is, named_, e) waiting =
       let next = broker.revoke b t in
-      subst (Tells b) (sym e) (placed_trans b next (drop_waiting next t) [] (revoke_placed b [] t) (drop_placed next [] t))
+      subst (Tells b) (sym e) (placed_trans b next (drop_waiting next t) [] (revoke_placed b [] t)
+      (drop_placed next [] t))
   fated_placed changes (orphan t) (c, is, e) waiting =
       let next = broker.revoke_orphan b t in
-      subst (Tells b) (sym e) (placed_trans b next (drop_waiting next t) [] (orphan_placed b [] t) (drop_placed next [] t))
+      subst (Tells b) (sym e) (placed_trans b next (drop_waiting next t) [] (orphan_placed b [] t)
+      (drop_placed next [] t))
 
-pub placed_of : (b : Broker) (who : Option Text) (names : Names) (command : Command) (d : Done) → Does b who names command d → Tells b d
+pub placed_of : (b : Broker) (who : Option Text) (names : Names) (command : Command) (d : Done)
+    → Does b who names command d → Tells b d
 placed_of b who names command d does =
     fated_placed b who names d (traits command).changes (traits command).fate does.fated
     (λ t w e. elim (does.waiting t w e) [

@@ -33,7 +33,10 @@ ended_lasts b c t e h = record {
   ];
   not_waiting = elim (found_or_not (get c.waiting t)) [
     | inl none ↦ none
-    | inr w ↦ elim (e.wrapping_tokens t w.0 w.1) [ inl waited ↦ absurd (waited h.not_waiting) | inr new ↦ absurd (h.used new) ]
+    | inr w ↦ elim (e.wrapping_tokens t w.0 w.1) [
+      | inl waited ↦ absurd (waited h.not_waiting)
+      | inr new ↦ absurd (h.used new)
+    ]
   ];
 }
 
@@ -58,7 +61,8 @@ origin_lasts b c o e h = record {
 }
 
 -- a lease that has ended stays so
-pub lease_lasts : (b c : Broker) (lease_id : Text) (l : Lease) → Evolves b c → IsLeaseGone b lease_id l → IsLeaseGone c lease_id l
+pub lease_lasts : (b c : Broker) (lease_id : Text) (l : Lease) → Evolves b c → IsLeaseGone b lease_id l
+    → IsLeaseGone c lease_id l
 lease_lasts b c lease_id l e h = record {
   used = e.used (lease_identifier lease_id) h.used;
   credential_used = e.used l.credential h.credential_used;
@@ -91,7 +95,8 @@ module _ (b c : Broker) (ids : SoundIdentifiers b) (e : Evolves b c) (q : Text) 
   gone_has_ended stood = elim (found_or_not (get b.tokens q)) [
     | inl none ↦ absurd (stood none)
     | inr x ↦
-        let here : identifier_at b (token q) ≡ Some (token_identifier q) = ap (option_map (λ _. token_identifier q)) x.1 in
+        let here : identifier_at b (token q) ≡ Some (token_identifier q) =
+        ap (option_map (λ _. token_identifier q)) x.1 in
         let used = ids.all_used (token q) (token_identifier q) here in
         record {
           used = e.used (token_identifier q) used;
@@ -104,7 +109,8 @@ module _ (b c : Broker) (ids : SoundIdentifiers b) (e : Evolves b c) (q : Text) 
                 | inr v ↦
                     let there : identifier_at b (wrapping_token q) ≡ Some (token_identifier q) =
                     ap (option_map (λ _. token_identifier q)) v.1 in
-                    absurd (false≢true (ap is_wrapping (ids.one_place (token q) (wrapping_token q) (token_identifier q) here there)))
+                    absurd (false≢true (ap is_wrapping (ids.one_place (token q) (wrapping_token q)
+                    (token_identifier q) here there)))
               ]
               | inr new ↦ absurd (used new)
             ]

@@ -27,7 +27,10 @@ use Rattle.histories.proofs.Served.{Served}
 pub end_same : (b : Broker) (who : Option Text) → (end_spent b who).secrets ≡ b.secrets
 end_same b None = refl
 end_same b (Some c) =
-    elim (option_map_or is_spent (get b.tokens c) false) as (λ v. (if v then revoke b c else b).secrets ≡ b.secrets) [ true ↦ refl | false ↦ refl ]
+    elim (option_map_or is_spent (get b.tokens c) false) as (λ v. (if v then revoke b c else b).secrets ≡ b.secrets) [
+      | true ↦ refl
+      | false ↦ refl
+    ]
 
 -- and so does a use that is spent
 pub spent_same : (b : Broker) (who : Option Text) → (spent b who).secrets ≡ b.secrets
@@ -61,11 +64,13 @@ module _ (a : Asking) where
     | inr (t, closed, token, waits, dropped) ↦ ap (λ (b : Broker). b.secrets) dropped
   ])
   by_cases (inr (inl s)) =
-      inl (ap (λ (o : Outcome). o.next.secrets) s.outcome ∙ end_same (spent now s.caller) s.caller ∙ spent_same now s.caller)
+      inl (ap (λ (o : Outcome). o.next.secrets) s.outcome ∙ end_same (spent now s.caller) s.caller
+      ∙ spent_same now s.caller)
   by_cases (inr (inr s)) = inr s
 
   -- a request that was not served leaves the secrets
-  pub same_or_served : a.outcome ≡ step a.broker a.moment a.words a.ask → (a.outcome.next.secrets ≡ now.secrets) ⊎ Served a
+  pub same_or_served : a.outcome ≡ step a.broker a.moment a.words a.ask
+      → (a.outcome.next.secrets ≡ now.secrets) ⊎ Served a
   unfolding step
   same_or_served is =
       by_cases (subst (λ (o : Outcome). IsTurnedAway now (request_of a.ask) o ⊎ (IsTurnedDown now o
@@ -76,11 +81,14 @@ module _ (a : Asking) where
 
   module _ (s : Served a) where
     -- a reply is a 200, wrapped or not
-    pub is_200 : (r : Reply) (made : Option Text) → s.done.answered ≡ reply r made → a.outcome.response.status ≡ status.Success
+    pub is_200 : (r : Reply) (made : Option Text) → s.done.answered ≡ reply r made
+        → a.outcome.response.status ≡ status.Success
     is_200 r made answered =
         ap (λ (z : Outcome). z.response.status) s.outcome
-        ∙ elim (wrapped_cases permits traits act (spent now s.caller) (request_of a.ask) (names_of a.words) s.command s.done) [
-          | inl plain ↦ ap (λ (z : Wrapped). (response_to z.done.answered).status) plain ∙ ap (λ z. (response_to z).status) answered
+        ∙ elim (wrapped_cases permits traits act (spent now s.caller) (request_of a.ask) (names_of a.words) s.command
+        s.done) [
+          | inl plain ↦ ap (λ (z : Wrapped). (response_to z.done.answered).status) plain
+              ∙ ap (λ z. (response_to z).status) answered
           | inr kept ↦ ap (λ (z : Wrapped). (response_to z.done.answered).status) kept.4
         ]
 
@@ -88,8 +96,10 @@ module _ (a : Asking) where
     pub is_404 : (r : Reply) → s.done.answered ≡ missing r → a.outcome.response.status ≡ status.NotFound
     is_404 r answered =
         ap (λ (z : Outcome). z.response.status) s.outcome
-        ∙ elim (wrapped_cases permits traits act (spent now s.caller) (request_of a.ask) (names_of a.words) s.command s.done) [
-          | inl plain ↦ ap (λ (z : Wrapped). (response_to z.done.answered).status) plain ∙ ap (λ z. (response_to z).status) answered
+        ∙ elim (wrapped_cases permits traits act (spent now s.caller) (request_of a.ask) (names_of a.words) s.command
+        s.done) [
+          | inl plain ↦ ap (λ (z : Wrapped). (response_to z.done.answered).status) plain
+              ∙ ap (λ z. (response_to z).status) answered
           | inr (x, made, wraps_, replied, e) ↦ absurd (no_reply answered replied)
         ]
       where
@@ -103,8 +113,10 @@ module _ (a : Asking) where
     pub is_204 : s.done.answered ≡ nothing → a.outcome.response.status ≡ status.NoContent
     is_204 answered =
         ap (λ (z : Outcome). z.response.status) s.outcome
-        ∙ elim (wrapped_cases permits traits act (spent now s.caller) (request_of a.ask) (names_of a.words) s.command s.done) [
-          | inl plain ↦ ap (λ (z : Wrapped). (response_to z.done.answered).status) plain ∙ ap (λ z. (response_to z).status) answered
+        ∙ elim (wrapped_cases permits traits act (spent now s.caller) (request_of a.ask) (names_of a.words) s.command
+        s.done) [
+          | inl plain ↦ ap (λ (z : Wrapped). (response_to z.done.answered).status) plain
+              ∙ ap (λ z. (response_to z).status) answered
           | inr (r, made, wraps_, replied, e) ↦ absurd (no_reply answered replied)
         ]
       where

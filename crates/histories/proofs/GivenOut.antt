@@ -30,13 +30,15 @@ use Rattle.histories.proofs.Used.{any_left, any_right, join, new_append, new_dif
 abbrev AllUsedAt : History → Type 0
 AllUsedAt history = (j : ℕ) (x : Asking) → AskedAt history j x → AllUsed x.broker
 
-module _ (told : OperationsDoAsTold) (b : Broker) (history : History) (steps : AreSteps b history) (used : AllUsedAt history) where
+module _ (told : OperationsDoAsTold) (b : Broker) (history : History) (steps : AreSteps b history)
+    (used : AllUsedAt history) where
   all_new : are_new b.used (given_out history) ≡ true
   all_new = given_out_new b history (steps_mark told b history steps)
 
   used_or_given : (j : ℕ) (x : Asking) (p : Place) (i : Text) → AskedAt history j x → identifier_at x.broker p ≡ Some i
       → IsUsed b i ⊎ (list_any (same i) (given_out (take j history)) ≡ true)
-  used_or_given j x p i at there = used_is_given b history j x i (steps_mark told b history steps) at (used j x at p i there)
+  used_or_given j x p i at there = used_is_given b history j x i (steps_mark told b history steps) at
+      (used j x at p i there)
 
   each_is_told : EachIsTold history
   each_is_told j x p i at there = elim (requests_tell told x (step_at b history j x steps at).outcome p i there) [
@@ -60,11 +62,14 @@ module _ (told : OperationsDoAsTold) (s : Beginning) (history : History) (steps 
     (used : AllUsedAt history) where
   start_new : are_new empty (id s.accessor_word ∷ id s.token_word ∷ []) ≡ true
   start_new =
-      let first : is_none (get (empty {X = ⊤} {R = text_cmp}) (id s.accessor_word)) ≡ true = ap is_none (get-empty text_cmp (id s.accessor_word)) in
-      let second : is_none (get (empty {X = ⊤} {R = text_cmp}) (id s.token_word)) ≡ true = ap is_none (get-empty text_cmp (id s.token_word)) in
+      let first : is_none (get (empty {X = ⊤} {R = text_cmp}) (id s.accessor_word)) ≡ true =
+      ap is_none (get-empty text_cmp (id s.accessor_word)) in
+      let second : is_none (get (empty {X = ⊤} {R = text_cmp}) (id s.token_word)) ≡ true =
+      ap is_none (get-empty text_cmp (id s.token_word)) in
       let apart : same (id s.accessor_word) (id s.token_word) ≡ false =
       false_from_ne_true (same (id s.accessor_word) (id s.token_word)) (λ e. s.differ
-      (sym (id-same s.accessor_word s.token_word s.accessor_fits s.token_fits (same_true (id s.accessor_word) (id s.token_word) e)))) in
+      (sym (id-same s.accessor_word s.token_word s.accessor_fits s.token_fits
+      (same_true (id s.accessor_word) (id s.token_word) e)))) in
       join _ _ first (join _ _ (ap (λ v. not (v || false)) apart) (join _ _ second refl))
 
   all_given : (j : ℕ) (x : Asking) (p : Place) (i : Text) → AskedAt history j x → identifier_at x.broker p ≡ Some i
@@ -114,17 +119,20 @@ begun_used s =
     record { places = sound.identifiers.all_used; origins = sound.identifiers.origins_used }
 
 -- what is given out is new
-pub any_gives_out_new : OperationsDoAsTold → (b : Broker) (history : History) → AreSteps b history → AreUsed b → GivesOutNew b history
+pub any_gives_out_new : OperationsDoAsTold → (b : Broker) (history : History) → AreSteps b history → AreUsed b
+    → GivesOutNew b history
 any_gives_out_new told b history steps used =
     gives_new told b history steps (λ j x at. (used_at told b history steps used j x at).places)
 
 -- from a start on, no identifier is given out twice
-pub none_twice_by_any : OperationsDoAsTold → (s : Beginning) (history : History) → AreSteps (begun s) history → NoIdentifierTwice s history
+pub none_twice_by_any : OperationsDoAsTold → (s : Beginning) (history : History) → AreSteps (begun s) history
+    → NoIdentifierTwice s history
 none_twice_by_any told s history steps =
     none_twice told s history steps (λ j x at. (used_at told (begun s) history steps (begun_used s) j x at).places)
 
 -- all that is in a place of a later broker was given out
-pub all_stay_used : OperationsDoAsTold → (b : Broker) (history : History) (j : ℕ) (x : Asking) → AreSteps b history → AreUsed b
+pub all_stay_used : OperationsDoAsTold → (b : Broker) (history : History) (j : ℕ) (x : Asking) → AreSteps b history
+    → AreUsed b
     → AskedAt history j x → AreUsed x.broker × AreUsed x.outcome.next
 all_stay_used told b history j x steps used at =
     let before = used_at told b history steps used j x at in

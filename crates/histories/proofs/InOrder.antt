@@ -39,8 +39,10 @@ module _ {Command : Type 0} (permits : Broker → Option Text → Verb → Text 
   NoCaller = (t : Text) → q.token ≡ Some t → get now.tokens t ≡ None
 
   module _ (away : q.is_open ≡ false → NoCaller → P (denied now))
-      (dropped : (t : Text) → q.is_open ≡ false → q.token ≡ Some t → is_some (get now.waiting t) ≡ true → P (denied (drop_waiting now t)))
-      (asked : (caller : Option Text) → IsCaller now q caller → P (finish (spent now caller) caller (result_of caller))) where
+      (dropped : (t : Text) → q.is_open ≡ false → q.token ≡ Some t → is_some (get now.waiting t) ≡ true
+      → P (denied (drop_waiting now t)))
+      (asked : (caller : Option Text) → IsCaller now q caller
+      → P (finish (spent now caller) caller (result_of caller))) where
     by_token : (o : Option Text) → q.is_open ≡ false → q.token ≡ o → P (for_caller now o go)
     by_token None closed is = away closed (λ t e. absurd (none-some _ (sym is ∙ e)))
     by_token (Some t) closed is =
@@ -58,7 +60,8 @@ module _ {Command : Type 0} (permits : Broker → Option Text → Verb → Text 
 
     pub in_order : P (ordered permits traits act b moment q names)
     in_order =
-        elim (q.is_open) as (λ v. q.is_open ≡ v → P (if v then finish now None (serve permits traits act now None q names)
+        elim (q.is_open) as (λ v. q.is_open ≡ v
+        → P (if v then finish now None (serve permits traits act now None q names)
         else for_caller now q.token go)) [
           | true ↦ λ is. asked None (inl (is, refl))
           | false ↦ λ closed. by_token q.token closed refl

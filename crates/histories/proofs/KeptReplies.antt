@@ -1,5 +1,6 @@
 -- Responses that were kept are handed out once, as they were.
-use Rattle.std.specs.Prelude.{◌≡◌, ◌≢◌, ◌<◌, ◌≤◌, ◌⊎◌, ◌&&◌, nat_lt, ℕ, max, [], ◌∷◌, Bool, true, false, cond, is_some, if◌then◌else◌}
+use Rattle.std.specs.Prelude.{◌≡◌, ◌≢◌, ◌<◌, ◌≤◌, ◌⊎◌, ◌&&◌, nat_lt, ℕ, max, []}
+use Rattle.std.specs.Prelude.{◌∷◌, Bool, true, false, cond, is_some, if◌then◌else◌}
 use Rattle.std.specs.Prelude.{Option, Some, None, Ok, option_map}
 use Rattle.std.specs.Option.{option_map_or}
 use Rattle.std.proofs.Common.{refl, sym, ◌∙◌, ap, subst, inl, inr, arith}
@@ -35,7 +36,8 @@ use Rattle.broker_model.specs.Act.{act}
 use Rattle.broker_model.specs.Command.{Command, on_wrapping, command_of}
 use Rattle.broker_model.specs.Forms.{forms}
 use Rattle.broker_model.specs.Laws.{OperationsDoAsTold}
-use Rattle.broker_model.specs.Order.{Outcome, Wrapped, denied, finish, for_caller, response_to, serve, wrap_info, wrapped, wraps}
+use Rattle.broker_model.specs.Order.{Outcome, Wrapped, denied, finish, for_caller}
+use Rattle.broker_model.specs.Order.{response_to, serve, wrap_info, wrapped, wraps}
 use Rattle.broker_model.specs.Permission.{permits}
 use Rattle.broker_model.specs.Responses.{ok}
 use Rattle.broker_model.specs.Step.{request_of, step, traits}
@@ -43,18 +45,23 @@ use Rattle.broker_model.specs.Traits.{wrapping_names}
 use Rattle.broker_model.specs.declared.commands.WrappingCommand.{WrappingCommand}
 use Rattle.broker_model.specs.declared.commands.WrappingCommand.TheVariants as response
 use Rattle.broker_model.specs.parts.WrappingCommands.{wrapping_traits}
-use Rattle.broker_model.specs.parts.Wrappings.{FoundResponse, found, found_at, found_under, handed_out, rewrapped, shown}
+use Rattle.broker_model.specs.parts.Wrappings.{FoundResponse, found, found_at}
+use Rattle.broker_model.specs.parts.Wrappings.{found_under, handed_out, rewrapped, shown}
 use Rattle.broker_model.specs.parts.Wrappings.{act_on_wrappings}
 use Rattle.histories.specs.History.{AreAsked, Asking, AskedAt, Beginning, History, begun, clocked, spent_by}
-use Rattle.histories.specs.Kept.{EndsWrappingToken, HandedOutOnce, HandsOutKept, HasAsClient, IsKeptReply, KeepsReply, Rewraps, SameReply}
-use Rattle.histories.specs.Kept.{looked_up_text, rewrapped_text, TakesTokenOut, Tells, Unwraps, WaitedFirst, unwrapped_answer, unwrapped_body}
+use Rattle.histories.specs.Kept.{EndsWrappingToken, HandedOutOnce, HandsOutKept}
+use Rattle.histories.specs.Kept.{HasAsClient, IsKeptReply, KeepsReply, Rewraps, SameReply}
+use Rattle.histories.specs.Kept.{looked_up_text, rewrapped_text, TakesTokenOut, Tells}
+use Rattle.histories.specs.Kept.{Unwraps, WaitedFirst, unwrapped_answer, unwrapped_body}
 use Rattle.histories.specs.Revocation.{Revokes, RevokesAlone}
 use Rattle.histories.proofs.Cover.{one_birth}
 use Rattle.histories.proofs.Ending.{out_lasts}
 use Rattle.histories.proofs.Keeping.{EachKeeps, Keeps}
-use Rattle.histories.proofs.Lasting.{asked_keeps, evolved_since, handed_once, kept_evolves, left_since, waited_before, waits_since}
+use Rattle.histories.proofs.Lasting.{asked_keeps, evolved_since, handed_once, kept_evolves}
+use Rattle.histories.proofs.Lasting.{left_since, waited_before, waits_since}
 use Rattle.histories.proofs.OrderCases.{some_ok, spent}
-use Rattle.histories.proofs.OrderKeeps.{end_spent_waiting, first_new, own_new, spent_clock, spent_used, spent_waiting, wrapped_cases}
+use Rattle.histories.proofs.OrderKeeps.{end_spent_waiting, first_new, own_new, spent_clock}
+use Rattle.histories.proofs.OrderKeeps.{spent_used, spent_waiting, wrapped_cases}
 use Rattle.histories.proofs.Requests.{acts_same, answers_plainly, asked_at, history_keeps, means_at_clock}
 use Rattle.histories.proofs.RevocationLasts.{orphaning_left, revocation_left}
 use Rattle.histories.proofs.Served.{Served, refused_or_served, served}
@@ -62,7 +69,8 @@ use Rattle.histories.proofs.Wraps.{keeps_reply}
 
 -- ---- a 200
 
-module _ (a : Asking) (is : a.outcome ≡ step a.broker a.moment a.words a.ask) (success : a.outcome.response.status ≡ status.Success)
+module _ (a : Asking) (is : a.outcome ≡ step a.broker a.moment a.words a.ask)
+    (success : a.outcome.response.status ≡ status.Success)
     (command : WrappingCommand) (means : command_of (clocked a).mounts a.ask ≡ Ok (on_wrapping command)) where
   pub served_200 : Served a
   served_200 = served a is (omega (arith, ap status_code success))
@@ -93,11 +101,13 @@ abbrev pub bad : Refusal
 bad = refusal.BadRequest reason.InvalidWrappingToken
 
 -- a 200 to an unwrap handed out
-pub unwrap_hands_out : (a : Asking) (t o : Text) → a.outcome ≡ step a.broker a.moment a.words a.ask → Unwraps a t o → a.outcome.handed ≡ Some o
+pub unwrap_hands_out : (a : Asking) (t o : Text) → a.outcome ≡ step a.broker a.moment a.words a.ask → Unwraps a t o
+    → a.outcome.handed ≡ Some o
 unwrap_hands_out a t o is u =
     let s = served_200 a is u.success (response.Unwrap (Some t)) u.means in
     let start = spent (clocked a) s.caller in
-    let there : get start.waiting t ≡ Some u.entry = ap (λ (m : Map Waiting). get m t) (spent_waiting (clocked a) s.caller) ∙ u.waited in
+    let there : get start.waiting t ≡ Some u.entry =
+    ap (λ (m : Map Waiting). get m t) (spent_waiting (clocked a) s.caller) ∙ u.waited in
     let done : handed_out start (found_under t u.entry) ≡ s.done =
     ok_inj (ap (λ x. some_or bad (option_map (found_under t) x) >>= (λ f. Ok (handed_out start f))) (sym there)
     ∙ acted a is u.success (response.Unwrap (Some t)) u.means) in
@@ -110,12 +120,14 @@ found_is b None f e = absurd (none-some _ e)
 found_is b (Some t) f e = let w = mapped (found_under t) (get b.waiting t) f e in (t, w.0, refl, w.1)
 
 pub unwrap_found : (a : Asking) (meant : Option Text) → a.outcome ≡ step a.broker a.moment a.words a.ask
-    → command_of (clocked a).mounts a.ask ≡ Ok (on_wrapping (response.Unwrap meant)) → a.outcome.response.status ≡ status.Success
+    → command_of (clocked a).mounts a.ask ≡ Ok (on_wrapping (response.Unwrap meant))
+    → a.outcome.response.status ≡ status.Success
     → (t : Text) × (o : Text) × (meant ≡ Some t) × Unwraps a t o
 unwrap_found a meant is means success =
     let s = served_200 a is success (response.Unwrap meant) means in
     let start = spent (clocked a) s.caller in
-    let f = ok_step (found start meant) (λ f. Ok (handed_out start f)) s.done (acted a is success (response.Unwrap meant) means) in
+    let f = ok_step (found start meant) (λ f. Ok (handed_out start f)) s.done
+    (acted a is success (response.Unwrap meant) means) in
     let w = found_is start meant f.0 (some_ok bad (found_at start meant) f.1) in (
       w.0,
       (w.1).origin,
@@ -143,7 +155,8 @@ found_under_meant b (Some t) f e = let w = mapped (found_under t) (get b.waiting
 
 -- a command whose reply is not wrapped, and that does something with what it finds, tells of that, or is refused
 module _ (a : Asking) (is : a.outcome ≡ step a.broker a.moment a.words a.ask) (command : WrappingCommand)
-    (means : command_of (clocked a).mounts a.ask ≡ Ok (on_wrapping command)) (plain : (wrapping_traits command).may_wrap ≡ false)
+    (means : command_of (clocked a).mounts a.ask ≡ Ok (on_wrapping command))
+    (plain : (wrapping_traits command).may_wrap ≡ false)
     (meant : Option Text) (go : Broker → FoundResponse → Done) (text : Waiting → Text)
     (does : (b : Broker) → act_on_wrappings b (names_of a.words) command ≡ (found b meant >>= (λ f. Ok (go b f))))
     (tells : (caller : Option Text) (t : Text) (w : Waiting)
@@ -154,7 +167,8 @@ module _ (a : Asking) (is : a.outcome ≡ step a.broker a.moment a.words a.ask) 
     | inr s ↦
         let start = spent (clocked a) s.caller in
         let names = names_of a.words in
-        let is_command : s.command ≡ on_wrapping command = ok_inj (sym (means_at_clock a s.caller s.command s.means) ∙ means) in
+        let is_command : s.command ≡ on_wrapping command =
+        ok_inj (sym (means_at_clock a s.caller s.command s.means) ∙ means) in
         let ran : (found start meant >>= (λ f. Ok (go start f))) ≡ Ok s.done =
         sym (does start) ∙ sym (acts_same start s.caller names command)
         ∙ subst (λ (k : Command). act start s.caller names k ≡ Ok s.done) is_command s.acted in
@@ -191,7 +205,8 @@ next_waiting a s is =
     ∙ elim (wrapped_cases permits traits act start (request_of a.ask) (names_of a.words) s.command s.done) [
       | inl e ↦ ap (λ (x : Wrapped). x.done.next.waiting) e
       | inr (r, made, wraps_, answered, is_wrapped) ↦
-          absurd (never (nat_lt 0 a.ask.wrap_ttl) (sym (ap (λ (k : Command). wraps permits traits act (request_of a.ask) k) is) ∙ wraps_))
+          absurd (never (nat_lt 0 a.ask.wrap_ttl)
+          (sym (ap (λ (k : Command). wraps permits traits act (request_of a.ask) k) is) ∙ wraps_))
     ]
 
 module _ (a : Asking) (sound : Sound forms None a.broker) (keeps : Keeps unwrapped_body a)
@@ -212,7 +227,8 @@ module _ (a : Asking) (sound : Sound forms None a.broker) (keeps : Keeps unwrapp
       let go : Text → Outcome = λ u. finish (spend (clocked a) u) (Some u)
       (serve permits traits act (spend (clocked a) u) (Some u) (request_of a.ask) (names_of a.words)) in
       ap (λ (x : Outcome). get x.next.waiting t) is
-      ∙ ap (λ v. get (if v then finish (clocked a) None (serve permits traits act (clocked a) None (request_of a.ask) (names_of a.words))
+      ∙ ap (λ v. get (if v then finish (clocked a) None
+      (serve permits traits act (clocked a) None (request_of a.ask) (names_of a.words))
       else for_caller (clocked a) a.ask.token go).next.waiting t) c.closed
       ∙ ap (λ (o : Option Text). get (for_caller (clocked a) o go).next.waiting t) c.token
       ∙ elim (found_or_not (get (clocked a).waiting t)) [
@@ -231,7 +247,8 @@ module _ (a : Asking) (sound : Sound forms None a.broker) (keeps : Keeps unwrapp
   by_orphaning : (c : Text) → RevokesAlone a c t → get a.outcome.next.waiting t ≡ None
   by_orphaning c r =
       ap (λ (z : Broker). get z.waiting t) (orphaning_left a is c t r)
-      ∙ ap (λ (m : Map Waiting). get m t) (end_spent_waiting (drop_waiting (broker.revoke_orphan (spent_by a c) t) t) (Some c))
+      ∙ ap (λ (m : Map Waiting). get m t) (end_spent_waiting (drop_waiting (broker.revoke_orphan (spent_by a c) t) t)
+      (Some c))
       ∙ get-without_self (spent_by a c).waiting t
 
   by_rewrap : Rewraps a t → get a.outcome.next.waiting t ≡ None
@@ -243,14 +260,17 @@ module _ (a : Asking) (sound : Sound forms None a.broker) (keeps : Keeps unwrapp
         let start = spent (clocked a) s.caller in
         let names = names_of a.words in
         let u = token_text names.wrapping_token in
-        let there : get start.waiting t ≡ Some w.0 = ap (λ (m : Map Waiting). get m t) (spent_waiting (clocked a) s.caller) ∙ w.1 in
+        let there : get start.waiting t ≡ Some w.0 =
+        ap (λ (m : Map Waiting). get m t) (spent_waiting (clocked a) s.caller) ∙ w.1 in
         let done : rewrapped start names (found_under t w.0) ≡ s.done =
         ok_inj (ap (λ x. some_or bad (option_map (found_under t) x) >>= (λ f. Ok (rewrapped start names f))) (sym there)
         ∙ acted a is r.success rewrap r.means) in
         let new : are_new start.used (wrapping_names names) ≡ true =
-        subst (λ (k : Command). are_new start.used ((traits k).own names) ≡ true) (command_is a is r.success rewrap r.means)
+        subst (λ (k : Command). are_new start.used ((traits k).own names) ≡ true)
+        (command_is a is r.success rewrap r.means)
         (own_new permits traits act start.used (request_of a.ask) names s.command s.new) in
-        let fresh : get start.used names.wrapping_token ≡ None = first_new start.used names.wrapping_token (names.wrapping_accessor ∷ []) new in
+        let fresh : get start.used names.wrapping_token ≡ None =
+        first_new start.used names.wrapping_token (names.wrapping_accessor ∷ []) new in
         let apart : same t u ≡ false =
         false_from_ne_true (same t u) (λ e. used_before
         (ap (get a.broker.used) (ap token_identifier (same_true t u e))
@@ -293,7 +313,8 @@ waited_then a t there none = elim (found_or_not (get (clocked a).waiting t)) [
 ]
 
 -- a request that took a wrapping token out, or unwrapped it, ended it
-ended_by : (a : Asking) → Sound forms None a.broker → Keeps unwrapped_body a → a.outcome ≡ step a.broker a.moment a.words a.ask
+ended_by : (a : Asking) → Sound forms None a.broker → Keeps unwrapped_body a
+    → a.outcome ≡ step a.broker a.moment a.words a.ask
     → (t : Text) → TakesTokenOut a t ⊎ ((o : Text) × Unwraps a t o) → EndsWrappingToken a t
 ended_by a sound keeps is t (inl k) = record {
   was = waited_then a t k.waited;
@@ -304,7 +325,8 @@ ended_by a sound keeps is t (inr (o, u)) =
     record { was = waited_then a t waited; gone = inr (by_unwrap a sound keeps is t waited o u) }
 
 -- so did a request by whose clock its time was over
-ended_in_time : (a : Asking) (t : Text) (w : Waiting) → get a.broker.waiting t ≡ Some w → waiting_ends w ≤ max a.broker.clock a.moment
+ended_in_time : (a : Asking) (t : Text) (w : Waiting) → get a.broker.waiting t ≡ Some w
+    → waiting_ends w ≤ max a.broker.clock a.moment
     → EndsWrappingToken a t
 ended_in_time a t w waits over = record {
   was = λ none. none-some _ (sym none ∙ waits);
@@ -318,11 +340,13 @@ ended_in_time a t w waits over = record {
   ]);
 }
 
-module _ (a : Asking) (sound : Sound forms None a.broker) (keeps : Keeps unwrapped_body a) (t : Text) (ends : EndsWrappingToken a t) where
+module _ (a : Asking) (sound : Sound forms None a.broker) (keeps : Keeps unwrapped_body a) (t : Text)
+    (ends : EndsWrappingToken a t) where
   token_used : get a.broker.used (token_identifier t) ≢ None
   token_used = elim (found_or_not (get a.broker.waiting t)) [
     | inl none ↦ absurd (ends.was none)
-    | inr w ↦ sound.identifiers.all_used (wrapping_token t) (token_identifier t) (ap (option_map (λ (z : Waiting). token_identifier t)) w.1)
+    | inr w ↦ sound.identifiers.all_used (wrapping_token t) (token_identifier t)
+        (ap (option_map (λ (z : Waiting). token_identifier t)) w.1)
   ]
 
   none_after : get a.outcome.next.waiting t ≡ None
@@ -338,7 +362,10 @@ module _ (a : Asking) (sound : Sound forms None a.broker) (keeps : Keeps unwrapp
   ]
 
   out_after : IsTakenOut a.outcome.next t
-  out_after = record { used = (kept_evolves unwrapped_body a keeps).used (token_identifier t) token_used; gone = none_after }
+  out_after = record {
+    used = (kept_evolves unwrapped_body a keeps).used (token_identifier t) token_used;
+    gone = none_after;
+  }
 
   -- it is in nothing that the request left, or that evolved from it
   stays_out : (b : Broker) → (a.outcome.next ≡ b) ⊎ Evolves a.outcome.next b → get b.waiting t ≡ None
@@ -354,7 +381,8 @@ plain_200 a o text is born told =
     let s = served a is (omega (arith, ap (λ (x : Response). status_code x.status) told)) in
     let start = spent (clocked a) s.caller in
     elim (wrapped_cases permits traits act start (request_of a.ask) (names_of a.words) s.command s.done) [
-      | inl e ↦ absurd (none-some _ (sym (ap (λ (x : Outcome). x.born) s.outcome ∙ ap (λ (x : Wrapped). x.born) e) ∙ born))
+      | inl e ↦ absurd (none-some _ (sym (ap (λ (x : Outcome). x.born) s.outcome ∙ ap (λ (x : Wrapped). x.born) e)
+          ∙ born))
       | inr (r, made, wraps_, answered, is_wrapped) ↦
           let e = answers_plainly a s r made answered in
           e ∙ ap (λ (x : Response). ok x.text) (sym e)
@@ -378,7 +406,8 @@ module _ (told : OperationsDoAsTold) (b : Broker) (history : History) (h : AreAs
         let before = (waited_before a t p.entry p.waited).1 in
         (before, omega (arith, before));
     still_in = λ i j a x t o one takes other lt p.
-        let gone = out_lasts a.outcome.next x.broker t (evolved_since unwrapped_body b history i j a x keep_all one other lt)
+        let gone =
+        out_lasts a.outcome.next x.broker t (evolved_since unwrapped_body b history i j a x keep_all one other lt)
         (taken_out a (asked_at b history i a h one).sound (asked_keeps unwrapped_body b history i a keep_all one)
         (asked_at b history i a h one).outcome t takes.waited takes) in
         none-some _ (sym gone.gone ∙ (waited_before x t p.entry p.waited).0);
@@ -387,20 +416,23 @@ module _ (told : OperationsDoAsTold) (b : Broker) (history : History) (h : AreAs
         ended_by a is.sound (asked_keeps unwrapped_body b history i a keep_all at) is.outcome t how;
     due = λ i a t w at waits over. ended_in_time a t w waits over;
     out = λ i j a x t one ends other le.
-        stays_out a (asked_at b history i a h one).sound (asked_keeps unwrapped_body b history i a keep_all one) t ends x.outcome.next
+        stays_out a (asked_at b history i a h one).sound (asked_keeps unwrapped_body b history i a keep_all one) t
+        ends x.outcome.next
         (left_since unwrapped_body b history i j a x keep_all one other le);
     unwraps = λ i a meant at means.
         tells_or_refuses a (asked_at b history i a h at).outcome (response.Unwrap meant) means refl meant handed_out
         (λ w. w.reply) (λ start. refl) (λ caller t w. refl);
     looks_up = λ i a meant at means.
         tells_or_refuses a (asked_at b history i a h at).outcome (response.LookUp meant) means refl meant
-        (λ start f. plainly (reply (shown (names_of a.words) f) None) start) (looked_up_text a) (λ start. refl) (λ caller t w. refl);
+        (λ start f. plainly (reply (shown (names_of a.words) f) None) start) (looked_up_text a) (λ start. refl)
+        (λ caller t w. refl);
     rewraps = λ i a meant at means.
         let names = names_of a.words in
         tells_or_refuses a (asked_at b history i a h at).outcome (response.Rewrap meant) means refl meant
         (λ start f. rewrapped start names f) (rewrapped_text a) (λ start. refl)
         (λ caller t w. ap (λ n. ok (reply_text (wrap_reply names.request
-        (wrap_info (token_text names.wrapping_token) (moved names.wrapping_accessor n w) None)))) (spent_clock (clocked a) caller));
+        (wrap_info (token_text names.wrapping_token) (moved names.wrapping_accessor n w) None))))
+        (spent_clock (clocked a) caller));
   }
 
   kept_or_first : (j : ℕ) (x : Asking) (t o : Text) → AskedAt history j x → Unwraps x t o
@@ -408,7 +440,8 @@ module _ (told : OperationsDoAsTold) (b : Broker) (history : History) (h : AreAs
   kept_or_first j x t o at u =
       let k = (asked_keeps unwrapped_body b history j x keep_all at).hands_out o
       (unwrap_hands_out x t o (asked_at b history j x h at).outcome u) in
-      elim (waits_since unwrapped_body b history j x keep_all at k.token k.entry (waited_before x k.token k.entry k.waited).0) [
+      elim (waits_since unwrapped_body b history j x keep_all at k.token k.entry
+      (waited_before x k.token k.entry k.waited).0) [
         | inl (s, v, there, same_origin, same_reply) ↦ inr (record {
           token = s;
           entry = v;
@@ -423,7 +456,8 @@ module _ (told : OperationsDoAsTold) (b : Broker) (history : History) (h : AreAs
           asked = r.asked;
           born = r.born.origin ∙ ap Some k.origin;
           kept = subst (KeepsReply r.asking (unwrapped_body r.asking)) k.origin r.born.kept;
-          plain = plain_200 r.asking _ _ (asked_at b history r.place r.asking h r.asked).outcome r.born.origin r.born.kept.told;
+          plain = plain_200 r.asking _ _ (asked_at b history r.place r.asking h r.asked).outcome r.born.origin
+              r.born.kept.told;
           body = k.response ∙ ap ok r.born.reply;
         })
       ]
@@ -439,7 +473,8 @@ module _ (told : OperationsDoAsTold) (b : Broker) (history : History) (h : AreAs
   }
 
 -- from a start on, where nothing waits, it is the reply to a request
-pub same_reply : OperationsDoAsTold → (s : Beginning) (history : History) → AreAsked (begun s) history → SameReply history
+pub same_reply : OperationsDoAsTold → (s : Beginning) (history : History) → AreAsked (begun s) history
+    → SameReply history
 same_reply told s history h = record {
   one_birth = (hands_out_kept told (begun s) history h).one_birth;
   same = λ j x t o at u. elim ((hands_out_kept told (begun s) history h).same j x t o at u) [

@@ -47,14 +47,17 @@ use Rattle.broker_model.specs.declared.commands.TokenCommand.TheVariants as toke
 use Rattle.broker_model.specs.declared.commands.WrappingCommand.{WrappingCommand}
 use Rattle.broker_model.specs.declared.commands.WrappingCommand.TheVariants as response
 use Rattle.broker_model.specs.parts.Tokens as tokens
-use Rattle.broker_model.specs.parts.Wrappings.{FoundResponse, act_on_wrappings, found, found_at, found_under, handed_out, rewrapped}
+use Rattle.broker_model.specs.parts.Wrappings.{FoundResponse, act_on_wrappings, found}
+use Rattle.broker_model.specs.parts.Wrappings.{found_at, found_under, handed_out, rewrapped}
 use Rattle.histories.specs.History.{Asking, clocked}
 use Rattle.histories.specs.Kept.{Rewraps, TakesTokenOut, Unwraps}
 use Rattle.histories.specs.KeptStay.{AllKeptResponsesStay, IsOver, moved_by}
 use Rattle.histories.specs.Revocation.{IsGranted, orphaning_by, revoked_by}
-use Rattle.histories.proofs.KeptReplies.{acted, bad, command_is, found_under_meant, handed_same, next_waiting, served_200, unwrap_found, unwrap_hands_out}
+use Rattle.histories.proofs.KeptReplies.{acted, bad, command_is, found_under_meant, handed_same}
+use Rattle.histories.proofs.KeptReplies.{next_waiting, served_200, unwrap_found, unwrap_hands_out}
 use Rattle.histories.proofs.OrderCases.{IsTurnedAway, IsTurnedDown, spent, some_ok}
-use Rattle.histories.proofs.OrderKeeps.{end_spent_waiting, first_new, own_new, spent_clock, spent_used, spent_waiting, wrapped_cases}
+use Rattle.histories.proofs.OrderKeeps.{end_spent_waiting, first_new, own_new, spent_clock}
+use Rattle.histories.proofs.OrderKeeps.{spent_used, spent_waiting, wrapped_cases}
 use Rattle.histories.proofs.Requests.{acts_same, asked_at, means_at_clock}
 use Rattle.histories.proofs.Served.{Served, cases, nothing_is_no_reply}
 
@@ -278,7 +281,8 @@ module _ (told : OperationsDoAsTold) (a : Asking) (sound : Sound forms None a.br
                 let names = names_of a.words in
                 let own = (traits s.command).own names in
                 let new : are_new (start s).used (names.wrapping_token ∷ names.wrapping_accessor ∷ own) ≡ true =
-                ap (λ x. are_new (start s).used (if x then names.wrapping_token ∷ names.wrapping_accessor ∷ own else own))
+                ap (λ x. are_new (start s).used (if x then names.wrapping_token ∷ names.wrapping_accessor ∷ own
+                else own))
                 (sym wraps_) ∙ s.new in
                 let entry = kept_entry (start s) a.ask.path a.ask.wrap_ttl names r in
                 ap (λ (x : Wrapped). get x.done.next.waiting t) is_wrapped

@@ -1,5 +1,6 @@
 -- Laws of histories.
-use Rattle.std.specs.Prelude.{◌≡◌, ◌<◌, ◌≤◌, ◌⊎◌, ℕ, zero, suc, max, [], ◌∷◌, Bool, true, false, nat_lt, Option, Some, None}
+use Rattle.std.specs.Prelude.{◌≡◌, ◌<◌, ◌≤◌, ◌⊎◌, ℕ, zero, suc, max, [], ◌∷◌}
+use Rattle.std.specs.Prelude.{Bool, true, false, nat_lt, Option, Some, None}
 use Rattle.std.specs.Prelude.{slice_index_or}
 use Rattle.std.specs.Option.{option_map_or}
 use Rattle.std.proofs.Common.{refl, sym, ◌∙◌, ap, subst, inl, inr, arith}
@@ -41,7 +42,8 @@ kept_evolves body a keeps =
     evolves_trans a.broker (clocked a) a.outcome.next (at_moment_evolves a.broker a.moment) keeps.evolves
 
 -- what was asked at a place
-pub asked_keeps : (body : Asking → Text) (b : Broker) (history : History) (i : ℕ) (a : Asking) → EachKeeps body b history
+pub asked_keeps : (body : Asking → Text) (b : Broker) (history : History) (i : ℕ) (a : Asking)
+    → EachKeeps body b history
     → AskedAt history i a → Keeps body a
 asked_keeps body b [] i a h at = absurd (none-some _ at)
 asked_keeps body b (None ∷ later) zero a h at = absurd (none-some _ at)
@@ -58,11 +60,13 @@ evolved_to body b (None ∷ later) (suc j) x h at = evolved_to body b later j x 
 evolved_to body b (Some a ∷ later) zero x (is, keeps, h) at =
     subst (λ (y : Asking). Evolves b y.broker) (same_Some _ _ at) (subst (Evolves b) (sym is) (evolves_self b))
 evolved_to body b (Some a ∷ later) (suc j) x (is, keeps, h) at =
-    evolves_trans b a.outcome.next x.broker (subst (λ (c : Broker). Evolves c a.outcome.next) is (kept_evolves body a keeps))
+    evolves_trans b a.outcome.next x.broker
+    (subst (λ (c : Broker). Evolves c a.outcome.next) is (kept_evolves body a keeps))
     (evolved_to body a.outcome.next later j x h at)
 
 -- what is asked later is asked of a broker that evolved from what an earlier request left
-pub evolved_since : (body : Asking → Text) (b : Broker) (history : History) (i j : ℕ) (a x : Asking) → EachKeeps body b history
+pub evolved_since : (body : Asking → Text) (b : Broker) (history : History) (i j : ℕ) (a x : Asking)
+    → EachKeeps body b history
     → AskedAt history i a → AskedAt history j x → i < j → Evolves a.outcome.next x.broker
 evolved_since body b [] i j a x h one other lt = absurd (none-some _ one)
 evolved_since body b (None ∷ later) zero j a x h one other lt = absurd (none-some _ one)
@@ -78,14 +82,16 @@ evolved_since body b (Some y ∷ later) (suc i) (suc j) a x (is, keeps, h) one o
     evolved_since body y.outcome.next later i j a x h one other (omega (arith, lt))
 
 -- what an event at the place or later leaves is what the earlier one left, or evolved from it
-pub left_since : (body : Asking → Text) (b : Broker) (history : History) (i j : ℕ) (a x : Asking) → EachKeeps body b history
+pub left_since : (body : Asking → Text) (b : Broker) (history : History) (i j : ℕ) (a x : Asking)
+    → EachKeeps body b history
     → AskedAt history i a → AskedAt history j x → i ≤ j
     → (a.outcome.next ≡ x.outcome.next) ⊎ Evolves a.outcome.next x.outcome.next
 left_since body b history i j a x h one other le = elim (eq-or-lt_of_le le) [
   | inl e ↦ inl (ap (λ (z : Asking). z.outcome.next)
       (same_Some _ _ (sym one ∙ ap (λ n. slice_index_or history n None) e ∙ other)))
   | inr lt ↦ inr (evolves_trans a.outcome.next x.broker x.outcome.next
-      (evolved_since body b history i j a x h one other lt) (kept_evolves body x (asked_keeps body b history j x h other)))
+      (evolved_since body b history i j a x h one other lt)
+      (kept_evolves body x (asked_keeps body b history j x h other)))
 ]
 
 -- ---- handed out once
@@ -98,7 +104,8 @@ waited_before a t w is =
     let passes : Text → Bool = λ u. option_map_or (λ v. nat_lt now (waiting_ends v)) (get a.broker.waiting u) false in
     let k = kept_get passes a.broker.waiting t w is in (
       k.0,
-      ltb-true now (waiting_ends w) (ap (λ (o : Option Waiting). option_map_or (λ v. nat_lt now (waiting_ends v)) o false) (sym k.0) ∙ k.1),
+      ltb-true now (waiting_ends w) (ap (λ (o : Option Waiting). option_map_or (λ v. nat_lt now (waiting_ends v)) o
+          false) (sym k.0) ∙ k.1),
     )
 
 module _ (body : Asking → Text) (b : Broker) (history : History) (h : EachKeeps body b history) where
@@ -124,7 +131,8 @@ module _ (body : Asking → Text) (b : Broker) (history : History) (h : EachKeep
 -- ---- the same reply
 
 -- what waits when a request is asked waited from the first, or an earlier request made its origin, with its own body
-pub waits_since : (body : Asking → Text) (b : Broker) (history : History) (j : ℕ) (x : Asking) → EachKeeps body b history
+pub waits_since : (body : Asking → Text) (b : Broker) (history : History) (j : ℕ) (x : Asking)
+    → EachKeeps body b history
     → AskedAt history j x → (t : Text) (w : Waiting) → get x.broker.waiting t ≡ Some w
     → WaitedBefore b w ⊎ WasBorn body history j w
 waits_since body b [] j x h at t w is = absurd (none-some _ at)

@@ -28,7 +28,8 @@ use Rattle.histories.specs.Identifiers.{AreUsed}
 use Rattle.histories.proofs.Keeping.{EachMarks, Marks}
 use Rattle.histories.proofs.Lasting.{waited_before}
 use Rattle.histories.proofs.OrderCases.{IsServed, IsTurnedAway, IsTurnedDown, order_cases, spent}
-use Rattle.histories.proofs.OrderKeeps.{AreProper, LeftBy, end_spent_used, end_spent_waiting, left, own_new, spent_used, spent_waiting}
+use Rattle.histories.proofs.OrderKeeps.{AreProper, LeftBy, end_spent_used, end_spent_waiting}
+use Rattle.histories.proofs.OrderKeeps.{left, own_new, spent_used, spent_waiting}
 use Rattle.histories.proofs.OrderKeeps.{used_more}
 use Rattle.histories.proofs.Placed.{moment_placed}
 use Rattle.histories.proofs.RequestsPlace.{requests_tell}
@@ -37,7 +38,8 @@ use Rattle.histories.proofs.Used.{member_used}
 -- ---- one request
 
 module _ {Command : Type 0} (permits : Broker → Option Text → Verb → Text → Bool) (traits : Command → Traits)
-    (act : Broker → Option Text → Names → Command → Result Done Refusal) (now : Broker) (q : Request Command) (names : Names)
+    (act : Broker → Option Text → Names → Command → Result Done Refusal) (now : Broker) (q : Request Command)
+    (names : Names)
     (proper : AreProper permits traits act names) where
   turned_away : (o : Outcome) → IsTurnedAway now q o → Marks now o
   turned_away o s = subst (Marks now) (sym s.outcome) (elim s.removed [
@@ -70,13 +72,15 @@ module _ {Command : Type 0} (permits : Broker → Option Text → Verb → Text 
       let v = wrapped permits traits act start q names s.command s.done in
       let l : LeftBy permits traits act start q names s.command s.done v =
       left permits traits act start q names s.command s.done s.new
-      (proper start s.caller s.command s.done (own_new permits traits act start.used q names s.command s.new) s.acted) in
+      (proper start s.caller s.command s.done (own_new permits traits act start.used q names s.command s.new)
+      s.acted) in
       subst (Marks now) (sym s.outcome) (record {
         new = ap (λ (m : Map ⊤). are_new m v.done.taken) (sym (spent_used now s.caller)) ∙ l.new;
         marked = end_spent_used (counted v.done) s.caller
             ∙ ap (λ (m : Map ⊤). use_up m v.done.taken) (l.used ∙ spent_used now s.caller);
         origins = λ t w e.
-            elim (l.waits t w (ap (λ (m : Map Waiting). get m t) (sym (end_spent_waiting (counted v.done) s.caller)) ∙ e)) [
+            elim (l.waits t w (ap (λ (m : Map Waiting). get m t) (sym (end_spent_waiting (counted v.done) s.caller))
+            ∙ e)) [
               | inl (u, y, there, origin, text) ↦
                   inl (u, y, ap (λ (m : Map Waiting). get m u) (sym (spent_waiting now s.caller)) ∙ there, origin)
               | inr (x, here) ↦ inr (ap (λ (z : Waiting). list_any (same z.origin) v.done.taken) here
@@ -85,7 +89,8 @@ module _ {Command : Type 0} (permits : Broker → Option Text → Verb → Text 
             ];
       })
 
-  by_cases : (o : Outcome) → IsTurnedAway now q o ⊎ (IsTurnedDown now o ⊎ IsServed permits traits act now q names o) → Marks now o
+  by_cases : (o : Outcome) → IsTurnedAway now q o ⊎ (IsTurnedDown now o ⊎ IsServed permits traits act now q names o)
+      → Marks now o
   by_cases o (inl s) = turned_away o s
   by_cases o (inr (inl s)) = turned_down o s
   by_cases o (inr (inr s)) = was_served o s
@@ -102,7 +107,8 @@ module _ (told : OperationsDoAsTold) where
       let q = request_of a.ask in
       let names = names_of a.words in
       subst (Marks now) (sym (outcome_is b a is))
-      (by_cases permits traits act now q names (λ c caller command d new done. are_proper told c caller a.words command d new done)
+      (by_cases permits traits act now q names
+      (λ c caller command d new done. are_proper told c caller a.words command d new done)
       (ordered permits traits act a.broker a.moment q names) (order_cases permits traits act a.broker a.moment q names))
 
   -- what was given out before a request counts as given out after it
@@ -111,7 +117,8 @@ module _ (told : OperationsDoAsTold) where
       used_more a.broker.used a.outcome.taken i used (ap (λ m. get m i) (sym (request_marks b a is).marked) ∙ none)
 
   -- and so does what it gives out
-  given_after : (b : Broker) (a : Asking) → IsStep b a → (i : Text) → list_any (same i) a.outcome.taken ≡ true → IsUsed a.outcome.next i
+  given_after : (b : Broker) (a : Asking) → IsStep b a → (i : Text) → list_any (same i) a.outcome.taken ≡ true
+      → IsUsed a.outcome.next i
   given_after b a is i among none =
       member_used a.broker.used a.outcome.taken i among (ap (λ m. get m i) (sym (request_marks b a is).marked) ∙ none)
 
@@ -127,7 +134,8 @@ module _ (told : OperationsDoAsTold) where
     ];
     origins = λ t w there. elim ((request_marks b a is).origins t w there) [
       | inl (u, v, waits, origin) ↦
-          used_after b a is w.origin (subst (IsUsed a.broker) (sym origin) (used.origins u v (waited_before a u v waits).0))
+          used_after b a is w.origin (subst (IsUsed a.broker) (sym origin)
+          (used.origins u v (waited_before a u v waits).0))
       | inr here ↦ given_after b a is w.origin here
     ];
   }
@@ -140,7 +148,8 @@ module _ (told : OperationsDoAsTold) where
   steps_mark b (Some a ∷ later) (is, steps) = (is.broker, request_marks b a is, steps_mark a.outcome.next later steps)
 
   -- where all that is in a place counted as given out at first, it does so in each state
-  pub used_at : (b : Broker) (history : History) → AreSteps b history → AreUsed b → (j : ℕ) (x : Asking) → AskedAt history j x
+  pub used_at : (b : Broker) (history : History) → AreSteps b history → AreUsed b → (j : ℕ) (x : Asking)
+      → AskedAt history j x
       → AreUsed x.broker
   used_at b [] steps used j x at = absurd (none-some _ at)
   used_at b (None ∷ later) steps used zero x at = absurd (none-some _ at)
@@ -151,7 +160,8 @@ module _ (told : OperationsDoAsTold) where
       used_at a.outcome.next later steps (stay_used b a is (subst AreUsed (sym is.broker) used)) j x at
 
 -- what was asked at a place was a step
-pub step_at : (b : Broker) (history : History) (i : ℕ) (a : Asking) → AreSteps b history → AskedAt history i a → IsStep a.broker a
+pub step_at : (b : Broker) (history : History) (i : ℕ) (a : Asking) → AreSteps b history → AskedAt history i a
+    → IsStep a.broker a
 step_at b [] i a h at = absurd (none-some _ at)
 step_at b (None ∷ later) zero a h at = absurd (none-some _ at)
 step_at b (None ∷ later) (suc i) a h at = step_at b later i a h at

@@ -44,7 +44,8 @@ use Rattle.broker_model.specs.Step.{request_of, step, traits}
 use Rattle.broker_model.specs.declared.commands.WrappingCommand.{WrappingCommand}
 use Rattle.broker_model.specs.declared.commands.WrappingCommand.TheVariants as response
 use Rattle.broker_model.specs.parts.Bodies.{read_as}
-use Rattle.broker_model.specs.parts.WrappingCommands.{is_own, is_own_if_read, opened_by, opening, token_meant, token_named, wrapping_changes}
+use Rattle.broker_model.specs.parts.WrappingCommands.{is_own, is_own_if_read, opened_by, opening}
+use Rattle.broker_model.specs.parts.WrappingCommands.{token_meant, token_named, wrapping_changes}
 use Rattle.histories.specs.Open.{DiffersInWaiting, MeansItsOwn, OpenChangesNoToken, TheseAreOpen}
 use Rattle.histories.specs.Paths.{WrittenMeans, on_named}
 use Rattle.histories.proofs.OrderCases.{with_caller}
@@ -54,7 +55,8 @@ use Rattle.histories.proofs.Routes.{OpenedAreRoutes, fixed_route, may_open}
 -- ---- what it means
 
 -- what a body names, if a command of it was read
-named : {C : Type 0} (command : Option Text → C) (body : List ℕ) (c : C) → read_as reader.wrapping_token command body ≡ Ok c
+named : {C : Type 0} (command : Option Text → C) (body : List ℕ) (c : C)
+    → read_as reader.wrapping_token command body ≡ Ok c
     → (x : Option Text) × (token_named body ≡ Ok x) × (command x ≡ c)
 named command body c e =
     let m = ok_step (body_members body) (λ members. reader.wrapping_token members >>= (λ x. Ok (command x))) c e in
@@ -65,18 +67,21 @@ named command body c e =
       ok_inj x.2,
     )
 
-module _ (own_is_meant : OwnIsMeant) (opened : OpenedAreRoutes) (mounts : Map Mount) (a : Ask) (command : Command) (means : command_of mounts a ≡ Ok command) where
+module _ (own_is_meant : OwnIsMeant) (opened : OpenedAreRoutes) (mounts : Map Mount) (a : Ask) (command : Command)
+    (means : command_of mounts a ≡ Ok command) where
   -- what the operation of the path means, if it may need no caller
   by_route : (o : Operation) → operation_at a.verb a.path ≡ Some o → may_open o ≡ true
       → command_of mounts a ≡ command_for (fixed_route (cut a.path).0 o) a
-  by_route o at may = ap (λ (r : Result Route Refusal). r >>= (λ r. command_for r a)) (opened a.verb a.path o at may mounts)
+  by_route o at may = ap (λ (r : Result Route Refusal). r >>= (λ r. command_for r a))
+      (opened a.verb a.path o at may mounts)
 
   -- a command on the wrapping token that the body names, which is the client token if none other is named
   own_named : (on : Option Text → WrappingCommand) → is_own_if_read a.token (token_named a.body) ≡ true
       → command_of mounts a ≡ on_named on a
       → (meant : Option Text) × (command ≡ on_wrapping (on meant)) × (meant ≡ a.token)
   own_named on own is =
-      let k = ok_step (read_as reader.wrapping_token (λ named. on (token_meant a.token named)) a.body) (λ k. Ok (on_wrapping k)) command
+      let k = ok_step (read_as reader.wrapping_token (λ named. on (token_meant a.token named)) a.body)
+      (λ k. Ok (on_wrapping k)) command
       (sym is ∙ means) in
       let x = named (λ named. on (token_meant a.token named)) a.body k.0 k.1 in (
         token_meant a.token x.0,
@@ -110,7 +115,8 @@ module _ (own_is_meant : OwnIsMeant) (opened : OpenedAreRoutes) (mounts : Map Mo
   pub means_its_own : is_open a ≡ true → (k : WrappingCommand) × (command ≡ on_wrapping k) × MeansItsOwn a k
   means_its_own open_ =
       elim (operation_at a.verb a.path)
-      as (λ x. operation_at a.verb a.path ≡ x → opened_by (option_map_or (λ o. (facts o).opens) x Never) a.token a.body ≡ true
+      as (λ x. operation_at a.verb a.path ≡ x
+      → opened_by (option_map_or (λ o. (facts o).opens) x Never) a.token a.body ≡ true
       → (k : WrappingCommand) × (command ≡ on_wrapping k) × MeansItsOwn a k) [
         | None ↦ λ _ k. absurd (false≢true k)
         | Some o ↦ λ at k. by_operation o at k
@@ -122,7 +128,8 @@ module _ (own_is_meant : OwnIsMeant) (opened : OpenedAreRoutes) (mounts : Map Mo
 own_if_meant : (client named : Option Text) → token_meant client named ≡ client → is_own client named ≡ true
 own_if_meant client None e = refl
 own_if_meant client (Some []) e = refl
-own_if_meant client (Some (c ∷ t)) e = ap (λ (o : Option Text). option_map_or (same (c ∷ t)) o false) (sym e) ∙ same_self (c ∷ t)
+own_if_meant client (Some (c ∷ t)) e = ap (λ (o : Option Text). option_map_or (same (c ∷ t)) o false) (sym e)
+    ∙ same_self (c ∷ t)
 
 -- the paths, as the table has them
 look_up_opens : opening verb.Write (codes "sys/wrapping/lookup") ≡ Always
@@ -147,11 +154,13 @@ is_wrapping_of : {x y : WrappingCommand} → on_wrapping x ≡ on_wrapping y →
 is_wrapping_of e = cc
 
 -- a command on the client token names no other
-names_own : (mounts : Map Mount) (a : Ask) (on : Option Text → WrappingCommand) → ((x y : Option Text) → on x ≡ on y → x ≡ y)
+names_own : (mounts : Map Mount) (a : Ask) (on : Option Text → WrappingCommand)
+    → ((x y : Option Text) → on x ≡ on y → x ≡ y)
     → command_of mounts a ≡ on_named on a → command_of mounts a ≡ Ok (on_wrapping (on a.token))
     → is_own_if_read a.token (token_named a.body) ≡ true
 names_own mounts a on one is means =
-    let k = ok_step (read_as reader.wrapping_token (λ named. on (token_meant a.token named)) a.body) (λ k. Ok (on_wrapping k))
+    let k =
+    ok_step (read_as reader.wrapping_token (λ named. on (token_meant a.token named)) a.body) (λ k. Ok (on_wrapping k))
     (on_wrapping (on a.token)) (sym is ∙ means) in
     let x = named (λ named. on (token_meant a.token named)) a.body k.0 k.1 in
     ap (is_own_if_read a.token) x.1
@@ -196,8 +205,10 @@ differs_trans b c d one other = record {
 }
 
 -- other responses, and other identifiers
-differs : (b : Broker) (waiting : Map Waiting) (used : Map ⊤) → DiffersInWaiting b (record b { waiting = waiting; used = used })
-differs b waiting used = record { clock = refl; tokens = refl; secrets = refl; mounts = refl; roles = refl; policies = refl }
+differs : (b : Broker) (waiting : Map Waiting) (used : Map ⊤)
+    → DiffersInWaiting b (record b { waiting = waiting; used = used })
+differs b waiting used =
+    record { clock = refl; tokens = refl; secrets = refl; mounts = refl; roles = refl; policies = refl }
 
 -- a command on responses changes no other maps
 differs_by : (b next : Broker) (k : WrappingCommand) → KeepsMaps (wrapping_changes k) b next → DiffersInWaiting b next
@@ -208,16 +219,19 @@ differs_by b next _ k = apart b next k.clock k.tokens k.secrets k.mounts k.roles
 -- an operation without a caller
 acts_openly : OperationsDoAsTold → (b : Broker) (words : Words) (command : Command) (d : Done)
     → act b None (names_of words) command ≡ Ok d → DiffersInWaiting b d.next
-acts_openly told b words (on_wrapping command) d e = differs_by b d.next command (told b None words (on_wrapping command) d e).keeps
+acts_openly told b words (on_wrapping command) d e =
+    differs_by b d.next command (told b None words (on_wrapping command) d e).keeps
 acts_openly told b words _ d e = no_ok e
 
 -- its reply, wrapped or not
-wrapped_openly : (b : Broker) (q : Request Command) (names : Names) (command : Command) (d : Done) → DiffersInWaiting b d.next
+wrapped_openly : (b : Broker) (q : Request Command) (names : Names) (command : Command) (d : Done)
+    → DiffersInWaiting b d.next
     → DiffersInWaiting b (counted (wrapped permits traits act b q names command d).done)
 wrapped_openly b q names command d left =
     differs_trans b d.next (counted (wrapped permits traits act b q names command d).done) left
     (elim (wrapped_cases permits traits act b q names command d) [
-      | inl e ↦ subst (λ (v : Wrapped). DiffersInWaiting d.next (counted v.done)) (sym e) (differs d.next d.next.waiting (use_up d.next.used d.taken))
+      | inl e ↦ subst (λ (v : Wrapped). DiffersInWaiting d.next (counted v.done)) (sym e)
+          (differs d.next d.next.waiting (use_up d.next.used d.taken))
       | inr (r, made, wraps_, answered, e) ↦
           let v = wrap b q.path q.wrap_ttl names d r made in
           subst (λ (v : Wrapped). DiffersInWaiting d.next (counted v.done)) (sym e)
@@ -228,13 +242,16 @@ module _ (told : OperationsDoAsTold) (b : Broker) (q : Request Command) (words :
   abbrev names : Names
   names = names_of words
 
-  by_result : (r : Result Wrapped Refusal) → serve permits traits act b None q names ≡ r → DiffersInWaiting b (finish b None r).next
+  by_result : (r : Result Wrapped Refusal) → serve permits traits act b None q names ≡ r
+      → DiffersInWaiting b (finish b None r).next
   by_result (Err why) e = differs_self b
   by_result (Ok v) e =
       let p = ok_step (unless (q.is_open || permits b None q.verb q.path) permission_denied) _ v e in
       let r = ok_step (q.command b) _ v p.2 in
-      let n = ok_step (unless (are_new b.used (needed permits traits act q names r.0)) refusal.IdentifierUsed) _ v r.2 in
-      let m = ok_step (unless (not (traits r.0).must_wrap || nat_lt 0 q.wrap_ttl) (refusal.BadRequest reason.WrappingRequired)) _ v n.2 in
+      let n =
+      ok_step (unless (are_new b.used (needed permits traits act q names r.0)) refusal.IdentifierUsed) _ v r.2 in
+      let m = ok_step (unless (not (traits r.0).must_wrap || nat_lt 0 q.wrap_ttl)
+      (refusal.BadRequest reason.WrappingRequired)) _ v n.2 in
       let f = ok_step (act b None names r.0) _ v m.2 in
       subst (λ (x : Wrapped). DiffersInWaiting b (counted x.done)) (ok_inj f.2)
       (wrapped_openly b q names r.0 f.0 (acts_openly told b words r.0 f.0 f.1))

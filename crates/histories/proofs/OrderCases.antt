@@ -46,7 +46,8 @@ pub record IsTurnedAway {Command : Type 0} (now : Broker) (q : Request Command) 
   pub next : Broker
   pub outcome : o ≡ denied next
   pub removed : (next ≡ now)
-      ⊎ ((t : Text) × (q.is_open ≡ false) × (q.token ≡ Some t) × (is_some (get now.waiting t) ≡ true) × (next ≡ drop_waiting now t))
+      ⊎ ((t : Text) × (q.is_open ≡ false) × (q.token ≡ Some t) × (is_some (get now.waiting t) ≡ true)
+      × (next ≡ drop_waiting now t))
 
 -- an open request has no caller; the caller of another is its client token, which is a token and no wrapping token
 abbrev pub IsCaller : {Command : Type 0} → Broker → Request Command → Option Text → Type 0
@@ -92,8 +93,10 @@ module _ {Command : Type 0} (permits : Broker → Option Text → Verb → Text 
       let b = spent now caller in
       let p = ok_step (unless (q.is_open || permits b caller q.verb q.path) permission_denied) _ v e in
       let r = ok_step (q.command b) _ v p.2 in
-      let n = ok_step (unless (are_new b.used (needed permits traits act q names r.0)) refusal.IdentifierUsed) _ v r.2 in
-      let m = ok_step (unless (not (traits r.0).must_wrap || nat_lt 0 q.wrap_ttl) (refusal.BadRequest reason.WrappingRequired)) _ v n.2 in
+      let n =
+      ok_step (unless (are_new b.used (needed permits traits act q names r.0)) refusal.IdentifierUsed) _ v r.2 in
+      let m = ok_step (unless (not (traits r.0).must_wrap || nat_lt 0 q.wrap_ttl)
+      (refusal.BadRequest reason.WrappingRequired)) _ v n.2 in
       let f = ok_step (act b caller names r.0) _ v m.2 in
       inr (inr (record {
         caller = caller;
@@ -108,15 +111,18 @@ module _ {Command : Type 0} (permits : Broker → Option Text → Verb → Text 
       }))
 
   by_token : (o : Option Text) → q.is_open ≡ false → q.token ≡ o
-      → Cases (for_caller now o (λ c. finish (spend now c) (Some c) (serve permits traits act (spend now c) (Some c) q names)))
+      → Cases (for_caller now o (λ c. finish (spend now c) (Some c)
+      (serve permits traits act (spend now c) (Some c) q names)))
   by_token None closed is = inl (record { next = now; outcome = refl; removed = inl refl })
   by_token (Some t) closed is =
       elim (is_some (get now.waiting t)) as
       (λ v. is_some (get now.waiting t) ≡ v → Cases (if v then denied (drop_waiting now t)
       else (if is_some (get now.tokens t) then finish (spend now t) (Some t) (served (Some t)) else denied now))) [
-        | true ↦ λ waits. inl (record { next = drop_waiting now t; outcome = refl; removed = inr (t, closed, is, waits, refl) })
+        | true ↦ λ waits. inl
+            (record { next = drop_waiting now t; outcome = refl; removed = inr (t, closed, is, waits, refl) })
         | false ↦ λ no_wait. elim (is_some (get now.tokens t)) as
-            (λ v. is_some (get now.tokens t) ≡ v → Cases (if v then finish (spend now t) (Some t) (served (Some t)) else denied now)) [
+            (λ v. is_some (get now.tokens t) ≡ v
+            → Cases (if v then finish (spend now t) (Some t) (served (Some t)) else denied now)) [
               | true ↦ λ there. by_result (Some t) (inr (t, closed, is, refl, no_wait, there)) (served (Some t)) refl
               | false ↦ λ _. inl (record { next = now; outcome = refl; removed = inl refl })
             ] refl
@@ -135,8 +141,10 @@ module _ {Command : Type 0} (permits : Broker → Option Text → Verb → Text 
   order_cases =
       elim (q.is_open) as (λ v. q.is_open ≡ v → Cases permits traits act now q names
       (if v then finish now None (serve permits traits act now None q names)
-      else for_caller now q.token (λ c. finish (spend now c) (Some c) (serve permits traits act (spend now c) (Some c) q names)))) [
-        | true ↦ λ is. by_result permits traits act now q names None (inl (is, refl)) (serve permits traits act now None q names) refl
+      else for_caller now q.token (λ c. finish (spend now c) (Some c)
+      (serve permits traits act (spend now c) (Some c) q names)))) [
+        | true ↦ λ is. by_result permits traits act now q names None (inl (is, refl))
+            (serve permits traits act now None q names) refl
         | false ↦ λ closed. by_token permits traits act now q names q.token closed refl
       ] refl
 
@@ -148,12 +156,16 @@ module _ {Command : Type 0} (permits : Broker → Option Text → Verb → Text 
       subst (λ (c : Option Text). ordered permits traits act b moment q names
       ≡ finish (spent now c) c (serve permits traits act (spent now c) c q names)) (sym none)
       (ap (λ v. if v then finish now None (serve permits traits act now None q names)
-      else for_caller now q.token (λ c. finish (spend now c) (Some c) (serve permits traits act (spend now c) (Some c) q names))) is)
+      else for_caller now q.token (λ c. finish (spend now c) (Some c)
+      (serve permits traits act (spend now c) (Some c) q names))) is)
   with_caller caller (inr (t, closed, is, some, no_wait, there)) =
-      let go : Text → Outcome = λ c. finish (spend now c) (Some c) (serve permits traits act (spend now c) (Some c) q names) in
+      let go : Text → Outcome =
+      λ c. finish (spend now c) (Some c) (serve permits traits act (spend now c) (Some c) q names) in
       subst (λ (c : Option Text). ordered permits traits act b moment q names
       ≡ finish (spent now c) c (serve permits traits act (spent now c) c q names)) (sym some)
-      (ap (λ v. if v then finish now None (serve permits traits act now None q names) else for_caller now q.token go) closed
+      (ap (λ v. if v then finish now None (serve permits traits act now None q names) else for_caller now q.token go)
+      closed
       ∙ ap (λ o. for_caller now o go) is
-      ∙ ap (λ v. if v then denied (drop_waiting now t) else (if is_some (get now.tokens t) then go t else denied now)) no_wait
+      ∙ ap (λ v. if v then denied (drop_waiting now t) else (if is_some (get now.tokens t) then go t else denied now))
+      no_wait
       ∙ ap (λ v. if v then go t else denied now) there)

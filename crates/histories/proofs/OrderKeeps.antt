@@ -54,7 +54,8 @@ tail_new : (used : Map ⊤) (i : Text) (is : List Text) → are_new used (i ∷ 
 tail_new used i is h = (and_parts _ _ (and_parts (is_none (get used i)) _ h).1).1
 
 -- the first two of new identifiers are new without the others
-fewer_new : (used : Map ⊤) (i j : Text) (own : List Text) → are_new used (i ∷ j ∷ own) ≡ true → are_new used (i ∷ j ∷ []) ≡ true
+fewer_new : (used : Map ⊤) (i j : Text) (own : List Text) → are_new used (i ∷ j ∷ own) ≡ true
+    → are_new used (i ∷ j ∷ []) ≡ true
 fewer_new used i j own h =
     let p = and_parts (is_none (get used i)) _ h in
     let q = and_parts (not (list_any (same i) (j ∷ own))) _ p.1 in
@@ -91,7 +92,8 @@ used_evolves b is = record {
 -- ---- the end of a caller that has spent its last use
 
 -- what revocation leaves, that end leaves
-pub end_spent_same : {X : Type 0} (f : Broker → X) → ((b : Broker) (t : Text) → f (revoke b t) ≡ f b) → (b : Broker) (who : Option Text)
+pub end_spent_same : {X : Type 0} (f : Broker → X) → ((b : Broker) (t : Text) → f (revoke b t) ≡ f b)
+    → (b : Broker) (who : Option Text)
     → f (end_spent b who) ≡ f b
 end_spent_same f keeps b None = refl
 end_spent_same f keeps b (Some c) =
@@ -134,7 +136,8 @@ module _ {Command : Type 0} (permits : Broker → Option Text → Verb → Text 
   -- ---- wrapping
 
   pub own_new : (used : Map ⊤) (q : Request Command) (names : Names) (command : Command)
-      → are_new used (needed permits traits act q names command) ≡ true → are_new used ((traits command).own names) ≡ true
+      → are_new used (needed permits traits act q names command) ≡ true
+      → are_new used ((traits command).own names) ≡ true
   own_new used q names command =
       elim (wraps permits traits act q command) as
       (λ v. are_new used (if v then names.wrapping_token ∷ names.wrapping_accessor ∷ (traits command).own names
@@ -150,7 +153,8 @@ module _ {Command : Type 0} (permits : Broker → Option Text → Verb → Text 
       (r : Reply) × (made : Option Text) × (wraps permits traits act q command ≡ true) × (d.answered ≡ reply r made)
       × (v ≡ wrap b q.path q.wrap_ttl names d r made)
 
-  by_answer : (b : Broker) (q : Request Command) (names : Names) (command : Command) (d : Done) (answered : Answered) → d.answered ≡ answered
+  by_answer : (b : Broker) (q : Request Command) (names : Names) (command : Command) (d : Done) (answered : Answered)
+      → d.answered ≡ answered
       → wraps permits traits act q command ≡ true
       → (wrap_200 b q.path q.wrap_ttl names d answered ≡ unwrapped d)
       ⊎ IsWrapped b q names command d (wrap_200 b q.path q.wrap_ttl names d answered)
@@ -174,7 +178,8 @@ module _ {Command : Type 0} (permits : Broker → Option Text → Verb → Text 
   -- ---- what serving leaves
 
   -- what a wrapped or unwrapped answer keeps
-  pub record LeftBy (b : Broker) (q : Request Command) (names : Names) (command : Command) (d : Done) (v : Wrapped) : Type 0 where
+  pub record LeftBy (b : Broker) (q : Request Command) (names : Names) (command : Command) (d : Done)
+      (v : Wrapped) : Type 0 where
     pub new : are_new b.used v.done.taken ≡ true
     pub used : v.done.next.used ≡ b.used
     pub evolves : Evolves b v.done.next
@@ -184,7 +189,8 @@ module _ {Command : Type 0} (permits : Broker → Option Text → Verb → Text 
     pub waits : (t : Text) (w : Waiting) → get v.done.next.waiting t ≡ Some w
         → WaitedBefore b w ⊎ ((x : IsWrapped b q names command d v) × (w ≡ kept_entry b q.path q.wrap_ttl names x.0))
 
-  taken_new : (used : Map ⊤) (own taken : List Text) → (taken ≡ []) ⊎ (taken ≡ own) → are_new used own ≡ true → are_new used taken ≡ true
+  taken_new : (used : Map ⊤) (own taken : List Text) → (taken ≡ []) ⊎ (taken ≡ own) → are_new used own ≡ true
+      → are_new used taken ≡ true
   taken_new used own taken (inl e) h = ap (are_new used) e
   taken_new used own taken (inr e) h = ap (are_new used) e ∙ h
 
@@ -205,7 +211,8 @@ module _ {Command : Type 0} (permits : Broker → Option Text → Verb → Text 
     wrap_taken : (wraps permits traits act q command ≡ true)
         → are_new b.used (names.wrapping_token ∷ names.wrapping_accessor ∷ d.taken) ≡ true
     wrap_taken h =
-        let all_new : are_new b.used (names.wrapping_token ∷ names.wrapping_accessor ∷ (traits command).own names) ≡ true =
+        let all_new : are_new b.used (names.wrapping_token ∷ names.wrapping_accessor ∷ (traits command).own names)
+        ≡ true =
         ap (λ v. are_new b.used (if v then names.wrapping_token ∷ names.wrapping_accessor ∷ (traits command).own names
         else (traits command).own names)) (sym h) ∙ new in
         elim proper.gives_own [
@@ -227,8 +234,10 @@ module _ {Command : Type 0} (permits : Broker → Option Text → Verb → Text 
           evolves = evolves_trans b d.next (with_waiting d.next (token_text names.wrapping_token) entry) proper.evolves
               (store_evolves d.next (token_text names.wrapping_token) entry fresh refl);
           handed = refl;
-          born = λ o e. ap (λ u. same u names.wrapping_token || list_any (same u) (names.wrapping_accessor ∷ d.taken)) (sym (same_Some _ _ e))
-              ∙ ap (λ u. u || list_any (same names.wrapping_token) (names.wrapping_accessor ∷ d.taken)) (same_self names.wrapping_token);
+          born = λ o e. ap (λ u. same u names.wrapping_token || list_any (same u) (names.wrapping_accessor ∷ d.taken))
+              (sym (same_Some _ _ e))
+              ∙ ap (λ u. u || list_any (same names.wrapping_token) (names.wrapping_accessor ∷ d.taken))
+              (same_self names.wrapping_token);
           kept = λ t e. absurd (not_both t (sym answered ∙ e));
           waits = λ t w e. put_is d.next.waiting (token_text names.wrapping_token) entry t w _ e
               (λ at here. inr ((r, made, h, answered, refl), here))
@@ -248,8 +257,14 @@ module _ {Command : Type 0} (permits : Broker → Option Text → Verb → Text 
 
 -- what waits at a clock waited before it
 was_waiting : (b : Broker) (moment : ℕ) (w : Waiting) → WaitedBefore (at_moment b moment) w → WaitedBefore b w
-was_waiting b moment w (t, v, is, origin, text) =
-    (t, v, (kept_get (λ u. option_map_or (λ y. nat_lt (max b.clock moment) (waiting_ends y)) (get b.waiting u) false) b.waiting t v is).0, origin, text)
+was_waiting b moment w (t, v, is, origin, text) = (
+  t,
+  v,
+  (kept_get (λ u. option_map_or (λ y. nat_lt (max b.clock moment) (waiting_ends y)) (get b.waiting u) false)
+      b.waiting t v is).0,
+  origin,
+  text,
+)
 
 -- what waited where the waiting responses are the same
 same_waited : (b c : Broker) (w : Waiting) → c.waiting ≡ b.waiting → WaitedBefore c w → WaitedBefore b w
@@ -269,11 +284,13 @@ module _ {Command : Type 0} (permits : Broker → Option Text → Verb → Text 
   -- the body is the text of what the operation replied, and of a token that it made it tells the accessor alone
   abbrev pub TellsBody : Type 0
   TellsBody =
-      (s : IsServed permits traits act now q names a.outcome) (r : Reply) (made : Option Text) → s.done.answered ≡ reply r made
+      (s : IsServed permits traits act now q names a.outcome) (r : Reply) (made : Option Text)
+      → s.done.answered ≡ reply r made
       → (reply_text r ≡ body a) × ((made ≡ None) ⊎ (made ≡ Some names.accessor))
 
   -- nothing was given out, and nothing waits that did not before
-  quiet : (next : Broker) (o : Outcome) → a.outcome ≡ o → o.next ≡ next → o.taken ≡ [] → o.handed ≡ None → o.born ≡ None → next.used ≡ a.broker.used
+  quiet : (next : Broker) (o : Outcome) → a.outcome ≡ o → o.next ≡ next → o.taken ≡ [] → o.handed ≡ None
+      → o.born ≡ None → next.used ≡ a.broker.used
       → Evolves now next → ((t : Text) (w : Waiting) → get next.waiting t ≡ Some w → WaitedBefore now w) → Keeps body a
   quiet next o is next_is none_taken none_handed none_born used evolves waits =
       let at : a.outcome.next ≡ next = ap (λ (x : Outcome). x.next) is ∙ next_is in
@@ -285,7 +302,8 @@ module _ {Command : Type 0} (permits : Broker → Option Text → Verb → Text 
             ap (λ (c : Broker). c.used) at ∙ used ∙ ap (use_up a.broker.used) (sym nothing_taken);
         hands_out = λ origin e. absurd (none-some _ (sym (ap (λ (x : Outcome). x.handed) is ∙ none_handed) ∙ e));
         born_is_taken = λ origin e. absurd (none-some _ (sym (ap (λ (x : Outcome). x.born) is ∙ none_born) ∙ e));
-        waits = λ t w e. inl (was_waiting a.broker a.moment w (waits t w (ap (λ (c : Broker). get c.waiting t) (sym at) ∙ e)));
+        waits = λ t w e. inl (was_waiting a.broker a.moment w
+            (waits t w (ap (λ (c : Broker). get c.waiting t) (sym at) ∙ e)));
       }
 
   turned_away : IsTurnedAway now q a.outcome → Keeps body a
@@ -297,7 +315,13 @@ module _ {Command : Type 0} (permits : Broker → Option Text → Verb → Text 
     | inr (u, closed, token, waits, dropped) ↦
         quiet s.next (denied s.next) s.outcome refl refl refl refl (ap (λ (c : Broker). c.used) dropped)
         (subst (Evolves now) (sym dropped) (drop_evolves now u))
-        (λ t w e. (t, w, (without_is now.waiting u t w (ap (λ (c : Broker). get c.waiting t) (sym dropped) ∙ e)).1, refl, refl))
+        (λ t w e. (
+          t,
+          w,
+          (without_is now.waiting u t w (ap (λ (c : Broker). get c.waiting t) (sym dropped) ∙ e)).1,
+          refl,
+          refl,
+        ))
   ]
 
   turned_down : IsTurnedDown now a.outcome → Keeps body a
@@ -321,7 +345,8 @@ module _ {Command : Type 0} (permits : Broker → Option Text → Verb → Text 
     finished = finish start s.caller (Ok v)
 
     is_proper : IsProper start ((traits s.command).own names) s.done
-    is_proper = proper start s.caller s.command s.done (own_new permits traits act start.used q names s.command s.new) s.acted
+    is_proper = proper start s.caller s.command s.done (own_new permits traits act start.used q names s.command s.new)
+        s.acted
 
     what_is_left : LeftBy permits traits act start q names s.command s.done v
     what_is_left = left permits traits act start q names s.command s.done s.new is_proper
@@ -342,7 +367,8 @@ module _ {Command : Type 0} (permits : Broker → Option Text → Verb → Text 
         (end_spent_evolves counted s.caller))))
 
     waiting_is : a.outcome.next.waiting ≡ v.done.next.waiting
-    waiting_is = ap (λ (c : Broker). c.waiting) next_is ∙ end_spent_waiting (with_used v.done.next v.done.taken) s.caller
+    waiting_is = ap (λ (c : Broker). c.waiting) next_is
+        ∙ end_spent_waiting (with_used v.done.next v.done.taken) s.caller
 
     from_broker : Evolves a.broker a.outcome.next
     from_broker = evolves_trans a.broker now a.outcome.next (at_moment_evolves a.broker a.moment) served_evolves
@@ -367,9 +393,11 @@ module _ {Command : Type 0} (permits : Broker → Option Text → Verb → Text 
           gone = record {
             used = from_broker.used o (subst (IsUsed a.broker) h.origin (ids.origins_used h.token h.entry waited_then));
             gone = λ t w is same_origin.
-                let other = without_is now.waiting h.token t w (ap (λ (m : Map Waiting). get m t) (sym left_waiting) ∙ is) in
+                let other =
+                without_is now.waiting h.token t w (ap (λ (m : Map Waiting). get m t) (sym left_waiting) ∙ is) in
                 let one : t ≡ h.token =
-                waiting.one_origin t h.token w h.entry (waited_before a t w other.1).0 waited_then (same_origin ∙ sym h.origin) in
+                waiting.one_origin t h.token w h.entry (waited_before a t w other.1).0 waited_then
+                (same_origin ∙ sym h.origin) in
                 false≢true (sym other.0 ∙ ap (same t) (sym one) ∙ same_self t);
           };
           out = record {
@@ -415,7 +443,8 @@ module _ {Command : Type 0} (permits : Broker → Option Text → Verb → Text 
               ∙ get-put_self s.done.next.waiting token entry ∙ ap Some is_first;
         }
 
-    served_waits : (t : Text) (w : Waiting) → get a.outcome.next.waiting t ≡ Some w → WaitedBefore a.broker w ⊎ IsBorn a (body a) w
+    served_waits : (t : Text) (w : Waiting) → get a.outcome.next.waiting t ≡ Some w
+        → WaitedBefore a.broker w ⊎ IsBorn a (body a) w
     served_waits t w e = elim (what_is_left.waits t w (ap (λ (m : Map Waiting). get m t) (sym waiting_is) ∙ e)) [
       | inl old ↦ inl (was_waiting a.broker a.moment w (same_waited now start w (spent_waiting now s.caller) old))
       | inr (x, here) ↦ inr (record {
@@ -431,7 +460,8 @@ module _ {Command : Type 0} (permits : Broker → Option Text → Verb → Text 
       evolves = served_evolves;
       taken_are_new = ap (are_new a.broker.used) taken_is
           ∙ ap (λ (m : Map ⊤). are_new m v.done.taken) (sym (spent_used now s.caller)) ∙ what_is_left.new;
-      taken_are_used = ap (λ (c : Broker). c.used) next_is ∙ end_spent_used (with_used v.done.next v.done.taken) s.caller
+      taken_are_used = ap (λ (c : Broker). c.used) next_is
+          ∙ end_spent_used (with_used v.done.next v.done.taken) s.caller
           ∙ ap (λ (m : Map ⊤). use_up m v.done.taken) (what_is_left.used ∙ spent_used now s.caller)
           ∙ ap (use_up a.broker.used) (sym taken_is);
       hands_out = served_hands_out;
@@ -443,7 +473,8 @@ module _ {Command : Type 0} (permits : Broker → Option Text → Verb → Text 
   -- what a request keeps, if its outcome is that of the order
   pub request_keeps : TellsBody → a.outcome ≡ ordered permits traits act a.broker a.moment q names → Keeps body a
   request_keeps tells is =
-      elim (subst (λ (o : Outcome). IsTurnedAway now q o ⊎ (IsTurnedDown now o ⊎ IsServed permits traits act now q names o)) (sym is)
+      elim (subst (λ (o : Outcome). IsTurnedAway now q o ⊎
+      (IsTurnedDown now o ⊎ IsServed permits traits act now q names o)) (sym is)
       (order_cases permits traits act a.broker a.moment q names)) [
         | inl s ↦ turned_away s
         | inr t ↦ elim t [ inl s ↦ turned_down s | inr s ↦ served_keeps tells s ]

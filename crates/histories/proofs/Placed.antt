@@ -91,7 +91,8 @@ module _ (b : Broker) (given : List Text) where
   from_maps c tokens waiting (place.credential t lease_id) i e =
       let l = mapped (λ (l : Lease). l.credential) (lease_of c t lease_id) i e in
       let x = chained (λ (x : Token). get x.leases lease_id) (get c.tokens t) l.0 l.1 in
-      subst (WasAt b given (place.credential t lease_id)) (sym l.2) ((tokens t x.0 x.1).leases lease_id l.0 x.2).credential
+      subst (WasAt b given (place.credential t lease_id)) (sym l.2)
+      ((tokens t x.0 x.1).leases lease_id l.0 x.2).credential
   from_maps c tokens waiting (place.wrapping_token t) i e =
       let w = mapped (λ (w : Waiting). token_identifier t) (get c.waiting t) i e in
       subst (WasAt b given (place.wrapping_token t)) (sym w.2) (waiting t w.0 w.1).identifier
@@ -100,10 +101,12 @@ module _ (b : Broker) (given : List Text) where
       subst (WasAt b given (place.wrapping_accessor t)) (sym w.2) (waiting t w.0 w.1).accessor
 
   -- a lease that a token had
-  pub lease_from : (t lease_id : Text) (y : Token) (k l : Lease) → get b.tokens t ≡ Some y → get y.leases lease_id ≡ Some k
+  pub lease_from : (t lease_id : Text) (y : Token) (k l : Lease) → get b.tokens t ≡ Some y
+      → get y.leases lease_id ≡ Some k
       → k.credential ≡ l.credential → LeaseFrom b given t lease_id l
   lease_from t lease_id y k l is there same_credential =
-      let at : lease_of b t lease_id ≡ Some k = ap (option_and_then (λ (x : Token). get x.leases lease_id)) is ∙ there in
+      let at : lease_of b t lease_id ≡ Some k = ap (option_and_then (λ (x : Token). get x.leases lease_id)) is
+      ∙ there in
       record {
         identifier = inl (ap (option_map (λ (l : Lease). lease_identifier lease_id)) at);
         credential = inl (ap (option_map (λ (l : Lease). l.credential)) at ∙ ap Some same_credential);
@@ -126,10 +129,12 @@ module _ (b : Broker) (given : List Text) where
 
   -- ---- brokers that differ in their tokens, or in what waits
 
-  tokens_same : (c : Broker) → c.tokens ≡ b.tokens → (t : Text) (x : Token) → get c.tokens t ≡ Some x → TokenFrom b given t x
+  tokens_same : (c : Broker) → c.tokens ≡ b.tokens → (t : Text) (x : Token) → get c.tokens t ≡ Some x
+      → TokenFrom b given t x
   tokens_same c is t x e = token_from t x x (ap (λ (m : Tokens). get m t) (sym is) ∙ e) (stays_self x)
 
-  waiting_same : (c : Broker) → c.waiting ≡ b.waiting → (t : Text) (w : Waiting) → get c.waiting t ≡ Some w → WaitingFrom b given t w
+  waiting_same : (c : Broker) → c.waiting ≡ b.waiting → (t : Text) (w : Waiting) → get c.waiting t ≡ Some w
+      → WaitingFrom b given t w
   waiting_same c is t w e = waiting_from t w (ap (λ (m : Map Waiting). get m t) (sym is) ∙ e)
 
   -- in neither
@@ -174,13 +179,18 @@ module _ (b : Broker) (given : List Text) where
       let y = alive_is now b.tokens t x e in
       token_from t y.0 x y.1 (subst (Stays y.0) (sym y.3) (live y.0 now)))
       (λ t w e.
-      waiting_from t w (kept_get (λ u. option_map_or (λ v. nat_lt now (waiting_ends v)) (get b.waiting u) false) b.waiting t w e).0)
+      waiting_from t w (kept_get (λ u. option_map_or (λ v. nat_lt now (waiting_ends v)) (get b.waiting u) false)
+      b.waiting t w e).0)
     where
       live : (y : Token) (now : ℕ) → Stays y (with_live_leases now y)
       live y now = record {
         accessor = refl;
-        leases = λ lease_id l e.
-            (l, (kept_get (λ id. option_map_or (λ (l : Lease). nat_lt now l.ends) (get y.leases id) false) y.leases lease_id l e).0, refl);
+        leases = λ lease_id l e. (
+          l,
+          (kept_get (λ id. option_map_or (λ (l : Lease). nat_lt now l.ends) (get y.leases id) false) y.leases
+              lease_id l e).0,
+          refl,
+        );
       }
 
   pub spent_placed : (who : Option Text) → Placed b given (spent b who)

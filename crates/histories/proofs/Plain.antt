@@ -50,12 +50,16 @@ module _ {Command : Type 0} (permits : Broker → Option Text → Verb → Text 
         ap (λ v. unless v permission_denied >>= (λ allowed. q.command start >>= from_names)) s.allowed
         ∙ ap (λ (r : Result Command Refusal). r >>= from_names) s.means
         ∙ ap (λ v. unless v refusal.IdentifierUsed >>= (λ fresh.
-        unless (not (traits s.command).must_wrap || nat_lt 0 0) (refusal.BadRequest reason.WrappingRequired) >>= (λ asked.
-        act start s.caller names s.command >>= (λ done. Ok (wrapped permits traits act start (plain q) names s.command done)))))
+        unless (not (traits s.command).must_wrap || nat_lt 0 0) (refusal.BadRequest reason.WrappingRequired)
+        >>= (λ asked.
+        act start s.caller names s.command >>= (λ done. Ok
+        (wrapped permits traits act start (plain q) names s.command done)))))
         (own_new permits traits act start.used q names s.command s.new)
         ∙ ap (λ v. unless (not v || nat_lt 0 0) (refusal.BadRequest reason.WrappingRequired) >>= (λ asked.
-        act start s.caller names s.command >>= (λ done. Ok (wrapped permits traits act start (plain q) names s.command done)))) free
-        ∙ ap (λ (r : Result Done Refusal). r >>= (λ done. Ok (wrapped permits traits act start (plain q) names s.command done))) s.acted
+        act start s.caller names s.command >>= (λ done. Ok
+        (wrapped permits traits act start (plain q) names s.command done)))) free
+        ∙ ap (λ (r : Result Done Refusal). r
+        >>= (λ done. Ok (wrapped permits traits act start (plain q) names s.command done))) s.acted
 
     -- so its text is the body of the reply
     pub plain_tells : (r : Reply) (made : Option Text) → s.done.answered ≡ reply r made

@@ -34,7 +34,8 @@ use Rattle.broker_model.specs.Request.{Request}
 use Rattle.broker_model.specs.Serving.{operated}
 use Rattle.broker_model.specs.Step.{request_of, step, traits}
 use Rattle.broker_model.specs.declared.commands.WrappingCommand.TheVariants as response
-use Rattle.histories.specs.Refused.{Calls, ChangesNothingElse, PoliciesDecide, RefusedChangeNothing, WrapNeedsTtl, is_granted}
+use Rattle.histories.specs.Refused.{Calls, ChangesNothingElse, PoliciesDecide}
+use Rattle.histories.specs.Refused.{RefusedChangeNothing, WrapNeedsTtl, is_granted}
 use Rattle.histories.proofs.InOrder.{in_order}
 use Rattle.histories.proofs.OrderCases.{IsCaller, spent, unless_ok, with_caller}
 use Rattle.histories.proofs.OrderKeeps.{wrapped_cases}
@@ -55,7 +56,8 @@ module _ (told : OperationsDoAsTold) (b : Broker) (moment : ℕ) (words : Words)
   abbrev Keeps : Outcome → Type 0
   Keeps o = 400 ≤ status_code o.response.status → ChangesNothingElse now o.next a
 
-  by_caller : (caller : Option Text) → IsCaller now q caller → (next : Broker) → next ≡ end_spent (spent now caller) caller
+  by_caller : (caller : Option Text) → IsCaller now q caller → (next : Broker)
+      → next ≡ end_spent (spent now caller) caller
       → ChangesNothingElse now next a
   by_caller None is next left = inl left
   by_caller (Some t) (inl (open_, none)) next left = absurd (none-some _ (sym none))
@@ -85,13 +87,16 @@ module _ (told : OperationsDoAsTold) (b : Broker) (moment : ℕ) (words : Words)
           ∙ ap (λ (taken : List Text). end_spent (record d.next { used = use_up d.next.used taken }) caller) left.1
           ∙ ap (λ (c : Broker). end_spent c caller) left.0)
 
-    by_result : (r : Result Wrapped Refusal) → serve permits traits act start caller q names ≡ r → Keeps (finish start caller r)
+    by_result : (r : Result Wrapped Refusal) → serve permits traits act start caller q names ≡ r
+        → Keeps (finish start caller r)
     by_result (Err why) e high = by_caller caller is (end_spent start caller) refl
     by_result (Ok v) e high =
         let p = ok_step (unless (q.is_open || permits start caller q.verb q.path) permission_denied) _ v e in
         let r = ok_step (q.command start) _ v p.2 in
-        let n = ok_step (unless (are_new start.used (needed permits traits act q names r.0)) refusal.IdentifierUsed) _ v r.2 in
-        let m = ok_step (unless (not (traits r.0).must_wrap || nat_lt 0 q.wrap_ttl) (refusal.BadRequest reason.WrappingRequired)) _ v n.2 in
+        let n =
+        ok_step (unless (are_new start.used (needed permits traits act q names r.0)) refusal.IdentifierUsed) _ v r.2 in
+        let m = ok_step (unless (not (traits r.0).must_wrap || nat_lt 0 q.wrap_ttl)
+        (refusal.BadRequest reason.WrappingRequired)) _ v n.2 in
         let f = ok_step (act start caller names r.0) _ v m.2 in
         elim (wrapped_cases permits traits act start q names r.0 f.0) [
           | inl plain ↦ by_answer v r.0 f.0 f.1 (sym (ok_inj f.2) ∙ plain) f.0.answered refl high
@@ -127,7 +132,8 @@ spent_mounts c None = refl
 spent_mounts c (Some t) = refl
 
 module _ (b : Broker) (moment : ℕ) (words : Words) (a : Ask) (text : Text)
-    (means : command_of (at_moment b moment).mounts a ≡ Ok (on_wrapping (response.Wrap text))) (none : a.wrap_ttl ≡ 0) where
+    (means : command_of (at_moment b moment).mounts a ≡ Ok (on_wrapping (response.Wrap text)))
+    (none : a.wrap_ttl ≡ 0) where
   abbrev IsNot : Outcome → Type 0
   IsNot o = IsRefused o.response
 
@@ -140,12 +146,15 @@ module _ (b : Broker) (moment : ℕ) (words : Words) (a : Ask) (text : Text)
       let z = request_of a in
       let p = ok_step (unless (z.is_open || permits start caller z.verb z.path) permission_denied) _ v e in
       let r = ok_step (z.command start) _ v p.2 in
-      let n = ok_step (unless (are_new start.used (needed permits traits act z (names_of words) r.0)) refusal.IdentifierUsed) _ v r.2 in
-      let m = ok_step (unless (not (traits r.0).must_wrap || nat_lt 0 z.wrap_ttl) (refusal.BadRequest reason.WrappingRequired)) _ v n.2 in
+      let n = ok_step (unless (are_new start.used (needed permits traits act z (names_of words) r.0))
+      refusal.IdentifierUsed) _ v r.2 in
+      let m = ok_step (unless (not (traits r.0).must_wrap || nat_lt 0 z.wrap_ttl)
+      (refusal.BadRequest reason.WrappingRequired)) _ v n.2 in
       let is : r.0 ≡ on_wrapping (response.Wrap text) =
       ok_inj (sym r.1 ∙ ap (λ (ms : Map Mount). command_of ms a) (spent_mounts (at_moment b moment) caller) ∙ means) in
       absurd (false≢true
-      (sym (ap (λ (k : Command). not (traits k).must_wrap || nat_lt 0 a.wrap_ttl) is ∙ ap (λ t. not true || nat_lt 0 t) none)
+      (sym (ap (λ (k : Command). not (traits k).must_wrap || nat_lt 0 a.wrap_ttl) is
+      ∙ ap (λ t. not true || nat_lt 0 t) none)
       ∙ unless_ok _ (refusal.BadRequest reason.WrappingRequired) m.0 m.1))
 
   pub needs_ttl : IsRefused (step b moment words a).response
@@ -154,14 +163,16 @@ module _ (b : Broker) (moment : ℕ) (words : Words) (a : Ask) (text : Text)
       in_order permits traits act b moment (request_of a) (names_of words) IsNot
       (λ closed no_caller. (permission_denied, refl))
       (λ t closed is_token waits. (permission_denied, refl))
-      (λ caller is. not_served caller (serve permits traits act (spent (at_moment b moment) caller) caller (request_of a) (names_of words)) refl)
+      (λ caller is. not_served caller (serve permits traits act (spent (at_moment b moment) caller) caller
+      (request_of a) (names_of words)) refl)
 
 pub wrap_needs_ttl : WrapNeedsTtl
 wrap_needs_ttl b moment words a text means none = needs_ttl b moment words a text means none
 
 -- ---- policies
 
-module _ (b : Broker) (moment : ℕ) (words : Words) (a : Ask) (c : Text) (x : Token) (h : Calls (at_moment b moment) a c x) where
+module _ (b : Broker) (moment : ℕ) (words : Words) (a : Ask) (c : Text) (x : Token)
+    (h : Calls (at_moment b moment) a c x) where
   abbrev clock_ : Broker
   clock_ = at_moment b moment
 
@@ -178,7 +189,8 @@ module _ (b : Broker) (moment : ℕ) (words : Words) (a : Ask) (c : Text) (x : T
   no_wait = ap (λ (o : Option Waiting). is_some o) h.no_response
 
   -- what its policies grant is what it may ask
-  decides : (v : Bool) → is_granted spent_ c x a ≡ v → ((request_of a).is_open || permits spent_ (Some c) a.verb a.path) ≡ v
+  decides : (v : Bool) → is_granted spent_ c x a ≡ v
+      → ((request_of a).is_open || permits spent_ (Some c) a.verb a.path) ≡ v
   decides v e =
       ap (λ z. z || permits spent_ (Some c) a.verb a.path) h.closed
       ∙ ap (λ (o : Option Token). option_map_or (may_ask spent_ c a.verb a.path) o false) h.there ∙ e

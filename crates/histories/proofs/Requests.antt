@@ -1,5 +1,6 @@
 -- What each request of a history keeps.
-use Rattle.std.specs.Prelude.{◌≡◌, ◌⊎◌, ℕ, zero, suc, List, [], ◌∷◌, Bool, true, false, Option, Some, None, Result, Ok, Err}
+use Rattle.std.specs.Prelude.{◌≡◌, ◌⊎◌, ℕ, zero, suc, List, [], ◌∷◌, Bool, true}
+use Rattle.std.specs.Prelude.{false, Option, Some, None, Result, Ok, Err}
 use Rattle.std.proofs.Common.{refl, sym, ◌∙◌, ap, subst}
 use Rattle.std.proofs.lemmas.Bool.{false≢true}
 use Rattle.std.proofs.lemmas.Option.{none-some, same_Some}
@@ -65,7 +66,8 @@ command_by_plain (operation.Wrappings o) r a = refl
 command_plain : (mounts : Map Mount) (a : Ask) → command_of mounts (unwrapped_ask a) ≡ command_of mounts a
 command_plain mounts a =
     elim (route_of mounts a.verb a.path) as
-    (λ (found : Result Route Refusal). (found >>= (λ r. command_for r (unwrapped_ask a))) ≡ (found >>= (λ r. command_for r a))) [
+    (λ (found : Result Route Refusal). (found >>= (λ r. command_for r (unwrapped_ask a)))
+    ≡ (found >>= (λ r. command_for r a))) [
       | Ok r ↦ command_by_plain r.operation r a
       | Err e ↦ refl
     ]
@@ -82,9 +84,11 @@ request_plain a = λ i. record {
 
 -- the step of an ask without its wrap TTL
 step_plain : (b : Broker) (moment : ℕ) (words : Words) (a : Ask)
-    → step b moment words (unwrapped_ask a) ≡ ordered permits traits act b moment (plain (request_of a)) (names_of words)
+    → step b moment words (unwrapped_ask a) ≡ ordered permits traits act b moment (plain (request_of a))
+    (names_of words)
 unfolding step
-step_plain b moment words a = ap (λ (q : Request Command). ordered permits traits act b moment q (names_of words)) (request_plain a)
+step_plain b moment words a = ap (λ (q : Request Command). ordered permits traits act b moment q (names_of words))
+    (request_plain a)
 
 -- ---- an ask to wrap
 
@@ -106,28 +110,32 @@ is_wrap_of e = cc
 by_wrapping : (o : WrappingOperation) (client : Option Text) (body : List ℕ) (text : Text)
     → wrapping_command o client body ≡ Ok (response.Wrap text) → object_text (body_members body) ≡ text
 by_wrapping of_responses.Wrap client body text e =
-    let m = ok_step (body_members body) (λ members. Ok (response.Wrap (compact_text (object members)))) (response.Wrap text) e in
+    let m = ok_step (body_members body) (λ members. Ok (response.Wrap (compact_text (object members))))
+    (response.Wrap text) e in
     ap object_text m.1 ∙ same_wrap (ok_inj m.2)
   where
     same_wrap : {s t : Text} → response.Wrap s ≡ response.Wrap t → s ≡ t
     same_wrap e = cc
 by_wrapping of_responses.LookUp client body text e =
     let m = ok_step (body_members body) _ (response.Wrap text) e in
-    let n = ok_step (reader.wrapping_token m.0) (λ named. Ok (response.LookUp (token_meant client named))) (response.Wrap text) m.2 in
+    let n = ok_step (reader.wrapping_token m.0) (λ named. Ok (response.LookUp (token_meant client named)))
+    (response.Wrap text) m.2 in
     absurd (apart (ok_inj n.2))
   where
     apart : {o : Option Text} → response.LookUp o ≡ response.Wrap text → ⊥
     apart e = cc
 by_wrapping of_responses.Rewrap client body text e =
     let m = ok_step (body_members body) _ (response.Wrap text) e in
-    let n = ok_step (reader.wrapping_token m.0) (λ named. Ok (response.Rewrap (token_meant client named))) (response.Wrap text) m.2 in
+    let n = ok_step (reader.wrapping_token m.0) (λ named. Ok (response.Rewrap (token_meant client named)))
+    (response.Wrap text) m.2 in
     absurd (apart (ok_inj n.2))
   where
     apart : {o : Option Text} → response.Rewrap o ≡ response.Wrap text → ⊥
     apart e = cc
 by_wrapping of_responses.Unwrap client body text e =
     let m = ok_step (body_members body) _ (response.Wrap text) e in
-    let n = ok_step (reader.wrapping_token m.0) (λ named. Ok (response.Unwrap (token_meant client named))) (response.Wrap text) m.2 in
+    let n = ok_step (reader.wrapping_token m.0) (λ named. Ok (response.Unwrap (token_meant client named)))
+    (response.Wrap text) m.2 in
     absurd (apart (ok_inj n.2))
   where
     apart : {o : Option Text} → response.Unwrap o ≡ response.Wrap text → ⊥
@@ -135,7 +143,8 @@ by_wrapping of_responses.Unwrap client body text e =
 
 by_operation : (o : Operation) (r : Route) (a : Ask) (text : Text)
     → command_by o r a ≡ Ok (on_wrapping (response.Wrap text)) → object_text (body_members a.body) ≡ text
-by_operation (operation.Cubbyholes o) r a text e = no_wrap (on_cubbyhole r.parameter) (λ x. refl) _ (response.Wrap text) e
+by_operation (operation.Cubbyholes o) r a text e =
+    no_wrap (on_cubbyhole r.parameter) (λ x. refl) _ (response.Wrap text) e
 by_operation (operation.Tokens o) r a text e = no_wrap on_token (λ x. refl) _ (response.Wrap text) e
 by_operation (operation.Secrets o) r a text e = no_wrap (on_secret _) (λ x. refl) _ (response.Wrap text) e
 by_operation (operation.Policies o) r a text e = no_wrap (on_policy r.parameter) (λ x. refl) _ (response.Wrap text) e
@@ -143,10 +152,12 @@ by_operation (operation.Mounts o) r a text e = no_wrap (on_mount r.parameter) (�
 by_operation (operation.Leases o) r a text e = no_wrap (on_lease r.parameter) (λ x. refl) _ (response.Wrap text) e
 by_operation (operation.Issued o) r a text e = no_wrap (on_issued _) (λ x. refl) _ (response.Wrap text) e
 by_operation (operation.Wrappings o) r a text e =
-    let x = ok_step (wrapping_command o a.token a.body) (λ command. Ok (on_wrapping command)) (on_wrapping (response.Wrap text)) e in
+    let x = ok_step (wrapping_command o a.token a.body) (λ command. Ok (on_wrapping command))
+    (on_wrapping (response.Wrap text)) e in
     by_wrapping o a.token a.body text (x.1 ∙ ap Ok (is_wrap_of (ok_inj x.2)))
 
-wraps_object : (mounts : Map Mount) (a : Ask) (text : Text) → command_of mounts a ≡ Ok (on_wrapping (response.Wrap text))
+wraps_object : (mounts : Map Mount) (a : Ask) (text : Text)
+    → command_of mounts a ≡ Ok (on_wrapping (response.Wrap text))
     → object_text (body_members a.body) ≡ text
 wraps_object mounts a text e =
     let r = ok_step (route_of mounts a.verb a.path) (λ r. command_for r a) (on_wrapping (response.Wrap text)) e in
@@ -164,23 +175,30 @@ same_reply_of : {r : Reply} {made : Option Text} {z : Reply} → reply z None �
 same_reply_of e = cc
 
 -- what an operation replied is the answer
-tells_by : (b : Broker) (caller : Option Text) (names : Names) (body : List ℕ) (answer : Response) (command : Command) (d : Done)
+tells_by : (b : Broker) (caller : Option Text) (names : Names) (body : List ℕ) (answer : Response) (command : Command)
+    (d : Done)
     (r : Reply) (made : Option Text) → act b caller names command ≡ Ok d → d.answered ≡ reply r made
     → ((wrapped : Text) → command ≡ on_wrapping (response.Wrap wrapped) → object_text (body_members body) ≡ wrapped)
-    → ((traits command).must_wrap ≡ false → answer ≡ ok (reply_text r)) → answer_by names body answer (Ok command) ≡ ok (reply_text r)
-tells_by b caller names body answer (on_cubbyhole path command) d r made acted answered object_is plainly_ = plainly_ refl
+    → ((traits command).must_wrap ≡ false → answer ≡ ok (reply_text r))
+    → answer_by names body answer (Ok command) ≡ ok (reply_text r)
+tells_by b caller names body answer (on_cubbyhole path command) d r made acted answered object_is plainly_ =
+    plainly_ refl
 tells_by b caller names body answer (on_token command) d r made acted answered object_is plainly_ = plainly_ refl
 tells_by b caller names body answer (on_secret place command) d r made acted answered object_is plainly_ = plainly_ refl
 tells_by b caller names body answer (on_policy name command) d r made acted answered object_is plainly_ = plainly_ refl
 tells_by b caller names body answer (on_mount name command) d r made acted answered object_is plainly_ = plainly_ refl
 tells_by b caller names body answer (on_lease prefix command) d r made acted answered object_is plainly_ = plainly_ refl
 tells_by b caller names body answer (on_issued place command) d r made acted answered object_is plainly_ = plainly_ refl
-tells_by b caller names body answer (on_wrapping (response.LookUp t)) d r made acted answered object_is plainly_ = plainly_ refl
-tells_by b caller names body answer (on_wrapping (response.Rewrap t)) d r made acted answered object_is plainly_ = plainly_ refl
-tells_by b caller names body answer (on_wrapping (response.Unwrap t)) d r made acted answered object_is plainly_ = plainly_ refl
+tells_by b caller names body answer (on_wrapping (response.LookUp t)) d r made acted answered object_is plainly_ =
+    plainly_ refl
+tells_by b caller names body answer (on_wrapping (response.Rewrap t)) d r made acted answered object_is plainly_ =
+    plainly_ refl
+tells_by b caller names body answer (on_wrapping (response.Unwrap t)) d r made acted answered object_is plainly_ =
+    plainly_ refl
 tells_by b caller names body answer (on_wrapping (response.Wrap wrapped)) d r made acted answered object_is plainly_ =
     ap (λ z. ok (reply_text (plain_reply names.request z))) (object_is wrapped refl)
-    ∙ ap ok (same_reply_of (ap (λ (z : Done). z.answered) (ok_inj (sym (acts_same b caller names (response.Wrap wrapped)) ∙ acted)) ∙ answered))
+    ∙ ap ok (same_reply_of (ap (λ (z : Done). z.answered)
+    (ok_inj (sym (acts_same b caller names (response.Wrap wrapped)) ∙ acted)) ∙ answered))
 
 pub spent_mounts : (b : Broker) (who : Option Text) → (spent b who).mounts ≡ b.mounts
 spent_mounts b None = refl
@@ -188,25 +206,31 @@ spent_mounts b (Some c) = refl
 
 -- what a request that was served means at its clock
 pub means_at_clock : (a : Asking) (caller : Option Text) (command : Command)
-    → (request_of a.ask).command (spent (clocked a) caller) ≡ Ok command → command_of (clocked a).mounts a.ask ≡ Ok command
-means_at_clock a caller command means = ap (λ (m : Map Mount). command_of m a.ask) (sym (spent_mounts (clocked a) caller)) ∙ means
+    → (request_of a.ask).command (spent (clocked a) caller) ≡ Ok command
+    → command_of (clocked a).mounts a.ask ≡ Ok command
+means_at_clock a caller command means =
+    ap (λ (m : Map Mount). command_of m a.ask) (sym (spent_mounts (clocked a) caller)) ∙ means
 
 -- without a wrap TTL, what a request that was served replied is the answer
 pub answers_plainly : (a : Asking)
-    (s : IsServed permits traits act (clocked a) (request_of a.ask) (names_of a.words) a.outcome) (r : Reply) (made : Option Text)
+    (s : IsServed permits traits act (clocked a) (request_of a.ask) (names_of a.words) a.outcome) (r : Reply)
+    (made : Option Text)
     → s.done.answered ≡ reply r made → unwrapped_answer a ≡ ok (reply_text r)
 unfolding step
 answers_plainly a s r made answered =
     let answer = (step a.broker a.moment a.words (unwrapped_ask a.ask)).response in
     let means = means_at_clock a s.caller s.command s.means in
     ap (answer_by (names_of a.words) a.ask.body answer) means
-    ∙ tells_by (spent (clocked a) s.caller) s.caller (names_of a.words) a.ask.body answer s.command s.done r made s.acted answered
+    ∙ tells_by (spent (clocked a) s.caller) s.caller (names_of a.words) a.ask.body answer s.command s.done r made
+    s.acted answered
     (λ wrapped is_wrap. wraps_object (clocked a).mounts a.ask wrapped (means ∙ ap Ok is_wrap))
     (λ free. ap (λ (x : Outcome). x.response) (step_plain a.broker a.moment a.words a.ask)
-    ∙ plain_tells permits traits act a.broker a.moment (request_of a.ask) (names_of a.words) a.outcome s free r made answered)
+    ∙ plain_tells permits traits act a.broker a.moment (request_of a.ask) (names_of a.words) a.outcome s free r made
+    answered)
 
 -- so its body is the text of what was replied; of a token that was made it tells the accessor alone
-pub tells_body : OperationsDoAsTold → (a : Asking) (s : IsServed permits traits act (clocked a) (request_of a.ask) (names_of a.words) a.outcome)
+pub tells_body : OperationsDoAsTold → (a : Asking)
+    (s : IsServed permits traits act (clocked a) (request_of a.ask) (names_of a.words) a.outcome)
     (r : Reply) (made : Option Text) → s.done.answered ≡ reply r made
     → (reply_text r ≡ unwrapped_body a) × ((made ≡ None) ⊎ (made ≡ Some (names_of a.words).accessor))
 tells_body told a s r made answered = (
@@ -233,7 +257,8 @@ module _ (told : OperationsDoAsTold) where
   history_keeps b (Some a ∷ later) (is, h) = (is.broker, asked_keep b a is, history_keeps a.outcome.next later h)
 
 -- what is asked at a place is asked of a sound broker
-pub asked_at : (b : Broker) (history : History) (i : ℕ) (a : Asking) → AreAsked b history → AskedAt history i a → IsAsked a.broker a
+pub asked_at : (b : Broker) (history : History) (i : ℕ) (a : Asking) → AreAsked b history → AskedAt history i a
+    → IsAsked a.broker a
 asked_at b [] i a h at = absurd (none-some _ at)
 asked_at b (None ∷ later) zero a h at = absurd (none-some _ at)
 asked_at b (None ∷ later) (suc i) a h at = asked_at b later i a h at

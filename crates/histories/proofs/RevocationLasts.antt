@@ -1,6 +1,8 @@
 -- What is revoked, and whatever else ended, does not come back.
-use Rattle.std.specs.Prelude.{◌≡◌, ◌≢◌, ◌<◌, ◌≤◌, ◌⊎◌, ◌||◌, ◌&&◌, not, nat_lt, ℕ, max, List, [], ◌∷◌, Bool, true, false}
-use Rattle.std.specs.Prelude.{is_some, if◌then◌else◌, cond, Option, Some, None, Result, Ok, Err, option_map, option_and_then}
+use Rattle.std.specs.Prelude.{◌≡◌, ◌≢◌, ◌<◌, ◌≤◌, ◌⊎◌, ◌||◌, ◌&&◌, not, nat_lt}
+use Rattle.std.specs.Prelude.{ℕ, max, List, [], ◌∷◌, Bool, true, false}
+use Rattle.std.specs.Prelude.{is_some, if◌then◌else◌, cond, Option, Some, None}
+use Rattle.std.specs.Prelude.{Result, Ok, Err, option_map, option_and_then}
 use Rattle.std.proofs.Common.{refl, sym, ◌∙◌, ap, subst, inl, inr, arith}
 use Rattle.std.proofs.lemmas.Bool.{false≢true, false_from_ne_true, ltb-true, ltb-false}
 use Rattle.std.proofs.lemmas.Option.{none-some, same_Some}
@@ -25,7 +27,8 @@ use Rattle.broker_types.specs.Spending.{spend, drop_waiting, end_spent, one_less
 use Rattle.broker_types.specs.Status.{status_code}
 use Rattle.broker_types.specs.Token.{Token, Lease}
 use Rattle.broker_types.specs.TextLaws.{same_true}
-use Rattle.broker_types.specs.TreeLaws.{alive_is, alive_tree, left_outlasts, outlasting_is_left, under_tokens, values_tree}
+use Rattle.broker_types.specs.TreeLaws.{alive_is, alive_tree, left_outlasts}
+use Rattle.broker_types.specs.TreeLaws.{outlasting_is_left, under_tokens, values_tree}
 use Rattle.broker_types.specs.Used.{are_new, use_up}
 use Rattle.broker_types.specs.declared.refusal.Refusal.{Refusal}
 use Rattle.broker_types.specs.declared.refusal.Refusal.TheVariants as refusal
@@ -38,7 +41,8 @@ use Rattle.broker_model.specs.Command.{Command, on_token}
 use Rattle.broker_model.specs.Command.{on_wrapping, command_of}
 use Rattle.broker_model.specs.Forms.{forms}
 use Rattle.broker_model.specs.Laws.{OperationsDoAsTold}
-use Rattle.broker_model.specs.Order.{Outcome, Wrapped, denied, finish, for_caller, needed, permission_denied, response_to}
+use Rattle.broker_model.specs.Order.{Outcome, Wrapped, denied, finish, for_caller}
+use Rattle.broker_model.specs.Order.{needed, permission_denied, response_to}
 use Rattle.broker_model.specs.Order.{serve, unwrapped, wrapped}
 use Rattle.broker_model.specs.Permission.{permits}
 use Rattle.broker_model.specs.Request.{Request}
@@ -54,9 +58,11 @@ use Rattle.broker_model.specs.parts.Tokens.{act_on_tokens, holder, revoke, revok
 use Rattle.broker_model.specs.parts.Wrappings.{FoundResponse, found, found_under, rewrapped, act_on_wrappings}
 use Rattle.histories.specs.History.{AreAsked, Asking, AskedAt, History, clocked, spent_by}
 use Rattle.histories.specs.Kept.{unwrapped_body}
-use Rattle.histories.specs.Revocation.{EndsToken, FindsNone, IsDue, IsGone, IsGranted, Revocation, Revokes, RevokesAlone}
+use Rattle.histories.specs.Revocation.{EndsToken, FindsNone, IsDue, IsGone}
+use Rattle.histories.specs.Revocation.{IsGranted, Revocation, Revokes, RevokesAlone}
 use Rattle.histories.specs.Revocation.{with_later_leases}
-use Rattle.histories.specs.Revocation.{is_orphaning, is_revocation, named_by, orphaning_by, orphaning_of, revoked_by, revoked_of, taken_as}
+use Rattle.histories.specs.Revocation.{is_orphaning, is_revocation, named_by, orphaning_by}
+use Rattle.histories.specs.Revocation.{orphaning_of, revoked_by, revoked_of, taken_as}
 use Rattle.histories.proofs.Descent.{descends}
 use Rattle.histories.proofs.Ending.{IsLeaseGone, ended_lasts, gone_has_ended, lease_lasts, leases_are_gone}
 use Rattle.histories.proofs.Keeping.{EachKeeps, Keeps}
@@ -65,7 +71,8 @@ use Rattle.histories.proofs.LeasesDue.{lease_stays_out}
 use Rattle.histories.proofs.OrderCases.{IsCaller, some_ok, spent, with_caller}
 use Rattle.histories.proofs.OrderKeeps.{end_spent_waiting, wrapped_cases}
 use Rattle.histories.proofs.Requests.{asked_at, history_keeps, means_at_clock}
-use Rattle.histories.proofs.Revoking.{below_are_gone, below_are_left, children_are_orphans, orphaned_is_gone, others_are_left, others_stay, revoked_are_gone}
+use Rattle.histories.proofs.Revoking.{below_are_gone, below_are_left, children_are_orphans}
+use Rattle.histories.proofs.Revoking.{orphaned_is_gone, others_are_left, others_stay, revoked_are_gone}
 use Rattle.histories.proofs.Served.{Served, nothing_is_no_reply, refused_or_served, served}
 
 -- ---- a 204
@@ -105,7 +112,8 @@ module _ (a : Asking) (c : Text) (command : Command) (is : a.outcome ≡ step a.
   command_is : (caller : Option Text) → caller ≡ Some c → q.command (spent (clocked a) caller) ≡ Ok served_204.command
       → served_204.command ≡ command
   command_is caller is_c means =
-      ok_inj (sym (subst (λ (o : Option Text). q.command (spent (clocked a) o) ≡ Ok served_204.command) is_c means) ∙ d.means)
+      ok_inj (sym (subst (λ (o : Option Text). q.command (spent (clocked a) o) ≡ Ok served_204.command) is_c means)
+      ∙ d.means)
 
   pub did : Did a c command
   did =
@@ -113,7 +121,8 @@ module _ (a : Asking) (c : Text) (command : Command) (is : a.outcome ≡ step a.
       let start = spent (clocked a) s.caller in
       let is_command = command_is s.caller caller_is s.means in
       let v = wrapped permits traits act start q (names_of a.words) s.command s.done in
-      let response : response_to v.done.answered ≡ no_content = sym (ap (λ (x : Outcome). x.response) s.outcome) ∙ d.response in
+      let response : response_to v.done.answered ≡ no_content = sym (ap (λ (x : Outcome). x.response) s.outcome)
+      ∙ d.response in
       let plain_answer : v ≡ unwrapped s.done =
       elim (wrapped_cases permits traits act start q (names_of a.words) s.command s.done) [
         | inl e ↦ e
@@ -123,10 +132,13 @@ module _ (a : Asking) (c : Text) (command : Command) (is : a.outcome ≡ step a.
       record {
         done = s.done;
         acted = subst (λ (k : Command). act (spent_by a c) (Some c) (names_of a.words) k ≡ Ok s.done) is_command
-            (subst (λ (o : Option Text). act (spent (clocked a) o) o (names_of a.words) s.command ≡ Ok s.done) caller_is s.acted);
+            (subst (λ (o : Option Text). act (spent (clocked a) o) o (names_of a.words) s.command ≡ Ok s.done)
+            caller_is s.acted);
         next = ap (λ (x : Outcome). x.next) s.outcome
-            ∙ ap (λ (x : Wrapped). end_spent (record x.done.next { used = use_up x.done.next.used x.done.taken }) s.caller) plain_answer
-            ∙ ap (λ (o : Option Text). end_spent (record s.done.next { used = use_up s.done.next.used s.done.taken }) o) caller_is;
+            ∙ ap (λ (x : Wrapped). end_spent (record x.done.next { used = use_up x.done.next.used x.done.taken })
+            s.caller) plain_answer
+            ∙ ap (λ (o : Option Text). end_spent (record s.done.next { used = use_up s.done.next.used s.done.taken })
+            o) caller_is;
       }
 
 -- ---- revocations
@@ -140,7 +152,8 @@ module _ (a : Asking) (is : a.outcome ≡ step a.broker a.moment a.words a.ask) 
       → act_on_tokens start c (names_of a.words) command ≡ Ok d → d ≡ revoke start t
   revokes (token.Revoke u) d names done = sym (ok_inj done) ∙ ap (revoke start) (same_Some _ _ names)
   revokes (token.RevokeAccessor accessor) d names done =
-      sym (ok_inj (ap (λ o. some_or (refusal.BadRequest reason.InvalidAccessor) o >>= (λ u. Ok (revoke start u))) (sym names) ∙ done))
+      sym (ok_inj (ap (λ o. some_or (refusal.BadRequest reason.InvalidAccessor) o >>= (λ u. Ok (revoke start u)))
+      (sym names) ∙ done))
   revokes token.RevokeSelf d names done = sym (ok_inj done) ∙ ap (revoke start) (same_Some _ _ names)
   revokes _ d names done = absurd (none-some _ names)
 
@@ -166,7 +179,8 @@ module _ (a : Asking) (is : a.outcome ≡ step a.broker a.moment a.words a.ask) 
   orphans_by _ d names done = absurd (none-some _ names)
 
   -- what a revocation of one token left
-  pub orphaning_left : RevokesAlone a c t → a.outcome.next ≡ end_spent (drop_waiting (broker.revoke_orphan start t) t) (Some c)
+  pub orphaning_left : RevokesAlone a c t
+      → a.outcome.next ≡ end_spent (drop_waiting (broker.revoke_orphan start t) t) (Some c)
   orphaning_left r =
       let k = did a c r.command is r.granted in
       k.next ∙ ap (left_by a c) (orphans_by r.command k.done r.text k.acted)
@@ -180,7 +194,8 @@ content_is (missing y) r is code_is = absurd (omega (arith, ap code is, ap statu
 
 -- a command that revokes and was carried out is a 204
 answers_204 : (b : Broker) (c : Text) (names : Names) (command : TokenCommand) (d : Done)
-    → (is_revocation command || is_orphaning command) ≡ true → act_on_tokens b c names command ≡ Ok d → d.answered ≡ nothing
+    → (is_revocation command || is_orphaning command) ≡ true → act_on_tokens b c names command ≡ Ok d
+    → d.answered ≡ nothing
 answers_204 b c names (token.Revoke u) d does done = ap (λ (z : Done). z.answered) (sym (ok_inj done))
 answers_204 b c names (token.RevokeOrphan u) d does done = ap (λ (z : Done). z.answered) (sym (ok_inj done))
 answers_204 b c names token.RevokeSelf d does done = ap (λ (z : Done). z.answered) (sym (ok_inj done))
@@ -190,20 +205,23 @@ answers_204 b c names _ d does done = absurd (false≢true does)
 
 -- by a caller, for none else is served
 called_204 : (b : Broker) (caller : Option Text) (names : Names) (command : TokenCommand) (d : Done)
-    → (is_revocation command || is_orphaning command) ≡ true → act b caller names (on_token command) ≡ Ok d → d.answered ≡ nothing
+    → (is_revocation command || is_orphaning command) ≡ true → act b caller names (on_token command) ≡ Ok d
+    → d.answered ≡ nothing
 called_204 b None names command d does done = no_ok done
 called_204 b (Some c) names command d does done = answers_204 b c names command d does done
 
 -- one that is asked is a 204, or refused
 revoking_answer : (a : Asking) → a.outcome ≡ step a.broker a.moment a.words a.ask → (command : TokenCommand)
-    → command_of (clocked a).mounts a.ask ≡ Ok (on_token command) → (is_revocation command || is_orphaning command) ≡ true
+    → command_of (clocked a).mounts a.ask ≡ Ok (on_token command)
+    → (is_revocation command || is_orphaning command) ≡ true
     → (a.outcome.response ≡ no_content) ⊎ IsRefused a.outcome.response
 revoking_answer a is command means does = elim (refused_or_served a is) [
   | inl r ↦ inr r
   | inr s ↦
       let start = spent (clocked a) s.caller in
       let names = names_of a.words in
-      let is_command : s.command ≡ on_token command = ok_inj (sym (means_at_clock a s.caller s.command s.means) ∙ means) in
+      let is_command : s.command ≡ on_token command =
+      ok_inj (sym (means_at_clock a s.caller s.command s.means) ∙ means) in
       let answered : s.done.answered ≡ nothing =
       called_204 start s.caller names command s.done does
       (subst (λ (k : Command). act start s.caller names k ≡ Ok s.done) is_command s.acted) in
@@ -215,7 +233,8 @@ revoking_answer a is command means does = elim (refused_or_served a is) [
 ]
 
 -- what a command that revokes and was carried out revoked
-revoked_text : (b : Broker) (c : Text) (names : Names) (command : TokenCommand) (d : Done) → is_revocation command ≡ true
+revoked_text : (b : Broker) (c : Text) (names : Names) (command : TokenCommand) (d : Done)
+    → is_revocation command ≡ true
     → act_on_tokens b c names command ≡ Ok d → (t : Text) × (revoked_of b c command ≡ Some t)
 revoked_text b c names (token.Revoke u) d does done = (u, refl)
 revoked_text b c names (token.RevokeAccessor accessor) d does done =
@@ -231,7 +250,8 @@ orphaned_text _ does = absurd (false≢true does)
 
 -- a 204 to a command of tokens was granted to a caller
 module _ (a : Asking) (is : a.outcome ≡ step a.broker a.moment a.words a.ask) (command : TokenCommand)
-    (means : command_of (clocked a).mounts a.ask ≡ Ok (on_token command)) (empty_ : a.outcome.response.status ≡ status.NoContent) where
+    (means : command_of (clocked a).mounts a.ask ≡ Ok (on_token command))
+    (empty_ : a.outcome.response.status ≡ status.NoContent) where
   was_served : Served a
   was_served = served a is (omega (arith, ap status_code empty_))
 
@@ -255,9 +275,11 @@ module _ (a : Asking) (is : a.outcome ≡ step a.broker a.moment a.words a.ask) 
   granted : (c : Text) × IsGranted a c (on_token command) × Acted (Some c)
   granted =
       let s = was_served in
-      let is_command : s.command ≡ on_token command = ok_inj (sym (means_at_clock a s.caller s.command s.means) ∙ means) in
+      let is_command : s.command ≡ on_token command =
+      ok_inj (sym (means_at_clock a s.caller s.command s.means) ∙ means) in
       by_caller s.caller s.asked
-      (subst (λ (k : Command). act (spent (clocked a) s.caller) s.caller (names_of a.words) k ≡ Ok s.done) is_command s.acted)
+      (subst (λ (k : Command). act (spent (clocked a) s.caller) s.caller (names_of a.words) k ≡ Ok s.done) is_command
+      s.acted)
 
   revokes_at_204 : is_revocation command ≡ true → (c : Text) × (t : Text) × Revokes a c t
   revokes_at_204 does =
@@ -296,7 +318,8 @@ due_is_gone a q d = elim (found_or_not (get (clocked a).tokens q)) [
   | inr y ↦
       let now = max a.broker.clock a.moment in
       let later : now < d.end =
-      left_outlasts now a.broker.tokens q (λ none. none-some _ (sym none ∙ y.1)) d.above d.above_token d.end d.under d.there d.has_end in
+      left_outlasts now a.broker.tokens q (λ none. none-some _ (sym none ∙ y.1)) d.above d.above_token d.end d.under
+      d.there d.has_end in
       absurd (omega (arith, later, d.reached))
 ]
 
@@ -324,10 +347,12 @@ others_wait : (a : Asking) → a.outcome ≡ step a.broker a.moment a.words a.as
     → Revokes a c t ⊎ RevokesAlone a c t → u ≢ t → get a.outcome.next.waiting u ≡ get (clocked a).waiting u
 others_wait a is c t u how other = by how
   where
-    but_one : (d : Broker) → d.waiting ≡ (drop_waiting (clocked a) t).waiting → get d.waiting u ≡ get (clocked a).waiting u
+    but_one : (d : Broker) → d.waiting ≡ (drop_waiting (clocked a) t).waiting
+        → get d.waiting u ≡ get (clocked a).waiting u
     but_one d same_waiting =
         ap (λ (m : Map Waiting). get m u) same_waiting ∙ get-without (clocked a).waiting t u
-        ∙ ap (λ v. cond v None (get (clocked a).waiting u)) (false_from_ne_true (same u t) (λ e. other (same_true u t e)))
+        ∙ ap (λ v. cond v None (get (clocked a).waiting u))
+        (false_from_ne_true (same u t) (λ e. other (same_true u t e)))
 
     by : Revokes a c t ⊎ RevokesAlone a c t → get a.outcome.next.waiting u ≡ get (clocked a).waiting u
     by (inl r) =
@@ -349,7 +374,8 @@ denied_if_gone a q is is_token closed ended =
     let go : Text → Outcome = λ c. finish (spend (clocked a) c) (Some c)
     (serve permits traits act (spend (clocked a) c) (Some c) (request_of a.ask) (names_of a.words)) in
     ap (λ (x : Outcome). x.response) is
-    ∙ ap (λ v. (if v then finish (clocked a) None (serve permits traits act (clocked a) None (request_of a.ask) (names_of a.words))
+    ∙ ap (λ v. (if v then finish (clocked a) None
+    (serve permits traits act (clocked a) None (request_of a.ask) (names_of a.words))
     else for_caller (clocked a) a.ask.token go).response) closed
     ∙ ap (λ (o : Option Text). (for_caller (clocked a) o go).response) is_token
     ∙ ap (λ (o : Option Waiting). (if is_some o then denied (drop_waiting (clocked a) q)
@@ -377,8 +403,10 @@ module _ (a : Asking) (q : Text) (is : a.outcome ≡ step a.broker a.moment a.wo
   unfolding step
   open_step command means =
       ap (λ (x : Outcome). x.response) is
-      ∙ ap (λ (x : Outcome). x.response) (with_caller permits traits act a.broker a.moment r names None (inl (open_, refl)))
-      ∙ ap (λ v. (finish (clocked a) None (unless (v || permits (clocked a) None a.ask.verb a.ask.path) permission_denied
+      ∙ ap (λ (x : Outcome). x.response) (with_caller permits traits act a.broker a.moment r names None
+      (inl (open_, refl)))
+      ∙ ap (λ v. (finish (clocked a) None (unless (v || permits (clocked a) None a.ask.verb a.ask.path)
+      permission_denied
       >>= (λ allowed. command_of (clocked a).mounts a.ask >>= last_steps))).response) open_
       ∙ ap (λ (x : Result Command Refusal). (finish (clocked a) None (x >>= last_steps)).response) means
 
@@ -393,16 +421,23 @@ module _ (a : Asking) (q : Text) (is : a.outcome ≡ step a.broker a.moment a.wo
       → (if nat_lt 0 a.ask.wrap_ttl && false then names.wrapping_token ∷ names.wrapping_accessor ∷ own else own) ≡ own
   own_alone own =
       elim (nat_lt 0 a.ask.wrap_ttl) as
-      (λ v. (if v && false then names.wrapping_token ∷ names.wrapping_accessor ∷ own else own) ≡ own) [ true ↦ refl | false ↦ refl ]
+      (λ v. (if v && false then names.wrapping_token ∷ names.wrapping_accessor ∷ own else own) ≡ own) [
+        | true ↦ refl
+        | false ↦ refl
+      ]
 
   -- the last steps of a look-up or an unwrap
-  refused_400 : (own : List Text) → own ≡ [] → (f : FoundResponse → Result Done Refusal) (g : Done → Result Wrapped Refusal)
-      → (unless (are_new (clocked a).used own) refusal.IdentifierUsed >>= (λ fresh. (found (clocked a) (Some q) >>= f) >>= g)) ≡ Err bad
+  refused_400 : (own : List Text) → own ≡ []
+      → (f : FoundResponse → Result Done Refusal) (g : Done → Result Wrapped Refusal)
+      → (unless (are_new (clocked a).used own) refusal.IdentifierUsed
+      >>= (λ fresh. (found (clocked a) (Some q) >>= f) >>= g)) ≡ Err bad
   refused_400 own empty_ f g =
-      ap (λ is. unless (are_new (clocked a).used is) refusal.IdentifierUsed >>= (λ fresh. (found (clocked a) (Some q) >>= f) >>= g)) empty_
+      ap (λ is. unless (are_new (clocked a).used is) refusal.IdentifierUsed
+      >>= (λ fresh. (found (clocked a) (Some q) >>= f) >>= g)) empty_
       ∙ ap (λ (x : Result FoundResponse Refusal). (x >>= f) >>= g) none_found
 
-  refused_now : (x : Result Wrapped Refusal) (why : Refusal) → x ≡ Err why → (finish (clocked a) None x).response ≡ refused why
+  refused_now : (x : Result Wrapped Refusal) (why : Refusal) → x ≡ Err why
+      → (finish (clocked a) None x).response ≡ refused why
   refused_now x why e = ap (λ (y : Result Wrapped Refusal). (finish (clocked a) None y).response) e
 
   pub finds_none : (command : WrappingCommand) → command_of (clocked a).mounts a.ask ≡ Ok (on_wrapping command)
@@ -425,7 +460,8 @@ module _ (a : Asking) (q : Text) (is : a.outcome ≡ step a.broker a.moment a.wo
       >>= (λ done. Ok (wrapped permits traits act (clocked a) r names rewrap done))) in
       open_step (on_wrapping (response.Rewrap meant)) means
       ∙ ap (λ u. (finish (clocked a) None (last_steps (on_wrapping (response.Rewrap u)))).response) as_q
-      ∙ ap (λ is. (finish (clocked a) None (steps (are_new (clocked a).used is))).response) (own_alone (wrapping_names names))
+      ∙ ap (λ is. (finish (clocked a) None (steps (are_new (clocked a).used is))).response)
+      (own_alone (wrapping_names names))
       ∙ elim (are_new (clocked a).used (wrapping_names names)) as
       (λ v. (finish (clocked a) None (steps v)).response ≡ refused (if v then bad else refusal.IdentifierUsed)) [
         | true ↦ refused_now (steps true) bad
@@ -434,7 +470,8 @@ module _ (a : Asking) (q : Text) (is : a.outcome ≡ step a.broker a.moment a.wo
         | false ↦ refl
       ]
 
-module _ (a : Asking) (sound : Sound forms None a.broker) (keeps : Keeps unwrapped_body a) (q : Text) (ends : EndsToken a q) where
+module _ (a : Asking) (sound : Sound forms None a.broker) (keeps : Keeps unwrapped_body a) (q : Text)
+    (ends : EndsToken a q) where
   none_after : get a.outcome.next.tokens q ≡ None
   none_after = elim ends.gone [
     | inr e ↦ e
@@ -452,10 +489,13 @@ module _ (a : Asking) (sound : Sound forms None a.broker) (keeps : Keeps unwrapp
   ]
 
   token_ended : HasEnded a.outcome.next q
-  token_ended = gone_has_ended a.broker a.outcome.next sound.identifiers (kept_evolves unwrapped_body a keeps) q none_after ends.was
+  token_ended = gone_has_ended a.broker a.outcome.next sound.identifiers (kept_evolves unwrapped_body a keeps) q
+      none_after ends.was
 
-  lease_gone : (lease_id : Text) (l : Lease) → lease_of a.broker q lease_id ≡ Some l → IsLeaseGone a.outcome.next lease_id l
-  lease_gone = leases_are_gone a.broker a.outcome.next sound.identifiers (kept_evolves unwrapped_body a keeps) q none_after
+  lease_gone : (lease_id : Text) (l : Lease) → lease_of a.broker q lease_id ≡ Some l
+      → IsLeaseGone a.outcome.next lease_id l
+  lease_gone = leases_are_gone a.broker a.outcome.next sound.identifiers (kept_evolves unwrapped_body a keeps) q
+      none_after
 
   nothing_left : (b : Broker) → (a.outcome.next ≡ b) ⊎ Evolves a.outcome.next b → IsGone a q b
   nothing_left b (inl e) = subst (IsGone a q) e (record {
@@ -479,14 +519,17 @@ module _ (told : OperationsDoAsTold) (b : Broker) (history : History) (h : AreAs
   lasts : (i j : ℕ) (a x : Asking) (q : Text) → AskedAt history i a → EndsToken a q → AskedAt history j x → i ≤ j
       → IsGone a q x.outcome.next
   lasts i j a x q one ends other le =
-      nothing_left a (asked_at b history i a h one).sound (asked_keeps unwrapped_body b history i a keep_all one) q ends x.outcome.next
+      nothing_left a (asked_at b history i a h one).sound (asked_keeps unwrapped_body b history i a keep_all one) q
+      ends x.outcome.next
       (left_since unwrapped_body b history i j a x keep_all one other le)
 
   ended_then : (i j : ℕ) (a x : Asking) (q : Text) → AskedAt history i a → EndsToken a q → AskedAt history j x → i < j
       → HasEnded (clocked x) q
   ended_then i j a x q one ends other lt =
-      let ended = token_ended a (asked_at b history i a h one).sound (asked_keeps unwrapped_body b history i a keep_all one) q ends in
-      let still = ended_lasts a.outcome.next x.broker q (evolved_since unwrapped_body b history i j a x keep_all one other lt) ended in
+      let ended = token_ended a (asked_at b history i a h one).sound
+      (asked_keeps unwrapped_body b history i a keep_all one) q ends in
+      let still = ended_lasts a.outcome.next x.broker q
+      (evolved_since unwrapped_body b history i j a x keep_all one other lt) ended in
       ended_lasts x.broker (clocked x) q (at_moment_evolves x.broker x.moment) still
 
   pub revocation : Revocation history
@@ -499,8 +542,10 @@ module _ (told : OperationsDoAsTold) (b : Broker) (history : History) (h : AreAs
     spends = λ i a c q at. get-change (clocked a).tokens c one_less q;
     responses = λ i a c t u at how other. others_wait a (asked_at b history i a h at).outcome c t u how other;
     answered = λ i a command at means does. revoking_answer a (asked_at b history i a h at).outcome command means does;
-    each = λ i a command at means does is_204. revokes_at_204 a (asked_at b history i a h at).outcome command means is_204 does;
-    each_alone = λ i a command at means does is_204. orphans_at_204 a (asked_at b history i a h at).outcome command means is_204 does;
+    each = λ i a command at means does is_204. revokes_at_204 a (asked_at b history i a h at).outcome command means
+        is_204 does;
+    each_alone = λ i a command at means does is_204. orphans_at_204 a (asked_at b history i a h at).outcome command
+        means is_204 does;
     revoked = λ i a c t q at r under. record {
       was = called_was a c q (under_tokens (spent_by a c).tokens q t under).0;
       gone = inr (ap (λ (z : Broker). get z.tokens q) (revocation_left a (asked_at b history i a h at).outcome c t r)
@@ -509,7 +554,8 @@ module _ (told : OperationsDoAsTold) (b : Broker) (history : History) (h : AreAs
     others = λ i a c t q at r apart.
         let is = asked_at b history i a h at in
         ap (λ (z : Broker). get z.tokens q) (revocation_left a is.outcome c t r)
-        ∙ others_are_left (spent_by a c) (drop_waiting (broker.revoke (spent_by a c) t) t) t c refl (called_tree a c is.sound) q apart;
+        ∙ others_are_left (spent_by a c) (drop_waiting (broker.revoke (spent_by a c) t) t) t c refl
+        (called_tree a c is.sound) q apart;
     alone = λ i a c t at r there. record {
       was = called_was a c t there;
       gone = inr (ap (λ (z : Broker). get z.tokens t) (orphaning_left a (asked_at b history i a h at).outcome c t r)
@@ -517,7 +563,8 @@ module _ (told : OperationsDoAsTold) (b : Broker) (history : History) (h : AreAs
     };
     children = λ i a c t q x at r other is parent free.
         ap (λ (z : Broker). get z.tokens q) (orphaning_left a (asked_at b history i a h at).outcome c t r)
-        ∙ children_are_orphans (spent_by a c) (drop_waiting (broker.revoke_orphan (spent_by a c) t) t) t c refl q x other is parent free;
+        ∙ children_are_orphans (spent_by a c) (drop_waiting (broker.revoke_orphan (spent_by a c) t) t) t c refl q x
+        other is parent free;
     below = λ i a c t q x at r other under there parent stays.
         let is = asked_at b history i a h at in
         ap (λ (z : Broker). get z.tokens q) (orphaning_left a is.outcome c t r)
@@ -534,7 +581,8 @@ module _ (told : OperationsDoAsTold) (b : Broker) (history : History) (h : AreAs
     others_alone = λ i a c t q at r apart.
         let is = asked_at b history i a h at in
         ap (λ (z : Broker). get z.tokens q) (orphaning_left a is.outcome c t r)
-        ∙ others_stay (spent_by a c) (drop_waiting (broker.revoke_orphan (spent_by a c) t) t) t c refl (called_tree a c is.sound) q apart;
+        ∙ others_stay (spent_by a c) (drop_waiting (broker.revoke_orphan (spent_by a c) t) t) t c refl
+        (called_tree a c is.sound) q apart;
     due = λ i a q at d. record { was = due_was a q d; gone = inl (due_is_gone a q d) };
     due_denied = λ i a q at d is_token closed.
         let is = asked_at b history i a h at in
@@ -542,10 +590,13 @@ module _ (told : OperationsDoAsTold) (b : Broker) (history : History) (h : AreAs
         (at_moment_ends a.broker is.sound.identifiers a.moment q (due_was a q d) (due_is_gone a q d));
     lasts = lasts;
     leases_due = λ i j a x q lease_id l one d other le.
-        lease_stays_out a (asked_at b history i a h one).sound (asked_keeps unwrapped_body b history i a keep_all one) q lease_id l d
+        lease_stays_out a (asked_at b history i a h one).sound (asked_keeps unwrapped_body b history i a keep_all one)
+        q lease_id l d
         x.outcome.next (left_since unwrapped_body b history i j a x keep_all one other le);
     denied = λ i j a x q one ends other lt is_token closed.
-        denied_if_gone x q (asked_at b history j x h other).outcome is_token closed (ended_then i j a x q one ends other lt);
+        denied_if_gone x q (asked_at b history j x h other).outcome is_token closed
+        (ended_then i j a x q one ends other lt);
     not_waiting = λ i j a x q command one ends other lt open_ means as_q.
-        finds_none x q (asked_at b history j x h other).outcome open_ (ended_then i j a x q one ends other lt).not_waiting command means as_q;
+        finds_none x q (asked_at b history j x h other).outcome open_
+        (ended_then i j a x q one ends other lt).not_waiting command means as_q;
   }

@@ -19,16 +19,19 @@ use Rattle.broker_types.specs.OptionLaws.{found_or_not}
 use Rattle.broker_types.specs.Spending.{end_spent, is_spent}
 use Rattle.broker_types.specs.TextLaws.{same_self, same_true}
 use Rattle.broker_types.specs.TreeLaws.{lineage_child, lineage_orphan, orphan_child, orphan_gone, orphan_none}
-use Rattle.broker_types.specs.TreeLaws.{orphan_tree, orphan_unrelated, orphaned_is, revoke_tree, under_self, under_tokens}
+use Rattle.broker_types.specs.TreeLaws.{orphan_tree, orphan_unrelated, orphaned_is}
+use Rattle.broker_types.specs.TreeLaws.{revoke_tree, under_self, under_tokens}
 use Rattle.histories.specs.Revocation.{EndsWithCaller, has_no_use, left_by_caller}
 
 -- ---- lineages of what is left
 
 -- tokens that are left, with all that are not under t as they were
-module _ (ts left : Tokens) (t : Text) (tree : IsTree ts) (keeps : (q : Text) → is_under ts q t ≡ false → get left q ≡ get ts q)
+module _ (ts left : Tokens) (t : Text) (tree : IsTree ts) (keeps : (q : Text) → is_under ts q t ≡ false
+    → get left q ≡ get ts q)
     (ends : ChainsEnd left) where
   -- the parent of what is not under t is not under t
-  parent_apart : (q p : Text) (x : Token) → is_under ts q t ≡ false → get ts q ≡ Some x → x.parent ≡ Some p → is_under ts p t ≡ false
+  parent_apart : (q p : Text) (x : Token) → is_under ts q t ≡ false → get ts q ≡ Some x → x.parent ≡ Some p
+      → is_under ts p t ≡ false
   parent_apart q p x apart is parent =
       false_from_ne_true (is_under ts p t) (λ u. false≢true (sym apart
       ∙ ap (list_any (same t)) (lineage_child ts q p x tree.chains_end is parent)
@@ -40,10 +43,11 @@ module _ (ts left : Tokens) (t : Text) (tree : IsTree ts) (keeps : (q : Text) �
       ap (climb_at n left q) (keeps q apart)
       ∙ elim (get ts q) as (λ o. get ts q ≡ o → climb_at n left q o ≡ climb_at n ts q o) [
         | None ↦ λ _. refl
-        | Some x ↦ λ is. ap (λ l. q ∷ l) (elim (x.parent) as (λ o. x.parent ≡ o → climb_above n left o ≡ climb_above n ts o) [
-          | None ↦ λ _. refl
-          | Some p ↦ λ parent. same_climb n p (parent_apart q p x apart is parent)
-        ] refl)
+        | Some x ↦ λ is. ap (λ l. q ∷ l) (elim (x.parent) as (λ o. x.parent ≡ o
+            → climb_above n left o ≡ climb_above n ts o) [
+              | None ↦ λ _. refl
+              | Some p ↦ λ parent. same_climb n p (parent_apart q p x apart is parent)
+            ] refl)
       ] refl
 
   same_ends : (n : ℕ) (q : Text) → is_under ts q t ≡ false → ends_within n left q ≡ ends_within n ts q
@@ -71,7 +75,8 @@ module _ (ts left : Tokens) (t : Text) (tree : IsTree ts) (keeps : (q : Text) �
       ap (λ o. if has_no_use left c && is_under left q c then None else o) (keeps q apart)
       ∙ ap (λ v. if has_no_use left c && v then None else get ts q) (same_under q c apart)
       ∙ elim (is_under ts q c) as
-      (λ v. is_under ts q c ≡ v → (if has_no_use left c && v then None else get ts q) ≡ (if has_no_use ts c && v then None else get ts q)) [
+      (λ v. is_under ts q c ≡ v → (if has_no_use left c && v then None else get ts q)
+      ≡ (if has_no_use ts c && v then None else get ts q)) [
         | true ↦ λ under. ap (λ (o : Option Token). if option_map_or is_spent o false && true then None else get ts q)
             (keeps c (false_from_ne_true (is_under ts c t)
             (λ u. false≢true (sym apart ∙ is_under_trans ts q c t tree.chains_end under u))))
@@ -85,14 +90,19 @@ module _ (ts left : Tokens) (t : Text) (tree : IsTree ts) (keeps : (q : Text) �
       by false false = refl
 
 -- a token that is not under t is no child of it
-orphans_apart : (ts : Tokens) (t : Text) → IsTree ts → (q : Text) → is_under ts q t ≡ false → get (without_parent ts t) q ≡ get ts q
+orphans_apart : (ts : Tokens) (t : Text) → IsTree ts → (q : Text) → is_under ts q t ≡ false
+    → get (without_parent ts t) q ≡ get ts q
 orphans_apart ts t tree q apart = elim (found_or_not (get ts q)) [
   | inl none ↦ orphan_none ts t q none ∙ sym none
   | inr x ↦
       orphan_unrelated ts t q x.0
-      (λ e. false≢true (sym apart ∙ ap (λ u. is_under ts u t) e ∙ under_self ts t (λ none. none-some _ (sym none ∙ ap (get ts) (sym e) ∙ x.1)))) x.1
+      (λ e. false≢true (sym apart ∙ ap (λ u. is_under ts u t) e
+      ∙ under_self ts t (λ none. none-some _ (sym none ∙ ap (get ts) (sym e) ∙ x.1)))) x.1
       (λ parent. false≢true (sym apart ∙ ap (list_any (same t)) (lineage_child ts q t x.0 tree.chains_end x.1 parent)
-      ∙ elim (same t q) as (λ v. (v || is_under ts t t) ≡ true) [ true ↦ refl | false ↦ under_self ts t (tree.parents_exist q t x.0 x.1 parent) ]))
+      ∙ elim (same t q) as (λ v. (v || is_under ts t t) ≡ true) [
+        | true ↦ refl
+        | false ↦ under_self ts t (tree.parents_exist q t x.0 x.1 parent)
+      ]))
       ∙ sym x.1
 ]
 
@@ -104,7 +114,10 @@ end_spent_leaves b c q =
     elim (has_no_use b.tokens c) as
     (λ v. get (if v then revoke b c else b).tokens q ≡ (if v && is_under b.tokens q c then None else get b.tokens q)) [
       | true ↦ get-revoke b.tokens c q ∙ elim (is_under b.tokens q c) as
-          (λ u. cond (not u) (get b.tokens q) None ≡ (if u then None else get b.tokens q)) [ true ↦ refl | false ↦ refl ]
+          (λ u. cond (not u) (get b.tokens q) None ≡ (if u then None else get b.tokens q)) [
+            | true ↦ refl
+            | false ↦ refl
+          ]
       | false ↦ refl
     ]
 
@@ -126,7 +139,8 @@ module _ (b d : Broker) (t c : Text) (is : d.tokens ≡ without_descendants b.to
       → get (end_spent d (Some c)).tokens q ≡ left_by_caller b.tokens c q
   others_are_left tree q apart =
       end_spent_leaves d c q ∙ ap (λ us. left_by_caller us c q) is
-      ∙ same_left b.tokens (without_descendants b.tokens t) t tree (revoke_other b.tokens t) (revoke_tree b.tokens t tree).chains_end c q apart
+      ∙ same_left b.tokens (without_descendants b.tokens t) t tree (revoke_other b.tokens t)
+      (revoke_tree b.tokens t tree).chains_end c q apart
 
 -- ---- of one token
 
@@ -206,7 +220,8 @@ module _ (ts : Tokens) (t : Text) (tree : IsTree ts) where
     | inr x ↦
         elim (x.0.parent) as (λ o. x.0.parent ≡ o → ⊥) [
           | None ↦ λ none.
-              let alone : (same t c || false) ≡ true = sym (ap (list_any (same t)) (lineage_orphan ts c x.0 x.1 none)) ∙ down in
+              let alone : (same t c || false) ≡ true = sym (ap (list_any (same t)) (lineage_orphan ts c x.0 x.1 none))
+              ∙ down in
               elim (same t c) as (λ v. same t c ≡ v → (v || false) ≡ true → ⊥) [
                 | true ↦ λ e _. apart (sym (same_true t c e))
                 | false ↦ λ _ e. false≢true e
@@ -239,7 +254,8 @@ module _ (ts : Tokens) (t : Text) (tree : IsTree ts) where
               | false ↦ λ e. (
                 x,
                 orphan_unrelated ts t q x other is
-                    (λ same_parent. false≢true (sym e ∙ ap (λ z. same z t) (same_Some _ _ (sym parent ∙ same_parent)) ∙ same_self t)),
+                    (λ same_parent. false≢true (sym e ∙ ap (λ z. same z t) (same_Some _ _ (sym parent ∙ same_parent))
+                    ∙ same_self t)),
                 refl,
               )
             ] refl
@@ -275,10 +291,12 @@ module _ (ts : Tokens) (t : Text) (tree : IsTree ts) where
                     ap (list_any (same c)) (lineage_child ts q p x.0 tree.chains_end x.1 parent)
                     ∙ ap (λ v. v || is_under ts p c) other ∙ up in
                     let not_t : q ≢ t = λ e. not_both_ways c apart down (subst (λ u. is_under ts u c ≡ true) e q_up) in
-                    let not_child : p ≢ t = λ e. not_both_ways c apart down (subst (λ u. is_under ts u c ≡ true) e up) in
+                    let not_child : p ≢ t =
+                    λ e. not_both_ways c apart down (subst (λ u. is_under ts u c ≡ true) e up) in
                     let there : get (left_alone ts t tree) q ≡ Some x.0 =
                     orphan_unrelated ts t q x.0 not_t x.1 (λ e. not_child (same_Some _ _ (sym parent ∙ e))) in
-                    ap (list_any (same c)) (lineage_child (left_alone ts t tree) q p x.0 (orphan_tree ts t tree).chains_end there parent)
+                    ap (list_any (same c)) (lineage_child (left_alone ts t tree) q p x.0
+                    (orphan_tree ts t tree).chains_end there parent)
                     ∙ ap (λ v. v || is_under (left_alone ts t tree) p c) other
                     ∙ still_under n p c apart down fits h
               ] refl ends_here rest
@@ -299,7 +317,8 @@ module _ (b d : Broker) (t c : Text) (is_left : d.tokens ≡ without_parent b.to
 
   -- its children have no parent, but for a caller that has spent its last use
   pub children_are_orphans : (q : Text) (x : Token) → q ≢ t → get b.tokens q ≡ Some x → x.parent ≡ Some t
-      → (q ≢ c) ⊎ (has_no_use b.tokens c ≡ false) → get (end_spent d (Some c)).tokens q ≡ Some (record x { parent = None })
+      → (q ≢ c) ⊎ (has_no_use b.tokens c ≡ false)
+      → get (end_spent d (Some c)).tokens q ≡ Some (record x { parent = None })
   children_are_orphans q x apart is parent free =
       let ts = without_parent b.tokens t in
       let child : get ts q ≡ Some (record x { parent = None }) = orphan_child b.tokens t q x apart is parent in
@@ -310,11 +329,13 @@ module _ (b d : Broker) (t c : Text) (is_left : d.tokens ≡ without_parent b.to
       ∙ elim free [
         | inl other ↦ ap (λ v. if has_no_use ts c && (v || false) then None else Some (record x { parent = None }))
             (false_from_ne_true (same c q) (λ e. other (sym (same_true c q e))))
-            ∙ elim (has_no_use ts c) as (λ v. (if v && false then None else Some (record x { parent = None })) ≡ Some (record x { parent = None })) [
+            ∙ elim (has_no_use ts c) as (λ v. (if v && false then None else Some (record x { parent = None }))
+            ≡ Some (record x { parent = None })) [
               | true ↦ refl
               | false ↦ refl
             ]
-        | inr uses ↦ ap (λ v. if v && (same c q || false) then None else Some (record x { parent = None })) (uses_left ts uses)
+        | inr uses ↦ ap (λ v. if v && (same c q || false) then None else Some (record x { parent = None }))
+            (uses_left ts uses)
       ]
     where
       uses_left : (ts : Tokens) → has_no_use b.tokens c ≡ false → has_no_use (without_parent b.tokens t) c ≡ false
@@ -339,7 +360,8 @@ module _ (b d : Broker) (t c : Text) (is_left : d.tokens ≡ without_parent b.to
   ]
 
   -- a token further below it is as it was, unless it ends with the caller
-  pub below_are_left : IsTree b.tokens → (q : Text) (x : Token) → q ≢ t → is_under b.tokens q t ≡ true → get b.tokens q ≡ Some x
+  pub below_are_left : IsTree b.tokens → (q : Text) (x : Token) → q ≢ t → is_under b.tokens q t ≡ true
+      → get b.tokens q ≡ Some x
       → x.parent ≢ Some t → (EndsWithCaller b.tokens c t q → ⊥) → get (end_spent d (Some c)).tokens q ≡ Some x
   below_are_left tree q x other under is parent stays =
       let ts = without_parent b.tokens t in
@@ -358,9 +380,11 @@ module _ (b d : Broker) (t c : Text) (is_left : d.tokens ≡ without_parent b.to
   below_are_gone tree q ends =
       let ts = without_parent b.tokens t in
       let under : is_under ts q c ≡ true =
-      still_under b.tokens t tree (len b.tokens) q c ends.apart ends.caller_under (tree.chains_end q) ends.under_caller in
+      still_under b.tokens t tree (len b.tokens) q c ends.apart ends.caller_under
+      (tree.chains_end q) ends.under_caller in
       let spent : has_no_use ts c ≡ true = elim (found_or_not (get b.tokens c)) [
-        | inl none ↦ absurd (false≢true (sym (ap (λ (o : Option Token). option_map_or is_spent o false) none) ∙ ends.spent))
+        | inl none ↦ absurd (false≢true (sym (ap (λ (o : Option Token). option_map_or is_spent o false) none)
+            ∙ ends.spent))
         | inr x ↦
             let y = left_there b.tokens t tree c x.0 ends.apart x.1 in
             ap (λ (o : Option Token). option_map_or is_spent o false) y.1
@@ -376,4 +400,5 @@ module _ (b d : Broker) (t c : Text) (is_left : d.tokens ≡ without_parent b.to
       → get (end_spent d (Some c)).tokens q ≡ left_by_caller b.tokens c q
   others_stay tree q apart =
       end_spent_leaves d c q ∙ ap (λ us. left_by_caller us c q) is_left
-      ∙ same_left b.tokens (without_parent b.tokens t) t tree (orphans_apart b.tokens t tree) (orphan_tree b.tokens t tree).chains_end c q apart
+      ∙ same_left b.tokens (without_parent b.tokens t) t tree (orphans_apart b.tokens t tree)
+      (orphan_tree b.tokens t tree).chains_end c q apart

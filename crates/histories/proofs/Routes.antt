@@ -1,5 +1,6 @@
 -- What POST and PUT of fixed paths mean, and a request that may need no caller.
-use Rattle.std.specs.Prelude.{◌≡◌, ◌||◌, ◌&&◌, ◌++◌, ◌∷◌, ℕ, List, [], Bool, true, false, not, Option, Some, None, option_map}
+use Rattle.std.specs.Prelude.{◌≡◌, ◌||◌, ◌&&◌, ◌++◌, ◌∷◌, ℕ, List, [], Bool}
+use Rattle.std.specs.Prelude.{true, false, not, Option, Some, None, option_map}
 use Rattle.std.specs.Prelude.{Result, Ok, codes}
 use Rattle.std.specs.List.{list_all}
 use Rattle.std.specs.Option.{option_map_or}
@@ -20,7 +21,8 @@ use Rattle.mounts.specs.Forms.{form_of, has_form, are_bytes, parameter}
 use Rattle.mounts.specs.FoundLaws.{found_alone, is_or_apart, row_of}
 use Rattle.mounts.specs.Laws.{AreInOrder, FoundByForm, NoneFoundByForm}
 use Rattle.mounts.specs.Patterns.{has_pattern}
-use Rattle.mounts.specs.Route.{Route, cut, methods_of, operation_at, operation_for, route_at, route_by, route_of, within}
+use Rattle.mounts.specs.Route.{Route, cut, methods_of, operation_at, operation_for}
+use Rattle.mounts.specs.Route.{route_at, route_by, route_of, within}
 use Rattle.mounts.specs.RouteRow.{RouteRow}
 use Rattle.mounts.specs.Table.{facts, route_rows}
 use Rattle.mounts.specs.Types.{fixed_type, type_at, type_of}
@@ -41,7 +43,8 @@ use Rattle.broker_model.specs.declared.commands.TokenCommand.TheVariants as toke
 use Rattle.broker_model.specs.declared.commands.WrappingCommand.TheVariants as response
 use Rattle.broker_model.specs.declared.making.Making.TheVariants.{OfCaller, WithoutParent}
 use Rattle.histories.specs.LeasePaths.{AskedMeans}
-use Rattle.histories.specs.Paths.{PathsMeanCommands, WrittenMeans, on_found, on_found_lease, on_named, on_none, on_object, on_path}
+use Rattle.histories.specs.Paths.{PathsMeanCommands, WrittenMeans, on_found}
+use Rattle.histories.specs.Paths.{on_found_lease, on_named, on_none, on_object, on_path}
 
 -- ---- a pattern that alone has the form of a path
 
@@ -54,7 +57,8 @@ pub record StandsFor (rows : List RouteRow) (pattern path : Text) : Type 0 where
 -- whether a path is a pattern of the rows, and has its form and that of no other
 abbrev stands_alone : List RouteRow → Text → Bool
 stands_alone rows path =
-    has_pattern rows path && (has_form (form_of path) path && list_all (λ (r : RouteRow). is_or_apart path path r.pattern) rows)
+    has_pattern rows path && (has_form (form_of path) path && list_all
+    (λ (r : RouteRow). is_or_apart path path r.pattern) rows)
 
 stands : (rows : List RouteRow) (path : Text) → stands_alone rows path ≡ true → StandsFor rows path path
 stands rows path alone =
@@ -80,7 +84,8 @@ abbrev is_alone : List RouteRow → RouteRow → Bool
 is_alone rows r = are_bytes r.pattern && (stands_alone rows r.pattern && same (parameter r.pattern r.pattern) [])
 
 -- each row of such an operation is one
-open_alone : (type : MountType) → list_all (λ (r : RouteRow). not (may_open r.operation) || is_alone (route_rows type) r) (route_rows type) ≡ true
+open_alone : (type : MountType) → list_all
+    (λ (r : RouteRow). not (may_open r.operation) || is_alone (route_rows type) r) (route_rows type) ≡ true
 unfolding same
 open_alone mount.Token = refl
 open_alone mount.System = refl
@@ -115,18 +120,21 @@ module _ (found : FoundByForm) (none : NoneFoundByForm) (ordered : AreInOrder) w
   pub opened_are_routes : OpenedAreRoutes
   unfolding operation_at
   opened_are_routes v path o at may mounts =
-      elim (fixed_type (cut path).0) as (λ t. fixed_type (cut path).0 ≡ t → operation_for (option_map_or route_rows t []) (cut path).1 v ≡ Some o
+      elim (fixed_type (cut path).0) as (λ t. fixed_type (cut path).0 ≡ t
+      → operation_for (option_map_or route_rows t []) (cut path).1 v ≡ Some o
       → route_of mounts v path ≡ Ok (fixed_route (cut path).0 o)) [
         | None ↦ λ _ e. absurd (none-some _ e)
         | Some type ↦ λ is e.
             let rows = route_rows type in
-            let r = row_of (λ (r : RouteRow). not (may_open r.operation) || is_alone rows r) rows (cut path).1 v o (open_alone type) e in
+            let r = row_of (λ (r : RouteRow). not (may_open r.operation) || is_alone rows r) rows (cut path).1 v o
+            (open_alone type) e in
             let it : is_alone rows r.row ≡ true =
             sym (ap (λ b. not b || is_alone rows r.row) (ap may_open r.operation_is ∙ may)) ∙ r.passes in
             let parts = and_parts (are_bytes (r.row).pattern) _ it in
             let alone = and_parts (stands_alone rows (r.row).pattern) _ parts.1 in
             let at = sym r.pattern_is in
-            routed type v (cut path).0 (cut path).1 path (cut path).1 [] o (λ m. ap (λ t. or_else t (option_map type_of m)) is) refl
+            routed type v (cut path).0 (cut path).1 path (cut path).1 [] o
+            (λ m. ap (λ t. or_else t (option_map type_of m)) is) refl
             (ap are_bytes at ∙ parts.0) (stands rows (cut path).1 (ap (stands_alone rows) at ∙ alone.0)) e
             (ap (λ t. parameter t t) at ∙ same_true (parameter (r.row).pattern (r.row).pattern) [] alone.1) mounts
       ] refl at
@@ -149,26 +157,30 @@ module _ (found : FoundByForm) (none : NoneFoundByForm) (ordered : AreInOrder) w
       → parameter rest rest ≡ []
       → WrittenMeans path (command_for (fixed_route name operation))
   means type name rest path operation there at bytes alone row no_parameter =
-      asked type verb.Write name rest path rest [] operation there at bytes (stands (route_rows type) rest alone) row no_parameter
+      asked type verb.Write name rest path rest [] operation there at bytes (stands (route_rows type) rest alone) row
+      no_parameter
 
   -- ---- responses that wait
 
   pub looks_up : WrittenMeans (codes "sys/wrapping/lookup") (on_named response.LookUp)
   unfolding same
   looks_up =
-      means mount.System (codes "sys") (codes "wrapping/lookup") (codes "sys/wrapping/lookup") (Wrappings of_responses.LookUp)
+      means mount.System (codes "sys") (codes "wrapping/lookup") (codes "sys/wrapping/lookup")
+      (Wrappings of_responses.LookUp)
       (λ o. refl) refl refl refl refl refl
 
   pub rewraps : WrittenMeans (codes "sys/wrapping/rewrap") (on_named response.Rewrap)
   unfolding same
   rewraps =
-      means mount.System (codes "sys") (codes "wrapping/rewrap") (codes "sys/wrapping/rewrap") (Wrappings of_responses.Rewrap)
+      means mount.System (codes "sys") (codes "wrapping/rewrap") (codes "sys/wrapping/rewrap")
+      (Wrappings of_responses.Rewrap)
       (λ o. refl) refl refl refl refl refl
 
   pub unwraps : WrittenMeans (codes "sys/wrapping/unwrap") (on_named response.Unwrap)
   unfolding same
   unwraps =
-      means mount.System (codes "sys") (codes "wrapping/unwrap") (codes "sys/wrapping/unwrap") (Wrappings of_responses.Unwrap)
+      means mount.System (codes "sys") (codes "wrapping/unwrap") (codes "sys/wrapping/unwrap")
+      (Wrappings of_responses.Unwrap)
       (λ o. refl) refl refl refl refl refl
 
   pub wraps : WrittenMeans (codes "sys/wrapping/wrap") on_object
@@ -185,10 +197,12 @@ module _ (found : FoundByForm) (none : NoneFoundByForm) (ordered : AreInOrder) w
       means mount.Token (codes "auth") (codes "token/create") (codes "auth/token/create") (Tokens of_tokens.Create)
       (λ o. refl) refl refl refl refl refl
 
-  pub creates_orphan : WrittenMeans (codes "auth/token/create-orphan") (on_found reader.token_creation (token.Create WithoutParent))
+  pub creates_orphan : WrittenMeans (codes "auth/token/create-orphan")
+      (on_found reader.token_creation (token.Create WithoutParent))
   unfolding same
   creates_orphan =
-      means mount.Token (codes "auth") (codes "token/create-orphan") (codes "auth/token/create-orphan") (Tokens of_tokens.CreateOrphan)
+      means mount.Token (codes "auth") (codes "token/create-orphan") (codes "auth/token/create-orphan")
+      (Tokens of_tokens.CreateOrphan)
       (λ o. refl) refl refl refl refl refl
 
   pub revokes : WrittenMeans (codes "auth/token/revoke") (on_found reader.token token.Revoke)
@@ -200,19 +214,23 @@ module _ (found : FoundByForm) (none : NoneFoundByForm) (ordered : AreInOrder) w
   pub revokes_self : WrittenMeans (codes "auth/token/revoke-self") (on_none token.RevokeSelf)
   unfolding same
   revokes_self =
-      means mount.Token (codes "auth") (codes "token/revoke-self") (codes "auth/token/revoke-self") (Tokens of_tokens.RevokeSelf)
+      means mount.Token (codes "auth") (codes "token/revoke-self") (codes "auth/token/revoke-self")
+      (Tokens of_tokens.RevokeSelf)
       (λ o. refl) refl refl refl refl refl
 
   pub revokes_orphan : WrittenMeans (codes "auth/token/revoke-orphan") (on_found reader.token token.RevokeOrphan)
   unfolding same
   revokes_orphan =
-      means mount.Token (codes "auth") (codes "token/revoke-orphan") (codes "auth/token/revoke-orphan") (Tokens of_tokens.RevokeOrphan)
+      means mount.Token (codes "auth") (codes "token/revoke-orphan") (codes "auth/token/revoke-orphan")
+      (Tokens of_tokens.RevokeOrphan)
       (λ o. refl) refl refl refl refl refl
 
-  pub revokes_accessor : WrittenMeans (codes "auth/token/revoke-accessor") (on_found reader.accessor token.RevokeAccessor)
+  pub revokes_accessor : WrittenMeans (codes "auth/token/revoke-accessor")
+      (on_found reader.accessor token.RevokeAccessor)
   unfolding same
   revokes_accessor =
-      means mount.Token (codes "auth") (codes "token/revoke-accessor") (codes "auth/token/revoke-accessor") (Tokens of_tokens.RevokeAccessor)
+      means mount.Token (codes "auth") (codes "token/revoke-accessor") (codes "auth/token/revoke-accessor")
+      (Tokens of_tokens.RevokeAccessor)
       (λ o. refl) refl refl refl refl refl
 
   -- ---- what is looked up, renewed, read and deleted
@@ -220,37 +238,44 @@ module _ (found : FoundByForm) (none : NoneFoundByForm) (ordered : AreInOrder) w
   pub looks_up_token : WrittenMeans (codes "auth/token/lookup") (on_found reader.token token.LookUp)
   unfolding same
   looks_up_token =
-      asked mount.Token verb.Write (codes "auth") (codes "token/lookup") (codes "auth/token/lookup") (codes "token/lookup") [] (Tokens of_tokens.LookUp)
+      asked mount.Token verb.Write (codes "auth") (codes "token/lookup") (codes "auth/token/lookup")
+      (codes "token/lookup") [] (Tokens of_tokens.LookUp)
       (λ o. refl) refl refl (stands (route_rows mount.Token) (codes "token/lookup") refl) refl refl
 
-  pub looks_up_accessor : WrittenMeans (codes "auth/token/lookup-accessor") (on_found reader.accessor token.LookUpAccessor)
+  pub looks_up_accessor : WrittenMeans (codes "auth/token/lookup-accessor")
+      (on_found reader.accessor token.LookUpAccessor)
   unfolding same
   looks_up_accessor =
-      asked mount.Token verb.Write (codes "auth") (codes "token/lookup-accessor") (codes "auth/token/lookup-accessor") (codes "token/lookup-accessor") [] (Tokens of_tokens.LookUpAccessor)
+      asked mount.Token verb.Write (codes "auth") (codes "token/lookup-accessor") (codes "auth/token/lookup-accessor")
+      (codes "token/lookup-accessor") [] (Tokens of_tokens.LookUpAccessor)
       (λ o. refl) refl refl (stands (route_rows mount.Token) (codes "token/lookup-accessor") refl) refl refl
 
   pub looks_up_self : AskedMeans verb.Get (codes "auth/token/lookup-self") (λ a. Ok (on_token token.LookUpSelf))
   unfolding same
   looks_up_self =
-      asked mount.Token verb.Get (codes "auth") (codes "token/lookup-self") (codes "auth/token/lookup-self") (codes "token/lookup-self") [] (Tokens of_tokens.LookUpSelf)
+      asked mount.Token verb.Get (codes "auth") (codes "token/lookup-self") (codes "auth/token/lookup-self")
+      (codes "token/lookup-self") [] (Tokens of_tokens.LookUpSelf)
       (λ o. refl) refl refl (stands (route_rows mount.Token) (codes "token/lookup-self") refl) refl refl
 
   pub lists_accessors : AskedMeans verb.List (codes "auth/token/accessors") (λ a. Ok (on_token token.ListAccessors))
   unfolding same
   lists_accessors =
-      asked mount.Token verb.List (codes "auth") (codes "token/accessors") (codes "auth/token/accessors") (codes "token/accessors") [] (Tokens of_tokens.ListAccessors)
+      asked mount.Token verb.List (codes "auth") (codes "token/accessors") (codes "auth/token/accessors")
+      (codes "token/accessors") [] (Tokens of_tokens.ListAccessors)
       (λ o. refl) refl refl (stands (route_rows mount.Token) (codes "token/accessors") refl) refl refl
 
   pub renews : WrittenMeans (codes "auth/token/renew") (on_found reader.token_renewal token.Renew)
   unfolding same
   renews =
-      asked mount.Token verb.Write (codes "auth") (codes "token/renew") (codes "auth/token/renew") (codes "token/renew") [] (Tokens of_tokens.Renew)
+      asked mount.Token verb.Write (codes "auth") (codes "token/renew") (codes "auth/token/renew")
+      (codes "token/renew") [] (Tokens of_tokens.Renew)
       (λ o. refl) refl refl (stands (route_rows mount.Token) (codes "token/renew") refl) refl refl
 
   pub renews_self : WrittenMeans (codes "auth/token/renew-self") (on_found reader.increment token.RenewSelf)
   unfolding same
   renews_self =
-      asked mount.Token verb.Write (codes "auth") (codes "token/renew-self") (codes "auth/token/renew-self") (codes "token/renew-self") [] (Tokens of_tokens.RenewSelf)
+      asked mount.Token verb.Write (codes "auth") (codes "token/renew-self") (codes "auth/token/renew-self")
+      (codes "token/renew-self") [] (Tokens of_tokens.RenewSelf)
       (λ o. refl) refl refl (stands (route_rows mount.Token) (codes "token/renew-self") refl) refl refl
 
   pub looks_up_lease : WrittenMeans (codes "sys/leases/lookup") (on_found_lease reader.lease_id lease.LookUp)
@@ -269,15 +294,19 @@ module _ (found : FoundByForm) (none : NoneFoundByForm) (ordered : AreInOrder) w
       → AskedMeans verb.Get (codes "cubbyhole/" ++ c ∷ path) (on_path (c ∷ path) cubbyhole.Read)
   unfolding same
   reads_object c path bytes =
-      asked mount.Cubbyhole verb.Get (codes "cubbyhole") (c ∷ path) (codes "cubbyhole/" ++ c ∷ path) (codes "{*path}") (c ∷ path)
-      (Cubbyholes of_cubbyholes.Read) (λ o. refl) refl bytes (record { listed = refl; form = refl; alone = refl }) refl refl
+      asked mount.Cubbyhole verb.Get (codes "cubbyhole") (c ∷ path) (codes "cubbyhole/" ++ c ∷ path) (codes "{*path}")
+      (c ∷ path)
+      (Cubbyholes of_cubbyholes.Read) (λ o. refl) refl bytes (record { listed = refl; form = refl; alone = refl })
+      refl refl
 
   pub deletes_object : (c : ℕ) (path : Text) → are_bytes (c ∷ path) ≡ true
       → AskedMeans verb.Delete (codes "cubbyhole/" ++ c ∷ path) (on_path (c ∷ path) cubbyhole.Delete)
   unfolding same
   deletes_object c path bytes =
-      asked mount.Cubbyhole verb.Delete (codes "cubbyhole") (c ∷ path) (codes "cubbyhole/" ++ c ∷ path) (codes "{*path}") (c ∷ path)
-      (Cubbyholes of_cubbyholes.Delete) (λ o. refl) refl bytes (record { listed = refl; form = refl; alone = refl }) refl refl
+      asked mount.Cubbyhole verb.Delete (codes "cubbyhole") (c ∷ path) (codes "cubbyhole/" ++ c ∷ path)
+      (codes "{*path}") (c ∷ path)
+      (Cubbyholes of_cubbyholes.Delete) (λ o. refl) refl bytes (record { listed = refl; form = refl; alone = refl })
+      refl refl
 
   -- ---- all of them
 

@@ -1,5 +1,6 @@
 -- What becomes of each secret by a request: versions follow the writes, deletions and destructions that were asked for.
-use Rattle.std.specs.Prelude.{◌≡◌, ◌≢◌, ◌⊎◌, ◌<◌, ◌≤◌, ◌+◌, ◌-◌, ◌==◌, ◌||◌, ℕ, zero, suc, List, [], ◌∷◌, Bool, true, false, not, cond}
+use Rattle.std.specs.Prelude.{◌≡◌, ◌≢◌, ◌⊎◌, ◌<◌, ◌≤◌, ◌+◌, ◌-◌, ◌==◌, ◌||◌, ℕ, zero}
+use Rattle.std.specs.Prelude.{suc, List, [], ◌∷◌, Bool, true, false, not, cond}
 use Rattle.std.specs.Prelude.{if◌then◌else◌, Contains, is_none, is_some, nat_eq, Option, Some, None, Ok, option_map, ⊤}
 use Rattle.std.specs.FinMap as fin
 use Rattle.std.specs.List.{starts_with}
@@ -28,13 +29,15 @@ use Rattle.kv2.specs.Secrets.{Written, secret_name}
 use Rattle.kv2.specs.SoundLaws.{write_is}
 use Rattle.kv2.specs.VersionLaws.{get-change_versions, next_versions}
 use Rattle.std.specs.Ordering.{nat_cmp}
-use Rattle.kv2.specs.Versions.{Settings, checked, check_and_set, described, destroyed, is_among, key_or_new, new_version, restored}
+use Rattle.kv2.specs.Versions.{Settings, checked, check_and_set, described, destroyed}
+use Rattle.kv2.specs.Versions.{is_among, key_or_new, new_version, restored}
 use Rattle.kv2.specs.Versions.{soft_deleted, version_of, versions_kept, with_changed, with_version}
 use Rattle.mounts.specs.Mounts.{disabled}
 use Rattle.api_json.specs.declared.secret_bodies.KeySettings.{KeySettings}
 use Rattle.api_json.specs.declared.secret_bodies.SecretWrite.{SecretWrite}
 use Rattle.broker_model.specs.Act.{act}
-use Rattle.broker_model.specs.Command.{Command, command_of, on_cubbyhole, on_issued, on_lease, on_mount, on_policy, on_secret, on_token}
+use Rattle.broker_model.specs.Command.{Command, command_of, on_cubbyhole, on_issued}
+use Rattle.broker_model.specs.Command.{on_lease, on_mount, on_policy, on_secret, on_token}
 use Rattle.broker_model.specs.Command.{on_wrapping}
 use Rattle.broker_model.specs.Effects.{SameUnless}
 use Rattle.broker_model.specs.Laws.{OperationsDoAsTold}
@@ -106,7 +109,8 @@ changed_stands a q k f ns stands = record {
       | false ↦ λ _. version_self a q k.current n v
     ] refl,
   );
-  none = λ n none. get-change_versions f (is_among ns) k.versions n ∙ ap (option_map (λ w. if is_among ns n then f w else w)) none;
+  none = λ n none. get-change_versions f (is_among ns) k.versions n
+      ∙ ap (option_map (λ w. if is_among ns n then f w else w)) none;
   settings = inl (refl, refl, refl, refl);
 }
 
@@ -119,11 +123,13 @@ deleted_stands a q current n v deletes = by v.deleted refl
     by None none = record { created = refl; secret = inl refl; deleted = inr (inl (none, refl, deletes)) }
     by (Some t) some = version_self a q current n v
 
-restored_stands : (a : Asking) (q : Text) (current n : ℕ) (v : Version) (ns : List ℕ) → Commands a q (secret.Undelete ns)
+restored_stands : (a : Asking) (q : Text) (current n : ℕ) (v : Version) (ns : List ℕ)
+    → Commands a q (secret.Undelete ns)
     → Contains ns n → VersionStands a q current n v (restored v)
 restored_stands a q current n v ns asked one = by v.secret refl
   where
-    by : (o : Option Text) → v.secret ≡ o → VersionStands a q current n v (if is_none o then v else record v { deleted = None })
+    by : (o : Option Text) → v.secret ≡ o
+        → VersionStands a q current n v (if is_none o then v else record v { deleted = None })
     by None none = version_self a q current n v
     by (Some t) some = record {
       created = refl;
@@ -131,9 +137,11 @@ restored_stands a q current n v ns asked one = by v.secret refl
       deleted = inr (inr (refl, (λ none. none-some _ (sym none ∙ some)), (ns, asked, one)));
     }
 
-destroyed_stands : (a : Asking) (q : Text) (current n : ℕ) (v : Version) (ns : List ℕ) → Commands a q (secret.Destroy ns)
+destroyed_stands : (a : Asking) (q : Text) (current n : ℕ) (v : Version) (ns : List ℕ)
+    → Commands a q (secret.Destroy ns)
     → Contains ns n → VersionStands a q current n v (destroyed v)
-destroyed_stands a q current n v ns asked one = record { created = refl; secret = inr (refl, (ns, asked, one)); deleted = inl refl }
+destroyed_stands a q current n v ns asked one =
+    record { created = refl; secret = inr (refl, (ns, asked, one)); deleted = inl refl }
 
 -- ---- one map
 
@@ -228,35 +236,40 @@ some_kept_at_all own of_mount kept r = by (own == 0) refl (of_mount == 0) refl
         omega (arith, r.by_own its, positive own its)
 
 -- check-and-set that passed
-module _ (own of_mount : Bool) (current : ℕ) (cas : Option ℕ) (passed : checked (own || of_mount) current cas ≡ Ok tt) where
-  set_passed : check_and_set (own || of_mount) current cas ≡ Ok tt
-  set_passed = (ok_step (check_and_set (own || of_mount) current cas) _ tt passed).1
+module _ (own of_mount : Bool) (current : ℕ) (cas : Option ℕ) (passed : checked (own || of_mount) current cas ≡ Ok tt)
+  where
+    set_passed : check_and_set (own || of_mount) current cas ≡ Ok tt
+    set_passed = (ok_step (check_and_set (own || of_mount) current cas) _ tt passed).1
 
-  told_is : (n : ℕ) → cas ≡ Some n → n ≡ current
-  told_is n some =
-      let same_ : unless (n == current) (refusal.BadRequest reason.CheckAndSetFailed) ≡ Ok tt =
-      by (own || of_mount) (ap (check_and_set (own || of_mount) current) (sym some) ∙ set_passed) in
-      by_test (n == current) refl same_
-    where
-      by : (v : Bool) → check_and_set v current (Some n) ≡ Ok tt → unless (n == current) (refusal.BadRequest reason.CheckAndSetFailed) ≡ Ok tt
-      by true e = e
-      by false e = e
+    told_is : (n : ℕ) → cas ≡ Some n → n ≡ current
+    told_is n some =
+        let same_ : unless (n == current) (refusal.BadRequest reason.CheckAndSetFailed) ≡ Ok tt =
+        by (own || of_mount) (ap (check_and_set (own || of_mount) current) (sym some) ∙ set_passed) in
+        by_test (n == current) refl same_
+      where
+        by : (v : Bool) → check_and_set v current (Some n) ≡ Ok tt
+            → unless (n == current) (refusal.BadRequest reason.CheckAndSetFailed) ≡ Ok tt
+        by true e = e
+        by false e = e
 
-      by_test : (v : Bool) → (n == current) ≡ v → unless v (refusal.BadRequest reason.CheckAndSetFailed) ≡ Ok tt → n ≡ current
-      by_test true at e = eqb-true n current at
-      by_test false at e = no_ok e
+        by_test : (v : Bool) → (n == current) ≡ v → unless v (refusal.BadRequest reason.CheckAndSetFailed) ≡ Ok tt
+            → n ≡ current
+        by_test true at e = eqb-true n current at
+        by_test false at e = no_ok e
 
-  untold_is : cas ≡ None → (own ≡ false) × (of_mount ≡ false)
-  untold_is none =
-      or_parts own of_mount (by (own || of_mount) refl (ap (check_and_set (own || of_mount) current) (sym none) ∙ set_passed))
-    where
-      by : (v : Bool) → (own || of_mount) ≡ v → check_and_set v current None ≡ Ok tt → (own || of_mount) ≡ false
-      by true at e = no_ok e
-      by false at e = at
+    untold_is : cas ≡ None → (own ≡ false) × (of_mount ≡ false)
+    untold_is none =
+        or_parts own of_mount (by (own || of_mount) refl (ap (check_and_set (own || of_mount) current) (sym none)
+        ∙ set_passed))
+      where
+        by : (v : Bool) → (own || of_mount) ≡ v → check_and_set v current None ≡ Ok tt → (own || of_mount) ≡ false
+        by true at e = no_ok e
+        by false at e = at
 
 -- what a write that passed left
 module _ (now : ℕ) (m : Mount) (asked : SecretWrite) (o : Option Key)
-    (passed : checked ((key_or_new now o).cas_required || m.cas_required) (key_or_new now o).current asked.cas ≡ Ok tt) where
+    (passed : checked ((key_or_new now o).cas_required || m.cas_required) (key_or_new now o).current asked.cas
+    ≡ Ok tt) where
   abbrev k : Key
   k = key_or_new now o
 
@@ -272,7 +285,8 @@ module _ (now : ℕ) (m : Mount) (asked : SecretWrite) (o : Option Key)
   positive_limit : 0 < limit
   positive_limit = some_kept_at_all k.max_versions m.max_versions limit (are_kept m k)
 
-  version_is : fin.get after.versions (k.current + 1) ≡ Some (record { created = now; deleted = None; secret = Some asked.object })
+  version_is : fin.get after.versions (k.current + 1)
+      ≡ Some (record { created = now; deleted = None; secret = Some asked.object })
   version_is =
       next_versions now limit asked.object o (k.current + 1)
       ∙ ap (λ v. cond v (cond ((k.current + 1) == (k.current + 1)) fresh (version_of o (k.current + 1))) None)
@@ -280,7 +294,9 @@ module _ (now : ℕ) (m : Mount) (asked : SecretWrite) (o : Option Key)
       ∙ ap (λ v. cond v fresh (version_of o (k.current + 1))) (eq-eqb (k.current + 1) (k.current + 1) refl)
 
   gone : (n : ℕ) → (n ≡ 0) ⊎ (n + limit ≤ k.current + 1) → fin.get after.versions n ≡ None
-  gone n low = next_versions now limit asked.object o n ∙ ap (λ v. cond v (cond (n == (k.current + 1)) fresh (version_of o n)) None) (le-ltb (k.current + 1 - limit) n (below low))
+  gone n low = next_versions now limit asked.object o n
+      ∙ ap (λ v. cond v (cond (n == (k.current + 1)) fresh (version_of o n)) None)
+      (le-ltb (k.current + 1 - limit) n (below low))
     where
       below : (n ≡ 0) ⊎ (n + limit ≤ k.current + 1) → n ≤ k.current + 1 - limit
       below (inl none) = omega (arith, none)
@@ -293,7 +309,8 @@ module _ (now : ℕ) (m : Mount) (asked : SecretWrite) (o : Option Key)
       by None = fin.get-empty nat_cmp n
       by (Some y) = refl
 
-  left : (n : ℕ) → n ≢ 0 → n ≢ k.current + 1 → k.current + 1 < n + limit → fin.get after.versions n ≡ fin.get k.versions n
+  left : (n : ℕ) → n ≢ 0 → n ≢ k.current + 1 → k.current + 1 < n + limit
+      → fin.get after.versions n ≡ fin.get k.versions n
   left n some other high = next_versions now limit asked.object o n
       ∙ ap (λ v. cond v (cond (n == (k.current + 1)) fresh (version_of o n)) None)
       (lt-ltb (k.current + 1 - limit) n (omega (arith, high, positive n some)))
@@ -347,7 +364,8 @@ module _ (a : Asking) (s : Served a) (means : command_of (clocked a).mounts a.as
   commands p k q is answered at =
       record { place = p; means = means ∙ ap Ok is; name = at; answered = is_204 a s answered }
 
-  writes : (p : Place) (asked : SecretWrite) (q : Text) (r : Reply) (made : Option Text) → s.command ≡ on_secret p (secret.Write asked)
+  writes : (p : Place) (asked : SecretWrite) (q : Text) (r : Reply) (made : Option Text)
+      → s.command ≡ on_secret p (secret.Write asked)
       → s.done.answered ≡ reply r made → q ≡ secret_name p.mount p.path → Writes a q asked
   writes p asked q r made is answered at =
       record { place = p; means = means ∙ ap Ok is; name = at; answered = is_200 a s r made answered }
@@ -361,7 +379,8 @@ module _ (a : Asking) (s : Served a) (means : command_of (clocked a).mounts a.as
   secrets_move c p secret.ShowSettings is e =
       let m = ok_step (some_or refusal.NotFound (secrets.config (spend now c) p.mount)) _ s.done e in
       all_same a now.secrets _ (ap (λ (d : Done). d.next.secrets) (sym (ok_inj m.2)))
-  secrets_move c p (secret.SetSettings asked) is e = all_same a now.secrets _ (ap (λ (d : Done). d.next.secrets) (sym (ok_inj e)))
+  secrets_move c p (secret.SetSettings asked) is e =
+      all_same a now.secrets _ (ap (λ (d : Done). d.next.secrets) (sym (ok_inj e)))
   secrets_move c p (secret.Read n) is e =
       let v = ok_step (some_or refusal.NotFound (secrets.read (spend now c) p.mount p.path n)) _ s.done e in
       all_same a now.secrets _ (ap (λ (d : Done). d.next.secrets) (sym (ok_inj v.2)))
@@ -369,13 +388,15 @@ module _ (a : Asking) (s : Served a) (means : command_of (clocked a).mounts a.as
       let m = ok_step (some_or refusal.NotFound (secrets.metadata (spend now c) p.mount p.path)) _ s.done e in
       all_same a now.secrets _ (ap (λ (d : Done). d.next.secrets) (sym (ok_inj m.2)))
   secrets_move c p secret.List is e =
-      let some = ok_step (unless (not (are_none (secrets.list (spend now c) p.mount p.path))) refusal.NotFound) _ s.done e in
+      let some =
+      ok_step (unless (not (are_none (secrets.list (spend now c) p.mount p.path))) refusal.NotFound) _ s.done e in
       all_same a now.secrets _ (ap (λ (d : Done). d.next.secrets) (sym (ok_inj some.2)))
   secrets_move c p (secret.Write asked) is e =
       let w = ok_step (secrets.write (spend now c) p.mount p.path asked.cas asked.object) _ s.done e in
       let x = write_is (spend now c) p.mount p.path asked.cas asked.object w.0 w.1 in
       let answered = ap (λ (d : Done). d.answered) (sym (ok_inj w.2)) in
-      subst (AllMove a now.secrets) (ap (λ (z : Written). z.next.secrets) (sym x.3) ∙ ap (λ (d : Done). d.next.secrets) (ok_inj w.2))
+      subst (AllMove a now.secrets) (ap (λ (z : Written). z.next.secrets) (sym x.3)
+      ∙ ap (λ (d : Done). d.next.secrets) (ok_inj w.2))
       (one_put a now.secrets (secret_name p.mount p.path) _ (λ q at o there.
       let it = writes p asked q _ _ is answered at in by _ q o (asked, it)))
     where
@@ -385,7 +406,8 @@ module _ (a : Asking) (s : Served a) (means : command_of (clocked a).mounts a.as
   secrets_move c p secret.DeleteCurrent is e =
       let answered = ap (λ (d : Done). d.answered) (sym (ok_inj e)) in
       subst Moved (ok_inj e)
-      (one_changed a now.secrets (secret_name p.mount p.path) (λ k. with_changed (soft_deleted now.clock) (k.current ∷ []) k) (λ q at k.
+      (one_changed a now.secrets (secret_name p.mount p.path)
+      (λ k. with_changed (soft_deleted now.clock) (k.current ∷ []) k) (λ q at k.
       changed_stands a q k (soft_deleted now.clock) (k.current ∷ []) (λ n v one.
       deleted_stands a q k.current n v (inl (commands p secret.DeleteCurrent q is answered at, only k.current n one)))))
   secrets_move c p (secret.Delete ns) is e =
@@ -410,8 +432,10 @@ module _ (a : Asking) (s : Served a) (means : command_of (clocked a).mounts a.as
       let answered = ap (λ (d : Done). d.answered) (sym (ok_inj e)) in
       let name = secret_name p.mount p.path in
       subst Moved (ok_inj e)
-      (one_put a now.secrets name (described now.clock (given asked) (key_or_new now.clock (get now.secrets name))) (λ q at o there.
-      subst (λ z. Moves a q o (Some (described now.clock (given asked) (key_or_new now.clock z)))) (sym there ∙ ap (get now.secrets) at)
+      (one_put a now.secrets name (described now.clock (given asked) (key_or_new now.clock (get now.secrets name)))
+      (λ q at o there.
+      subst (λ z. Moves a q o (Some (described now.clock (given asked) (key_or_new now.clock z))))
+      (sym there ∙ ap (get now.secrets) at)
       (by q o (commands p (secret.SetMetadata asked) q is answered at))))
     where
       by : (q : Text) (o : Option Key) → Commands a q (secret.SetMetadata asked)
@@ -424,7 +448,8 @@ module _ (a : Asking) (s : Served a) (means : command_of (clocked a).mounts a.as
       (one_gone a now.secrets (secret_name p.mount p.path) (λ q at. inl (commands p secret.Remove q is answered at)))
 
   -- the disabling of a mount
-  disabling_moves : (c name : Text) → s.command ≡ on_mount name of_mount.Disable → act_on_mounts (spend now c) names name of_mount.Disable ≡ Ok s.done
+  disabling_moves : (c name : Text) → s.command ≡ on_mount name of_mount.Disable
+      → act_on_mounts (spend now c) names name of_mount.Disable ≡ Ok s.done
       → Moved s.done
   disabling_moves c name is e =
       let next = ok_step (disabled now.mounts name) _ s.done e in
@@ -432,7 +457,8 @@ module _ (a : Asking) (s : Served a) (means : command_of (clocked a).mounts a.as
       subst Moved (ok_inj next.2) (by next.0 (get now.mounts name) refl answered)
     where
       by : (next : Map Mount) (o : Option Mount) → get now.mounts name ≡ o → s.done.answered ≡ nothing
-          → AllMove a now.secrets (if is_some o then without_kept (record (spend now c) { mounts = next }) name else spend now c).secrets
+          → AllMove a now.secrets (if is_some o then without_kept (record (spend now c) { mounts = next }) name
+          else spend now c).secrets
       by next None none answered = all_same a now.secrets now.secrets refl
       by next (Some m) some answered =
           some_kept a now.secrets (λ q. not (starts_with nat_eq q (secret_name name []))) (λ q goes.
@@ -448,7 +474,8 @@ module _ (a : Asking) (s : Served a) (means : command_of (clocked a).mounts a.as
 
   -- which commands may change secrets
   touches : (command : Command) → may_change (traits command).changes kind.KvKey ≡ true
-      → ((p : Place) × (k : SecretCommand) × (command ≡ on_secret p k)) ⊎ ((name : Text) × (command ≡ on_mount name of_mount.Disable))
+      → ((p : Place) × (k : SecretCommand) × (command ≡ on_secret p k)) ⊎
+      ((name : Text) × (command ≡ on_mount name of_mount.Disable))
   touches (on_secret p k) e = inl (p, k, refl)
   touches (on_mount name of_mount.Disable) e = inr (name, refl)
   touches (on_mount name _) e = absurd (false≢true e)
@@ -468,7 +495,8 @@ module _ (a : Asking) (s : Served a) (means : command_of (clocked a).mounts a.as
   abbrev Acted : Command → Option Text → Type 0
   Acted command caller = act (spent now caller) caller names command ≡ Ok s.done
 
-  by_caller : (p : Place) (k : SecretCommand) → s.command ≡ on_secret p k → (caller : Option Text) → Acted (on_secret p k) caller
+  by_caller : (p : Place) (k : SecretCommand) → s.command ≡ on_secret p k → (caller : Option Text)
+      → Acted (on_secret p k) caller
       → Moved s.done
   by_caller p k is None e = no_ok e
   by_caller p k is (Some c) e = secrets_move c p k is e
@@ -481,7 +509,8 @@ module _ (a : Asking) (s : Served a) (means : command_of (clocked a).mounts a.as
   served_moves : OperationsDoAsTold → Moved s.done
   served_moves told =
       elim (may_change (traits s.command).changes kind.KvKey) as
-      (λ v. may_change (traits s.command).changes kind.KvKey ≡ v → SameUnless v (spent now s.caller).secrets s.done.next.secrets → Moved s.done) [
+      (λ v. may_change (traits s.command).changes kind.KvKey ≡ v
+      → SameUnless v (spent now s.caller).secrets s.done.next.secrets → Moved s.done) [
         | true ↦ λ may _. elim (touches s.command may) [
           | inl (p, k, is) ↦ by_caller p k is s.caller (subst (λ (x : Command). Acted x s.caller) is s.acted)
           | inr (name, is) ↦ disabled_by name is s.caller (subst (λ (x : Command). Acted x s.caller) is s.acted)

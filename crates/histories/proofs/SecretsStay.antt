@@ -68,18 +68,24 @@ module _ (told : OperationsDoAsTold) (a : Asking) (sound : Sound forms None a.br
 
     given_ : AllGiven start
     given_ name k is n v there =
-        ((sound.secrets name k (ap (λ (m : Map Key). get m name) (sym (spent_same now caller)) ∙ is)).versions n v there).last
+        ((sound.secrets name k (ap (λ (m : Map Key). get m name) (sym (spent_same now caller)) ∙ is)).versions n v
+        there).last
 
-    by_result : (r : Result Wrapped Refusal) → serve permits traits act start caller q names ≡ r → Left (finish start caller r)
-    by_result (Err why) e = secrets_same a.broker.secrets (end_spent start caller).secrets (end_same start caller ∙ spent_same now caller)
+    by_result : (r : Result Wrapped Refusal) → serve permits traits act start caller q names ≡ r
+        → Left (finish start caller r)
+    by_result (Err why) e = secrets_same a.broker.secrets (end_spent start caller).secrets (end_same start caller
+        ∙ spent_same now caller)
     by_result (Ok v) e =
         let p = ok_step (unless (q.is_open || permits start caller q.verb q.path) permission_denied) _ v e in
         let r = ok_step (q.command start) _ v p.2 in
-        let n = ok_step (unless (are_new start.used (needed permits traits act q names r.0)) refusal.IdentifierUsed) _ v r.2 in
-        let m = ok_step (unless (not (traits r.0).must_wrap || nat_lt 0 q.wrap_ttl) (refusal.BadRequest reason.WrappingRequired)) _ v n.2 in
+        let n =
+        ok_step (unless (are_new start.used (needed permits traits act q names r.0)) refusal.IdentifierUsed) _ v r.2 in
+        let m = ok_step (unless (not (traits r.0).must_wrap || nat_lt 0 q.wrap_ttl)
+        (refusal.BadRequest reason.WrappingRequired)) _ v n.2 in
         let f = ok_step (act start caller names r.0) _ v m.2 in
         let left : (end_spent (counted v.done) caller).secrets ≡ (f.0).next.secrets =
-        end_same (counted v.done) caller ∙ ap (λ (x : Wrapped). x.done.next.secrets) (sym (ok_inj f.2)) ∙ wrapped_same q names start r.0 f.0 in
+        end_same (counted v.done) caller ∙ ap (λ (x : Wrapped). x.done.next.secrets) (sym (ok_inj f.2))
+        ∙ wrapped_same q names start r.0 f.0 in
         subst (SecretsStay a.broker.secrets) (sym left)
         (subst (λ (m : Map Key). SecretsStay m (f.0).next.secrets) (spent_same now caller)
         ((told start caller a.words r.0 f.0 f.1).versions given_))
@@ -97,20 +103,24 @@ module _ (told : OperationsDoAsTold) (a : Asking) (sound : Sound forms None a.br
 
 module _ (p : Place) (ns : List ℕ) where
   destroys : (b : Broker) (who : Option Text) (names : Names) (d : Done)
-      → act b who names (on_secret p (command.Destroy ns)) ≡ Ok d → d ≡ plainly nothing (secrets.destroy b p.mount p.path ns)
+      → act b who names (on_secret p (command.Destroy ns)) ≡ Ok d
+      → d ≡ plainly nothing (secrets.destroy b p.mount p.path ns)
   destroys b None _ d e = no_ok e
   destroys b (Some c) _ d e = sym (ok_inj e)
 
   -- a version that a 204 destroyed holds nothing
   holds_nothing : (a : Asking) → a.outcome ≡ step a.broker a.moment a.words a.ask
-      → command_of (clocked a).mounts a.ask ≡ Ok (on_secret p (command.Destroy ns)) → a.outcome.response.status ≡ status.NoContent
+      → command_of (clocked a).mounts a.ask ≡ Ok (on_secret p (command.Destroy ns))
+      → a.outcome.response.status ≡ status.NoContent
       → (n : ℕ) (m : Key) (w : Version) → is_among ns n ≡ true
-      → get a.outcome.next.secrets (secret_name p.mount p.path) ≡ Some m → fin.get m.versions n ≡ Some w → w.secret ≡ None
+      → get a.outcome.next.secrets (secret_name p.mount p.path) ≡ Some m → fin.get m.versions n ≡ Some w
+      → w.secret ≡ None
   holds_nothing a is means empty_ n m w among there held =
       let s = served a is (omega (arith, ap status_code empty_)) in
       let start = spent (clocked a) s.caller in
       let names = names_of a.words in
-      let is_command : s.command ≡ on_secret p (command.Destroy ns) = ok_inj (sym (means_at_clock a s.caller s.command s.means) ∙ means) in
+      let is_command : s.command ≡ on_secret p (command.Destroy ns) =
+      ok_inj (sym (means_at_clock a s.caller s.command s.means) ∙ means) in
       let done = destroys start s.caller names s.done
       (subst (λ (k : Command). act start s.caller names k ≡ Ok s.done) is_command s.acted) in
       let v = wrapped permits traits act start (request_of a.ask) names s.command s.done in
@@ -123,7 +133,8 @@ module _ (p : Place) (ns : List ℕ) where
       (ap (λ (z : Map Key). get z name) (sym left) ∙ there) in
       let is_changed : m ≡ f x.0 = x.2 ∙ ap (λ b. if b then f x.0 else x.0) (same_self name) in
       let y = mapped (λ (z : Version). if is_among ns n then destroyed z else z) (fin.get x.0.versions n) w
-      (sym (get-change_versions destroyed (is_among ns) x.0.versions n) ∙ ap (λ (z : Key). fin.get z.versions n) (sym is_changed) ∙ held) in
+      (sym (get-change_versions destroyed (is_among ns) x.0.versions n)
+      ∙ ap (λ (z : Key). fin.get z.versions n) (sym is_changed) ∙ held) in
       ap (λ (z : Version). z.secret) (y.2 ∙ ap (λ b. if b then destroyed y.0 else y.0) among)
 
 pub secrets_stay : OperationsDoAsTold → AllSecretsStay

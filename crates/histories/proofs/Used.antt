@@ -90,7 +90,8 @@ new_differ m (x ∷ xs) h =
 -- ---- one of many
 
 -- what is used with these is one of them, or was used before
-pub used_or : (m : Map ⊤) (is : List Text) (i : Text) → get (use_up m is) i ≢ None → (list_any (same i) is ≡ true) ⊎ (get m i ≢ None)
+pub used_or : (m : Map ⊤) (is : List Text) (i : Text) → get (use_up m is) i ≢ None
+    → (list_any (same i) is ≡ true) ⊎ (get m i ≢ None)
 used_or m [] i used = inr used
 used_or m (j ∷ js) i used =
     elim (same i j) as (λ v. (cond v (Some (tt {0})) (get (use_up m js) i) ≢ None)
@@ -109,13 +110,17 @@ any_left i [] ys h = absurd (false≢true h)
 
 pub any_right : (i : Text) (xs ys : List Text) → list_any (same i) ys ≡ true → list_any (same i) (xs ++ ys) ≡ true
 any_right i [] ys h = h
-any_right i (x ∷ xs) ys h = elim (same i x) as (λ v. (v || list_any (same i) (xs ++ ys)) ≡ true) [ true ↦ refl | false ↦ any_right i xs ys h ]
+any_right i (x ∷ xs) ys h = elim (same i x) as (λ v. (v || list_any (same i) (xs ++ ys)) ≡ true) [
+  | true ↦ refl
+  | false ↦ any_right i xs ys h
+]
 
 -- what is given out is used then
 pub member_used : (m : Map ⊤) (is : List Text) (i : Text) → list_any (same i) is ≡ true → get (use_up m is) i ≢ None
 member_used m [] i among none = absurd (false≢true among)
 member_used m (j ∷ js) i among none =
-    elim (same i j) as (λ v. (v || list_any (same i) js) ≡ true → cond v (Some (tt {0})) (get (use_up m js) i) ≡ None → ⊥) [
+    elim (same i j) as (λ v. (v || list_any (same i) js) ≡ true → cond v (Some (tt {0})) (get (use_up m js) i) ≡ None
+    → ⊥) [
       | true ↦ λ _ e. none-some _ (sym e)
       | false ↦ λ rest e. member_used m js i rest e
     ] among (sym (get-put (use_up m js) j (tt {0}) i) ∙ none)

@@ -84,7 +84,8 @@ module _ (a : Asking) (is : a.outcome ≡ step a.broker a.moment a.words a.ask) 
   was_204 success = served a is (omega (arith, ap status_code success))
 
 -- a command on a secret has a caller
-secret_caller : (b : Broker) (names : Names) (p : Place) (k : SecretCommand) (caller : Option Text) (d : Done) {P : Type 0}
+secret_caller : (b : Broker) (names : Names) (p : Place) (k : SecretCommand) (caller : Option Text)
+    (d : Done) {P : Type 0}
     → act (spent b caller) caller names (on_secret p k) ≡ Ok d
     → ((c : Text) → act_on_secrets (spend b c) names p k ≡ Ok d → P) → P
 secret_caller b names p k None d e go = no_ok e
@@ -119,14 +120,16 @@ was_named a q p name =
     × IsNewKey (clocked a).clock (key_or_new (clocked a).clock (get (clocked a).secrets u)))) name
     (was_there a q (get (clocked a).secrets q) refl)
 
-module _ (a : Asking) (is : a.outcome ≡ step a.broker a.moment a.words a.ask) (q : Text) (asked : SecretWrite) (w : Writes a q asked) where
+module _ (a : Asking) (is : a.outcome ≡ step a.broker a.moment a.words a.ask) (q : Text) (asked : SecretWrite)
+    (w : Writes a q asked) where
   abbrev here : Broker
   here = clocked a
 
   abbrev over : Key
   over = key_or_new here.clock (get here.secrets (secret_name w.place.mount w.place.path))
 
-  module _ (s : Served a) (c : Text) (e : act_on_secrets (spend here c) (names_of a.words) w.place (secret.Write asked) ≡ Ok s.done) where
+  module _ (s : Served a) (c : Text) (e : act_on_secrets (spend here c) (names_of a.words) w.place
+      (secret.Write asked) ≡ Ok s.done) where
     wrote_it : DidWrite a q asked
     wrote_it =
         let name = secret_name w.place.mount w.place.path in
@@ -135,7 +138,8 @@ module _ (a : Asking) (is : a.outcome ≡ step a.broker a.moment a.words a.ask) 
         let passed = ok_step (checked (over.cas_required || m.0.cas_required) over.current asked.cas) _ x.0 m.2 in
         let after = with_version here.clock (versions_kept m.0 over) asked.object over in
         let left : a.outcome.next.secrets ≡ (written (spend here c) m.0 name asked.object over).next.secrets =
-        served_left a s ∙ ap (λ (d : Done). d.next.secrets) (sym (ok_inj x.2)) ∙ ap (λ (z : Written). z.next.secrets) (sym (ok_inj passed.2)) in
+        served_left a s ∙ ap (λ (d : Done). d.next.secrets) (sym (ok_inj x.2))
+        ∙ ap (λ (z : Written). z.next.secrets) (sym (ok_inj passed.2)) in
         record {
           place = w.place;
           name = w.name;
@@ -144,7 +148,8 @@ module _ (a : Asking) (is : a.outcome ≡ step a.broker a.moment a.words a.ask) 
           before = over;
           was = was_named a q w.place w.name;
           after = after;
-          there = ap (get a.outcome.next.secrets) w.name ∙ ap (λ (z : Map Key). get z name) left ∙ get-put_self here.secrets name after;
+          there = ap (get a.outcome.next.secrets) w.name ∙ ap (λ (z : Map Key). get z name) left
+              ∙ get-put_self here.secrets name after;
           is = is_written here.clock m.0 asked (get here.secrets name) passed.1;
         }
 
@@ -199,8 +204,10 @@ module _ (a : Asking) (is : a.outcome ≡ step a.broker a.moment a.words a.ask) 
       let k = on_secret w.place secret.Remove in
       let s = was_204 a is k w.means w.answered in
       let name = secret_name w.place.mount w.place.path in
-      secret_caller (clocked a) (names_of a.words) w.place secret.Remove s.caller s.done (acted a is k w.means s) (λ c e.
-      ap (get a.outcome.next.secrets) w.name ∙ ap (λ (z : Map Key). get z name) (served_left a s ∙ ap (λ (d : Done). d.next.secrets) (sym (ok_inj e)))
+      secret_caller (clocked a) (names_of a.words) w.place secret.Remove s.caller s.done (acted a is k w.means s)
+      (λ c e.
+      ap (get a.outcome.next.secrets) w.name
+      ∙ ap (λ (z : Map Key). get z name) (served_left a s ∙ ap (λ (d : Done). d.next.secrets) (sym (ok_inj e)))
       ∙ get-without_self (clocked a).secrets name)
 
   disabled_below : DisablesAbove a q → get a.outcome.next.secrets q ≡ None
@@ -209,7 +216,8 @@ module _ (a : Asking) (is : a.outcome ≡ step a.broker a.moment a.words a.ask) 
       by s s.caller (acted a is (on_mount w.name of_mount.Disable) w.means s)
     where
       bare : (next : Map Mount) (c : Text) (o : Option Mount) → o ≢ None
-          → get (if is_some o then without_kept (record (spend (clocked a) c) { mounts = next }) w.name else spend (clocked a) c).secrets q ≡ None
+          → get (if is_some o then without_kept (record (spend (clocked a) c) { mounts = next }) w.name
+          else spend (clocked a) c).secrets q ≡ None
       bare next c None there = absurd (there refl)
       bare next c (Some m) there =
           get-keep (λ u. not (starts_with nat_eq u (secret_name w.name []))) (clocked a).secrets q
@@ -308,17 +316,21 @@ module _ (a : Asking) (is : a.outcome ≡ step a.broker a.moment a.words a.ask) 
 -- ---- a read
 
 -- a version whose object is left
-left_is : (v : Version) → is_some (object_left v) ≡ true → (object : Text) × (v.deleted ≡ None) × (v.secret ≡ Some object)
+left_is : (v : Version) → is_some (object_left v) ≡ true → (object : Text) × (v.deleted ≡ None)
+    × (v.secret ≡ Some object)
 left_is v h = by v.deleted refl v.secret refl h
   where
-    by : (o : Option ℕ) → v.deleted ≡ o → (x : Option Text) → v.secret ≡ x → is_some (if is_some o then None else x) ≡ true
+    by : (o : Option ℕ) → v.deleted ≡ o → (x : Option Text) → v.secret ≡ x
+        → is_some (if is_some o then None else x) ≡ true
         → (object : Text) × (v.deleted ≡ None) × (v.secret ≡ Some object)
     by (Some t) some x is e = absurd (false≢true e)
     by None none None is e = absurd (false≢true e)
     by None none (Some object) is e = (object, none, is)
 
-module _ (told : OperationsDoAsTold) (a : Asking) (is : a.outcome ≡ step a.broker a.moment a.words a.ask) (p : Place) (n : ℕ)
-    (means : command_of (clocked a).mounts a.ask ≡ Ok (on_secret p (secret.Read n))) (success : a.outcome.response.status ≡ status.Success) where
+module _ (told : OperationsDoAsTold) (a : Asking) (is : a.outcome ≡ step a.broker a.moment a.words a.ask) (p : Place)
+    (n : ℕ)
+    (means : command_of (clocked a).mounts a.ask ≡ Ok (on_secret p (secret.Read n)))
+    (success : a.outcome.response.status ≡ status.Success) where
   abbrev request : Text
   request = (names_of a.words).request
 
@@ -343,7 +355,8 @@ module _ (told : OperationsDoAsTold) (a : Asking) (is : a.outcome ≡ step a.bro
     abbrev told_so : Bool → Option ℕ → VersionObject
     told_so gone time = record { created = v.created; deleted = time; destroyed = gone; version = number }
 
-    reads : (object : Text) → v.deleted ≡ None → v.secret ≡ Some object → it.done.answered ≡ reply (version_reply request found) None
+    reads : (object : Text) → v.deleted ≡ None → v.secret ≡ Some object
+        → it.done.answered ≡ reply (version_reply request found) None
         → ReadsVersion a p n
     reads object not_deleted holds answered = record {
       key = k;
@@ -360,12 +373,14 @@ module _ (told : OperationsDoAsTold) (a : Asking) (is : a.outcome ≡ step a.bro
       is_shown = ap (told_so (is_none v.secret)) not_deleted
           ∙ ap (λ (o : Option Text). told_so (is_none o) None) holds;
       reply = sym (tells_body told a it (version_reply request found) None answered).0
-          ∙ ap (λ o. reply_text (plain_reply request (secret_object o (entries k.custom_metadata) (version_shown number v))))
+          ∙ ap (λ o. reply_text (plain_reply request
+          (secret_object o (entries k.custom_metadata) (version_shown number v))))
           (ap (λ (o : Option ℕ). if is_some o then None else v.secret) not_deleted ∙ holds);
     }
 
     by_left : (w : Bool) → is_some (object_left v) ≡ w
-        → it.done.answered ≡ (if w then reply (version_reply request found) None else missing (version_reply request found)) → ReadsVersion a p n
+        → it.done.answered ≡ (if w then reply (version_reply request found) None
+        else missing (version_reply request found)) → ReadsVersion a p n
     by_left true left answered = let x = left_is v left in reads x.0 x.1 x.2 answered
     by_left false left answered = absurd (apart (sym success ∙ is_404 a it (version_reply request found) answered))
       where
@@ -386,7 +401,8 @@ module _ (told : OperationsDoAsTold) (a : Asking) (is : a.outcome ≡ step a.bro
 
 -- ---- where what is held comes from
 
-module _ (told : OperationsDoAsTold) (a : Asking) (is : a.outcome ≡ step a.broker a.moment a.words a.ask) (q : Text) (n : ℕ) (object : Text) where
+module _ (told : OperationsDoAsTold) (a : Asking) (is : a.outcome ≡ step a.broker a.moment a.words a.ask) (q : Text)
+    (n : ℕ) (object : Text) where
   -- the event wrote it, as that version
   abbrev Wrote : Type 0
   Wrote = (asked : SecretWrite) × (w : DidWrite a q asked) × (w.after.current ≡ n) × (asked.object ≡ object)
@@ -394,7 +410,8 @@ module _ (told : OperationsDoAsTold) (a : Asking) (is : a.outcome ≡ step a.bro
   abbrev From : Type 0
   From = Wrote ⊎ Holds (clocked a) q n object
 
-  module _ (m : Key) (there : get a.outcome.next.secrets q ≡ Some m) (v : Version) (kept : fin.get m.versions n ≡ Some v)
+  module _ (m : Key) (there : get a.outcome.next.secrets q ≡ Some m) (v : Version)
+      (kept : fin.get m.versions n ≡ Some v)
       (holds : v.secret ≡ Some object) where
     -- a version that was there before the write
     from_before : (asked : SecretWrite) (w : DidWrite a q asked) → fin.get w.before.versions n ≡ Some v → From
@@ -456,7 +473,8 @@ module _ (told : OperationsDoAsTold) (a : Asking) (is : a.outcome ≡ step a.bro
 -- ---- over a history
 
 -- what was written at an event of the rest was written before a later place
-later_on : (x : Option Asking) (history : History) (j : ℕ) (q : Text) (n : ℕ) (object : Text) → WroteBefore history j q n object
+later_on : (x : Option Asking) (history : History) (j : ℕ) (q : Text) (n : ℕ) (object : Text)
+    → WroteBefore history j q n object
     → WroteBefore (x ∷ history) (suc j) q n object
 later_on x history j q n object w = record {
   place = suc w.place;
@@ -470,17 +488,25 @@ later_on x history j q n object w = record {
 }
 
 given_at : OperationsDoAsTold → (b : Broker) (history : History) (j : ℕ) (x : Asking) (q : Text) (n : ℕ) (object : Text)
-    → AreAsked b history → AskedAt history j x → Holds (clocked x) q n object → WroteBefore history j q n object ⊎ Holds b q n object
+    → AreAsked b history → AskedAt history j x → Holds (clocked x) q n object
+    → WroteBefore history j q n object ⊎ Holds b q n object
 given_at told b [] j x q n object h at holds = absurd (none-some _ at)
 given_at told b (None ∷ later) zero x q n object h at holds = absurd (none-some _ at)
-given_at told b (None ∷ later) (suc j) x q n object h at holds = elim (given_at told b later j x q n object h at holds) [
-  | inl w ↦ inl (later_on None later j q n object w)
-  | inr first ↦ inr first
-]
+given_at told b (None ∷ later) (suc j) x q n object h at holds =
+    elim (given_at told b later j x q n object h at holds) [
+      | inl w ↦ inl (later_on None later j q n object w)
+      | inr first ↦ inr first
+    ]
 given_at told b (Some y ∷ later) zero x q n object (is, h) at holds =
     inr (subst (λ (z : Broker). Holds z q n object) is.broker
     (subst (λ (z : Asking). Holds z.broker q n object) (sym (same_Some _ _ at))
-    (record { key = holds.key; there = holds.there; version = holds.version; is_kept = holds.is_kept; holds = holds.holds })))
+    (record {
+      key = holds.key;
+      there = holds.there;
+      version = holds.version;
+      is_kept = holds.is_kept;
+      holds = holds.holds;
+    })))
 given_at told b (Some y ∷ later) (suc j) x q n object (is, h) at holds =
     elim (given_at told y.outcome.next later j x q n object h at holds) [
       | inl w ↦ inl (later_on (Some y) later j q n object w)
@@ -514,19 +540,23 @@ versions_follow told b history h = record {
   set = λ i a q asked at w. did_set a (asked_at b history i a h at).outcome q asked w;
   stand = λ i a q k m at was there.
       subst (λ (o : Option Key). Moves a q o (Some m)) was
-      (subst (Moves a q (get (clocked a).secrets q)) there (secrets_moved told a (asked_at b history i a h at).outcome q));
+      (subst (Moves a q (get (clocked a).secrets q)) there
+      (secrets_moved told a (asked_at b history i a h at).outcome q));
   as_asked = λ i a q m n v at there kept. as_asked a (asked_at b history i a h at).outcome q m there n v kept;
   go = λ i a q at was none. by_before a q (get (clocked a).secrets q) refl was
-      (subst (Moves a q (get (clocked a).secrets q)) none (secrets_moved told a (asked_at b history i a h at).outcome q));
+      (subst (Moves a q (get (clocked a).secrets q)) none
+      (secrets_moved told a (asked_at b history i a h at).outcome q));
   come = λ i a q m at none there.
       subst (λ (o : Option Key). Moves a q o (Some m)) none
-      (subst (Moves a q (get (clocked a).secrets q)) there (secrets_moved told a (asked_at b history i a h at).outcome q));
+      (subst (Moves a q (get (clocked a).secrets q)) there
+      (secrets_moved told a (asked_at b history i a h at).outcome q));
   gone = λ i a q at goes. goes_away a (asked_at b history i a h at).outcome q goes;
   read = λ i a p n at means success. reads_version told a (asked_at b history i a h at).outcome p n means success;
   given = λ j x q n object at holds. given_at told b history j x q n object h at holds;
 }
   where
-    by_before : (a : Asking) (q : Text) (o : Option Key) → get (clocked a).secrets q ≡ o → get (clocked a).secrets q ≢ None
+    by_before : (a : Asking) (q : Text) (o : Option Key) → get (clocked a).secrets q ≡ o
+        → get (clocked a).secrets q ≢ None
         → Moves a q o None → Goes a q
     by_before a q None is was moves = absurd (was is)
     by_before a q (Some k) is was moves = moves

@@ -60,16 +60,20 @@ module _ (told : OperationsDoAsTold) (a : Asking) (sound : Sound forms None a.br
         (may_wrap s.command (ap stays_plain command_is ∙ is_wrapped))
 
     -- what was answered, wrapped
-    wrapped_is : wrapped permits traits act start q names s.command s.done ≡ wrap_200 start a.ask.path a.ask.wrap_ttl names s.done s.done.answered
+    wrapped_is : wrapped permits traits act start q names s.command s.done
+        ≡ wrap_200 start a.ask.path a.ask.wrap_ttl names s.done s.done.answered
     wrapped_is =
-        ap (λ v. if v then wrap_200 start a.ask.path a.ask.wrap_ttl names s.done s.done.answered else unwrapped s.done) wraps_it
+        ap (λ v. if v then wrap_200 start a.ask.path a.ask.wrap_ttl names s.done s.done.answered
+        else unwrapped s.done) wraps_it
 
     wrapped_as : (x : Answered) → s.done.answered ≡ x
-        → wrapped permits traits act start q names s.command s.done ≡ wrap_200 start a.ask.path a.ask.wrap_ttl names s.done x
+        → wrapped permits traits act start q names s.command s.done
+        ≡ wrap_200 start a.ask.path a.ask.wrap_ttl names s.done x
     wrapped_as x answered = wrapped_is ∙ ap (wrap_200 start a.ask.path a.ask.wrap_ttl names s.done) answered
 
     -- the code of an answer that was not wrapped
-    code_is : (x : Answered) → s.done.answered ≡ x → wrapped permits traits act start q names s.command s.done ≡ unwrapped s.done
+    code_is : (x : Answered) → s.done.answered ≡ x → wrapped permits traits act start q names s.command s.done
+        ≡ unwrapped s.done
         → 200 ≡ status_code (response_to x).status
     code_is x answered plain =
         sym (ap status_code success) ∙ ap (λ (o : Outcome). status_code o.response.status) s.outcome
@@ -78,12 +82,14 @@ module _ (told : OperationsDoAsTold) (a : Asking) (sound : Sound forms None a.br
 
     by_answer : (x : Answered) → s.done.answered ≡ x → KeepsReply a (unwrapped_body a) names.wrapping_token
     by_answer nothing answered = absurd (omega (arith, code_is nothing answered (wrapped_as nothing answered)))
-    by_answer (missing r) answered = absurd (omega (arith, code_is (missing r) answered (wrapped_as (missing r) answered)))
+    by_answer (missing r) answered = absurd (omega
+        (arith, code_is (missing r) answered (wrapped_as (missing r) answered)))
     by_answer (kept_text t) answered =
         absurd (false≢true (sym ((told start s.caller a.words s.command s.done s.acted).not_kept
         (may_wrap s.command (ap stays_plain command_is ∙ is_wrapped))) ∙ ap is_kept answered))
     by_answer (reply r made) answered =
-        was_kept permits traits act unwrapped_body a q refl refl (λ c caller k d new done. are_proper told c caller a.words k d new done)
+        was_kept permits traits act unwrapped_body a q refl refl
+        (λ c caller k d new done. are_proper told c caller a.words k d new done)
         sound.identifiers sound.waiting (tells_body told a) s (kept_entry start a.ask.path a.ask.wrap_ttl names r)
         (r, made, wraps_it, answered, wrapped_as (reply r made) answered) refl
 

@@ -2,8 +2,10 @@ pub mod AnswersLemmas
 pub mod AskingLemmas
 pub mod EndingLemmas
 pub mod EntryLemmas
+pub mod FrontLemmas
 pub mod HistoryLemmas
 pub mod HubLemmas
+pub mod KeepsLemmas
 pub mod KnownLemmas
 pub mod ListedLemmas
 pub mod NumberLemmas
@@ -11,7 +13,7 @@ pub mod OrderLemmas
 pub mod RequestLemmas
 pub mod RunHistories
 pub mod RunLemmas
-pub mod ServeLemmas
+pub mod ServedLemmas
 pub mod ServingLemmas
 pub mod TakingLemmas
 pub mod TurnLemmas

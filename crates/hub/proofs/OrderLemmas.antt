@@ -1,5 +1,5 @@
 -- Turns on many lines, in any order.
-use Rattle.std.proofs.Common.{◌≡◌, ◌≢◌, ◌∙◌, ◌<◌, ℕ, Bool, true, false, cond, List, [], ◌∷◌, ◌++◌, length, nat_eq, get_or, set, Option, Some, None, Result, Ok, Err, MatchResult, OnOk}
+use Rattle.std.proofs.Common.{◌≡◌, ◌≢◌, ◌∙◌, ◌<◌, ℕ, Bool, true, false, cond, List, [], ◌∷◌, ◌++◌, length, nat_eq, get_or, set, Option, Some, None, Result, Ok, Err, OnOk}
 use Rattle.std.proofs.Common.{IsTrue, is_some, refl, sym, ap, subst, append_assoc, append-nil, eq-eqb, ne_eqb, eqb-true, arith}
 use Rattle.std.proofs.lemmas.Bool.{eqb-false, false≢true}
 use Rattle.std.proofs.lemmas.List.{get_or_default, get_or-set_same, get_or-set_other}
@@ -10,14 +10,12 @@ use Rattle.std.specs.Io.KnownBytes.{Appends, Consumes}
 use Rattle.std.specs.List.{All, concat, flat_map}
 use Rattle.std.specs.Result.{result_err}
 use Rattle.broker.specs.Kept.{Kept}
-use Rattle.hub.specs.Feeding.{IsLater}
 use Rattle.hub.specs.Links.{number_of, unsent}
 use Rattle.hub.specs.Ordering.{EndsBy, HaveNumbers, IsAnswer, IsCaused, IsOther, IsServedLine, ServesLines, TurnsLine, number_at, replies_in, reply_by, steps_of}
-use Rattle.hub.specs.Representing.{ConnectionsRepresent, hub_store}
-use Rattle.hub.specs.Serving.{IsUnanswered, LeavesOthers, pieces_in}
+use Rattle.hub.specs.Serving.{IsUnanswered, pieces_in}
 use Rattle.hub.specs.Steps.{IsStepOf, Step, answered, answers_of, closed, conn_of, faulted, fed_by, fed_in, stop_of}
 use Rattle.hub.specs.StepsLaws.{answers_each, fed_answers, fed_stopped, steps_none, steps_on, steps_proceeding, steps_stopping, stops_each}
-use Rattle.hub.specs.Turning.{Passes, TakesTurn, TurnStops}
+use Rattle.hub.specs.Turning.{Passes, TurnsLink}
 use Rattle.hub.specs.World.{Connections}
 use Rattle.hub.specs.declared.event.Event.{Event}
 use Rattle.hub.specs.declared.hub.Hub.{Hub}
@@ -199,60 +197,55 @@ caused_by f (Err Write) x y is read write = subst (λ (o : Option ConnectionFaul
 
 pub line_turned : {S R W : Type 0} (seen : S → Kept) (left : R → Option (List ℕ)) (written : W → Option (List ℕ)) (read_failed : R → Bool) (write_failed : W → Bool) (X : List Event → Type 0)
     (o : Line R W) (link : Link) (reader : R) (writer : W) (f : Option ConnectionFault) (r : Result Turn ConnectionFault) (old new : Hub S)
-    → o.fault ≡ None → f ≡ result_err r → number_of link ≡ number_of o.link → IsLater (hub_store seen old) (hub_store seen new)
-    → ((all : Connections) → ConnectionsRepresent old all → LeavesOthers (number_of o.link) all new)
-    → (r ≡ Err Read → IsTrue (read_failed reader)) → (r ≡ Err Write → IsTrue (write_failed writer))
+    → o.fault ≡ None → f ≡ result_err r
+    → TurnsLink seen o.link link (Consumes (left o.reader) (left reader)) (Appends (written o.writer) (written writer)) X
+    (IsTrue (read_failed reader)) (IsTrue (write_failed writer)) r old new
     → OnOk r ((read_failed reader ≡ read_failed o.reader) × (write_failed writer ≡ write_failed o.writer))
-    → MatchResult r
-    (λ turn. TakesTurn seen turn (number_of o.link) (Consumes (left o.reader) (left reader))
-    (Passes (Appends (written o.writer) (written writer)) (unsent o.link) (unsent link)) X old new)
-    (λ fault. TurnStops seen (number_of o.link) (Consumes (left o.reader) (left reader))
-    (Passes (Appends (written o.writer) (written writer)) (unsent o.link) (unsent link)) X fault old new)
     → TurnsLine seen left written read_failed write_failed X o (record { link = link; reader = reader; writer = writer; fault = f }) old new
-line_turned seen left written read_failed write_failed X o link reader writer f (Ok turn) old new going is same later others read write heard t =
+line_turned seen left written read_failed write_failed X o link reader writer f (Ok turn) old new going is t heard =
     let conn = number_of o.link in
-    let p = t.on in
+    let p = t.took.on in
     let es = p.exchange.events in
     let rs = p.exchange.replies in
     record {
       steps = answers_of es rs;
-      on = steps_proceeding seen conn _ _ X old new later p;
+      on = steps_proceeding seen conn _ _ X old new t.keeps.later p;
       own = answers_each conn es rs p.exchange.of_connection p.exchange.listed;
       served = record {
-        same = same;
+        same = t.same;
         reads = subst (λ (l : List Event). Consumes (left o.reader) (left reader) (pieces_in l)) (sym (fed_answers es rs p.exchange.each)) p.reads;
         sends = subst (λ (l : List (List ℕ)). Passes (Appends (written o.writer) (written writer)) (unsent o.link) (unsent link) (concat l))
             (sym (answers_replies es rs p.exchange.each)) p.writes;
         ends = λ none. subst (λ (x : Option ConnectionFault). EndsBy x (answers_of es rs)) (sym is) (answers_are es rs);
-        caused = λ none. caused_by f (Ok turn) (read_failed reader) (write_failed writer) is read write;
+        caused = λ none. caused_by f (Ok turn) (read_failed reader) (write_failed writer) is t.keeps.read t.keeps.write;
         heard = λ none. heard;
         stays = λ fault had. absurd (some_is_none (sym had ∙ going));
       };
-      others = others;
+      others = t.others;
     }
-line_turned seen left written read_failed write_failed X o link reader writer f (Err fault) old new going is same later others read write heard t =
+line_turned seen left written read_failed write_failed X o link reader writer f (Err fault) old new going is t heard =
     let conn = number_of o.link in
-    let s = t.stops in
+    let s = t.took.stops in
     let es = s.exchange.events in
     let rs = s.exchange.replies in
     let steps = answers_of es rs ++ stop_of conn s.last in
     record {
       steps = steps;
-      on = steps_stopping seen conn _ _ X fault old new later s;
+      on = steps_stopping seen conn _ _ X fault old new t.keeps.later s;
       own = stops_each conn fault s.last s.exchange s.unanswered;
       served = record {
-        same = same;
+        same = t.same;
         reads = subst (λ (l : List Event). Consumes (left o.reader) (left reader) (pieces_in l))
             (sym (fed_stopped conn fault s.last s.exchange s.unanswered)) s.reads;
         sends = subst (λ (l : List ℕ). Passes (Appends (written o.writer) (written writer)) (unsent o.link) (unsent link) l)
-            (sym (stopped_replies conn s.last es rs s.exchange.each)) t.written;
+            (sym (stopped_replies conn s.last es rs s.exchange.each)) t.took.written;
         ends = λ none. subst (λ (x : Option ConnectionFault). EndsBy x steps) (sym is)
             (stop_ends conn fault s.last (answers_of es rs) s.unanswered (answers_are es rs));
-        caused = λ none. caused_by f (Err fault) (read_failed reader) (write_failed writer) is read write;
+        caused = λ none. caused_by f (Err fault) (read_failed reader) (write_failed writer) is t.keeps.read t.keeps.write;
         heard = λ none. absurd (some_is_none (sym is ∙ none));
         stays = λ had at. absurd (some_is_none (sym at ∙ going));
       };
-      others = others;
+      others = t.others;
     }
 
 -- ---- one turn on one of the lines

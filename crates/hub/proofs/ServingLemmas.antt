@@ -1,12 +1,13 @@
 -- Serving a connection: events run one after another.
-use Rattle.std.proofs.Common.{◌≡◌, ◌≢◌, ◌∙◌, ◌⊎◌, inl, inr, ℕ, ◌+◌, ◌<◌, ◌≤◌, Bool, true, false, cond, List, [], ◌∷◌, ◌++◌, length, map, MatchBool, Option, Some, None}
+use Rattle.std.proofs.Common.{◌≡◌, ◌≢◌, ◌∙◌, ◌⊎◌, inl, inr, ℕ, ◌+◌, ◌<◌, ◌≤◌, Bool, true, false, cond, List, [], ◌∷◌, ◌++◌, length, map, MatchBool, Option, Some, None, Vec, Ok}
 use Rattle.std.proofs.Common.{IsTrue, refl, sym, ap, subst, append_assoc, append-nil, arith}
 use Rattle.std.proofs.lemmas.List.{length-append, map-append}
 use Rattle.std.proofs.lemmas.List.Elements.{All-append, All-cons, All-nil}
 use Rattle.std.proofs.lemmas.List.Folds.{concat-append}
 use Rattle.std.proofs.lemmas.Map.{update_apart}
-use Rattle.std.specs.Io.KnownBytes.{Appends, IsAtEnd}
+use Rattle.std.specs.Io.KnownBytes.{IsAtEnd}
 use Rattle.std.specs.List.{concat}
+use Rattle.std.specs.declared.alloc.Global.{Global}
 use Rattle.broker_types.specs.declared.fault.Fault.{Fault}
 use Rattle.broker_types.specs.declared.fault.Fault.TheVariants.{Memory}
 use Rattle.broker_types.specs.declared.words.Words.{Words}
@@ -14,19 +15,19 @@ use Rattle.broker_rows.specs.Representing.{Represents}
 use Rattle.broker.specs.Kept.{Kept, IsHonestStore}
 use Rattle.records.specs.Transaction.{Rows}
 use Rattle.hub.specs.AnyRows.{FaultsAt, NextConnections, RunConnections, TurnsOpen, close_history}
+use Rattle.hub.specs.Feeding.{Keeps}
 use Rattle.hub.specs.HistoriesLaws.{asked_on, run_left}
 use Rattle.hub.specs.Listed.{IsListedReply}
 use Rattle.hub.specs.Representing.{ConnectionsRepresent, HubRepresents, hub_store}
 use Rattle.hub.specs.Runs.{Answers, AnswersOne}
 use Rattle.hub.specs.Serving.{Exchange, pieces_in, sent_in, Proceeds, Stops, LeavesClosed, LeavesOthers, IsEventOf, longest_piece}
-use Rattle.hub.specs.Serving.{HasEnded, IsAnswered, RunsBefore}
+use Rattle.hub.specs.Serving.{HasEnded, IsAnswered, IsUnanswered, RunsBefore}
 use Rattle.hub.specs.World.{Connections, History, World, history_at, put_history}
 use Rattle.hub.specs.declared.event.Event.{Event}
 use Rattle.hub.specs.declared.hub.Hub.{Hub}
 use Rattle.hub.specs.declared.serve.ConnectionFault.{ConnectionFault}
-use Rattle.hub.specs.declared.serve.ConnectionFault.TheVariants.{Broker as OfBroker, Read, Write}
+use Rattle.hub.specs.declared.serve.ConnectionFault.TheVariants.{Broker as OfBroker, Write}
 use Rattle.hub.proofs.AnswersLemmas.{answers_none, answers_on, answers_one}
-use Rattle.hub.proofs.KnownLemmas.{Appends-nil}
 use Rattle.hub.proofs.RunHistories.{EventsAsked-append}
 use Rattle.hub.proofs.RunLemmas.{Run-append}
 
@@ -120,7 +121,7 @@ before_on seen w es fs rs ss hub a b =
     }
 
 -- no event
-before_none : (w : World) → RunsBefore w [] []
+pub before_none : (w : World) → RunsBefore w [] []
 before_none w = record { after = w; run = refl; history = []; asks = refl; asked = tt }
 
 pub stops_on : {S : Type 0} (seen : S → Kept) (conn : ℕ) (P Q R T U V : List ℕ → Type 0) (X Y Z : List Event → Type 0)
@@ -171,7 +172,7 @@ stops_on seen conn P Q R T U V X Y Z fault old mid new reads writes draws before
     }
 
 -- nothing was done so far
-pub proceeds_none : {S : Type 0} (seen : S → Kept) (conn : ℕ) (P T : List ℕ → Type 0) (X : List Event → Type 0) (hub : Hub S)
+abbrev pub proceeds_none : {S : Type 0} (seen : S → Kept) (conn : ℕ) (P T : List ℕ → Type 0) (X : List Event → Type 0) (hub : Hub S)
     → P [] → T [] → X [] → Proceeds seen conn P T X hub hub
 proceeds_none seen conn P T X hub p t x =
     record {
@@ -218,32 +219,33 @@ abbrev pub event_of : ℕ → List ℕ → ℕ → Words → Event
 event_of conn piece m ws = record { conn = conn; piece = piece; moment = m; words = ws }
 
 -- what feeding an event that had no fault ensures
-pub record Fed {S : Type 0} (seen : S → Kept) (conn : ℕ) (piece : List ℕ) (m : ℕ) (ws : Words) (bytes : List ℕ) (old new : Hub S) : Type 0 where
+pub record Fed {S : Type 0} (seen : S → Kept) (conn : ℕ) (piece : List ℕ) (m : ℕ) (ws : Words) (reply : Vec ℕ Global) (old new : Hub S)
+    : Type 0 where
   pub short : length piece ≤ longest_piece
   pub answers : IsHonestStore (hub_store seen new) → (w : World) → HubRepresents seen old w
-      → AnswersOne seen w (event_of conn piece m ws) bytes new
+      → AnswersOne seen w (event_of conn piece m ws) reply.items new
   pub gives : (all : Connections) → ConnectionsRepresent old all
-      → (after : Connections) × ConnectionsRepresent new after × NextConnections all conn piece m bytes after
-  pub listed : IsListedReply bytes
+      → (after : Connections) × ConnectionsRepresent new after × NextConnections all conn piece m reply.items after
+  pub listed : IsListedReply reply.items
+  pub keeps : Keeps (hub_store seen old) (hub_store seen new) (Ok reply)
 
-abbrev pub exchange_fed : {S : Type 0} (seen : S → Kept) (conn : ℕ) (piece : List ℕ) (m : ℕ) (ws : Words) (bytes : List ℕ) (old new : Hub S)
-    → Fed seen conn piece m ws bytes old new → Exchange conn
-exchange_fed seen conn piece m ws bytes old new f =
-    exchange_one conn (event_of conn piece m ws) bytes (refl, f.short) f.listed
+abbrev pub exchange_fed : {S : Type 0} (seen : S → Kept) (conn : ℕ) (piece : List ℕ) (m : ℕ) (ws : Words) (reply : Vec ℕ Global) (old new : Hub S)
+    → Fed seen conn piece m ws reply old new → Exchange conn
+exchange_fed seen conn piece m ws reply old new f =
+    exchange_one conn (event_of conn piece m ws) reply.items (refl, f.short) f.listed
 
--- an event was answered, and its reply was written
-pub proceeds_one : {S : Type 0} (seen : S → Kept) (conn : ℕ) (piece : List ℕ) (m : ℕ) (ws : Words) (bytes : List ℕ) (before after : Option (List ℕ))
-    (X : List Event → Type 0) (old new : Hub S) → Fed seen conn piece m ws bytes old new → Appends before after bytes
-    → X (event_of conn piece m ws ∷ [])
-    → Proceeds seen conn (λ read. read ≡ piece) (Appends before after) X old new
-proceeds_one seen conn piece m ws bytes before after X old new f written drawn =
+-- an event was answered
+abbrev pub proceeds_one : {S : Type 0} (seen : S → Kept) (conn : ℕ) (piece : List ℕ) (m : ℕ) (ws : Words) (reply : Vec ℕ Global)
+    (T : List ℕ → Type 0) (X : List Event → Type 0) (old new : Hub S) → Fed seen conn piece m ws reply old new → T (reply.items ++ [])
+    → X (event_of conn piece m ws ∷ []) → Proceeds seen conn (λ read. read ≡ piece) T X old new
+proceeds_one seen conn piece m ws reply T X old new f written drawn =
     let e : Event = event_of conn piece m ws in
     record {
-      exchange = exchange_fed seen conn piece m ws bytes old new f;
+      exchange = exchange_fed seen conn piece m ws reply old new f;
       reads = append-nil piece;
-      writes = subst (Appends before after) (sym (append-nil bytes)) written;
+      writes = written;
       draws = drawn;
-      answers = λ honest w represents. answers_one seen w e bytes new represents.broker.sound (f.answers honest w represents);
+      answers = λ honest w represents. answers_one seen w e reply.items new represents.broker.sound (f.answers honest w represents);
       turns = λ all represents.
           let a = f.gives all represents in
           record { after = a.0; run = (a.0, a.2, refl); represents = a.1 };
@@ -268,24 +270,23 @@ closed_world seen conn mid new w c represents =
     )
 
 -- an event was answered, and writing its reply failed
-pub stops_writing : {S : Type 0} (seen : S → Kept) (conn : ℕ) (piece : List ℕ) (m : ℕ) (ws : Words) (bytes : List ℕ) (before after : Option (List ℕ))
-    (X : List Event → Type 0) (old mid new : Hub S) → Fed seen conn piece m ws bytes old mid → Closes seen conn mid new
-    → X (event_of conn piece m ws ∷ [])
-    → Stops seen conn (λ read. read ≡ piece) (Appends before after) X Write old new
-stops_writing seen conn piece m ws bytes before after X old mid new f c drawn =
+abbrev pub stops_writing : {S : Type 0} (seen : S → Kept) (conn : ℕ) (piece : List ℕ) (m : ℕ) (ws : Words) (reply : Vec ℕ Global)
+    (T : List ℕ → Type 0) (X : List Event → Type 0) (old mid new : Hub S) → Fed seen conn piece m ws reply old mid → Closes seen conn mid new
+    → X (event_of conn piece m ws ∷ []) → Stops seen conn (λ read. read ≡ piece) T X Write old new
+stops_writing seen conn piece m ws reply T X old mid new f c drawn =
     let e : Event = event_of conn piece m ws in
     record {
-      exchange = exchange_fed seen conn piece m ws bytes old mid f;
+      exchange = exchange_fed seen conn piece m ws reply old mid f;
       last = [];
       unanswered = refl;
       reads = append-nil piece;
       writes = λ other. absurd (other refl);
       draws = drawn;
       before = λ honest w represents.
-          let a = answers_one seen w e bytes mid represents.broker.sound (f.answers (subst IsHonestStore c.store honest) w represents) in
+          let a = answers_one seen w e reply.items mid represents.broker.sound (f.answers (subst IsHonestStore c.store honest) w represents) in
           record { after = a.after; run = a.run; history = a.history; asks = a.asks; asked = a.asked };
       answers = λ honest known w represents.
-          let a = answers_one seen w e bytes mid represents.broker.sound (f.answers (subst IsHonestStore c.store honest) w represents) in
+          let a = answers_one seen w e reply.items mid represents.broker.sound (f.answers (subst IsHonestStore c.store honest) w represents) in
           let left = closed_world seen conn mid new a.after c a.represents in
           record {
             before = a.after;
@@ -303,14 +304,15 @@ stops_writing seen conn piece m ws bytes before after X old mid new f c drawn =
           record { before = a.0; run = (a.0, a.2, refl); after = left.0; left = left.2; represents = left.1 };
     }
 
--- the connection was closed at a fault of the source
-pub stops_reading : {S : Type 0} (seen : S → Kept) (conn : ℕ) (P T : List ℕ → Type 0) (X : List Event → Type 0) (mid new : Hub S)
-    → P [] → T [] → X [] → Closes seen conn mid new → Stops seen conn P T X Read mid new
-stops_reading seen conn P T X mid new p t x c =
+-- the connection was closed, since a read or a write failed
+abbrev pub stops_closing : {S : Type 0} (seen : S → Kept) (conn : ℕ) (P T : List ℕ → Type 0) (X : List Event → Type 0)
+    (fault : ConnectionFault) (mid new : Hub S) → IsUnanswered conn fault [] → P [] → T [] → X [] → Closes seen conn mid new
+    → Stops seen conn P T X fault mid new
+stops_closing seen conn P T X fault mid new none p t x c =
     record {
       exchange = exchange_none conn;
       last = [];
-      unanswered = refl;
+      unanswered = none;
       reads = p;
       writes = λ other. t;
       draws = x;
@@ -341,20 +343,20 @@ leaves_closed fault all conn piece after f = at f.left
     at (inr (memory, unseen, same)) = inr (unseen, same)
 
 -- an event had a fault
-pub stops_feeding : {S : Type 0} (seen : S → Kept) (conn : ℕ) (piece : List ℕ) (m : ℕ) (ws : Words) (known : Option (List ℕ))
-    (X : List Event → Type 0) (fault : Fault) (old new : Hub S) → length piece ≤ longest_piece
+abbrev pub stops_feeding : {S : Type 0} (seen : S → Kept) (conn : ℕ) (piece : List ℕ) (m : ℕ) (ws : Words) (T : List ℕ → Type 0)
+    (X : List Event → Type 0) (fault : Fault) (old new : Hub S) → length piece ≤ longest_piece → T []
     → X (event_of conn piece m ws ∷ [])
     → (IsHonestStore (hub_store seen new) → IsTrue (hub_store seen new).is_open → (hub_store seen new).rows ≡ (hub_store seen old).rows)
     → ((all : Connections) → ConnectionsRepresent old all → (after : Connections) × ConnectionsRepresent new after × FaultsAt fault all conn piece after)
-    → Stops seen conn (λ read. read ≡ piece) (Appends known known) X (OfBroker fault) old new
-stops_feeding seen conn piece m ws known X fault old new short drawn kept faults =
+    → Stops seen conn (λ read. read ≡ piece) T X (OfBroker fault) old new
+stops_feeding seen conn piece m ws T X fault old new short written drawn kept faults =
     let e : Event = event_of conn piece m ws in
     record {
       exchange = exchange_none conn;
       last = e ∷ [];
       unanswered = (e, (refl, short), refl);
       reads = append-nil piece;
-      writes = λ other. Appends-nil known;
+      writes = λ other. written;
       draws = drawn;
       before = λ honest w represents. before_none w;
       answers = λ honest is_open w represents.

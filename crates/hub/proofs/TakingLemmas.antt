@@ -1,26 +1,20 @@
--- Turns made of what was read, fed and sent.
-use Rattle.std.proofs.Common.{◌≡◌, ◌∙◌, ◌⊎◌, inl, inr, ◌<◌, ◌≤◌, ℕ, List, [], ◌∷◌, ◌++◌, length, Option, Some, None, Result, Ok, Err, MatchResult, IsTrue, refl, sym, ap, subst, take, append-nil, arith}
+-- Turns made of what was read, served and sent.
+use Rattle.std.proofs.Common.{◌≡◌, ◌∙◌, ◌⊎◌, inl, inr, ◌<◌, ◌≤◌, ℕ, List, [], ◌∷◌, ◌++◌, length, Option, Some, None, Result, Ok, Err, MatchResult, refl, sym, ap, subst, take, append-nil}
 use Rattle.std.specs.Io.KnownBytes.{Appends, Consumes, IsAtEnd}
-use Rattle.broker_types.specs.declared.fault.Fault.{Fault}
-use Rattle.broker_types.specs.declared.words.Words.{Words}
-use Rattle.broker_rows.specs.Representing.{Represents}
-use Rattle.broker.specs.Kept.{Kept, IsHonestStore}
+use Rattle.broker.specs.Kept.{Kept}
 use Rattle.endpoints.specs.Now.{PullsNow}
-use Rattle.records.specs.Transaction.{Rows}
-use Rattle.hub.specs.AnyRows.{FaultsAt}
-use Rattle.hub.specs.Representing.{ConnectionsRepresent, hub_store}
-use Rattle.hub.specs.Serving.{IsUnanswered, longest_piece}
-use Rattle.hub.specs.Turning.{Passes, Says, TakesTurn, TurnStops}
+use Rattle.hub.specs.Links.{number_of, unsent}
+use Rattle.hub.specs.Representing.{ConnectionsRepresent}
+use Rattle.hub.specs.Serving.{IsGone, LeavesOthers, Serves, sent_in}
+use Rattle.hub.specs.Turning.{Passes, Says, TakesTurn, TurnsLink, TurnStops}
 use Rattle.hub.specs.World.{Connections}
 use Rattle.hub.specs.declared.event.Event.{Event}
 use Rattle.hub.specs.declared.hub.Hub.{Hub}
+use Rattle.hub.specs.declared.link.Link.{Link}
 use Rattle.hub.specs.declared.serve.ConnectionFault.{ConnectionFault}
-use Rattle.hub.specs.declared.serve.ConnectionFault.TheVariants.{Broker as OfBroker, Write}
 use Rattle.hub.specs.declared.turn.Turn.{Turn}
 use Rattle.hub.specs.declared.turn.Turn.TheVariants.{NeedsRoom, WentOn}
-use Rattle.hub.proofs.AnswersLemmas.{answers_none, answers_one}
 use Rattle.hub.proofs.KnownLemmas.{Appends-nil, Consumes-kept}
-use Rattle.hub.proofs.ServingLemmas.{Closes, Fed, closed_world, event_of, exchange_fed, exchange_none, leaves_closed}
 
 -- ---- what was sent
 
@@ -38,152 +32,48 @@ passes_reply Sends before set after reply none same p = record {
 
 -- ---- turns
 
--- no event
-pub turn_none : {S : Type 0} (seen : S → Kept) (turn : Turn) (conn : ℕ) (P T : List ℕ → Type 0) (X : List Event → Type 0) (hub : Hub S)
-    → Says turn [] → P [] → T [] → X [] → TakesTurn seen turn conn P T X hub hub
-turn_none seen turn conn P T X hub said p t x = record {
-  on = record {
-    exchange = exchange_none conn;
-    reads = p;
-    writes = t;
-    draws = x;
-    answers = λ honest w represents. answers_none seen w hub represents;
-    turns = λ all represents. record { after = all; run = refl; represents = represents };
-  };
-  one = omega arith;
-  said = said;
-}
-
 -- what is said where nothing was fed
 pub said_sending : (turn : Turn) → (turn ≡ WentOn) ⊎ (turn ≡ NeedsRoom) → Says turn []
 said_sending turn (inl is) = subst (λ (t : Turn). Says t []) (sym is) (inl refl)
 said_sending turn (inr is) = subst (λ (t : Turn). Says t []) (sym is) refl
 
--- an event that was answered
-pub turn_fed : {S : Type 0} (seen : S → Kept) (turn : Turn) (conn : ℕ) (piece : List ℕ) (m : ℕ) (ws : Words) (bytes : List ℕ) (T : List ℕ → Type 0)
-    (X : List Event → Type 0) (old new : Hub S) → Says turn (bytes ∷ []) → Fed seen conn piece m ws bytes old new → T (bytes ++ [])
-    → X (event_of conn piece m ws ∷ []) → TakesTurn seen turn conn (λ read. read ≡ piece) T X old new
-turn_fed seen turn conn piece m ws bytes T X old new said f t drawn =
-    let e : Event = event_of conn piece m ws in
+-- a call that served at most one event, as a turn
+pub turns_ok : {S : Type 0} {seen : S → Kept} {P Sends : List ℕ → Type 0} {X : List Event → Type 0} {F W : Type 0} {turn : Turn}
+    {old new : Hub S} (before after : Link) (conn : ℕ) → conn ≡ number_of before → number_of after ≡ number_of before
+    → (s : Serves seen conn P (Passes Sends (unsent before) (unsent after)) X F W (Ok turn) old new)
+    → length s.served.exchange.events ≤ 1 → Says turn s.served.exchange.replies
+    → TurnsLink seen before after P Sends X F W (Ok turn) old new
+turns_ok {seen} {P} {Sends} {X} {turn} {old} {new} before after conn at same s one said =
     record {
-      on = record {
-        exchange = exchange_fed seen conn piece m ws bytes old new f;
-        reads = append-nil piece;
-        writes = t;
-        draws = drawn;
-        answers = λ honest w represents. answers_one seen w e bytes new represents.broker.sound (f.answers honest w represents);
-        turns = λ all represents. let a = f.gives all represents in record { after = a.0; run = (a.0, a.2, refl); represents = a.1 };
-      };
-      one = omega arith;
-      said = said;
+      took = subst (λ (k : ℕ). TakesTurn seen turn k P (Passes Sends (unsent before) (unsent after)) X old new) at
+          (record { on = s.served; one = one; said = said });
+      same = same;
+      others = λ all represents. subst (λ (k : ℕ). LeavesOthers k all new) at (s.others all represents);
+      gone = tt;
+      keeps = s.keeps;
     }
 
--- an event that was answered, and then a write that failed
-pub stop_writing : {S : Type 0} (seen : S → Kept) (conn : ℕ) (piece : List ℕ) (m : ℕ) (ws : Words) (bytes : List ℕ) (T : List ℕ → Type 0)
-    (X : List Event → Type 0) (old mid new : Hub S) → Fed seen conn piece m ws bytes old mid → Closes seen conn mid new → T (bytes ++ [])
-    → X (event_of conn piece m ws ∷ []) → TurnStops seen conn (λ read. read ≡ piece) T X Write old new
-stop_writing seen conn piece m ws bytes T X old mid new f c t drawn =
-    let e : Event = event_of conn piece m ws in
+-- one that had a fault
+pub turns_err : {S : Type 0} {seen : S → Kept} {P Sends : List ℕ → Type 0} {X : List Event → Type 0} {F W : Type 0}
+    {fault : ConnectionFault} {old new : Hub S} (before after : Link) (conn : ℕ) → conn ≡ number_of before
+    → number_of after ≡ number_of before
+    → (s : Serves {A = Turn} seen conn P (Passes Sends (unsent before) (unsent after)) X F W (Err fault) old new)
+    → length (s.served.exchange.events ++ s.served.last) ≤ 1 → Passes Sends (unsent before) (unsent after) (sent_in s.served.exchange)
+    → TurnsLink seen before after P Sends X F W (Err fault) old new
+turns_err {seen} {P} {Sends} {X} {fault} {old} {new} before after conn at same s one sent =
     record {
-      stops = record {
-        exchange = exchange_fed seen conn piece m ws bytes old mid f;
-        last = [];
-        unanswered = refl;
-        reads = append-nil piece;
-        writes = λ other. t;
-        draws = drawn;
-        before = λ honest w represents.
-            let a = answers_one seen w e bytes mid represents.broker.sound (f.answers (subst IsHonestStore c.store honest) w represents) in
-            record { after = a.after; run = a.run; history = a.history; asks = a.asks; asked = a.asked };
-        answers = λ honest known w represents.
-            let a = answers_one seen w e bytes mid represents.broker.sound (f.answers (subst IsHonestStore c.store honest) w represents) in
-            let left = closed_world seen conn mid new a.after c a.represents in
-            record {
-              before = a.after;
-              run = a.run;
-              history = a.history;
-              asks = a.asks;
-              asked = a.asked;
-              after = left.0;
-              left = left.1;
-              represents = left.2;
-            };
-        turns = λ all represents.
-            let a = f.gives all represents in
-            let left = c.connections a.0 a.1 in
-            record { before = a.0; run = (a.0, a.2, refl); after = left.0; left = left.2; represents = left.1 };
-      };
-      one = omega arith;
-      written = t;
-    }
-
--- no event, and a read or a write that failed
-pub stop_none : {S : Type 0} (seen : S → Kept) (conn : ℕ) (P T : List ℕ → Type 0) (X : List Event → Type 0) (fault : ConnectionFault) (mid new : Hub S)
-    → IsUnanswered conn fault [] → P [] → T [] → X [] → Closes seen conn mid new → TurnStops seen conn P T X fault mid new
-stop_none seen conn P T X fault mid new none p t x c = record {
-  stops = record {
-    exchange = exchange_none conn;
-    last = [];
-    unanswered = none;
-    reads = p;
-    writes = λ other. t;
-    draws = x;
-    before = λ honest w represents. record { after = w; run = refl; history = []; asks = refl; asked = tt };
-    answers = λ honest known w represents.
-        let left = closed_world seen conn mid new w c represents in
-        record { before = w; run = refl; history = []; asks = refl; asked = tt; after = left.0; left = left.1; represents = left.2 };
-    turns = λ all represents.
-        let left = c.connections all represents in
-        record { before = all; run = refl; after = left.0; left = left.2; represents = left.1 };
-  };
-  one = omega arith;
-  written = t;
-}
-
--- an event that had a fault
-pub stop_feeding : {S : Type 0} (seen : S → Kept) (conn : ℕ) (piece : List ℕ) (m : ℕ) (ws : Words) (T : List ℕ → Type 0) (X : List Event → Type 0)
-    (fault : Fault) (old new : Hub S) → length piece ≤ longest_piece → T [] → X (event_of conn piece m ws ∷ [])
-    → (IsHonestStore (hub_store seen new) → IsTrue (hub_store seen new).is_open → (hub_store seen new).rows ≡ (hub_store seen old).rows)
-    → ((all : Connections) → ConnectionsRepresent old all → (after : Connections) × ConnectionsRepresent new after × FaultsAt fault all conn piece after)
-    → TurnStops seen conn (λ read. read ≡ piece) T X (OfBroker fault) old new
-stop_feeding seen conn piece m ws T X fault old new short t drawn kept faults =
-    let e : Event = event_of conn piece m ws in
-    record {
-      stops = record {
-        exchange = exchange_none conn;
-        last = e ∷ [];
-        unanswered = (e, (refl, short), refl);
-        reads = append-nil piece;
-        writes = λ other. t;
-        draws = drawn;
-        before = λ honest w represents. record { after = w; run = refl; history = []; asks = refl; asked = tt };
-        answers = λ honest is_open w represents.
-            let f = faults w.connections represents.connections in
-            record {
-              before = w;
-              run = refl;
-              history = [];
-              asks = refl;
-              asked = tt;
-              after = f.0;
-              left = leaves_closed fault w.connections conn piece f.0 f.2;
-              represents = record {
-                broker = subst (λ (t : Rows). Represents None t w.broker) (sym (kept honest is_open)) represents.broker;
-                connections = f.1;
-              };
-            };
-        turns = λ all represents.
-            let f = faults all represents in
-            record { before = all; run = refl; after = f.0; left = leaves_closed fault all conn piece f.0 f.2; represents = f.1 };
-      };
-      one = omega arith;
-      written = t;
+      took = subst (λ (k : ℕ). TurnStops seen k P (Passes Sends (unsent before) (unsent after)) X fault old new) at
+          (record { stops = s.served; one = one; written = sent });
+      same = same;
+      others = λ all represents. subst (λ (k : ℕ). LeavesOthers k all new) at (s.others all represents);
+      gone = subst (λ (k : ℕ). (all : Connections) → ConnectionsRepresent new all → IsGone all k) (at ∙ sym same) s.gone;
+      keeps = s.keeps;
     }
 
 -- ---- what was read
 
 -- the piece is what was read
-pub turned_so : {S : Type 0} (seen : S → Kept) (conn : ℕ) (piece : List ℕ) (Q T : List ℕ → Type 0) (X : List Event → Type 0) (old new : Hub S)
+turned_so : {S : Type 0} (seen : S → Kept) (conn : ℕ) (piece : List ℕ) (Q T : List ℕ → Type 0) (X : List Event → Type 0) (old new : Hub S)
     (r : Result Turn ConnectionFault) → Q piece
     → MatchResult r (λ turn. TakesTurn seen turn conn (λ read. read ≡ piece) T X old new)
     (λ fault. TurnStops seen conn (λ read. read ≡ piece) T X fault old new)
@@ -215,6 +105,26 @@ turned_so seen conn piece Q T X old new (Err fault) q t = record {
   one = t.one;
   written = t.written;
 }
+
+-- so of a turn
+pub turns_so : {S : Type 0} {seen : S → Kept} {before after : Link} {piece : List ℕ} {Q Sends : List ℕ → Type 0} {X : List Event → Type 0}
+    {F W : Type 0} {r : Result Turn ConnectionFault} {old new : Hub S} → Q piece
+    → TurnsLink seen before after (λ read. read ≡ piece) Sends X ⊥ W r old new → TurnsLink seen before after Q Sends X F W r old new
+turns_so {seen} {before} {after} {piece} {Q} {Sends} {X} {r} {old} {new} q t =
+    record {
+      took = turned_so seen (number_of before) piece Q (Passes Sends (unsent before) (unsent after)) X old new r q t.took;
+      same = t.same;
+      others = t.others;
+      gone = t.gone;
+      keeps = record {
+        wants = t.keeps.wants;
+        read = λ is. absurd (t.keeps.read is);
+        write = t.keeps.write;
+        storage = t.keeps.storage;
+        stays_open = t.keeps.stays_open;
+        later = t.keeps.later;
+      };
+    }
 
 pub pulled_none : (old new : Option (List ℕ)) (got : Option ℕ) (buffer : List ℕ) → got ≡ None → PullsNow old new got buffer → Consumes old new []
 pulled_none old new got buffer is p = Consumes-kept old new (subst (λ (o : Option ℕ). PullsNow old new o buffer) is p)

@@ -1,12 +1,15 @@
 -- What serving a connection between a source and a sink leaves (this project's definition).
 use Rattle.std.specs.Prelude.{◌≡◌, ◌≢◌, ◌⊎◌, ◌≤◌, ℕ, true, List, [], ◌∷◌, ◌++◌, Option, None, ⊤, IsTrue, length, map}
+use Rattle.std.specs.Prelude.{Result, Err, IfErr, MatchResult, OnErr}
 use Rattle.std.specs.Io.KnownBytes.{IsAtEnd}
 use Rattle.std.specs.List.{All, concat}
 use Rattle.broker_types.specs.Fault.{IsMemoryOrStorage, fault_number}
+use Rattle.broker_types.specs.declared.fault.Fault.TheVariants.{Storage}
 use Rattle.broker.specs.Kept.{Kept, IsHonestStore}
 use Rattle.histories.specs.History.{AreAsked, History}
 use Rattle.http_layer.specs.Front.{IsFront, need}
 use Rattle.hub.specs.AnyRows.{RunConnections, close_history}
+use Rattle.hub.specs.Feeding.{IsLater}
 use Rattle.hub.specs.Histories.{EventsAsked}
 use Rattle.hub.specs.Listed.{IsListedReply}
 use Rattle.hub.specs.Representing.{ConnectionsRepresent, HubRepresents, hub_store}
@@ -165,3 +168,30 @@ HasEnded left all conn = ((history_at all conn).closed ≡ true) ⊎ (IsAtEnd le
 -- the connection is closed, or not seen
 abbrev pub IsGone : Connections → ℕ → Type 0
 IsGone all conn = ((history_at all conn).closed ≡ true) ⊎ (all conn ≡ None)
+
+-- ---- a call that serves
+
+-- Which faults a call has, and what it leaves of the store. On a broker's rows its faults are of memory or storage, or
+-- of the source or the sink. One of reading or of writing has this cause, and one of storage comes only if the store
+-- failed. Whatever the rows are, an honest store closes only at a fault of storage.
+pub record KeepsStore {S A : Type 0} (seen : S → Kept) (ReadFails WriteFails : Type 0) (r : Result A ConnectionFault)
+    (old new : Hub S) : Type 0 where
+  pub wants : IsHonestStore (hub_store seen new) → (w : World) → HubRepresents seen old w → IfErr r IsAllowed
+  pub read : r ≡ Err Read → ReadFails
+  pub write : r ≡ Err Write → WriteFails
+  pub storage : r ≡ Err (Broker Storage) → IsTrue (hub_store seen new).has_failed
+  pub stays_open : IsHonestStore (hub_store seen new) → MatchResult r
+      (λ _. (hub_store seen new).is_open ≡ (hub_store seen old).is_open)
+      (λ fault. fault ≢ Broker Storage → (hub_store seen new).is_open ≡ (hub_store seen old).is_open)
+  pub later : IsLater (hub_store seen old) (hub_store seen new)
+
+-- A call served the connection, to its return or up to a fault. Whatever the rows are, no other connection changes, and
+-- after a fault this one is closed or not seen.
+pub record Serves {S A : Type 0} (seen : S → Kept) (conn : ℕ) (Reads Writes : List ℕ → Type 0)
+    (Draws : List Event → Type 0) (ReadFails WriteFails : Type 0) (r : Result A ConnectionFault) (old new : Hub S)
+    : Type 0 where
+  pub served : MatchResult r (λ _. Proceeds seen conn Reads Writes Draws old new)
+      (λ fault. Stops seen conn Reads Writes Draws fault old new)
+  pub others : (all : Connections) → ConnectionsRepresent old all → LeavesOthers conn all new
+  pub gone : OnErr r ((all : Connections) → ConnectionsRepresent new all → IsGone all conn)
+  pub keeps : KeepsStore seen ReadFails WriteFails r old new

@@ -5,13 +5,13 @@ mod buffer;
 mod connection;
 mod entry;
 mod event;
+mod front;
 mod hub;
 mod laws;
 mod link;
 mod order;
 mod running;
 mod serve;
-mod serving;
 mod table;
 mod turn;
 

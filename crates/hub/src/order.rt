@@ -88,9 +88,9 @@ impl<R: NowSource, W: NowSink> Line<R, W> {
 ///
 /// **Each peer receives exactly the reply bytes of the broker to its own events**, also after faults: what a line read
 /// is the pieces of its events; and what was not sent before, followed by the replies to them, is what was sent,
-/// followed by what is not sent now. So all that a new line has sent, after any number of turns, followed by what is not
-/// sent, is the replies to its events. A line's fault is of reading only if its source failed, and of writing only if
-/// its sink failed; and a line without a fault has passed over no failure of its source or its sink.
+/// followed by what is not sent now. So all that a new line has sent, after any number of turns, followed by what is
+/// not sent, is the replies to its events. A line's fault is of reading only if its source failed, and of writing only
+/// if its sink failed; and a line without a fault has passed over no failure of its source or its sink.
 pub fn serve_order<S: Store, R: NowSource, W: NowSink, C: Clock, D: WordSource>(
     hub: &mut Hub<S>,
     lines: &mut [Line<R, W>],

@@ -1,14 +1,9 @@
-ghost use Rattle.std.specs.Prelude.{◌≡◌, ◌≢◌, ◌⊎◌, ◌+◌, ◌<◌, ◌≤◌, [], false, true, length, Ok, Err};
-ghost use Rattle.std.specs.Prelude.{IfOk, IfErr, OnOk, OnErr, IsTrue, MatchResult};
+ghost use Rattle.std.specs.Prelude.{◌≡◌, ◌⊎◌, ◌+◌, ◌<◌, ◌≤◌, [], false, true, length, Ok, IfOk, OnOk, IsTrue};
 ghost use Rattle.std.specs.Io.KnownBytes.{Appends, Consumes};
-ghost use Rattle.broker.specs.Kept.{IsHonestStore};
-ghost use Rattle.hub.specs.Feeding.{IsLater};
-ghost use Rattle.hub.specs.Representing.{ConnectionsRepresent, HubRepresents, hub_store, hub_waiting};
-ghost use Rattle.hub.specs.Serving.{Proceeds, Stops, LeavesOthers, IsAllowed, HasEnded, IsAnswered, IsGone};
-ghost use Rattle.hub.specs.Serving.{longest_piece, most_reads};
+ghost use Rattle.hub.specs.Representing.{ConnectionsRepresent, hub_waiting};
+ghost use Rattle.hub.specs.Serving.{Serves, HasEnded, IsAnswered, longest_piece, most_reads};
 ghost use Rattle.hub.specs.Supplies.{Supplies};
-ghost use Rattle.hub.specs.World.{Connections, World};
-ghost use Rattle.hub.specs.declared.serve.ConnectionFault.TheVariants.{Broker, Read, Write};
+ghost use Rattle.hub.specs.World.{Connections};
 
 use crate::hub::Hub;
 use broker::Store;
@@ -117,35 +112,15 @@ pub fn serve_connection<S: Store, R: Source, W: Sink, C: Clock, D: WordSource>(
     clock: &mut C,
     words: &mut D,
 ) -> Result<(), ConnectionFault>
-    ensures served { MatchResult result
-        (λ _. Proceeds S.seen conn (Consumes (R.left reader.old) (R.left reader.new))
+    ensures served { Serves S.seen conn (Consumes (R.left reader.old) (R.left reader.new))
         (Appends (W.written writer.old) (W.written writer.new))
-        (Supplies C.may_tell clock.old clock.new D.may_give words.old words.new) hub.old hub.new)
-        (λ fault. Stops S.seen conn (Consumes (R.left reader.old) (R.left reader.new))
-        (Appends (W.written writer.old) (W.written writer.new))
-        (Supplies C.may_tell clock.old clock.new D.may_give words.old words.new) fault hub.old hub.new) }
+        (Supplies C.may_tell clock.old clock.new D.may_give words.old words.new)
+        (IsTrue (R.has_failed reader.new) ⊎ (R.pulls reader.new ≡ R.pulls reader.old + most_reads))
+        (IsTrue (W.has_failed writer.new)) result hub.old hub.new }
 
-    // Whatever the rows are, no other connection changes. This one is then closed, or the input has ended and
-    // its next request needs more bytes; after a fault it is closed or not seen.
-    ensures others { (all : Connections) → ConnectionsRepresent hub.old all → LeavesOthers conn all hub.new }
+    // The connection is closed, or the input has ended and its next request needs more bytes.
     ensures ended { OnOk result ((all : Connections) → ConnectionsRepresent hub.new all
         → HasEnded (R.left reader.new) all conn) }
-    ensures gone { OnErr result ((all : Connections) → ConnectionsRepresent hub.new all → IsGone all conn) }
-
-    // On a broker's rows its faults are of memory or storage alone. A fault of reading comes only if the source
-    // failed, or after 4,294,967,296 reads; one of writing only if the sink failed, and one of storage only if
-    // the store failed.
-    ensures wants { IsHonestStore (hub_store S.seen hub.new) → (w : World) → HubRepresents S.seen hub.old w
-        → IfErr result IsAllowed }
-    ensures read { result ≡ Err Read
-        → IsTrue (R.has_failed reader.new) ⊎ (R.pulls reader.new ≡ R.pulls reader.old + most_reads) }
-    ensures write { result ≡ Err Write → IsTrue (W.has_failed writer.new) }
-    ensures storage { result ≡ Err (Broker Fault.Storage) → IsTrue (hub_store S.seen hub.new).has_failed }
-    ensures stays_open { IsHonestStore (hub_store S.seen hub.new) → MatchResult result
-        (λ _. (hub_store S.seen hub.new).is_open ≡ (hub_store S.seen hub.old).is_open)
-        (λ fault. fault ≢ Broker Fault.Storage
-        → (hub_store S.seen hub.new).is_open ≡ (hub_store S.seen hub.old).is_open) }
-    ensures later { IsLater (hub_store S.seen hub.old) (hub_store S.seen hub.new) }
 {
     if hub.is_closed(conn) {
         return Ok(());
@@ -168,28 +143,13 @@ fn serve_piece<S: Store, R: Source, W: Sink, C: Clock, D: WordSource>(
     clock: &mut C,
     words: &mut D,
 ) -> Result<bool, ConnectionFault>
-    ensures served { MatchResult result
-        (λ _. Proceeds S.seen conn (Consumes (R.left reader.old) (R.left reader.new))
+    ensures served { Serves S.seen conn (Consumes (R.left reader.old) (R.left reader.new))
         (Appends (W.written writer.old) (W.written writer.new))
-        (Supplies C.may_tell clock.old clock.new D.may_give words.old words.new) hub.old hub.new)
-        (λ fault. Stops S.seen conn (Consumes (R.left reader.old) (R.left reader.new))
-        (Appends (W.written writer.old) (W.written writer.new))
-        (Supplies C.may_tell clock.old clock.new D.may_give words.old words.new) fault hub.old hub.new) }
-    ensures others { (all : Connections) → ConnectionsRepresent hub.old all → LeavesOthers conn all hub.new }
+        (Supplies C.may_tell clock.old clock.new D.may_give words.old words.new)
+        (IsTrue (R.has_failed reader.new)) (IsTrue (W.has_failed writer.new)) result hub.old hub.new }
     ensures ended { IfOk result (λ ended. ended ≡ true → (all : Connections) → ConnectionsRepresent hub.new all
         → HasEnded (R.left reader.new) all conn) }
-    ensures gone { OnErr result ((all : Connections) → ConnectionsRepresent hub.new all → IsGone all conn) }
-    ensures wants { IsHonestStore (hub_store S.seen hub.new) → (w : World) → HubRepresents S.seen hub.old w
-        → IfErr result IsAllowed }
-    ensures read { result ≡ Err Read → IsTrue (R.has_failed reader.new) }
     ensures counted { OnOk result (R.pulls reader.new ≡ R.pulls reader.old + 1) }
-    ensures write { result ≡ Err Write → IsTrue (W.has_failed writer.new) }
-    ensures storage { result ≡ Err (Broker Fault.Storage) → IsTrue (hub_store S.seen hub.new).has_failed }
-    ensures stays_open { IsHonestStore (hub_store S.seen hub.new) → MatchResult result
-        (λ _. (hub_store S.seen hub.new).is_open ≡ (hub_store S.seen hub.old).is_open)
-        (λ fault. fault ≢ Broker Fault.Storage
-        → (hub_store S.seen hub.new).is_open ≡ (hub_store S.seen hub.old).is_open) }
-    ensures later { IsLater (hub_store S.seen hub.old) (hub_store S.seen hub.new) }
 {
     let mut buffer = [0; PIECE];
     let Ok(count) = reader.pull(&mut buffer) else {
@@ -210,27 +170,12 @@ fn answer<S: Store, W: Sink, C: Clock, D: WordSource>(
     words: &mut D,
 ) -> Result<(), ConnectionFault>
     requires { length piece.now ≤ longest_piece }
-    ensures served { MatchResult result
-        (λ _. Proceeds S.seen conn (λ read. read ≡ piece.now)
+    ensures served { Serves S.seen conn (λ read. read ≡ piece.now)
         (Appends (W.written writer.old) (W.written writer.new))
-        (Supplies C.may_tell clock.old clock.new D.may_give words.old words.new) hub.old hub.new)
-        (λ fault. Stops S.seen conn (λ read. read ≡ piece.now)
-        (Appends (W.written writer.old) (W.written writer.new))
-        (Supplies C.may_tell clock.old clock.new D.may_give words.old words.new) fault hub.old hub.new) }
-    ensures others { (all : Connections) → ConnectionsRepresent hub.old all → LeavesOthers conn all hub.new }
+        (Supplies C.may_tell clock.old clock.new D.may_give words.old words.new)
+        ⊥ (IsTrue (W.has_failed writer.new)) result hub.old hub.new }
     ensures answered { OnOk result ((all : Connections) → ConnectionsRepresent hub.new all
         → IsAnswered all conn) }
-    ensures gone { OnErr result ((all : Connections) → ConnectionsRepresent hub.new all → IsGone all conn) }
-    ensures wants { IsHonestStore (hub_store S.seen hub.new) → (w : World) → HubRepresents S.seen hub.old w
-        → IfErr result IsAllowed }
-    ensures read { result ≢ Err Read }
-    ensures write { result ≡ Err Write → IsTrue (W.has_failed writer.new) }
-    ensures storage { result ≡ Err (Broker Fault.Storage) → IsTrue (hub_store S.seen hub.new).has_failed }
-    ensures stays_open { IsHonestStore (hub_store S.seen hub.new) → MatchResult result
-        (λ _. (hub_store S.seen hub.new).is_open ≡ (hub_store S.seen hub.old).is_open)
-        (λ fault. fault ≢ Broker Fault.Storage
-        → (hub_store S.seen hub.new).is_open ≡ (hub_store S.seen hub.old).is_open) }
-    ensures later { IsLater (hub_store S.seen hub.old) (hub_store S.seen hub.new) }
 {
     let mut more = answer_one(hub, conn, piece, writer, clock, words)?;
     while more {
@@ -249,28 +194,13 @@ fn answer_one<S: Store, W: Sink, C: Clock, D: WordSource>(
     words: &mut D,
 ) -> Result<bool, ConnectionFault>
     requires { length piece.now ≤ longest_piece }
-    ensures served { MatchResult result
-        (λ _. Proceeds S.seen conn (λ read. read ≡ piece.now)
+    ensures served { Serves S.seen conn (λ read. read ≡ piece.now)
         (Appends (W.written writer.old) (W.written writer.new))
-        (Supplies C.may_tell clock.old clock.new D.may_give words.old words.new) hub.old hub.new)
-        (λ fault. Stops S.seen conn (λ read. read ≡ piece.now)
-        (Appends (W.written writer.old) (W.written writer.new))
-        (Supplies C.may_tell clock.old clock.new D.may_give words.old words.new) fault hub.old hub.new) }
-    ensures others { (all : Connections) → ConnectionsRepresent hub.old all → LeavesOthers conn all hub.new }
+        (Supplies C.may_tell clock.old clock.new D.may_give words.old words.new)
+        ⊥ (IsTrue (W.has_failed writer.new)) result hub.old hub.new }
     ensures answered { IfOk result (λ more. more ≡ false → (all : Connections) → ConnectionsRepresent hub.new all
         → IsAnswered all conn) }
     ensures falls { piece.now ≡ [] → result ≡ Ok true → hub_waiting hub.new conn < hub_waiting hub.old conn }
-    ensures gone { OnErr result ((all : Connections) → ConnectionsRepresent hub.new all → IsGone all conn) }
-    ensures wants { IsHonestStore (hub_store S.seen hub.new) → (w : World) → HubRepresents S.seen hub.old w
-        → IfErr result IsAllowed }
-    ensures read { result ≢ Err Read }
-    ensures write { result ≡ Err Write → IsTrue (W.has_failed writer.new) }
-    ensures storage { result ≡ Err (Broker Fault.Storage) → IsTrue (hub_store S.seen hub.new).has_failed }
-    ensures stays_open { IsHonestStore (hub_store S.seen hub.new) → MatchResult result
-        (λ _. (hub_store S.seen hub.new).is_open ≡ (hub_store S.seen hub.old).is_open)
-        (λ fault. fault ≢ Broker Fault.Storage
-        → (hub_store S.seen hub.new).is_open ≡ (hub_store S.seen hub.old).is_open) }
-    ensures later { IsLater (hub_store S.seen hub.old) (hub_store S.seen hub.new) }
 {
     let moment = clock.now();
     let drawn = words.words();

@@ -1,15 +1,11 @@
-ghost use Rattle.std.specs.Prelude.{◌≡◌, ◌≢◌, ◌≤◌, ◌⊎◌, [], length, Ok, Err, IfErr, IfOk, OnErr, OnOk};
-ghost use Rattle.std.specs.Prelude.{IsTrue, MatchResult};
+ghost use Rattle.std.specs.Prelude.{◌≡◌, ◌≢◌, ◌≤◌, ◌⊎◌, [], length, Ok, IfOk, IsTrue, MatchResult, OnOk};
 ghost use Rattle.std.specs.Io.KnownBytes.{Appends, Consumes, IsAtEnd};
-ghost use Rattle.broker.specs.Kept.{IsHonestStore};
-ghost use Rattle.hub.specs.Feeding.{IsLater};
 ghost use Rattle.hub.specs.Links.{number_of, unsent};
-ghost use Rattle.hub.specs.Representing.{ConnectionsRepresent, HubRepresents, hub_store};
-ghost use Rattle.hub.specs.Serving.{HasEnded, IsAllowed, IsAnswered, IsGone, LeavesOthers, longest_piece};
+ghost use Rattle.hub.specs.Representing.{ConnectionsRepresent};
+ghost use Rattle.hub.specs.Serving.{HasEnded, IsAnswered, longest_piece};
 ghost use Rattle.hub.specs.Supplies.{Supplies};
-ghost use Rattle.hub.specs.Turning.{Passes, TakesTurn, TurnStops};
-ghost use Rattle.hub.specs.World.{Connections, World};
-ghost use Rattle.hub.specs.declared.serve.ConnectionFault.TheVariants.{Broker, Read, Write};
+ghost use Rattle.hub.specs.Turning.{Passes, TurnsLink};
+ghost use Rattle.hub.specs.World.{Connections};
 
 use crate::hub::Hub;
 use crate::link::Link;
@@ -52,47 +48,23 @@ pub fn take_turn<S: Store, R: NowSource, W: NowSink, C: Clock, D: WordSource>(
     clock: &mut C,
     words: &mut D,
 ) -> Result<Turn, ConnectionFault>
-    ensures took { MatchResult result
-        (λ turn. TakesTurn S.seen turn (number_of link.old) (Consumes (R.left reader.old) (R.left reader.new))
-        (Passes (Appends (W.written writer.old) (W.written writer.new)) (unsent link.old) (unsent link.new))
-        (Supplies C.may_tell clock.old clock.new D.may_give words.old words.new) hub.old hub.new)
-        (λ fault. TurnStops S.seen (number_of link.old) (Consumes (R.left reader.old) (R.left reader.new))
-        (Passes (Appends (W.written writer.old) (W.written writer.new)) (unsent link.old) (unsent link.new))
-        (Supplies C.may_tell clock.old clock.new D.may_give words.old words.new) fault hub.old hub.new) }
-    ensures same { number_of link.new ≡ number_of link.old }
-
-    // Whatever the rows are, no other connection changes.
-    ensures others { (all : Connections) → ConnectionsRepresent hub.old all
-        → LeavesOthers (number_of link.old) all hub.new }
+    ensures took { TurnsLink S.seen link.old link.new (Consumes (R.left reader.old) (R.left reader.new))
+        (Appends (W.written writer.old) (W.written writer.new))
+        (Supplies C.may_tell clock.old clock.new D.may_give words.old words.new)
+        (IsTrue (R.has_failed reader.new)) (IsTrue (W.has_failed writer.new)) result hub.old hub.new }
 
     // All was sent and no request waits for its reply where bytes are needed; at the end, the connection is closed, or
-    // the input has ended and the next request needs more bytes. Something waits to be sent where room is needed. After
-    // a fault the connection is closed or not seen.
+    // the input has ended and the next request needs more bytes. Something waits to be sent where room is needed.
     ensures needs { result ≡ Ok Turn.NeedsBytes → (unsent link.new ≡ [])
         × ((all : Connections) → ConnectionsRepresent hub.new all → IsAnswered all (number_of link.new)) }
     ensures ended { result ≡ Ok Turn.Ended → (unsent link.new ≡ [])
         × ((all : Connections) → ConnectionsRepresent hub.new all
         → HasEnded (R.left reader.new) all (number_of link.new)) }
     ensures room { result ≡ Ok Turn.NeedsRoom → unsent link.new ≢ [] }
-    ensures gone { OnErr result ((all : Connections) → ConnectionsRepresent hub.new all
-        → IsGone all (number_of link.new)) }
 
     // No failure of an end is passed over.
     ensures heard { OnOk result ((R.has_failed reader.new ≡ R.has_failed reader.old)
         × (W.has_failed writer.new ≡ W.has_failed writer.old)) }
-
-    // On a broker's rows its faults are of memory or storage alone. A fault of reading comes only if the source failed,
-    // one of writing only if the sink failed, and one of storage only if the store failed.
-    ensures wants { IsHonestStore (hub_store S.seen hub.new) → (w : World) → HubRepresents S.seen hub.old w
-        → IfErr result IsAllowed }
-    ensures read { result ≡ Err Read → IsTrue (R.has_failed reader.new) }
-    ensures write { result ≡ Err Write → IsTrue (W.has_failed writer.new) }
-    ensures storage { result ≡ Err (Broker Fault.Storage) → IsTrue (hub_store S.seen hub.new).has_failed }
-    ensures stays_open { IsHonestStore (hub_store S.seen hub.new) → MatchResult result
-        (λ _. (hub_store S.seen hub.new).is_open ≡ (hub_store S.seen hub.old).is_open)
-        (λ fault. fault ≢ Broker Fault.Storage
-        → (hub_store S.seen hub.new).is_open ≡ (hub_store S.seen hub.old).is_open) }
-    ensures later { IsLater (hub_store S.seen hub.old) (hub_store S.seen hub.new) }
 {
     if link.is_sending() {
         return match send_rest(link, writer) {
@@ -143,31 +115,13 @@ fn feed_piece<S: Store, W: NowSink, C: Clock, D: WordSource>(
 ) -> Result<Turn, ConnectionFault>
     requires done { unsent link.old ≡ [] }
     requires short { length piece.now ≤ longest_piece }
-    ensures took { MatchResult result
-        (λ turn. TakesTurn S.seen turn (number_of link.old) (λ read. read ≡ piece.now)
-        (Passes (Appends (W.written writer.old) (W.written writer.new)) (unsent link.old) (unsent link.new))
-        (Supplies C.may_tell clock.old clock.new D.may_give words.old words.new) hub.old hub.new)
-        (λ fault. TurnStops S.seen (number_of link.old) (λ read. read ≡ piece.now)
-        (Passes (Appends (W.written writer.old) (W.written writer.new)) (unsent link.old) (unsent link.new))
-        (Supplies C.may_tell clock.old clock.new D.may_give words.old words.new) fault hub.old hub.new) }
-    ensures same { number_of link.new ≡ number_of link.old }
+    ensures took { TurnsLink S.seen link.old link.new (λ read. read ≡ piece.now)
+        (Appends (W.written writer.old) (W.written writer.new))
+        (Supplies C.may_tell clock.old clock.new D.may_give words.old words.new)
+        ⊥ (IsTrue (W.has_failed writer.new)) result hub.old hub.new }
     ensures room { result ≢ Ok Turn.NeedsRoom }
     ensures turns { IfOk result (λ turn. (turn ≡ Turn.WentOn) ⊎ (turn ≡ Turn.Answered)) }
     ensures heard { OnOk result (W.has_failed writer.new ≡ W.has_failed writer.old) }
-    ensures others { (all : Connections) → ConnectionsRepresent hub.old all
-        → LeavesOthers (number_of link.old) all hub.new }
-    ensures gone { OnErr result ((all : Connections) → ConnectionsRepresent hub.new all
-        → IsGone all (number_of link.new)) }
-    ensures wants { IsHonestStore (hub_store S.seen hub.new) → (w : World) → HubRepresents S.seen hub.old w
-        → IfErr result IsAllowed }
-    ensures read { result ≢ Err Read }
-    ensures write { result ≡ Err Write → IsTrue (W.has_failed writer.new) }
-    ensures storage { result ≡ Err (Broker Fault.Storage) → IsTrue (hub_store S.seen hub.new).has_failed }
-    ensures stays_open { IsHonestStore (hub_store S.seen hub.new) → MatchResult result
-        (λ _. (hub_store S.seen hub.new).is_open ≡ (hub_store S.seen hub.old).is_open)
-        (λ fault. fault ≢ Broker Fault.Storage
-        → (hub_store S.seen hub.new).is_open ≡ (hub_store S.seen hub.old).is_open) }
-    ensures later { IsLater (hub_store S.seen hub.old) (hub_store S.seen hub.new) }
 {
     let moment = clock.now();
     let drawn = words.words();
@@ -196,34 +150,16 @@ fn read_piece<S: Store, R: NowSource, W: NowSink, C: Clock, D: WordSource>(
     words: &mut D,
 ) -> Result<Turn, ConnectionFault>
     requires done { unsent link.old ≡ [] }
-    ensures took { MatchResult result
-        (λ turn. TakesTurn S.seen turn (number_of link.old) (Consumes (R.left reader.old) (R.left reader.new))
-        (Passes (Appends (W.written writer.old) (W.written writer.new)) (unsent link.old) (unsent link.new))
-        (Supplies C.may_tell clock.old clock.new D.may_give words.old words.new) hub.old hub.new)
-        (λ fault. TurnStops S.seen (number_of link.old) (Consumes (R.left reader.old) (R.left reader.new))
-        (Passes (Appends (W.written writer.old) (W.written writer.new)) (unsent link.old) (unsent link.new))
-        (Supplies C.may_tell clock.old clock.new D.may_give words.old words.new) fault hub.old hub.new) }
-    ensures same { number_of link.new ≡ number_of link.old }
-    ensures others { (all : Connections) → ConnectionsRepresent hub.old all
-        → LeavesOthers (number_of link.old) all hub.new }
+    ensures took { TurnsLink S.seen link.old link.new (Consumes (R.left reader.old) (R.left reader.new))
+        (Appends (W.written writer.old) (W.written writer.new))
+        (Supplies C.may_tell clock.old clock.new D.may_give words.old words.new)
+        (IsTrue (R.has_failed reader.new)) (IsTrue (W.has_failed writer.new)) result hub.old hub.new }
     ensures needs { result ≡ Ok Turn.NeedsBytes → (unsent link.new ≡ []) × (hub.new ≡ hub.old) }
     ensures ended { result ≡ Ok Turn.Ended → (unsent link.new ≡ []) × (hub.new ≡ hub.old)
         × IsAtEnd (R.left reader.new) }
     ensures room { result ≢ Ok Turn.NeedsRoom }
-    ensures gone { OnErr result ((all : Connections) → ConnectionsRepresent hub.new all
-        → IsGone all (number_of link.new)) }
     ensures heard { OnOk result ((R.has_failed reader.new ≡ R.has_failed reader.old)
         × (W.has_failed writer.new ≡ W.has_failed writer.old)) }
-    ensures wants { IsHonestStore (hub_store S.seen hub.new) → (w : World) → HubRepresents S.seen hub.old w
-        → IfErr result IsAllowed }
-    ensures read { result ≡ Err Read → IsTrue (R.has_failed reader.new) }
-    ensures write { result ≡ Err Write → IsTrue (W.has_failed writer.new) }
-    ensures storage { result ≡ Err (Broker Fault.Storage) → IsTrue (hub_store S.seen hub.new).has_failed }
-    ensures stays_open { IsHonestStore (hub_store S.seen hub.new) → MatchResult result
-        (λ _. (hub_store S.seen hub.new).is_open ≡ (hub_store S.seen hub.old).is_open)
-        (λ fault. fault ≢ Broker Fault.Storage
-        → (hub_store S.seen hub.new).is_open ≡ (hub_store S.seen hub.old).is_open) }
-    ensures later { IsLater (hub_store S.seen hub.old) (hub_store S.seen hub.new) }
 {
     let mut buffer = [0; PIECE];
     match reader.pull_now(&mut buffer) {

@@ -6,6 +6,7 @@ pub mod Mounts
 pub mod Patterns
 pub mod Route
 pub mod RouteRow
+pub mod RouterProps
 pub mod SoundLaws
 pub mod Table
 pub mod TellLaws

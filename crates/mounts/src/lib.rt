@@ -7,6 +7,8 @@ mod mount_type;
 mod mounting;
 mod naming;
 mod operation;
+mod pattern;
+mod router;
 mod routing;
 mod table;
 
@@ -21,4 +23,5 @@ pub use operation::{
     CubbyholeOperation, Facts, IssuedOperation, LeaseOperation, MountOperation, Opens, Operation,
     PolicyOperation, Route, SecretOperation, Stores, TokenOperation, WrappingOperation,
 };
+pub use router::Routers;
 pub use routing::{asks_sudo, operation_at, route};

@@ -1,7 +1,6 @@
 //! Routes.
 
-ghost use Rattle.std.specs.Prelude.{◌≡◌, ◌==◌, Option, None, Some, Ok, Err, true, false};
-ghost use Rattle.std.specs.Prelude.{IfOk, IfErr, OnOk, option_map, ⊤};
+ghost use Rattle.std.specs.Prelude.{◌≡◌, Option, true, IfOk, ⊤};
 ghost use Rattle.broker_types.specs.Map.{Map};
 ghost use Rattle.broker_types.specs.Broker.{Mount};
 ghost use Rattle.broker_types.specs.Path.{is_path};
@@ -20,19 +19,17 @@ ghost use Rattle.mounts.specs.Types as types;
 
 use crate::mount_type::{MountType, engine_type, fixed_type};
 use crate::operation::{Operation, Route};
+use crate::router::Routers;
 use crate::table::{RouteRow, route_rows};
 use broker_types::{Fault, Methods, Refusal, RequestError, Verb};
-use matchit::{InsertError, Router};
 use records::{Kind, RecordsTx, read_mount};
-use std::alloc::Global;
-use std::marker::Model;
 
 /// The operation that a verb and a path mean, with the mounts that have rows. It is refused with 404 if there is
 /// no such mount, or no pattern of its type is the path's; and with 405 if the pattern has other methods. The rows
 /// stay. It fails with `Damaged` if the mount's row cannot be read, and also if memory runs out or the storage
 /// fails (Vault's documentation, "HTTP API"; RFC 9110, section 15.5.6, for a method that is not allowed).
 pub fn route<'p, T: RecordsTx>(
-    alloc: Global,
+    routers: &Routers,
     tx: &mut T,
     verb: Verb,
     path: &'p str,
@@ -55,11 +52,10 @@ pub fn route<'p, T: RecordsTx>(
     let Some(mount_type) = type_of(tx, mount)? else {
         return Err(RequestError::Refused(Refusal::NotFound));
     };
-    let rows = route_rows(mount_type);
-    let Some(pattern) = pattern_found(alloc, rows, rest)? else {
+    let Some(pattern) = routers.pattern_found(mount_type, rest) else {
         return Err(RequestError::Refused(Refusal::NotFound));
     };
-    Ok(route_by(rows, verb, mount, rest, pattern)?)
+    Ok(route_by(route_rows(mount_type), verb, mount, rest, pattern)?)
 }
 
 /// The first segment of a path, which names its mount, and what follows its slash.
@@ -127,94 +123,6 @@ fn row_asks_sudo(row: &RouteRow, path: &str) -> bool
     ensures { result ≡ spec.row_asks_sudo path.now (shown row.now) }
 {
     row.2.facts().sudo && has_form(row.1, path)
-}
-
-// ---- the pattern
-
-/// A pattern of a router, which contracts see as its text.
-#[derive(Drop)]
-struct Pattern {
-    text: &'static str,
-}
-
-impl Model for Pattern {
-    ghost use Rattle.broker_types.specs.Text.{Text};
-
-    ghost Value = { Text };
-
-    ghost view = { λ p. p.text.now };
-}
-
-impl Pattern {
-    fn text(&self) -> &'static str
-        ensures { result.now ≡ self.now }
-    {
-        self.text
-    }
-}
-
-/// The pattern that a path within the mount finds.
-fn pattern_found(
-    alloc: Global,
-    rows: &'static [RouteRow],
-    path: &str,
-) -> Result<Option<&'static str>, Fault>
-    requires { patterns.fits (rows_in rows.now) ≡ true }
-    ensures found { IfOk result (λ found. option_map (λ s. s.now) found
-        ≡ patterns.pattern_found (rows_in rows.now) path.now) }
-    ensures memory { IfErr result (λ fault. fault ≡ Fault.Memory) }
-{
-    let router = router_of(alloc, rows)?;
-    match router.at(path) {
-        Ok(found) => Ok(Some(found.value.text())),
-        Err(_) => Ok(None),
-    }
-}
-
-/// The router of the patterns of rows.
-fn router_of(alloc: Global, rows: &'static [RouteRow]) -> Result<Router<Pattern>, Fault>
-    requires { patterns.fits (rows_in rows.now) ≡ true }
-    ensures found { IfOk result (λ router. router ≡ patterns.router_of (rows_in rows.now)) }
-    ensures memory { IfErr result (λ fault. fault ≡ Fault.Memory) }
-{
-    let mut router = Router::new(alloc);
-    let mut before: Option<&str> = None;
-    for row in rows {
-        put(&mut router, before, row.1)?;
-        before = Some(row.1);
-    }
-    Ok(router)
-}
-
-/// Puts a pattern into a router, unless it is that of the row before.
-fn put(
-    router: &mut Router<Pattern>,
-    before: Option<&str>,
-    pattern: &'static str,
-) -> Result<(), Fault>
-    requires { patterns.can_follow (option_map (λ s. s.now) before) pattern.now router.old ≡ true }
-    ensures found { OnOk result
-        (router.new ≡ patterns.with_next (option_map (λ s. s.now) before.entry) pattern.now router.old) }
-    ensures memory { IfErr result (λ fault. fault ≡ Fault.Memory) }
-{
-    if is_again(before, pattern) {
-        return Ok(());
-    }
-    match router.insert(pattern, Pattern { text: pattern }) {
-        Ok(()) => Ok(()),
-        Err(InsertError::OutOfMemory) => Err(Fault::Memory),
-        Err(_) => unreachable!(),
-    }
-}
-
-/// Whether the row before has the same pattern.
-fn is_again(before: Option<&str>, pattern: &str) -> bool
-    ensures { result ≡ patterns.is_again (option_map (λ s. s.now) before.entry) pattern.now }
-{
-    match before {
-        Some(before) => before == pattern,
-        None => false,
-    }
 }
 
 // ---- the row

@@ -29,10 +29,9 @@ rules_told rows policies name rules at gives =
     ∙ ap (λ o. unwrap_or (option_and_then policy_of o) []) (one_policy rows name gives.text (get policies name) gives.row at)
 
 -- a row whose text is no policy gives no rules
-pub unread_named : (rows : Table) (name : Text) (o : Option Text) (text : Text) → IsPolicyAt rows name o → o ≡ Some text → policy_of text ≡ None
-    → IsUnreadable rows name
-unread_named rows name o text at is none rules gives =
-    none-some _ (sym none ∙ ap kept_rules (sym is ∙ one_policy rows name o gives.text at gives.row) ∙ gives.read)
+pub unread_named : (rows : Table) (name text : Text) → IsPolicyAt rows name (Some text) → policy_of text ≡ None → IsUnreadable rows name
+unread_named rows name text at none rules gives =
+    none-some _ (sym none ∙ ap kept_rules (one_policy rows name (Some text) gives.text at gives.row) ∙ gives.read)
 
 -- ---- name by name
 

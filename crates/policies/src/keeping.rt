@@ -104,11 +104,7 @@ pub fn get<T: RecordsTx>(alloc: Global, tx: &mut T, name: &str) -> Result<Option
 }
 
 /// The text that the row at a name keeps, if there is one.
-pub(crate) fn kept_text<T: RecordsTx>(
-    alloc: Global,
-    tx: &mut T,
-    name: &str,
-) -> Result<Option<TextBuf>, Fault>
+fn kept_text<T: RecordsTx>(alloc: Global, tx: &mut T, name: &str) -> Result<Option<TextBuf>, Fault>
     ensures found { IsHonest (T.seen tx.new) → IfOk result (IsPolicyAt (table (T.seen tx.old)) name.now) }
     ensures short { IfOk result (IsSomeIn IsShortText) }
     ensures call { IsReading (T.seen tx.old) (T.seen tx.new) result

@@ -7,6 +7,7 @@ mod gathering;
 mod keeping;
 mod laws;
 mod listing;
+mod memory;
 mod naming;
 mod pattern;
 mod reading;
@@ -21,5 +22,6 @@ pub use laws::{
     only_the_callers_policies, patterns_are_chosen_in_order, policies_are_told,
 };
 pub use listing::list;
+pub use memory::PolicyMemory;
 pub use pattern::Pattern;
 pub use rule::{Policy, Rule, Rules};

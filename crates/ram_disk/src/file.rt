@@ -15,16 +15,32 @@ use std::io;
 pub struct RamFile {
     bytes: Vec<u8>,
     faults: u64,
+    /// Whether it says that a crash leaves each byte old or new. A log that hears so writes a frame more at each commit,
+    /// and zeros ahead, to spare a sync.
+    is_mixing: bool,
 }
 
 impl RamFile {
-    /// A file without a byte.
+    /// A file without a byte. A sync costs nothing here, so it does not say that it mixes.
     pub fn new(alloc: Global) -> RamFile
         ensures empty { bytes_of result ≡ [] }
+        ensures mixing { result.is_mixing ≡ false }
     {
         RamFile {
             bytes: Vec::new(alloc),
             faults: 0,
+            is_mixing: false,
+        }
+    }
+
+    /// One that says that it mixes, for trials of what a log does on such a disk.
+    pub fn mixing(alloc: Global) -> RamFile
+        ensures empty { bytes_of result ≡ [] }
+        ensures mixing { result.is_mixing ≡ true }
+    {
+        RamFile {
+            is_mixing: true,
+            ..RamFile::new(alloc)
         }
     }
 }
@@ -46,14 +62,14 @@ impl Disk for RamFile {
 
     ghost is_fair = { λ _ _. true };
 
-    ghost is_mixing = { λ _. true };
+    ghost is_mixing = { λ f. f.is_mixing };
 
     ghost fair_if_clean = { λ _ _ _. refl };
 
     ghost seen_may_stay = { λ _. refl };
 
     fn mixes(&self) -> bool {
-        true
+        self.is_mixing
     }
 
     fn key(&self) -> u64 {

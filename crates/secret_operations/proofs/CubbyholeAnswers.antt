@@ -1,6 +1,7 @@
 -- From the rows that an edit of a cubbyhole left to the broker that they represent, and which these are; and how a list
 -- ends.
-use Rattle.std.specs.Prelude.{◌≡◌, ◌==◌, ℕ, List, [], ◌∷◌, length, not, Bool, true, false, Option, None, Result, Ok, Err}
+use Rattle.std.specs.Prelude.{◌≡◌, ◌==◌, ℕ, List, [], ◌∷◌, length, not, Bool}
+use Rattle.std.specs.Prelude.{true, false, Option, None, Result, Ok, Err}
 use Rattle.std.proofs.Common.{arith, refl, sym, ap, subst}
 use Rattle.std.proofs.lemmas.Bool.{true≢false}
 use Rattle.std.proofs.lemmas.Bool.Decides.{nat_tests}
@@ -42,8 +43,10 @@ pub only_cubbyholes : (t : Text) (old new : Table) → KeepsOtherOwners t old ne
 only_cubbyholes t old new keeps k q h = keeps k q (outside_cubbyhole t k q h)
 
 -- the rows after the write of an object to the caller's cubbyhole are those of the broker after it
-pub represents-write : {who : Option Text} (b : Broker) (old new : Rows) (t path object : Text) → Represents who old b → IsPathText path
-    → IsObjectText forms object → Tells everything (table_of new) (write b t path object) → Represents who new (write b t path object)
+pub represents-write : {who : Option Text} (b : Broker) (old new : Rows) (t path object : Text) → Represents who old b
+    → IsPathText path
+    → IsObjectText forms object → Tells everything (table_of new) (write b t path object)
+    → Represents who new (write b t path object)
 represents-write {who} b old new t path object st is_path is_object tells =
     record {
       rows = λ i k q. tells k q refl i;
@@ -69,13 +72,17 @@ none_by_number (name ∷ names) n e = let some : (n == 0) ≡ false = grind (ari
 module _ (b : Broker) (rows : Rows) (who : Option Text) (names : Names) (children : List Text) where
   -- what the list says of the names, if whether there are none is v
   abbrev listed_if : Bool → Result Done Refusal
-  listed_if v = unless (not v) refusal.NotFound >>= (λ some. Ok (plainly (reply (list_reply names.request children) None) b))
+  listed_if v = unless (not v) refusal.NotFound
+      >>= (λ some. Ok (plainly (reply (list_reply names.request children) None) b))
 
   -- the answer that shows them
   pub acts_listed : (result : Result Answered RequestError) → are_none children ≡ false
-      → ActsAs who b rows result (Ok (plainly (reply (list_reply names.request children) None) b)) → ActsAs who b rows result (listed b names children)
+      → ActsAs who b rows result (Ok (plainly (reply (list_reply names.request children) None) b))
+      → ActsAs who b rows result (listed b names children)
   acts_listed result some acts = subst (λ v. ActsAs who b rows result (listed_if v)) (sym some) acts
 
   -- 404 where there are none
-  pub acts_unlisted : are_none children ≡ true → Represents who rows b → ActsAs who b rows (Err (Refused refusal.NotFound)) (listed b names children)
-  acts_unlisted none st = subst (λ v. ActsAs who b rows (Err (Refused refusal.NotFound)) (listed_if v)) (sym none) (refl, st)
+  pub acts_unlisted : are_none children ≡ true → Represents who rows b
+      → ActsAs who b rows (Err (Refused refusal.NotFound)) (listed b names children)
+  acts_unlisted none st = subst (λ v. ActsAs who b rows (Err (Refused refusal.NotFound)) (listed_if v)) (sym none)
+      (refl, st)

@@ -26,7 +26,8 @@ short_metadata es kept = record {
 pub metadata_in_range : (asked : KeySettings) → IsKeptSettings asked → IsSomeIn IsMeta (given asked).custom_metadata
 metadata_in_range asked kept es is = short_metadata es (kept.custom_metadata es is)
 
-pub within_limits : (asked : KeySettings) → IsKeptSettings asked → IsSomeIn IsWide asked.max_versions → AreWithinLimits (given asked)
+pub within_limits : (asked : KeySettings) → IsKeptSettings asked → IsSomeIn IsWide asked.max_versions
+    → AreWithinLimits (given asked)
 within_limits asked kept wide = record {
   max_versions = wide;
   few_metadata = λ es is. (kept.custom_metadata es is).few;

@@ -1,5 +1,6 @@
 -- A credential that was issued: its rows, its identifiers, and the broker that they represent.
-use Rattle.std.specs.Prelude.{◌≡◌, ◌≢◌, ◌==◌, ◌&&◌, ◌||◌, ℕ, List, [], ◌∷◌, ◌++◌, not, Bool, true, false, if◌then◌else◌, codes}
+use Rattle.std.specs.Prelude.{◌≡◌, ◌≢◌, ◌==◌, ◌&&◌, ◌||◌, ℕ, List, [], ◌∷◌, ◌++◌}
+use Rattle.std.specs.Prelude.{not, Bool, true, false, if◌then◌else◌, codes}
 use Rattle.std.specs.Prelude.{Option, Some, None, option_map, is_none, Result, Ok, Err}
 use Rattle.std.specs.List.{list_all}
 use Rattle.std.specs.Option.{option_map_or}
@@ -64,7 +65,8 @@ module _ (identifier credential : Text) (old mid new : Rows) where
 
 -- ---- the name of a role that is there
 
-weaker : (p q : ℕ → Bool) → ((x : ℕ) → p x ≡ true → q x ≡ true) → (xs : List ℕ) → list_all p xs ≡ true → list_all q xs ≡ true
+weaker : (p q : ℕ → Bool) → ((x : ℕ) → p x ≡ true → q x ≡ true) → (xs : List ℕ) → list_all p xs ≡ true
+    → list_all q xs ≡ true
 weaker p q h [] e = refl
 weaker p q h (x ∷ xs) e = λ i. h x (and_parts _ _ e).0 i && weaker p q h xs (and_parts _ _ e).1 i
 
@@ -72,10 +74,12 @@ name_byte : (x : ℕ) → is_name_byte x ≡ true → not (x == slash) ≡ true
 name_byte x h = grind (arith, nat_tests)
 
 mount_lacks : (mount : Text) → is_mount_name mount ≡ true → lacks slash mount ≡ true
-mount_lacks mount h = weaker is_name_byte (λ x. not (x == slash)) name_byte mount (and_parts _ _ (and_parts _ _ (and_parts _ _ h).0).1).1
+mount_lacks mount h = weaker is_name_byte (λ x. not (x == slash)) name_byte mount
+    (and_parts _ _ (and_parts _ _ (and_parts _ _ h).0).1).1
 
 -- a role is kept under a name
-role_named : (mount name : Text) (r : Role) → is_mount_name mount ≡ true → IsSoundRole (role_name mount name) r → is_name name ≡ true
+role_named : (mount name : Text) (r : Role) → is_mount_name mount ≡ true → IsSoundRole (role_name mount name) r
+    → is_name name ≡ true
 role_named mount name r is_mount s =
     let parts : role_name mount name ≡ s.mount ++ slash ∷ s.role = s.parts ∙ append_assoc s.mount (codes "/") s.role in
     let pair = same_Some _ _
@@ -86,11 +90,13 @@ role_named mount name r is_mount s =
 -- ---- the caller
 
 -- the entry of a caller tells whether this is its last use
-pub last_use : (b : Broker) (c : Caller) → IsCallerOf b c → option_map_or (λ n. n == 0) c.known.uses_left false ≡ is_last_use b c.token
+pub last_use : (b : Broker) (c : Caller) → IsCallerOf b c → option_map_or (λ n. n == 0) c.known.uses_left false
+    ≡ is_last_use b c.token
 last_use b c is = by (get b.tokens c.token) is
   where
     by : (o : Option Token) → Some c.known ≡ option_map token_entry o
-        → option_map_or (λ n. n == 0) c.known.uses_left false ≡ option_map_or (λ (x : Token). option_map_or (λ n. n == 0) x.uses_left false) o false
+        → option_map_or (λ n. n == 0) c.known.uses_left false
+        ≡ option_map_or (λ (x : Token). option_map_or (λ n. n == 0) x.uses_left false) o false
     by None h = absurd (none-some _ (sym h))
     by (Some x) h = ap (λ (e : TokenEntry). option_map_or (λ n. n == 0) e.uses_left false) (same_Some _ _ h)
 
@@ -100,8 +106,10 @@ some_of : {X : Type 0} (e : Refusal) (o : Option X) (x : X) → some_or e o ≡ 
 some_of e None x h = no_ok h
 some_of e (Some y) x h = ap Some (ok_inj h)
 
-module _ (b : Broker) (c : Text) (sound : Sound forms (Some c) b) (mount name identifier credential : Text) (is_mount : is_mount_name mount ≡ true)
-    (good : IsIdentifier identifier) (good_too : IsIdentifier credential) (new : are_new b.used (identifier ∷ credential ∷ []) ≡ true)
+module _ (b : Broker) (c : Text) (sound : Sound forms (Some c) b) (mount name identifier credential : Text)
+    (is_mount : is_mount_name mount ≡ true)
+    (good : IsIdentifier identifier) (good_too : IsIdentifier credential)
+    (new : are_new b.used (identifier ∷ credential ∷ []) ≡ true)
     (here : get b.tokens c ≢ None) where
   abbrev id : Text
   id = lease_id mount name identifier
@@ -120,7 +128,8 @@ module _ (b : Broker) (c : Text) (sound : Sound forms (Some c) b) (mount name id
 
   differ : identifier ≢ credential
   differ e =
-      false≢true (sym (ap (λ v. not (v || false)) (same_self identifier)) ∙ ap (λ k. not (same identifier k || false)) e ∙ rest_new.0)
+      false≢true (sym (ap (λ v. not (v || false)) (same_self identifier))
+      ∙ ap (λ k. not (same identifier k || false)) e ∙ rest_new.0)
 
   pub id_new : IsNew b (lease_identifier id)
   id_new = subst (IsNew b) (sym ends_with) identifier_new
@@ -137,12 +146,15 @@ module _ (b : Broker) (c : Text) (sound : Sound forms (Some c) b) (mount name id
 
   -- ---- what is left
 
-  module _ (old mid new_rows : Rows) (st : Represents (Some c) old b) (keeps : KeepsOthers of_leases (table_of old) (table_of mid))
-      (marks : table_of new_rows ≡ with_row (with_row (table_of mid) kind.Used credential used_row) kind.Used identifier used_row) where
+  module _ (old mid new_rows : Rows) (st : Represents (Some c) old b)
+      (keeps : KeepsOthers of_leases (table_of old) (table_of mid))
+      (marks : table_of new_rows ≡ with_row (with_row (table_of mid) kind.Used credential used_row) kind.Used
+      identifier used_row) where
     -- the lease was made, and both identifiers were marked
     represents-issued : (r : Role) → roles.role b mount name ≡ Some r
         → Tells of_leases (table_of mid) (issue b c id (new_lease b.clock r credential))
-        → Represents (Some c) new_rows (record (issue b c id (new_lease b.clock r credential)) { used = use_up b.used (identifier ∷ credential ∷ []) })
+        → Represents (Some c) new_rows (record
+        (issue b c id (new_lease b.clock r credential)) { used = use_up b.used (identifier ∷ credential ∷ []) })
     represents-issued r is tells =
         let l = new_lease b.clock r credential in
         let may = may_be_issued r is in
@@ -152,7 +164,8 @@ module _ (b : Broker) (c : Text) (sound : Sound forms (Some c) b) (mount name id
         (shows_in_leases b (λ u m. if same u c then put m id l else m)) in
         record {
           rows = marks_joined next identifier credential (table_of mid) (table_of new_rows) marks made;
-          sound = subst (λ i. Sound forms (Some c) (record next { used = use_up b.used (i ∷ credential ∷ []) })) ends_with
+          sound = subst (λ i. Sound forms (Some c) (record next { used = use_up b.used (i ∷ credential ∷ []) }))
+              ends_with
               (issue_sound b c id l forms (Some c) st.sound may (subst IsIdentifier (sym ends_with) good));
         }
 
@@ -161,7 +174,8 @@ module _ (b : Broker) (c : Text) (sound : Sound forms (Some c) b) (mount name id
     given x = record { lease_id = x.lease_id; lease = x.lease; next = issue b c x.lease_id x.lease }
 
     -- so what a call on leases has made is issued
-    pub leased : (l : Text × ℕ) → EndsOk (λ x (i : Issued). (x ≡ (i.lease_id, i.lease.ttl)) × Tells of_leases (table_of mid) i.next) l
+    pub leased : (l : Text × ℕ) → EndsOk (λ x (i : Issued). (x ≡ (i.lease_id, i.lease.ttl))
+        × Tells of_leases (table_of mid) i.next) l
         (creds b c mount name identifier credential)
         → EndsOk (IsLeased c new_rows identifier credential) l (creds b c mount name identifier credential)
     leased l ends = by (creds b c mount name identifier credential) refl ends
@@ -171,12 +185,16 @@ module _ (b : Broker) (c : Text) (sound : Sound forms (Some c) b) (mount name id
             → EndsOk (IsLeased c new_rows identifier credential) l m
         by (Err r) is h = absurd h
         by (Ok i) is h =
-            let x = ok_step (roles.issued (roles.role b mount name) (is_last_use b c) b.clock mount name identifier credential) _ i is in
+            let x = ok_step (roles.issued (roles.role b mount name) (is_last_use b c) b.clock mount name identifier
+            credential) _ i is in
             let r = ok_step (some_or refusal.NotFound (roles.role b mount name)) _ x.0 x.1 in
-            let lasts = ok_step (unless (not (is_last_use b c)) (refusal.BadRequest reason.LastUseTakesLease)) _ x.0 r.2 in
+            let lasts =
+            ok_step (unless (not (is_last_use b c)) (refusal.BadRequest reason.LastUseTakesLease)) _ x.0 r.2 in
             let there = some_of refusal.NotFound (roles.role b mount name) r.0 r.1 in
             let same = ap given (ok_inj lasts.2) ∙ ok_inj x.2 in (
               h.0,
-              subst (λ (i : Issued). Represents (Some c) new_rows (record i.next { used = use_up i.next.used (identifier ∷ credential ∷ []) })) same
-                  (represents-issued r.0 there (subst (λ (i : Issued). Tells of_leases (table_of mid) i.next) (sym same) h.1)),
+              subst (λ (i : Issued). Represents (Some c) new_rows
+                  (record i.next { used = use_up i.next.used (identifier ∷ credential ∷ []) })) same
+                  (represents-issued r.0 there (subst (λ (i : Issued). Tells of_leases (table_of mid) i.next)
+                  (sym same) h.1)),
             )

@@ -40,35 +40,42 @@ use Rattle.secret_operations.proofs.SecretTables.{keeps_outside, represents-secr
 
 -- a command that answers nothing leaves the secrets that it says
 pub acts_changed : (b : Broker) (who : Option Text) (old new : Rows) (secrets : Map Key) → Represents who old b
-    → Sound forms who (record b { secrets = secrets }) → Tells of_secrets (table_of new) (record b { secrets = secrets })
+    → Sound forms who (record b { secrets = secrets })
+    → Tells of_secrets (table_of new) (record b { secrets = secrets })
     → KeepsOthers of_secrets (table_of old) (table_of new)
     → ActsAs who b new (Ok Nothing) (Ok (plainly nothing (record b { secrets = secrets })))
-acts_changed b who old new secrets st sound tells keeps = (refl, represents-secrets b old new st secrets sound tells keeps)
+acts_changed b who old new secrets st sound tells keeps =
+    (refl, represents-secrets b old new st secrets sound tells keeps)
 
 -- ---- a write
 
 -- what holds of an error of a write holds of the same error of another call
-pub on_written : (P : Type 0) (e : RequestError) → OnAnswer {A = WriteAnswer} (Err e) P → OnAnswer {A = Code.Answered} (Err e) P
+pub on_written : (P : Type 0) (e : RequestError) → OnAnswer {A = WriteAnswer} (Err e) P
+    → OnAnswer {A = Code.Answered} (Err e) P
 on_written P (Refused r) p = p
 on_written P (Fault f) p = p
 
 -- the version that the code answers is the one that the definition has written, and the rows tell the next broker
 abbrev pub IsWrittenAs : Rows → WriteAnswer → Written → Type 0
-IsWrittenAs new v w = (v.number ≡ w.number) × (v.custom_metadata ≡ w.custom_metadata) × Tells of_secrets (table_of new) w.next
+IsWrittenAs new v w = (v.number ≡ w.number) × (v.custom_metadata ≡ w.custom_metadata)
+    × Tells of_secrets (table_of new) w.next
 
-module _ (b : Broker) (who : Option Text) (old new : Rows) (names : Names) (p : Place) (asked : SecretWrite) (st : Represents who old b) where
+module _ (b : Broker) (who : Option Text) (old new : Rows) (names : Names) (p : Place) (asked : SecretWrite)
+    (st : Represents who old b) where
   abbrev outcome : Result Written Refusal
   outcome = secrets.write b p.mount p.path asked.cas asked.object
 
   abbrev shown : Result Written Refusal → Result Done Refusal
-  shown m = m >>= (λ w. Ok (plainly (reply (written_reply names.request b.clock w.custom_metadata w.number) None) w.next))
+  shown m = m >>= (λ w. Ok (plainly (reply (written_reply names.request b.clock w.custom_metadata w.number) None)
+      w.next))
 
   -- one that is refused leaves the broker as it was
   pub acts_not_written : (e : RequestError) → EndsErr ⊤ e outcome → OnRefused {A = WriteAnswer} (Err e) (new ≡ old)
       → ActsAs who b new (Err e) (write b names p asked)
   acts_not_written e ends same = by e outcome ends same
     where
-      by : (e : RequestError) (m : Result Written Refusal) → EndsErr ⊤ e m → OnRefused {A = WriteAnswer} (Err e) (new ≡ old)
+      by : (e : RequestError) (m : Result Written Refusal) → EndsErr ⊤ e m
+          → OnRefused {A = WriteAnswer} (Err e) (new ≡ old)
           → ActsAs who b new (Err e) (shown m)
       by (Refused r) (Ok w) h same = absurd h
       by (Refused r) (Err x) h same = (h.0, still_represented b old new same st)
@@ -77,7 +84,8 @@ module _ (b : Broker) (who : Option Text) (old new : Rows) (names : Names) (p : 
   -- another leaves one more version
   module _ (path : IsPathText p.path) (object : IsObjectText forms asked.object)
       (keeps : KeepsOtherNames (secrets.secret_name p.mount p.path) (table_of old) (table_of new)) where
-    represents-written : (w : Written) → outcome ≡ Ok w → Tells of_secrets (table_of new) w.next → Represents who new w.next
+    represents-written : (w : Written) → outcome ≡ Ok w → Tells of_secrets (table_of new) w.next
+        → Represents who new w.next
     represents-written w is tells =
         let x = write_is b p.mount p.path asked.cas asked.object w is in
         let sound = write_sound forms who b st.sound p.mount p.path asked.cas asked.object w path object is in
@@ -86,13 +94,19 @@ module _ (b : Broker) (who : Option Text) (old new : Rows) (names : Names) (p : 
         (represents-secrets b old new st _ (subst (λ (z : Written). Sound forms who z.next) x.3 sound)
         (subst (λ (z : Written). Tells of_secrets (table_of new) z.next) x.3 tells) inside)
 
-    pub acts_written : (v : WriteAnswer) (now : ℕ) (x : Code.Answered) → now ≡ b.clock → EndsOk (IsWrittenAs new) v outcome
-        → answered_of x ≡ reply (written_reply names.request now v.custom_metadata v.number) None → ActsAs who b new (Ok x) (write b names p asked)
+    pub acts_written : (v : WriteAnswer) (now : ℕ) (x : Code.Answered) → now ≡ b.clock
+        → EndsOk (IsWrittenAs new) v outcome
+        → answered_of x ≡ reply (written_reply names.request now v.custom_metadata v.number) None
+        → ActsAs who b new (Ok x) (write b names p asked)
     acts_written v now x clock ends answered = by outcome refl ends
       where
-        by : (m : Result Written Refusal) → outcome ≡ m → EndsOk (IsWrittenAs new) v m → ActsAs who b new (Ok x) (shown m)
+        by : (m : Result Written Refusal) → outcome ≡ m → EndsOk (IsWrittenAs new) v m
+            → ActsAs who b new (Ok x) (shown m)
         by (Err r) is h = absurd h
-        by (Ok w) is h = (answered ∙ (λ i. reply (written_reply names.request (clock i) (h.1 i) (h.0 i)) None), represents-written w is h.2)
+        by (Ok w) is h = (
+          answered ∙ (λ i. reply (written_reply names.request (clock i) (h.1 i) (h.0 i)) None),
+          represents-written w is h.2,
+        )
 
 -- ---- a version that is read
 

@@ -39,7 +39,8 @@ outside_versions ns name kind.KvKey q h = absurd (true≢false h)
 outside_versions ns name kind.KvVersion q h = absurd (true≢false h)
 outside_versions ns name _ q h = refl
 
-pub changes_inside : (f : Version → Version) (ns : List ℕ) (name : Text) (old new : Table) → AreChanged f ns name old new → KeepsOthers of_secrets old new
+pub changes_inside : (f : Version → Version) (ns : List ℕ) (name : Text) (old new : Table)
+    → AreChanged f ns name old new → KeepsOthers of_secrets old new
 changes_inside f ns name old new changed k q h = changed.others k q (outside_versions ns name k q h)
 
 -- rows of no mount are of no mount's name
@@ -54,7 +55,8 @@ only_mounts name old new keeps k q h = keeps k q (outside_mounts name k q h)
 
 module _ {who : Option Text} (b : Broker) (old new : Rows) (st : Represents who old b) where
   pub represents-secrets : (secrets : Map Key) → Sound forms who (record b { secrets = secrets })
-      → Tells of_secrets (table_of new) (record b { secrets = secrets }) → KeepsOthers of_secrets (table_of old) (table_of new)
+      → Tells of_secrets (table_of new) (record b { secrets = secrets })
+      → KeepsOthers of_secrets (table_of old) (table_of new)
       → Represents who new (record b { secrets = secrets })
   represents-secrets secrets sound tells keeps = record {
     rows = joined_rows of_secrets (table_of old) (table_of new) b (record b { secrets = secrets }) st.rows tells keeps
@@ -63,7 +65,8 @@ module _ {who : Option Text} (b : Broker) (old new : Rows) (st : Represents who 
   }
 
   pub represents-settings : (name : Text) (mounts : Map Mount) → Sound forms who (record b { mounts = mounts })
-      → Tells of_mounts (table_of new) (record b { mounts = mounts }) → KeepsOtherMounts name (table_of old) (table_of new)
+      → Tells of_mounts (table_of new) (record b { mounts = mounts })
+      → KeepsOtherMounts name (table_of old) (table_of new)
       → Represents who new (record b { mounts = mounts })
   represents-settings name mounts sound tells keeps = record {
     rows = joined_rows of_mounts (table_of old) (table_of new) b (record b { mounts = mounts }) st.rows tells

@@ -1,5 +1,5 @@
--- Commands that fit into rows: a text that is kept is a short one, of an object, custom metadata are few and short, and a
--- time that is kept is no longer than one that can be given (this project's row format).
+-- Commands that fit into rows: a text that is kept is a short one, of an object, custom metadata are few and short, and
+-- a time that is kept is no longer than one that can be given (this project's row format).
 use Rattle.std.specs.Prelude.{◌≤◌, Some, ⊤}
 use Rattle.broker_types.specs.Duration.{longest_duration}
 use Rattle.api_json.specs.Kept.{IsKept, IsKeptSettings}

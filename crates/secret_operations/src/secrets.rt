@@ -36,6 +36,7 @@ use api_json::{
 use broker_model::SecretCommand;
 use broker_rows::{Answered, Context};
 use broker_types::RequestError;
+use changes::Change;
 use mounts::SecretOperation;
 use records::RecordsTx;
 use std::alloc::Global;
@@ -133,8 +134,8 @@ pub fn act_on_secrets<T: RecordsTx>(
     ensures readable { IsHonest (T.seen tx.new)
         → OnAnswer result (AreReadableSecrets (T.seen tx.old).rows place.now command) }
 
-    // And what only reads changes no row, what sets settings of the mount only rows of mounts, and all else only rows of
-    // secrets and of versions.
+    // And what only reads changes no row, what sets settings of the mount only rows of mounts, and all else only rows
+    // of secrets and of versions.
     ensures rows { IsHonest (T.seen tx.new)
         → OnAnswer result (Changes (secret_changes command) (T.seen tx.old).rows (T.seen tx.new).rows) }
     ensures call { IsRequestCall (T.seen tx.old) (T.seen tx.new) result IsNotBadStart }
@@ -148,13 +149,14 @@ pub fn act_on_secrets<T: RecordsTx>(
         SecretCommand::Write(asked) => versions::write(alloc, tx, context, mount, path, asked),
         SecretCommand::DeleteCurrent => changes::delete_current(alloc, tx, context, mount, path),
         SecretCommand::Delete(numbers) => {
-            changes::delete(alloc, tx, context, mount, path, numbers.as_slice())
+            let deleted = Change::Delete(context.clock);
+            changes::change_versions(alloc, tx, mount, path, numbers.as_slice(), deleted)
         }
         SecretCommand::Undelete(numbers) => {
-            changes::undelete(alloc, tx, mount, path, numbers.as_slice())
+            changes::change_versions(alloc, tx, mount, path, numbers.as_slice(), Change::Undelete)
         }
         SecretCommand::Destroy(numbers) => {
-            changes::destroy(alloc, tx, mount, path, numbers.as_slice())
+            changes::change_versions(alloc, tx, mount, path, numbers.as_slice(), Change::Destroy)
         }
         SecretCommand::ShowMetadata => metadata::show(alloc, tx, context, mount, path),
         SecretCommand::SetMetadata(asked) => metadata::set(alloc, tx, context, mount, path, asked),

@@ -6,15 +6,17 @@ use Rattle.broker_types.specs.declared.fault.Fault.{Fault}
 use Rattle.broker_types.specs.declared.fault.Fault.TheVariants.{Memory, Storage, Damaged, BadStart}
 use Rattle.broker.specs.Kept.{Kept, IsHonestStore}
 use Rattle.hub.specs.Feeding.{IsLater}
+use Rattle.hub.specs.Links.{number_of, unsent}
 use Rattle.hub.specs.Numbers.{IsNext}
 use Rattle.hub.specs.Representing.{ConnectionsRepresent, HubRepresents, hub_store}
 use Rattle.hub.specs.Serving.{IsAllowed, LeavesClosed, LeavesOthers}
 use Rattle.hub.specs.Steps.{closed}
 use Rattle.hub.specs.StepsLaws.{known_open, steps_close, steps_none, steps_on, steps_turned}
-use Rattle.hub.specs.Turning.{TakesTurn, TurnStops}
+use Rattle.hub.specs.Turning.{Passes, TurnsLink}
 use Rattle.hub.specs.World.{Connections, World, history_at}
 use Rattle.hub.specs.declared.event.Event.{Event}
 use Rattle.hub.specs.declared.hub.Hub.{Hub}
+use Rattle.hub.specs.declared.link.Link.{Link}
 use Rattle.hub.specs.declared.serve.ConnectionFault.{ConnectionFault}
 use Rattle.hub.specs.declared.serve.ConnectionFault.TheVariants.{Broker}
 use Rattle.hub.specs.declared.turn.Turn.{Turn}
@@ -173,25 +175,18 @@ unwanted (Err end) (Err fault) is want =
     let e : end ≡ Broker fault = cc is.0 in
     allowed fault (subst IsAllowed e want) is.1
 
-pub leaves_turn : {B S : Type 0} (seen : S → Kept) (conn : ℕ) (Reads Writes : List ℕ → Type 0) (Draws : List Event → Type 0)
-    (end : Result Turn ConnectionFault) (r : Result B Fault) (old new : Hub S) → IsUnskipped end r
-    → MatchResult end (λ turn. TakesTurn seen turn conn Reads Writes Draws old new)
-    (λ fault. TurnStops seen conn Reads Writes Draws fault old new)
-    → (IsHonestStore (hub_store seen new) → (w : World) → HubRepresents seen old w → IfErr end IsAllowed)
-    → (end ≡ Err (Broker Storage) → IsTrue (hub_store seen new).has_failed)
-    → (IsHonestStore (hub_store seen new) → MatchResult end
-    (λ _. (hub_store seen new).is_open ≡ (hub_store seen old).is_open)
-    (λ fault. fault ≢ Broker Storage → (hub_store seen new).is_open ≡ (hub_store seen old).is_open))
-    → IsLater (hub_store seen old) (hub_store seen new) → LeavesServed seen Draws r old new
-leaves_turn seen conn Reads Writes Draws end r old new is took wants storage stays later =
-    let turned = steps_turned seen conn Reads Writes Draws old new end later took in
+pub leaves_turn : {B S : Type 0} (seen : S → Kept) (before after : Link) (Reads Sends : List ℕ → Type 0) (Draws : List Event → Type 0)
+    (ReadFails WriteFails : Type 0) (end : Result Turn ConnectionFault) (r : Result B Fault) (old new : Hub S) → IsUnskipped end r
+    → TurnsLink seen before after Reads Sends Draws ReadFails WriteFails end old new → LeavesServed seen Draws r old new
+leaves_turn seen before after Reads Sends Draws ReadFails WriteFails end r old new is t =
+    let turned = steps_turned seen (number_of before) Reads (Passes Sends (unsent before) (unsent after)) Draws old new end t.keeps.later t.took in
     record {
       steps = turned.0;
       between = turned.1;
       skipped = skipped_by end r is;
-      storage = λ e. storage (storage_by end r is e);
-      stays_open = λ honest. open_by end r (hub_store seen new).is_open (hub_store seen old).is_open is (stays honest);
-      wants = λ honest open_ w represents. unwanted end r is (wants honest w represents);
+      storage = λ e. t.keeps.storage (storage_by end r is e);
+      stays_open = λ honest. open_by end r (hub_store seen new).is_open (hub_store seen old).is_open is (t.keeps.stays_open honest);
+      wants = λ honest open_ w represents. unwanted end r is (t.keeps.wants honest w represents);
     }
 
 -- ---- one closing

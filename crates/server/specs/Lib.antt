@@ -2,6 +2,7 @@ pub mod Drawn
 pub mod LogLine
 pub mod Moments
 pub mod Noting
+pub mod Opening
 pub mod Patience
 pub mod Prepared
 pub mod Replying

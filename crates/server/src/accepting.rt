@@ -93,8 +93,8 @@ impl Accepting {
         self.may_wait && (len >= self.at_once || self.is_scarce) && now >= self.look_at
     }
 
-    /// Another has left its place, or none could. The next one that waits is accepted without a pause then; and until one
-    /// was accepted, or some time has passed, no other is to leave.
+    /// Another has left its place, or none could. The next one that waits is accepted without a pause then; and until
+    /// one was accepted, or some time has passed, no other is to leave.
     pub(crate) fn note_room(&mut self, was_made: bool, now: u64) {
         if was_made {
             self.retry_at = 0;
@@ -168,8 +168,8 @@ impl Accepting {
     }
 }
 
-/// Whether the system is out of descriptors or memory: EMFILE, ENFILE, ENOMEM, ENOBUFS. Then no connection was taken from
-/// those that wait.
+/// Whether the system is out of descriptors or memory: EMFILE, ENFILE, ENOMEM, ENOBUFS. Then no connection was taken
+/// from those that wait.
 fn is_scarce(error: &io::Error) -> bool {
     matches!(error.raw_os_error(), Some(24 | 23 | 12 | 105))
 }

@@ -9,6 +9,7 @@ mod listening;
 mod log;
 mod log_line;
 mod noting;
+mod opening;
 mod peer;
 mod preparing;
 mod replying;

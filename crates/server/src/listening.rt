@@ -51,8 +51,9 @@ pub struct Listening {
 }
 
 impl Listening {
-    /// From this listener so many connections are to be served, or as many as come, and at most `at_once` of them at once,
-    /// which is at least 1. None is accepted yet. It fails if memory runs out (`OutOfMemory`), or a call of the system fails.
+    /// From this listener so many connections are to be served, or as many as come, and at most `at_once` of them at
+    /// once, which is at least 1. None is accepted yet. It fails if memory runs out (`OutOfMemory`), or a call of the
+    /// system fails.
     pub fn new<R>(
         rt: &R,
         listener: net::TcpListener,
@@ -182,9 +183,9 @@ impl Listening {
         Some(Duration::from_millis(TICK))
     }
 
-    /// Closes the connection that has been idle longest, if somebody waits for its place. One leaves for each that waits,
-    /// and no more: a client that keeps many connections open in good faith keeps the others, where closing all that are
-    /// idle would have it connect again with each, though one place was wanted.
+    /// Closes the connection that has been idle longest, if somebody waits for its place. One leaves for each that
+    /// waits, and no more: a client that keeps many connections open in good faith keeps the others, where closing all
+    /// that are idle would have it connect again with each, though one place was wanted.
     fn make_room<S: Store>(&mut self, hub: &mut Hub<S>, first: u64)
         ensures steps { ClosesSome S.seen hub.old hub.new }
         ensures below { (all : Connections) → ConnectionsRepresent hub.old all → LeavesBelow first all hub.new }

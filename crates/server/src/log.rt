@@ -100,7 +100,8 @@ impl Log {
     }
 
     /// Writes the line, after one that tells how many were dropped, if there is room and memory for both. A pipe that
-    /// has room has it for 4,096 bytes (POSIX, `PIPE_BUF`), and no two lines are as long.
+    /// has room has it for 4,096 bytes (POSIX, `PIPE_BUF`), and no two lines are as long, but for that of a database
+    /// whose name is.
     fn is_written(&self, line: Result<Vec<u8>, AllocError>) -> bool {
         match self.ended(line) {
             Ok(bytes) => has_room() && self.rt.stderr().write_all(&bytes).is_ok(),

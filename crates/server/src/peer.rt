@@ -135,8 +135,8 @@ impl Peer {
         self.status
     }
 
-    /// Takes down that a call would have waited now, or that a read gave fewer bytes than there was room for, and so has
-    /// emptied the stream. A peer that sends no more is read until the end is met, since no event comes for that.
+    /// Takes down that a call would have waited now, or that a read gave fewer bytes than there was room for, and so
+    /// has emptied the stream. A peer that sends no more is read until the end is met, since no event comes for that.
     fn unmark(&mut self, turn: Turn, is_emptied: bool, is_full: bool) {
         if is_emptied && (turn == Turn::NeedsBytes || !self.is_read_closed) {
             self.can_read = false;
@@ -209,8 +209,9 @@ impl Peer {
         self.leaves_by = Some(by);
     }
 
-    /// The last reply was sent. The peer is told so, and what it still sends is taken for a quarter of a second at most:
-    /// a stream that is closed with bytes unread is reset, and its peer can lose the reply (RFC 9112, section 9.6).
+    /// The last reply was sent. The peer is told so, and what it still sends is taken for a quarter of a second at
+    /// most: a stream that is closed with bytes unread is reset, and its peer can lose the reply (RFC 9112, section
+    /// 9.6).
     fn begin_farewell(&mut self, now: u64) -> Stay {
         if self.stream.shutdown(Shutdown::Write).is_err() {
             return Stay::Gone;

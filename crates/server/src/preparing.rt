@@ -14,10 +14,10 @@ use sqlite::Alter;
 use std::alloc::Global;
 
 /// A store over records: if they have no row it is started at the moment, and its root token is answered with it; if
-/// they have the row of the clock they are those of a broker that was started, and no token is answered; rows of keys in
-/// format 1 are then in format 2. It fails with `BadStart` if there are rows and none of the clock, or if there is no row
-/// and words 1 and 2 are equal; with `Memory` if memory runs out, and with `Storage` if the storage failed. The records
-/// are gone then, and the rows are as before, or upgraded.
+/// they have the row of the clock they are those of a broker that was started, and no token is answered; rows of keys
+/// in format 1 are then in format 2. It fails with `BadStart` if there are rows and none of the clock, or if there is
+/// no row and words 1 and 2 are equal; with `Memory` if memory runs out, and with `Storage` if the storage failed. The
+/// records are gone then, and the rows are as before, or upgraded.
 pub fn prepare<S: Alter + Drop>(
     alloc: Global,
     records: SqlRecords<S>,

@@ -10,9 +10,9 @@ use histories::all_that_is_asked_keeps_the_laws;
 use hub::{Hub, WordSource};
 use std::time::Clock;
 
-/// Serves the connections of an address, many at once, until all were served that were to be. One that ends by a fault of
-/// memory, of reading or of writing is closed, and the others go on; another fault ends the whole, after one attempt on
-/// each connection to send what was not sent of its last reply.
+/// Serves the connections of an address, many at once, until all were served that were to be. One that ends by a fault
+/// of memory, of reading or of writing is closed, and the others go on; another fault ends the whole, after one attempt
+/// on each connection to send what was not sent of its last reply.
 ///
 /// Whatever comes on the connections, there is one list of what happened to the hub, in its order: events that were fed
 /// and answered as the model does, and connections that were closed. No contract says that the pieces are those which

@@ -9,6 +9,7 @@ use crate::drawn::seeded;
 use crate::listening::Listening;
 use crate::log::Log;
 use crate::noting::Noting;
+use crate::opening::tell_opening;
 use crate::preparing::prepare;
 use crate::serving::serve;
 use crate::settings::Settings;
@@ -27,8 +28,8 @@ use std::rt::HostRuntime;
 
 /// Starts a broker in memory, prints its root token on standard output, and serves it. It fails before it serves if
 /// memory runs out, the words of the root token and its accessor are equal, the system has no randomness, the address
-/// cannot be listened on or standard input not be waited for (a fault of reading), or the token cannot be printed (one of
-/// writing); and at any time if the database in memory fails, which it does if memory runs out for it.
+/// cannot be listened on or standard input not be waited for (a fault of reading), or the token cannot be printed (one
+/// of writing); and at any time if the database in memory fails, which it does if memory runs out for it.
 pub fn serve_in_memory(rt: &HostRuntime, settings: &Settings<'_>) -> Result<(), ConnectionFault>
     ensures { IfErr result IsFaultOfNew }
 {
@@ -39,9 +40,9 @@ pub fn serve_in_memory(rt: &HostRuntime, settings: &Settings<'_>) -> Result<(), 
 
 /// Serves the broker that a file keeps, with its log beside it, or starts one in a file that is new, and prints its
 /// root token on standard output. A file that is not there is made, for its owner alone; in one that is there, rows of
-/// keys in format 1 are rewritten in format 2. It fails as `serve_in_memory` does; and with `Storage` if the file cannot
-/// be opened, or has another table than that of a broker, with `BadStart` if it has rows and none of the clock, and with
-/// `Damaged` if a row cannot be read.
+/// keys in format 1 are rewritten in format 2. That a large one is opened is said on standard error first. It fails as
+/// `serve_in_memory` does; and with `Storage` if the file cannot be opened, or has another table than that of a broker,
+/// with `BadStart` if it has rows and none of the clock, and with `Damaged` if a row cannot be read.
 pub fn serve_file(
     rt: &HostRuntime,
     path: &str,
@@ -50,6 +51,7 @@ pub fn serve_file(
     let log = begin_log(rt, settings)?;
     // If it is there, or cannot be made, opening it tells.
     let _ = make_private(rt, path);
+    tell_opening(rt, path, &log)?;
     let records = SqlRecords::open_from(rt, path, Unknown)?;
     serve_records(rt, records, settings, log)
 }
@@ -135,7 +137,8 @@ fn listen(
     Ok(listening)
 }
 
-/// The fault where the address cannot be listened on, or standard input not be waited for: one of memory, or of reading.
+/// The fault where the address cannot be listened on, or standard input not be waited for: one of memory, or of
+/// reading.
 fn fault_of(error: &io::Error) -> ConnectionFault
     ensures { IsFaultOfNew result }
 {

@@ -24,7 +24,8 @@ use Rattle.broker_rows.specs.Operating.{ActsAs}
 use Rattle.broker_rows.specs.RepresentingLaws.{still_represented}
 
 module _ (b : Broker) (who : Option Text) (old new : Rows) (st : Represents who old b) where
-  represents-policies : (next : Map Text) → Sound forms who (record b { policies = next }) → ArePolicies (table_of new) next
+  represents-policies : (next : Map Text) → Sound forms who (record b { policies = next })
+      → ArePolicies (table_of new) next
       → KeepsOthers of_policies (table_of old) (table_of new) → Represents who new (record b { policies = next })
   represents-policies next sound are keeps = record {
     rows = joined_rows of_policies (table_of old) (table_of new) b (record b { policies = next }) st.rows
@@ -38,13 +39,15 @@ module _ (b : Broker) (who : Option Text) (old new : Rows) (st : Represents who 
   -- a change that is made leaves the policies that it says
   pub acts_changed : {X : Type 0} (x : X) (m : Result (Map Text) Refusal)
       → ((next : Map Text) → m ≡ Ok next → Sound forms who (record b { policies = next }))
-      → EndsOk (λ (_ : X) next. ArePolicies (table_of new) next) x m → KeepsOthers of_policies (table_of old) (table_of new)
+      → EndsOk (λ (_ : X) next. ArePolicies (table_of new) next) x m
+      → KeepsOthers of_policies (table_of old) (table_of new)
       → ActsAs who b new (Ok Nothing) (changed m)
   acts_changed x (Ok next) sound are keeps = (refl, represents-policies next (sound next refl) are keeps)
   acts_changed x (Err r) sound are keeps = absurd are
 
   -- one that is refused leaves the broker as it was
-  pub acts_refused : (m : Result (Map Text) Refusal) (e : RequestError) → EndsErr (new ≡ old) e m → ActsAs who b new (Err e) (changed m)
+  pub acts_refused : (m : Result (Map Text) Refusal) (e : RequestError) → EndsErr (new ≡ old) e m
+      → ActsAs who b new (Err e) (changed m)
   acts_refused (Ok next) (Refused r) h = absurd h
   acts_refused (Err x) (Refused r) h = (h.0, still_represented b old new h.1 st)
   acts_refused m (Fault f) h = h

@@ -135,7 +135,8 @@ module _ (b : Broker) (who : Option Text) (old mid : Rows) (st : Represents who 
             is = is;
             there = h.0;
             named = (st.sound.mounts name m.0 m.1).mount_name;
-            represents = represents-mounts b who old mid st next (disabled_sound b next forms who name st.sound is) h.1 keeps;
+            represents = represents-mounts b who old mid st next (disabled_sound b next forms who name st.sound is)
+                h.1 keeps;
           }
 
   -- once that has gone too, the mount is disabled

@@ -1,11 +1,9 @@
 //! The request of a command line is sent over the loopback address and served, and its reply is read.
 
-use crate::standing::{Fixed, Same};
+use crate::standing::{Fixed, ROOT, Same, moment, started};
 use api_client::{command_of, reply_of, request_of};
-use broker::ListStore;
-use broker_types::{Bytes, Moment, Words};
+use broker_types::{Bytes, Words};
 use endpoints::Reading;
-use hub::Hub;
 use server::{Listening, serve};
 use std::alloc::{AllocError, Global};
 use std::io::Write;
@@ -47,18 +45,13 @@ fn request_by(alloc: Global, token: &str) -> Result<Vec<u8>, Fail> {
     }
 }
 
-/// Serves one connection of the listener at the moment, with the same words for each event.
-fn serve_one(
-    rt: &HostRuntime,
-    store: ListStore,
-    listener: TcpListener,
-    moment: Moment,
-) -> Result<(), Fail> {
-    let mut hub = Hub::new(rt.alloc(), store);
-    let mut same = Same(Words([32, 33, 34, 35, 36, 37, 38, 39]));
+/// Serves one connection of the listener by a broker that was just started.
+fn serve_one(rt: &HostRuntime, listener: TcpListener) -> Result<(), Fail> {
     let listening = Listening::new(rt, listener, Some(1), 1)?;
-    serve(rt, &mut hub, listening, &mut Fixed(moment), &mut same)?;
-    Ok(())
+    let mut clock = Fixed(moment()?);
+    let mut same = Same(Words([32, 33, 34, 35, 36, 37, 38, 39]));
+    let mut hub = started(rt.alloc())?;
+    Ok(serve(rt, &mut hub, listening, &mut clock, &mut same)?)
 }
 
 /// The status and the body of the reply that comes on the stream.
@@ -73,13 +66,10 @@ fn reply_on(alloc: Global, stream: &TcpStream) -> Result<(u16, Bytes), Fail> {
 #[test]
 fn a_read_over_the_loopback(rt: HostRuntime) -> Result<(), Fail> {
     let alloc = rt.alloc();
-    let moment = Moment::new(1_700_000_000).ok_or("the moment is in range")?;
-    let mut store = ListStore::new(alloc);
-    let root = store.start(moment, &Words([0, 1, 2, 3, 4, 5, 6, 7]))?;
     let listener = TcpListener::bind(&rt, "127.0.0.1:0")?;
     let mut stream = TcpStream::connect(&rt, listener.local_addr()?)?;
-    stream.write_all(request_by(alloc, root.as_str())?.as_slice())?;
-    serve_one(&rt, store, listener, moment)?;
+    stream.write_all(request_by(alloc, ROOT)?.as_slice())?;
+    serve_one(&rt, listener)?;
     let (status, body) = reply_on(alloc, &stream)?;
     assert_eq!(rt; status, 200);
     assert_eq!(rt; body.as_slice(), SETTINGS.as_bytes());

@@ -1,9 +1,8 @@
 //! One process that is both ends of its connections, and what the system gives to a server.
 
-use crate::standing::{Fixed, Same};
-use broker::ListStore;
-use broker_types::{Moment, Words};
-use hub::{Clock, Hub, WordSource};
+use crate::standing::{Fixed, Same, moment, started};
+use broker_types::Words;
+use hub::{Clock, WordSource};
 use server::{Listening, SystemClock, seeded, serve};
 use std::io;
 use std::io::Write;
@@ -37,26 +36,30 @@ struct Got {
     are_closed: bool,
 }
 
+/// Serves two connections of the listener by a broker that was just started. It answers whether both are closed then.
+fn closes_both(rt: &HostRuntime, listener: TcpListener, at_once: u32) -> Result<bool, Fail> {
+    let listening = Listening::new(rt, listener, Some(2), at_once)?;
+    let mut clock = Fixed(moment()?);
+    let mut words = Same(Words([32, 33, 34, 35, 36, 37, 38, 39]));
+    let mut hub = started(rt.alloc())?;
+    serve(rt, &mut hub, listening, &mut clock, &mut words)?;
+    Ok(hub.is_closed(0) && hub.is_closed(1))
+}
+
 /// Serves two peers that connected before. The first stays connected without a word after its request.
 fn serve_two(rt: &HostRuntime, at_once: u32) -> Result<Got, Fail> {
     let alloc = rt.alloc();
-    let moment = Moment::new(1_700_000_000).ok_or("the moment is in range")?;
-    let mut store = ListStore::new(alloc);
-    store.start(moment, &Words([0, 1, 2, 3, 4, 5, 6, 7]))?;
-    let mut hub = Hub::new(alloc, store);
     let listener = TcpListener::bind(rt, "127.0.0.1:0")?;
     let mut first = TcpStream::connect(rt, listener.local_addr()?)?;
     first.write_all(WRITE.as_bytes())?;
     let mut second = TcpStream::connect(rt, listener.local_addr()?)?;
     second.write_all(READ.as_bytes())?;
     second.shutdown(Shutdown::Write)?;
-    let listening = Listening::new(rt, listener, Some(2), at_once)?;
-    let mut words = Same(Words([32, 33, 34, 35, 36, 37, 38, 39]));
-    serve(rt, &mut hub, listening, &mut Fixed(moment), &mut words)?;
+    let are_closed = closes_both(rt, listener, at_once)?;
     Ok(Got {
         written: io::read_to_string(alloc, first)?,
         found: io::read_to_string(alloc, second)?,
-        are_closed: hub.is_closed(0) && hub.is_closed(1),
+        are_closed,
     })
 }
 

@@ -1,5 +1,5 @@
-//! A damaged row in both stores: the request that reads it ends its connection with the fault, and another connection is
-//! answered.
+//! A damaged row in both stores: the request that reads it ends its connection with the fault, and another connection
+//! is answered.
 
 use crate::served::{READ, moment};
 use crate::streams::NOT_FOUND;
@@ -113,6 +113,17 @@ fn is_told_over_list(alloc: Global, moment: Moment) -> Result<bool, Fault> {
     Ok(is_told && Rows::of(alloc, &mut tx)?.are(&before))
 }
 
+/// The records once a broker over them was asked, and whether it told the damage.
+fn told_over<S: Alter + Drop>(
+    alloc: Global,
+    records: SqlRecords<S>,
+    moment: Moment,
+) -> Result<(SqlRecords<S>, bool), Fault> {
+    let mut hub = Hub::new(alloc, SqlStore::adopt(alloc, records)?);
+    let is_told = tells_damage(&mut hub, moment)?;
+    Ok((hub.into_store().into_records(), is_told))
+}
+
 /// Whether the damage is told over a database without rows, and leaves the rows as they are.
 fn is_told_over_sql<S: Alter + Drop>(
     alloc: Global,
@@ -122,9 +133,7 @@ fn is_told_over_sql<S: Alter + Drop>(
     let mut tx = records.begin()?;
     let before = plant(alloc, &mut tx, moment)?;
     tx.commit()?;
-    let mut hub = Hub::new(alloc, SqlStore::adopt(alloc, records)?);
-    let is_told = tells_damage(&mut hub, moment)?;
-    let mut records = hub.into_store().into_records();
+    let (mut records, is_told) = told_over(alloc, records, moment)?;
     let mut tx = records.begin()?;
     Ok(is_told && Rows::of(alloc, &mut tx)?.are(&before))
 }

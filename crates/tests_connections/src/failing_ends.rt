@@ -194,21 +194,32 @@ fn take_turns(
     Ok(())
 }
 
-/// What comes of connection 1 if its ends fail at these calls.
-fn run(alloc: Global, way: Way, input: &[u8], at: At) -> Result<Came, Fail> {
+/// What comes of connection 1 of a hub if its ends fail at these calls.
+fn came_of(
+    hub: &mut Hub<ListStore>,
+    alloc: Global,
+    way: Way,
+    input: &[u8],
+    at: At,
+) -> Result<Came, Fail> {
     let moment = moment()?;
-    let mut hub = started(alloc, moment)?;
     let mut output = Vec::new(alloc);
     let end = match way {
-        Way::ToItsEnd => serve(&mut hub, moment, input, &mut output, at),
-        Way::ByTurns => take_turns(&mut hub, alloc, moment, input, &mut output, at),
+        Way::ToItsEnd => serve(hub, moment, input, &mut output, at),
+        Way::ByTurns => take_turns(hub, alloc, moment, input, &mut output, at),
     };
     Ok(Came {
         fault: end.err().map(|fault| fault.number()),
         replies: count_replies(output.as_slice()),
         is_gone: hub.is_closed(1) || hub.open_conn() == Some(0),
-        is_written: is_written(&mut hub, moment)?,
+        is_written: is_written(hub, moment)?,
     })
+}
+
+/// The same of a broker that was just started.
+fn run(alloc: Global, way: Way, input: &[u8], at: At) -> Result<Came, Fail> {
+    let mut hub = started(alloc, moment()?)?;
+    came_of(&mut hub, alloc, way, input, at)
 }
 
 /// How many reads fail, each on a connection of its own, until none does; none if something else comes of one.

@@ -6,7 +6,8 @@
 //!
 //! What comes is bytes, or a request of a token: `#021 POST auth/token/create {'ttl':60}`. A reply is a status and what
 //! it tells: data, `made` with the token that was made, `version` with the version that was written, `leased` with a
-//! lease, `text` with the text of the body, or the text of a refusal. `close` before it says that the connection closes.
+//! lease, `text` with the text of the body, or the text of a refusal. `close` before it says that the connection
+//! closes.
 
 use crate::streams::started;
 use broker_types::{Bytes, Moment, Words};
@@ -200,6 +201,15 @@ fn reply_of(alloc: Global, text: &str, moment: u64, word: u128) -> Result<String
     }
 }
 
+/// What a broker that was started at the moment replies to the events.
+fn replies_to(alloc: Global, start: Moment, events: &[Event]) -> Result<Vec<Vec<u8>>, Fail> {
+    let mut hub = started(alloc, start)?;
+    match run(alloc, &mut hub, events) {
+        Ok(replies) => Ok(replies),
+        Err(_) => Err(Fail::from("a fault")),
+    }
+}
+
 /// Runs what comes on connection 1 at the moment of the start. Each reply has to be the one beside it. Event k, counted
 /// from 1, has the words from 16k on.
 fn expect_replies(
@@ -246,9 +256,7 @@ fn expect_replies_at(
         })?;
         expected.push(reply_of(alloc, reply, *moment, *word)?)?;
     }
-    let Ok(replies) = run(alloc, &mut started(alloc, start)?, events.as_slice()) else {
-        return Err(Fail::from("a fault"));
-    };
+    let replies = replies_to(alloc, start, events.as_slice())?;
     assert_eq!(rt; replies.len(), row.len());
     let same = |(reply, wanted): (&Vec<u8>, &String)| reply.as_slice() == wanted.as_bytes();
     assert_eq!(rt;

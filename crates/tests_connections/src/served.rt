@@ -5,9 +5,10 @@ use broker::ListStore;
 use broker_types::{Moment, Words};
 use endpoints::{Reading, Sink, Source, Writing};
 use hub::{Clock, ConnectionFault, Hub, WordSource, serve_connection};
-use std::alloc::Global;
+use std::alloc::{AllocGlobal, Global};
 use std::io;
 use std::io::Read;
+use std::process::Abort;
 use std::test::Fail;
 
 pub(crate) const WRITE: &str = "PUT /v1/cubbyhole/a HTTP/1.1\r\nHost: b\r\n\
@@ -181,14 +182,12 @@ fn written_in_time(
     }
 }
 
-/// Computes `Proceeds`, `HasEnded`, `IsNextNumber`.
-#[test]
-fn two_requests_of_one_piece(rt: HostRuntime) -> Result<(), Fail> {
+/// Both requests are answered, and the connection closes when it is told to.
+fn expect_both(rt: &(impl Abort + AllocGlobal), hub: &mut Hub<ListStore>) -> Result<(), Fail> {
     let alloc = rt.alloc();
-    let mut hub = started(alloc, moment()?)?;
     assert_eq!(rt; hub.open_conn(), Some(0));
     let input = format!(in alloc; "{WRITE}{READ}")?;
-    let output = written(alloc, &mut hub, 7, input.as_str())?;
+    let output = written(alloc, hub, 7, input.as_str())?;
     let wanted = format!(in alloc; "{WRITTEN}{FOUND}")?;
     assert_eq!(rt; output.as_slice(), wanted.as_bytes());
     assert_eq!(rt; hub.open_conn(), Some(8));
@@ -200,14 +199,45 @@ fn two_requests_of_one_piece(rt: HostRuntime) -> Result<(), Fail> {
 
 /// Computes `Proceeds`, `HasEnded`, `IsNextNumber`.
 #[test]
-fn nothing_is_answered_after_a_close(rt: HostRuntime) -> Result<(), Fail> {
+fn two_requests_of_one_piece(rt: HostRuntime) -> Result<(), Fail> {
+    let mut hub = started(rt.alloc(), moment()?)?;
+    expect_both(&rt, &mut hub)
+}
+
+/// The first of two requests is answered alone, since it closes the connection.
+fn expect_the_first(rt: &(impl Abort + AllocGlobal), hub: &mut Hub<ListStore>) -> Result<(), Fail> {
     let alloc = rt.alloc();
-    let mut hub = started(alloc, moment()?)?;
     let input = format!(in alloc; "{CLOSING}{CLOSING}")?;
-    let output = written(alloc, &mut hub, u64::MAX, input.as_str())?;
+    let output = written(alloc, hub, u64::MAX, input.as_str())?;
     assert_eq!(rt; output.as_slice(), NOT_FOUND_CLOSING.as_bytes());
     assert!(rt; hub.is_closed(u64::MAX));
     assert_eq!(rt; hub.open_conn(), None);
+    Ok(())
+}
+
+/// Computes `Proceeds`, `HasEnded`, `IsNextNumber`.
+#[test]
+fn nothing_is_answered_after_a_close(rt: HostRuntime) -> Result<(), Fail> {
+    let mut hub = started(rt.alloc(), moment()?)?;
+    expect_the_first(&rt, &mut hub)
+}
+
+/// A connection whose reader fails, one whose writer does, and one after them.
+fn expect_failed_ends(
+    rt: &(impl Abort + AllocGlobal),
+    hub: &mut Hub<ListStore>,
+) -> Result<(), Fail> {
+    let alloc = rt.alloc();
+    let mut output = Vec::new(alloc);
+    let end = served(hub, 1, Reading::new(Broken), Writing::new(&mut output))?;
+    assert_eq!(rt; end, Err(ConnectionFault::Read));
+    assert_eq!(rt; hub.open_conn(), Some(0));
+    let input = format!(in alloc; "{READ}{WRITE}")?;
+    let end = served(hub, 2, Reading::new(input.as_bytes()), Writing::new(Broken))?;
+    assert_eq!(rt; end, Err(ConnectionFault::Write));
+    assert!(rt; hub.is_closed(2));
+    let output = written(alloc, hub, 3, READ)?;
+    assert_eq!(rt; output.as_slice(), NOT_FOUND.as_bytes());
     Ok(())
 }
 
@@ -215,44 +245,33 @@ fn nothing_is_answered_after_a_close(rt: HostRuntime) -> Result<(), Fail> {
 /// answered.
 #[test]
 fn an_end_that_fails_closes_the_connection(rt: HostRuntime) -> Result<(), Fail> {
-    let alloc = rt.alloc();
-    let mut hub = started(alloc, moment()?)?;
-    let mut output = Vec::new(alloc);
-    let end = served(&mut hub, 1, Reading::new(Broken), Writing::new(&mut output))?;
-    assert_eq!(rt; end, Err(ConnectionFault::Read));
-    assert_eq!(rt; hub.open_conn(), Some(0));
-    let input = format!(in alloc; "{READ}{WRITE}")?;
-    let end = served(
-        &mut hub,
-        2,
-        Reading::new(input.as_bytes()),
-        Writing::new(Broken),
-    )?;
-    assert_eq!(rt; end, Err(ConnectionFault::Write));
-    assert!(rt; hub.is_closed(2));
-    let output = written(alloc, &mut hub, 3, READ)?;
-    assert_eq!(rt; output.as_slice(), NOT_FOUND.as_bytes());
-    Ok(())
+    let mut hub = started(rt.alloc(), moment()?)?;
+    expect_failed_ends(&rt, &mut hub)
 }
 
-/// Computes `Supplies`, `GivesInTurn`. Each event has a moment of its own: two requests come in one piece, and a third in
-/// the next. The third event finds no request.
-#[test]
-fn three_requests_at_three_moments(rt: HostRuntime) -> Result<(), Fail> {
+/// The replies have the moments of their events.
+fn expect_three_moments(
+    rt: &(impl Abort + AllocGlobal),
+    hub: &mut Hub<ListStore>,
+) -> Result<(), Fail> {
     let alloc = rt.alloc();
-    let mut hub = started(alloc, moment()?)?;
     let input = format!(in alloc; "{OUTSIDE}{OUTSIDE}")?;
-    let output = written_in_time(alloc, &mut hub, 7, input.as_str(), OUTSIDE)?;
+    let output = written_in_time(alloc, hub, 7, input.as_str(), OUTSIDE)?;
     assert_eq!(rt; output.as_slice(), THREE_MOMENTS.as_bytes());
     Ok(())
 }
 
-/// Computes `Supplies`. A token of one second is good for the first request of a connection, and has expired at the
-/// second, two seconds later.
+/// Computes `Supplies`, `GivesInTurn`. Each event has a moment of its own: two requests come in one piece, and a third
+/// in the next. The third event finds no request.
 #[test]
-fn a_token_expires_on_an_open_connection(rt: HostRuntime) -> Result<(), Fail> {
+fn three_requests_at_three_moments(rt: HostRuntime) -> Result<(), Fail> {
+    let mut hub = started(rt.alloc(), moment()?)?;
+    expect_three_moments(&rt, &mut hub)
+}
+
+/// A token of one second is made, and asks twice.
+fn expect_an_end(rt: &(impl Abort + AllocGlobal), hub: &mut Hub<ListStore>) -> Result<(), Fail> {
     let alloc = rt.alloc();
-    let mut hub = started(alloc, moment()?)?;
     let made = hub.feed(
         0,
         CREATE.as_bytes(),
@@ -260,8 +279,16 @@ fn a_token_expires_on_an_open_connection(rt: HostRuntime) -> Result<(), Fail> {
         &Words([16, 17, 18, 19, 20, 21, 22, 23]),
     )?;
     drop(made);
-    let output = written_in_time(alloc, &mut hub, 7, READ_BY_IT, READ_BY_IT)?;
+    let output = written_in_time(alloc, hub, 7, READ_BY_IT, READ_BY_IT)?;
     let wanted = format!(in alloc; "{NOT_FOUND}{DENIED}")?;
     assert_eq!(rt; output.as_slice(), wanted.as_bytes());
     Ok(())
+}
+
+/// Computes `Supplies`. A token of one second is good for the first request of a connection, and has expired at the
+/// second, two seconds later.
+#[test]
+fn a_token_expires_on_an_open_connection(rt: HostRuntime) -> Result<(), Fail> {
+    let mut hub = started(rt.alloc(), moment()?)?;
+    expect_an_end(&rt, &mut hub)
 }

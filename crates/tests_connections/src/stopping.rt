@@ -4,7 +4,8 @@ use broker::{ListStore, Store};
 use broker_types::{Answer, Ask, Fault, Moment, Words};
 use endpoints::Writing;
 use hub::Hub;
-use replay::{Exit, read_script, run_script};
+use replay::{Exit, Script, read_script, run_script};
+use std::alloc::Global;
 use std::test::Fail;
 
 /// A start, a write, a read of what was written, and a request that asks nothing of the store.
@@ -50,6 +51,26 @@ impl Store for Stumbling {
     }
 }
 
+/// The hub of a broker that was started at the moment, over such a store.
+fn started_stumbling(alloc: Global, moment: Moment, words: &Words) -> Result<Hub<Stumbling>, Fail> {
+    let mut store = ListStore::new(alloc);
+    let token = store.start(moment, words)?;
+    drop(token);
+    let store = Stumbling {
+        store,
+        requests: 0,
+        failed: false,
+    };
+    Ok(Hub::new(alloc, store))
+}
+
+/// How the script ends over such a store.
+fn exit_of(alloc: Global, script: &Script, written: &mut Vec<u8>) -> Result<Exit, Fail> {
+    let mut writer = Writing::new(written);
+    let mut hub = started_stumbling(alloc, script.start.moment, &script.start.words)?;
+    Ok(run_script(alloc, &mut hub, script, &mut writer))
+}
+
 /// Computes `StopsRun`, `StoppedRun`.
 #[test]
 fn the_replies_before_a_fault_are_written(rt: HostRuntime) -> Result<(), Fail> {
@@ -57,22 +78,8 @@ fn the_replies_before_a_fault_are_written(rt: HostRuntime) -> Result<(), Fail> {
     let Some(script) = read_script(alloc, LINES.as_bytes())? else {
         return Err(Fail::from("a bad line"));
     };
-    let start = script.start;
-    let mut store = ListStore::new(alloc);
-    let token = store.start(start.moment, &start.words)?;
-    drop(token);
-    let mut hub = Hub::new(
-        alloc,
-        Stumbling {
-            store,
-            requests: 0,
-            failed: false,
-        },
-    );
     let mut written = Vec::new(alloc);
-    let mut writer = Writing::new(&mut written);
-    let exit = run_script(alloc, &mut hub, &script, &mut writer);
-    drop(writer);
+    let exit = exit_of(alloc, &script, &mut written)?;
     assert_eq!(rt; exit, Exit::Faulted(2));
     assert_eq!(rt; written.as_slice(), WRITTEN.as_bytes());
     Ok(())

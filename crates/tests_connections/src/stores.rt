@@ -58,14 +58,16 @@ fn lookup() -> Result<Ask<'static>, Fault> {
     })
 }
 
+/// Whether the root token is answered when it looks itself up.
+fn answers(store: &mut SqlStore<FileStore<RamFile>>) -> Result<bool, Fault> {
+    let words = Words([16, 17, 18, 19, 20, 21, 22, 23]);
+    Ok(store.one(moment()?, &words, &lookup()?)?.status == Status::Success)
+}
+
 /// Whether a store in memory is started once, and then answers.
 fn answers_once_started(alloc: Global) -> Result<bool, Fault> {
     let mut store = SqlStore::in_memory(alloc)?;
-    if !starts_once(&mut store)? {
-        return Ok(false);
-    }
-    let words = Words([16, 17, 18, 19, 20, 21, 22, 23]);
-    Ok(store.one(moment()?, &words, &lookup()?)?.status == Status::Success)
+    Ok(starts_once(&mut store)? && answers(&mut store)?)
 }
 
 #[test]
@@ -101,15 +103,27 @@ fn rows_without_a_clock_are_refused(rt: HostRuntime) -> Result<(), Fail> {
     Ok(())
 }
 
-/// Whether records in memory become the first broker, whose root token is told, and are opened from then on: by the same
-/// words, and by equal ones, which cannot start a broker.
+type Records = SqlRecords<FileStore<RamFile>>;
+
+/// The records once a broker was opened over them, and whether its root token is told, if one is.
+fn prepared(
+    alloc: Global,
+    records: Records,
+    words: &Words,
+) -> Result<(Records, Option<bool>), Fault> {
+    let (store, told) = prepare(alloc, records, moment()?, words)?;
+    let is_root = told.map(|token| token.as_str() == ROOT);
+    Ok((store.into_records(), is_root))
+}
+
+/// Whether records in memory become the first broker, whose root token is told, and are opened from then on: by the
+/// same words, and by equal ones, which cannot start a broker.
 fn prepares_once(alloc: Global) -> Result<bool, Fault> {
     let words = Words([0, 1, 2, 3, 4, 5, 6, 7]);
-    let (store, told) = prepare(alloc, SqlRecords::in_memory(alloc)?, moment()?, &words)?;
-    let (store, again) = prepare(alloc, store.into_records(), moment()?, &words)?;
-    let (_, equal) = prepare(alloc, store.into_records(), moment()?, &Words([7; 8]))?;
-    let root = told.is_some_and(|token| token.as_str() == ROOT);
-    Ok(root && again.is_none() && equal.is_none())
+    let (records, first) = prepared(alloc, SqlRecords::in_memory(alloc)?, &words)?;
+    let (records, again) = prepared(alloc, records, &words)?;
+    let (_, equal) = prepared(alloc, records, &Words([7; 8]))?;
+    Ok(first == Some(true) && again.is_none() && equal.is_none())
 }
 
 #[test]

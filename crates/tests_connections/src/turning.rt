@@ -5,10 +5,12 @@ ghost use Rattle.hub.specs.Links.{number_of};
 
 use crate::served::{CLOSING, Counting, FOUND, Fixed, READ, WRITE, WRITTEN, moment};
 use crate::streams::{NOT_FOUND, NOT_FOUND_CLOSING, started};
+use broker::ListStore;
 use endpoints::{NowReading, NowWriting};
-use hub::{ConnectionFault, Line, Link, Turn, serve_order, take_turn};
-use std::alloc::Global;
+use hub::{ConnectionFault, Hub, Line, Link, Turn, serve_order, take_turn};
+use std::alloc::{AllocGlobal, Global};
 use std::io;
+use std::process::Abort;
 use std::test::Fail;
 
 /// A reader or a writer that would wait at every other call, the first one among them. A write takes 128 bytes at most.
@@ -114,11 +116,9 @@ fn line<'s>(
     )
 }
 
-/// Computes `Passes`, `TakesTurn`.
-#[test]
-fn replies_are_sent_part_by_part(rt: HostRuntime) -> Result<(), Fail> {
+/// What each turn answers where both ends would wait at every other call.
+fn expect_parts(rt: &(impl Abort + AllocGlobal), hub: &mut Hub<ListStore>) -> Result<(), Fail> {
     let alloc = rt.alloc();
-    let mut hub = started(alloc, moment()?)?;
     let mut link = Link::new(alloc, 7);
     let input = format!(in alloc; "{WRITE}{READ}")?;
     let mut output = Vec::new(alloc);
@@ -147,7 +147,7 @@ fn replies_are_sent_part_by_part(rt: HostRuntime) -> Result<(), Fail> {
     ];
     for turn in wanted {
         let taken = take_turn(
-            &mut hub,
+            hub,
             &mut link,
             &mut reader,
             &mut writer,
@@ -163,11 +163,16 @@ fn replies_are_sent_part_by_part(rt: HostRuntime) -> Result<(), Fail> {
     Ok(())
 }
 
-/// Computes `Passes`, `TurnStops`.
+/// Computes `Passes`, `TakesTurn`.
 #[test]
-fn after_a_failed_write_the_rest_is_not_sent(rt: HostRuntime) -> Result<(), Fail> {
+fn replies_are_sent_part_by_part(rt: HostRuntime) -> Result<(), Fail> {
+    let mut hub = started(rt.alloc(), moment()?)?;
+    expect_parts(&rt, &mut hub)
+}
+
+/// A reply is sent in part, and then the writer fails.
+fn expect_a_rest(rt: &(impl Abort + AllocGlobal), hub: &mut Hub<ListStore>) -> Result<(), Fail> {
     let alloc = rt.alloc();
-    let mut hub = started(alloc, moment()?)?;
     let mut link = Link::new(alloc, 1);
     let mut reader = NowReading::new(READ.as_bytes());
     let mut writer = NowWriting::new(Breaking { is_broken: false });
@@ -175,7 +180,7 @@ fn after_a_failed_write_the_rest_is_not_sent(rt: HostRuntime) -> Result<(), Fail
     let mut clock = Fixed(moment()?);
     for turn in [Ok(Turn::Answered), Err(ConnectionFault::Write)] {
         let taken = take_turn(
-            &mut hub,
+            hub,
             &mut link,
             &mut reader,
             &mut writer,
@@ -189,11 +194,19 @@ fn after_a_failed_write_the_rest_is_not_sent(rt: HostRuntime) -> Result<(), Fail
     Ok(())
 }
 
-/// Computes `HasNoRequest`.
+/// Computes `Passes`, `TurnStops`.
 #[test]
-fn nothing_is_read_after_a_close(rt: HostRuntime) -> Result<(), Fail> {
+fn after_a_failed_write_the_rest_is_not_sent(rt: HostRuntime) -> Result<(), Fail> {
+    let mut hub = started(rt.alloc(), moment()?)?;
+    expect_a_rest(&rt, &mut hub)
+}
+
+/// A request that closes the connection, and two turns after it.
+fn expect_nothing_more(
+    rt: &(impl Abort + AllocGlobal),
+    hub: &mut Hub<ListStore>,
+) -> Result<(), Fail> {
     let alloc = rt.alloc();
-    let mut hub = started(alloc, moment()?)?;
     let mut link = Link::new(alloc, 1);
     let mut output = Vec::new(alloc);
     let mut reader = NowReading::new(CLOSING.as_bytes());
@@ -203,7 +216,7 @@ fn nothing_is_read_after_a_close(rt: HostRuntime) -> Result<(), Fail> {
     assert!(rt; !hub.has_request(1));
     for turn in [Turn::Answered, Turn::Ended, Turn::Ended] {
         let taken = take_turn(
-            &mut hub,
+            hub,
             &mut link,
             &mut reader,
             &mut writer,
@@ -218,12 +231,17 @@ fn nothing_is_read_after_a_close(rt: HostRuntime) -> Result<(), Fail> {
     Ok(())
 }
 
-/// The first line reads what the third wrote before. After its failed write nothing more is sent on it, though its
-/// writer would take it. Computes `ServesLines`, `IsServedLine`.
+/// Computes `HasNoRequest`.
 #[test]
-fn lines_are_served_in_the_order_of_their_turns(rt: HostRuntime) -> Result<(), Fail> {
+fn nothing_is_read_after_a_close(rt: HostRuntime) -> Result<(), Fail> {
+    let mut hub = started(rt.alloc(), moment()?)?;
+    expect_nothing_more(&rt, &mut hub)
+}
+
+/// What three lines write, and which connections close: a line that reads, one that closes its connection, and one that
+/// writes. The writer of the first fails.
+fn expect_lines(rt: &(impl Abort + AllocGlobal), hub: &mut Hub<ListStore>) -> Result<(), Fail> {
     let alloc = rt.alloc();
-    let mut hub = started(alloc, moment()?)?;
     let mut first = Vec::new(alloc);
     let mut second = Vec::new(alloc);
     let mut third = Vec::new(alloc);
@@ -238,19 +256,21 @@ fn lines_are_served_in_the_order_of_their_turns(rt: HostRuntime) -> Result<(), F
     let mut words = Counting { next: 16 };
     let mut clock = Fixed(moment()?);
     let order = [2, 0, 1, 3, 0, 0, 2, 0];
-    serve_order(
-        &mut hub,
-        lines.as_mut_slice(),
-        &order,
-        &mut clock,
-        &mut words,
-    );
-    assert_eq!(rt; lines[0].fault(), Some(ConnectionFault::Write));
-    assert!(rt; lines[1].fault().is_none() && lines[2].fault().is_none());
-    assert!(rt; hub.is_closed(4) && hub.is_closed(9) && !hub.is_closed(2));
+    serve_order(hub, lines.as_mut_slice(), &order, &mut clock, &mut words);
+    let faults = [lines[0].fault(), lines[1].fault(), lines[2].fault()];
     drop(lines);
+    assert!(rt; faults == [Some(ConnectionFault::Write), None, None]);
+    assert!(rt; hub.is_closed(4) && hub.is_closed(9) && !hub.is_closed(2));
     assert_eq!(rt; first.as_slice(), &FOUND.as_bytes()[..10]);
     assert_eq!(rt; second.as_slice(), NOT_FOUND_CLOSING.as_bytes());
     assert_eq!(rt; third.as_slice(), WRITTEN.as_bytes());
     Ok(())
+}
+
+/// The first line reads what the third wrote before. After its failed write nothing more is sent on it, though its
+/// writer would take it. Computes `ServesLines`, `IsServedLine`.
+#[test]
+fn lines_are_served_in_the_order_of_their_turns(rt: HostRuntime) -> Result<(), Fail> {
+    let mut hub = started(rt.alloc(), moment()?)?;
+    expect_lines(&rt, &mut hub)
 }

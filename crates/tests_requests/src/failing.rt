@@ -56,8 +56,8 @@ fn create(alloc: Global, records: &ListRecords, passes: u64) -> Result<Came, Fai
     Ok(judge(answered, failing.failed()))
 }
 
-/// How many calls of the creation fail, each in a transaction of its own, until all of them pass; none if one is answered
-/// otherwise than by `Storage`, or leaves other rows.
+/// How many calls of the creation fail, each in a transaction of its own, until all of them pass; none if one is
+/// answered otherwise than by `Storage`, or leaves other rows.
 fn count_failures(alloc: Global) -> Result<Option<u64>, Fail> {
     let records = first_records(alloc)?;
     let before = rows_of(alloc, &records)?;

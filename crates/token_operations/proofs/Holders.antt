@@ -38,7 +38,8 @@ no_token b t one waits = elim (found_or_not (get b.tokens t)) [
 ]
 
 -- what was dropped by the accessor was read
-pub readable_name : (accessor : Text) (old new : Table) (dropped : Bool) → DropsAccessor accessor old dropped new → IsReadableName old accessor
+pub readable_name : (accessor : Text) (old new : Table) (dropped : Bool) → DropsAccessor accessor old dropped new
+    → IsReadableName old accessor
 readable_name accessor old new dropped d = (d.0, d.1, by d.0 d.2)
   where
     by : (o : Option Text) → DropsNamed o old dropped new → IsReadableNamed old o
@@ -67,7 +68,8 @@ module _ (who : Option Text) (b : Broker) (rows : Rows) (accessor : Text) where
         → ActsAs who b rows (Err (Refused (refusal.BadRequest reason.InvalidAccessor))) (revoke_named b accessor)
     acts_on_neither told st = elim (found_or_not (wrapping.find_accessor b accessor)) [
       | inl gone ↦
-          subst (acts_on (Err (Refused (refusal.BadRequest reason.InvalidAccessor)))) (sym (held_by None gone)) (refl, st)
+          subst (acts_on (Err (Refused (refusal.BadRequest reason.InvalidAccessor)))) (sym (held_by None gone))
+          (refl, st)
       | inr t ↦ absurd (false≢true (told ∙ ap is_some t.1))
     ]
 
@@ -75,7 +77,8 @@ module _ (who : Option Text) (b : Broker) (rows : Rows) (accessor : Text) where
     pub acts_on_wrapping : NamedHaveTheirAccessors → (old : Rows) → Represents who old b
         → true ≡ is_some (wrapping.find_accessor b accessor)
         → Tells of_waiting (table_of rows) (wrapping.drop_accessor b accessor)
-        → KeepsOthers of_waiting (table_of old) (table_of rows) → ActsAs who b rows (Ok Nothing) (revoke_named b accessor)
+        → KeepsOthers of_waiting (table_of old) (table_of rows)
+        → ActsAs who b rows (Ok Nothing) (revoke_named b accessor)
     acts_on_wrapping named old st told tells keeps = elim (found_or_not (wrapping.find_accessor b accessor)) [
       | inl gone ↦ absurd (false≢true (sym (told ∙ ap is_some gone)))
       | inr t ↦
@@ -84,5 +87,6 @@ module _ (who : Option Text) (b : Broker) (rows : Rows) (accessor : Text) where
           let same = ap (λ ts. drop_waiting (record b { tokens = ts }) t.0) (revoke_unknown b.tokens t.0 absent) in
           let dropped = represents_dropped b t.0 old rows st
           (subst (λ o. Tells of_waiting (table_of rows) (option_map_or (drop_waiting b) o b)) t.1 tells) keeps in
-          subst (acts_on (Ok Nothing)) (sym (held_by (Some t.0) t.1)) (refl, subst (Represents who rows) (sym same) dropped)
+          subst (acts_on (Ok Nothing)) (sym (held_by (Some t.0) t.1))
+          (refl, subst (Represents who rows) (sym same) dropped)
     ]

@@ -22,7 +22,8 @@ module _ (who : Option Text) (b : Broker) (rows : Rows) (accessor : Text) (does 
   pub acts_on_named : (t : Text) (result : Result Answered RequestError) → find_accessor b accessor ≡ Some t
       → ActsAs who b rows result (does t) → ActsAs who b rows result (named b accessor >>= does)
   acts_on_named t result is acts =
-      subst (λ o. ActsAs who b rows result (some_or (refusal.BadRequest reason.InvalidAccessor) o >>= does)) (sym is) acts
+      subst (λ o. ActsAs who b rows result (some_or (refusal.BadRequest reason.InvalidAccessor) o >>= does))
+      (sym is) acts
 
   -- and an accessor of none is refused
   pub acts_on_none : find_accessor b accessor ≡ None → Represents who rows b

@@ -42,7 +42,8 @@ each_pair [] h = All-nil IsTextPair
 each_pair (e ∷ es) h = All-cons IsTextPair e es h.0 (each_pair es h.1)
 
 -- no token has an empty parent
-pub parent_named : (c : Text) (making : Making) (asked : TokenCreation) (parent : Option Text) → parent ≡ new_parent c making asked → c ≢ []
+pub parent_named : (c : Text) (making : Making) (asked : TokenCreation) (parent : Option Text)
+    → parent ≡ new_parent c making asked → c ≢ []
     → parent ≢ Some []
 parent_named c making asked parent is named empty = by (makes_orphans making || asked.no_parent) (sym is ∙ empty)
   where
@@ -53,7 +54,8 @@ parent_named c making asked parent is named empty = by (makes_orphans making || 
 -- ---- what rules allow
 
 -- rules that the rows of policies say allow `sudo` for a write as the policies do, whichever verb they were read for
-pub sudo_told : (rows : Rows) (names : List Text) (v : Verb) (rules : Rules) (policies : Map Text) (path : Text) (p : Bool)
+pub sudo_told : (rows : Rows) (names : List Text) (v : Verb) (rules : Rules) (policies : Map Text) (path : Text)
+    (p : Bool)
     → AreRulesAt rows names v rules → ArePoliciesAt (table_of rows) names policies
     → p ≡ allows (record rules { verb = verb.Write }) path Sudo → p ≡ grants policies names verb.Write path Sudo
 unfolding rules_of
@@ -61,7 +63,8 @@ sudo_told rows names v rules policies path p are known is =
     is ∙ ap (λ (rs : Rules). allows (record rs { verb = verb.Write }) path Sudo) (are.told policies known)
 
 -- so the rows decide
-pub sudo_at : (rows : Rows) (names : List Text) (v : Verb) (rules : Rules) (path : Text) (p : Bool) → AreRulesAt rows names v rules
+pub sudo_at : (rows : Rows) (names : List Text) (v : Verb) (rules : Rules) (path : Text) (p : Bool)
+    → AreRulesAt rows names v rules
     → p ≡ allows (record rules { verb = verb.Write }) path Sudo → IsSudoAt rows names path p
 sudo_at rows names v rules path p are is =
     let policies = readable_policies (table_of rows) names are.readable in
@@ -76,7 +79,8 @@ sudo_at rows names v rules path p are is =
 
 module _ (b : Broker) (c : Text) (names : Names) (making : Making) (asked : TokenCreation) where
   abbrev made_by : Option Token → Result Done Refusal
-  made_by o = some_or (refusal.Forbidden denial.BadToken) o >>= (λ x. create_with b c x names making (is_privileged b (making_path making) x)
+  made_by o = some_or (refusal.Forbidden denial.BadToken) o
+      >>= (λ x. create_with b c x names making (is_privileged b (making_path making) x)
       (new_policies (is_privileged b (making_path making) x) x asked) asked)
 
   module _ (x : Token) (here : get b.tokens c ≡ Some x) where

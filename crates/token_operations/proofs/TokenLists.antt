@@ -19,5 +19,6 @@ pub set_is : (ts us : List Text) → is_ascending us ≡ true → ((q : Text) �
 set_is ts us ascends alike =
     ap (map (λ e. e.0))
     (ascending_entries (set_of ts) (map member us) (ap is_ascending (first_member us) ∙ ascends)
-    (λ q. sym (get-from_entries nat_list_cmp_total (map member us) q) ∙ set_has us q ∙ ap (λ v. cond v (Some (tt {0})) None) (alike q) ∙ sym (set_has ts q)))
+    (λ q. sym (get-from_entries nat_list_cmp_total (map member us) q) ∙ set_has us q
+    ∙ ap (λ v. cond v (Some (tt {0})) None) (alike q) ∙ sym (set_has ts q)))
     ∙ first_member us

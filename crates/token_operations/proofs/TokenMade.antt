@@ -34,15 +34,19 @@ use Rattle.token_operations.proofs.TokenTables.{represents-created}
 -- ---- what is made
 
 module _ {who : Option Text} (b : Broker) (names : Names) (x : Token) (old mid new : Rows) (st : Represents who old b)
-    (can : MayBeMade forms b (token_text names.token) x) (bare : x.cubbyhole ≡ empty) (named : x.accessor ≡ names.accessor) where
+    (can : MayBeMade forms b (token_text names.token) x) (bare : x.cubbyhole ≡ empty)
+    (named : x.accessor ≡ names.accessor) where
   -- the token was made, both identifiers were marked, and the reply shows it
-  pub made_done : Tells of_tokens (table_of mid) (with_token b (token_text names.token) x) → KeepsOthers of_tokens (table_of old) (table_of mid)
+  pub made_done : Tells of_tokens (table_of mid) (with_token b (token_text names.token) x)
+      → KeepsOthers of_tokens (table_of old) (table_of mid)
       → table_of new ≡ with_row (with_row (table_of mid) kind.Used x.accessor used_row) kind.Used names.token used_row
-      → (r : Reply) (a : Text) → r ≡ auth_reply names.request b.clock (token_text names.token) (token_entry x) → a ≡ x.accessor
+      → (r : Reply) (a : Text) → r ≡ auth_reply names.request b.clock (token_text names.token) (token_entry x)
+      → a ≡ x.accessor
       → IsDone who new (Made r a) (made b names x)
   made_done tells others marks r a shown given = (
     λ i. operation.reply (shown i) (Some ((given ∙ named) i)),
-    subst (λ i. Represents who new (record (with_token b (token_text names.token) x) { used = use_up b.used (names.token ∷ i ∷ []) })) named
+    subst (λ i. Represents who new (record
+        (with_token b (token_text names.token) x) { used = use_up b.used (names.token ∷ i ∷ []) })) named
         (represents-created b (token_text names.token) x old st can mid new bare
         (create_sound b (token_text names.token) x forms who st.sound can) tells others marks),
   )
@@ -56,7 +60,8 @@ made_others old mid new i j others marks k q h =
 
 -- ---- no token has an empty text
 
-pub no_empty_token : {who : Option Text} (b : Broker) (rows : Rows) → Represents who rows b → (t : Text) → true ≡ (length t == 0)
+pub no_empty_token : {who : Option Text} (b : Broker) (rows : Rows) → Represents who rows b → (t : Text)
+    → true ≡ (length t == 0)
     → None ≡ option_map token_entry (get b.tokens t)
 no_empty_token b rows st t none = by (get b.tokens t) refl
   where

@@ -1,5 +1,6 @@
 -- The policies of a new token are names, in order, and few.
-use Rattle.std.specs.Prelude.{◌≡◌, ◌≤◌, ◌<◌, ◌^◌, ◌+◌, ◌&&◌, ℕ, suc, List, [], ◌∷◌, length, map, Bool, true, false, not, ◌||◌, T, codes}
+use Rattle.std.specs.Prelude.{◌≡◌, ◌≤◌, ◌<◌, ◌^◌, ◌+◌, ◌&&◌, ℕ, suc, List, [], ◌∷◌}
+use Rattle.std.specs.Prelude.{length, map, Bool, true, false, not, ◌||◌, T, codes}
 use Rattle.std.specs.Prelude.{All, if◌then◌else◌}
 use Rattle.std.specs.FinMap.{len-entries, entries_sorted, is_sorted}
 use Rattle.std.specs.List.{list_all}
@@ -45,7 +46,8 @@ module _ {X : Type 0} where
 pub each_in_set : (P : Text → Type 0) (ts : List Text) → All P ts → All P (keys (set_of ts))
 each_in_set P ts all =
     All-map P (λ e. e.0) (entries (set_of ts))
-    (each_entry (λ e. P e.0) (set_of ts) (λ t x is. each_listed (λ t x. P t) (map member ts) (All-map (λ e. P e.0) member ts all) t x is))
+    (each_entry (λ e. P e.0) (set_of ts)
+    (λ t x is. each_listed (λ t x. P t) (map member ts) (All-map (λ e. P e.0) member ts all) t x is))
 
 -- and it has no more of them
 pub few_in_set : (ts : List Text) → length (keys (set_of ts)) ≤ length ts
@@ -78,14 +80,19 @@ one_more n m h = omega arith
 fewer : (n m : ℕ) → n + 1 < m → n < m
 fewer n m h = omega arith
 
-given_few : (adds : Bool) (own asked : List Text) → length own < 2 ^ 32 → length asked + 1 < 2 ^ 32 → length (policies_given adds own asked) < 2 ^ 32
+given_few : (adds : Bool) (own asked : List Text) → length own < 2 ^ 32 → length asked + 1 < 2 ^ 32
+    → length (policies_given adds own asked) < 2 ^ 32
 given_few adds own [] h g = h
 given_few true own (p ∷ ps) h g = one_more (length (p ∷ ps)) (2 ^ 32) g
 given_few false own (p ∷ ps) h g = fewer (length (p ∷ ps)) (2 ^ 32) g
 
 without_few : (ts : List Text) → length (without_default ts) ≤ length ts
 without_few ts =
-    omega (arith, length-filter (λ p. not (same p default_name)) ts, count_by-le-length (λ p. not (same p default_name)) ts)
+    omega (
+      arith,
+      length-filter (λ p. not (same p default_name)) ts,
+      count_by-le-length (λ p. not (same p default_name)) ts,
+    )
 
 module _ (P : Text → Type 0) (root : P (codes "root")) (default : P default_name) where
   set_policies : (ts : List Text) → All P ts → length ts < 2 ^ 32 → ArePolicies P (keys (set_of ts))
@@ -114,11 +121,13 @@ module _ (P : Text → Type 0) (root : P (codes "root")) (default : P default_na
         let all = given_names (privileged || has x.policies default_name) x.policies asked.policies own.names named in
         let short = given_few (privileged || has x.policies default_name) x.policies asked.policies own.few few in
         elim (have_root given)
-        as (λ v. ArePolicies P (if v then codes "root" ∷ [] else keys (set_of (if asked.no_default_policy then without_default given else given)))) [
+        as (λ v. ArePolicies P (if v then codes "root" ∷ []
+        else keys (set_of (if asked.no_default_policy then without_default given else given)))) [
           | true ↦ root_policies
-          | false ↦ elim (asked.no_default_policy) as (λ v. ArePolicies P (keys (set_of (if v then without_default given else given)))) [
-            | true ↦ set_policies (without_default given) (All-filter (λ p. not (same p default_name)) P given all)
-                (lt_of_le_of_lt (without_few given) short)
-            | false ↦ set_policies given all short
-          ]
+          | false ↦ elim (asked.no_default_policy) as (λ v. ArePolicies P
+              (keys (set_of (if v then without_default given else given)))) [
+                | true ↦ set_policies (without_default given) (All-filter (λ p. not (same p default_name)) P given all)
+                    (lt_of_le_of_lt (without_few given) short)
+                | false ↦ set_policies given all short
+              ]
         ]

@@ -1,5 +1,6 @@
 -- The part of tokens, on what rows tell: it is what the definitions say of the tokens.
-use Rattle.std.specs.Prelude.{◌≡◌, ◌≢◌, ◌≤◌, ◌+◌, ◌==◌, ℕ, List, [], Bool, true, false, if◌then◌else◌, Option, Some, None}
+use Rattle.std.specs.Prelude.{◌≡◌, ◌≢◌, ◌≤◌, ◌+◌, ◌==◌, ℕ, List, [], Bool}
+use Rattle.std.specs.Prelude.{true, false, if◌then◌else◌, Option, Some, None}
 use Rattle.std.specs.List.{list_all}
 use Rattle.std.proofs.Common.{refl, ap, subst, arith}
 use Rattle.std.proofs.Math.Nat.{min-le_right}
@@ -35,24 +36,34 @@ pub same_leave : (privileged : Bool) (making : Making) (x : Token) (ps : List Te
 same_leave privileged making x ps asked = refl
 
 -- the row of a new token, whose metadata is in order
-pub same_new : (now : ℕ) (parent : Option Text) (accessor : Text) (ps : List Text) (asked : TokenCreation) → IsInRange asked
+pub same_new : (now : ℕ) (parent : Option Text) (accessor : Text) (ps : List Text) (asked : TokenCreation)
+    → IsInRange asked
     → token_entry (new_token now parent accessor ps asked) ≡ new_entry now parent accessor ps asked
 same_new now parent accessor ps asked range =
-    ap (λ es. record (token_entry (new_token now parent accessor ps asked)) { meta = es }) (listed_entries asked.meta range.kept.meta.ascend)
+    ap (λ es. record (token_entry (new_token now parent accessor ps asked)) { meta = es })
+    (listed_entries asked.meta range.kept.meta.ascend)
 
 -- ---- the row of a new token can be written
 
 -- policies as rows have them: those of a caller whose row could be read, and names
-pub new_policies_short : (privileged : Bool) (e : TokenEntry) (asked : TokenCreation) → IsTokenInRange e → list_all is_name asked.policies ≡ true
+pub new_policies_short : (privileged : Bool) (e : TokenEntry) (asked : TokenCreation) → IsTokenInRange e
+    → list_all is_name asked.policies ≡ true
     → IsInRange asked → ArePolicies IsShortText (new_policies privileged (token_told e) asked)
 new_policies_short privileged e asked in_range named range =
     new_policies_are IsShortText (name_short _ refl) (name_short _ refl) privileged (token_told e) asked
-    (record { names = in_range.policies.names.each; ascend = in_range.policies.ascend; few = in_range.policies.names.few })
-    (All-weaker IsPolicyName IsShortText name_short asked.policies (each_passes asked.policies named)) range.kept.few_policies
+    (record {
+      names = in_range.policies.names.each;
+      ascend = in_range.policies.ascend;
+      few = in_range.policies.names.few;
+    })
+    (All-weaker IsPolicyName IsShortText name_short asked.policies (each_passes asked.policies named))
+    range.kept.few_policies
 
 -- whatever the rows are, if no empty text makes a token
-pub new_in_range : (now : ℕ) (parent : Option Text) (accessor : Text) (ps : List Text) (asked : TokenCreation) → now ≤ greatest_moment → parent ≢ Some []
-    → IsIdentifier accessor → ArePolicies IsShortText ps → IsInRange asked → IsTokenInRange (new_entry now parent accessor ps asked)
+pub new_in_range : (now : ℕ) (parent : Option Text) (accessor : Text) (ps : List Text) (asked : TokenCreation)
+    → now ≤ greatest_moment → parent ≢ Some []
+    → IsIdentifier accessor → ArePolicies IsShortText ps → IsInRange asked
+    → IsTokenInRange (new_entry now parent accessor ps asked)
 new_in_range now parent accessor ps asked within named good are range =
     record {
       parent = named;

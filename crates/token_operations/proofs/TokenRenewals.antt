@@ -1,5 +1,6 @@
 -- Renewals of tokens: from what the rows tell to what the commands answer.
-use Rattle.std.specs.Prelude.{◌≡◌, ◌≤◌, ◌+◌, ◌==◌, min, if◌then◌else◌, ℕ, Bool, true, false, Option, Some, None, is_some, option_map, Result, Ok, Err}
+use Rattle.std.specs.Prelude.{◌≡◌, ◌≤◌, ◌+◌, ◌==◌, min, if◌then◌else◌, ℕ, Bool, true, false}
+use Rattle.std.specs.Prelude.{Option, Some, None, is_some, option_map, Result, Ok, Err}
 use Rattle.std.proofs.Common.{refl, sym, ◌∙◌, ap, subst, arith}
 use Rattle.std.proofs.Math.Nat.{le_trans, min-le_left, min-le_right}
 use Rattle.broker_types.specs.Text.{Text}
@@ -70,13 +71,15 @@ abbrev renewed_as : Broker → Names → Text → ℕ → Option Token → Resul
 renewed_as b names t increment o =
     some_or (refusal.Forbidden denial.BadToken) o >>= (λ x. renewed_if b names t increment x (is_some x.ends))
 
-module _ (b : Broker) (rows : Rows) (who : Option Text) (t : Text) (names : Names) (increment : ℕ) (found : Option TokenEntry)
+module _ (b : Broker) (rows : Rows) (who : Option Text) (t : Text) (names : Names) (increment : ℕ)
+    (found : Option TokenEntry)
     (told : found ≡ option_map token_entry (get b.tokens t)) where
   -- an unknown token is refused
   pub acts_unknown : Represents who rows b → found ≡ None
       → ActsAs who b rows (Err (Refused (refusal.Forbidden denial.BadToken))) (renew b names t increment)
   acts_unknown st none =
-      subst (λ o. ActsAs who b rows (Err (Refused (refusal.Forbidden denial.BadToken))) (renewed_as b names t increment o))
+      subst (λ o. ActsAs who b rows (Err (Refused (refusal.Forbidden denial.BadToken)))
+      (renewed_as b names t increment o))
       (sym (mapped_none token_entry (get b.tokens t) (sym told ∙ none))) (refl, st)
 
   -- and so is one without an end
@@ -84,20 +87,27 @@ module _ (b : Broker) (rows : Rows) (who : Option Text) (t : Text) (names : Name
       → ActsAs who b rows (Err (Refused (refusal.BadRequest reason.TokenNotRenewable))) (renew b names t increment)
   acts_endless entry st some endless =
       let x = mapped token_entry (get b.tokens t) entry (sym told ∙ some) in
-      subst (λ o. ActsAs who b rows (Err (Refused (refusal.BadRequest reason.TokenNotRenewable))) (renewed_as b names t increment o)) (sym x.1)
-      (subst (λ v. ActsAs who b rows (Err (Refused (refusal.BadRequest reason.TokenNotRenewable))) (renewed_if b names t increment x.0 v))
+      subst (λ o. ActsAs who b rows (Err (Refused (refusal.BadRequest reason.TokenNotRenewable)))
+      (renewed_as b names t increment o)) (sym x.1)
+      (subst (λ v. ActsAs who b rows (Err (Refused (refusal.BadRequest reason.TokenNotRenewable)))
+      (renewed_if b names t increment x.0 v))
       (sym (sym (ap (λ (z : TokenEntry). is_some z.ends) x.2) ∙ endless)) (refl, st))
 
   -- another is given its new end
-  pub acts_renewed : (request : Text) (now ends : ℕ) (entry : TokenEntry) (r : Reply) → names.request ≡ request → b.clock ≡ now
+  pub acts_renewed : (request : Text) (now ends : ℕ) (entry : TokenEntry) (r : Reply) → names.request ≡ request
+      → b.clock ≡ now
       → found ≡ Some entry → is_some entry.ends ≡ true → ends ≡ new_end now entry increment
       → r ≡ auth_reply request now t (record entry { ends = Some ends }) → Represents who rows (tree.renew b t ends)
       → ActsAs who b rows (Ok (Given r)) (renew b names t increment)
   acts_renewed request now ends entry r named clock some ending is replied st =
       let x = mapped token_entry (get b.tokens t) entry (sym told ∙ some) in
-      let next : ends ≡ new_end b.clock (token_entry x.0) increment = is ∙ (λ i. new_end (sym clock i) (x.2 i) increment) in
+      let next : ends ≡ new_end b.clock (token_entry x.0) increment =
+      is ∙ (λ i. new_end (sym clock i) (x.2 i) increment) in
       subst (λ o. ActsAs who b rows (Ok (Given r)) (renewed_as b names t increment o)) (sym x.1)
       (subst (λ v. ActsAs who b rows (Ok (Given r)) (renewed_if b names t increment x.0 v))
       (sym (sym (ap (λ (z : TokenEntry). is_some z.ends) x.2) ∙ ending))
-      (subst (λ n. ActsAs who b rows (Ok (Given r)) (Ok (given_end b names t x.0 n))) next
-      (ap (λ r. reply r None) (replied ∙ (λ i. auth_reply (sym named i) (sym clock i) t (record (x.2 i) { ends = Some ends }))), st)))
+      (subst (λ n. ActsAs who b rows (Ok (Given r)) (Ok (given_end b names t x.0 n))) next (
+        ap (λ r. reply r None) (replied ∙ (λ i. auth_reply (sym named i) (sym clock i) t
+            (record (x.2 i) { ends = Some ends }))),
+        st,
+      )))

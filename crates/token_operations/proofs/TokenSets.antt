@@ -19,7 +19,8 @@ use Rattle.token_operations.proofs.TokenLists.{set_is}
 -- ---- the code's order of strings is that of their bytes
 
 along : (o : Ordering) (a b c : List (String Global))
-    → map string_bytes (match_ordering o a b c) ≡ match_ordering o (map string_bytes a) (map string_bytes b) (map string_bytes c)
+    → map string_bytes (match_ordering o a b c) ≡ match_ordering o (map string_bytes a) (map string_bytes b)
+    (map string_bytes c)
 along Less a b c = refl
 along Equal a b c = refl
 along Greater a b c = refl
@@ -57,7 +58,8 @@ has_inserted (u ∷ us) t q = by (text_cmp t u) refl (has_inserted us t q)
     by : (o : Ordering) → text_cmp t u ≡ o → has (insert_key text_cmp us t) q ≡ (same q t || has us q)
         → has (match_ordering o (t ∷ u ∷ us) (u ∷ us) (u ∷ insert_key text_cmp us t)) q ≡ (same q t || has (u ∷ us) q)
     by Less e rest = refl
-    by Equal e rest = once_more (same q u) (has us q) ∙ ap (λ x. same q x || (same q u || has us q)) (sym (equal_is t u e))
+    by Equal e rest = once_more (same q u) (has us q)
+        ∙ ap (λ x. same q x || (same q u || has us q)) (sym (equal_is t u e))
     by Greater e rest = ap (λ v. same q u || v) rest ∙ swapped (same q u) (same q t) (has us q)
 
 has_put : (us ts : List Text) (q : Text) → has (put_each us ts) q ≡ (has us q || has ts q)
@@ -67,7 +69,8 @@ has_put us [] q = by (has us q)
     by true = refl
     by false = refl
 has_put us (t ∷ ts) q =
-    has_put (insert_key text_cmp us t) ts q ∙ ap (λ v. v || has ts q) (has_inserted us t q) ∙ joined (same q t) (has us q) (has ts q)
+    has_put (insert_key text_cmp us t) ts q ∙ ap (λ v. v || has ts q) (has_inserted us t q)
+    ∙ joined (same q t) (has us q) (has ts q)
 
 -- ---- its order
 
@@ -83,7 +86,8 @@ ascends_after k t [] h g = λ i. h i && true
 ascends_after k t (u ∷ us) h g = by (text_cmp t u) refl (ascends_after u t us)
   where
     by : (o : Ordering) → text_cmp t u ≡ o
-        → (is_lt (text_cmp u t) ≡ true → is_ascending (u ∷ us) ≡ true → is_ascending (u ∷ insert_key text_cmp us t) ≡ true)
+        → (is_lt (text_cmp u t) ≡ true → is_ascending (u ∷ us) ≡ true
+        → is_ascending (u ∷ insert_key text_cmp us t) ≡ true)
         → is_ascending (k ∷ match_ordering o (t ∷ u ∷ us) (u ∷ us) (u ∷ insert_key text_cmp us t)) ≡ true
     by Less e rest = λ i. h i && (less_here t u e i && (and_parts (is_lt (text_cmp k u)) (is_ascending (u ∷ us)) g).1 i)
     by Equal e rest = g
@@ -95,7 +99,8 @@ ascends_inserted : (us : List Text) (t : Text) → is_ascending us ≡ true → 
 ascends_inserted [] t h = refl
 ascends_inserted (u ∷ us) t h = by (text_cmp t u) refl
   where
-    by : (o : Ordering) → text_cmp t u ≡ o → is_ascending (match_ordering o (t ∷ u ∷ us) (u ∷ us) (u ∷ insert_key text_cmp us t)) ≡ true
+    by : (o : Ordering) → text_cmp t u ≡ o
+        → is_ascending (match_ordering o (t ∷ u ∷ us) (u ∷ us) (u ∷ insert_key text_cmp us t)) ≡ true
     by Less e = λ i. less_here t u e i && h i
     by Equal e = h
     by Greater e = ascends_after u t us (less t u e) h

@@ -1,5 +1,6 @@
 -- What commands on tokens leave: a sound broker.
-use Rattle.std.specs.Prelude.{◌≡◌, ◌≢◌, ◌≤◌, ◌<◌, ◌^◌, ◌+◌, ◌==◌, ◌||◌, ◌&&◌, ℕ, min, List, Bool, All, true, false, not, if◌then◌else◌}
+use Rattle.std.specs.Prelude.{◌≡◌, ◌≢◌, ◌≤◌, ◌<◌, ◌^◌, ◌+◌, ◌==◌, ◌||◌, ◌&&◌, ℕ, min}
+use Rattle.std.specs.Prelude.{List, Bool, All, true, false, not, if◌then◌else◌}
 use Rattle.std.specs.Prelude.{Option, Some, None, is_none, Ok}
 use Rattle.std.proofs.Common.{refl, sym, ◌∙◌, ap, subst, arith, lt_of_le_of_lt}
 use Rattle.std.proofs.Math.Nat.{le_trans, min-le_left, min-le_right}
@@ -29,7 +30,8 @@ use Rattle.token_tree.specs.Tokens.{MayBeMade}
 use Rattle.broker_model.specs.Traits.{token_names}
 use Rattle.broker_model.specs.declared.making.Making.{Making}
 use Rattle.broker_model.specs.parts.TokenCreation.{makes_orphans}
-use Rattle.broker_model.specs.parts.TokenCreation.{new_token, new_parent, or_longest, asked_time, asked_ttl, has_no_end, use_limit}
+use Rattle.broker_model.specs.parts.TokenCreation.{new_token, new_parent, or_longest, asked_time}
+use Rattle.broker_model.specs.parts.TokenCreation.{asked_ttl, has_no_end, use_limit}
 use Rattle.broker_model.specs.parts.Tokens.{known}
 use Rattle.token_operations.specs.TokenRanges.{IsInRange, AreTokenNames}
 use Rattle.token_operations.proofs.TokenPolicies.{ArePolicies, IsPolicyName}
@@ -39,7 +41,8 @@ use Rattle.token_operations.proofs.TokenPolicies.{ArePolicies, IsPolicyName}
 pub known_is : (b : Broker) (t : Text) (x : Token) → known b t ≡ Ok x → get b.tokens t ≡ Some x
 known_is b t x e = by (get b.tokens t) refl e
   where
-    by : (o : Option Token) → get b.tokens t ≡ o → some_or (refusal.Forbidden denial.BadToken) o ≡ Ok x → get b.tokens t ≡ Some x
+    by : (o : Option Token) → get b.tokens t ≡ o → some_or (refusal.Forbidden denial.BadToken) o ≡ Ok x
+        → get b.tokens t ≡ Some x
     by None none e = absurd (cc)
     by (Some y) some e = some ∙ ap Some (ok_inj e)
 
@@ -53,7 +56,8 @@ ttl_short asked =
 pub end_near : (now ttl : ℕ) → now ≤ greatest_moment → ttl ≤ longest_ttl → IsEnd (now + ttl)
 end_near now ttl h g = omega arith
 
-module _ (forms : Forms) (names : Names) (good : AreTokenNames names) (now : ℕ) (within : now ≤ greatest_moment) (asked : TokenCreation)
+module _ (forms : Forms) (names : Names) (good : AreTokenNames names) (now : ℕ) (within : now ≤ greatest_moment)
+    (asked : TokenCreation)
     (range : IsInRange asked) where
   pub new_sound : (parent : Option Text) (ps : List Text) → ArePolicies IsPolicyName ps
       → IsSoundToken forms (token_text names.token) (new_token now parent names.accessor ps asked)
@@ -105,30 +109,38 @@ new_unspent n = by (n == 0) refl
 -- ---- by creation
 
 -- the policies of a sound token
-pub sound_policies : (forms : Forms) (t : Text) (x : Token) → IsSoundToken forms t x → ArePolicies IsPolicyName x.policies
+pub sound_policies : (forms : Forms) (t : Text) (x : Token) → IsSoundToken forms t x
+    → ArePolicies IsPolicyName x.policies
 sound_policies forms t x s = record { names = s.policy_names; ascend = s.policies_ascend; few = s.few_policies }
 
-module _ (forms : Forms) (who : Option Text) (b : Broker) (sound : Sound forms who b) (names : Names) (good : AreTokenNames names)
+module _ (forms : Forms) (who : Option Text) (b : Broker) (sound : Sound forms who b) (names : Names)
+    (good : AreTokenNames names)
     (new : are_new b.used (token_names names) ≡ true) where
-  rest_new : (not (same names.token names.accessor || false) ≡ true) × ((is_none (get b.used names.accessor) && true) ≡ true)
+  rest_new : (not (same names.token names.accessor || false) ≡ true)
+      × ((is_none (get b.used names.accessor) && true) ≡ true)
   rest_new = and_parts _ _ (and_parts (is_none (get b.used names.token)) _ new).1
 
   differ : names.token ≢ names.accessor
   differ e =
-      false≢true (sym (ap (λ v. not (v || false)) (same_self names.token)) ∙ ap (λ k. not (same names.token k || false)) e ∙ rest_new.0)
+      false≢true (sym (ap (λ v. not (v || false)) (same_self names.token))
+      ∙ ap (λ k. not (same names.token k || false)) e ∙ rest_new.0)
 
-  parent_stands : (c : Text) (v : Bool) (p : Text) → get b.tokens c ≢ None → (if v then None else Some c) ≡ Some p → get b.tokens p ≢ None
+  parent_stands : (c : Text) (v : Bool) (p : Text) → get b.tokens c ≢ None → (if v then None else Some c) ≡ Some p
+      → get b.tokens p ≢ None
   parent_stands c true p here e = absurd (none-some _ e)
   parent_stands c false p here e = subst (λ q. get b.tokens q ≢ None) (same_Some _ _ e) here
 
   -- a token with good policies may be made
-  pub may_be_made : (c : Text) (making : Making) (ps : List Text) (asked : TokenCreation) → IsInRange asked → get b.tokens c ≢ None
+  pub may_be_made : (c : Text) (making : Making) (ps : List Text) (asked : TokenCreation) → IsInRange asked
+      → get b.tokens c ≢ None
       → ArePolicies IsPolicyName ps
-      → MayBeMade forms b (token_text names.token) (new_token b.clock (new_parent c making asked) names.accessor ps asked)
+      → MayBeMade forms b (token_text names.token)
+      (new_token b.clock (new_parent c making asked) names.accessor ps asked)
   may_be_made c making ps asked range here are = record {
     sound = new_sound forms names good b.clock sound.clock asked range (new_parent c making asked) ps are;
     token_is_new = first_new b.used names.token names.accessor new;
-    accessor_is_new = is_nothing (get b.used names.accessor) (and_parts (is_none (get b.used names.accessor)) true rest_new.1).0;
+    accessor_is_new = is_nothing (get b.used names.accessor)
+        (and_parts (is_none (get b.used names.accessor)) true rest_new.1).0;
     differ = differ;
     parent = λ p e. parent_stands c (makes_orphans making || asked.no_parent) p here e;
     no_lease = refl;

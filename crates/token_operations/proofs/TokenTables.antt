@@ -1,5 +1,6 @@
 -- The part of tokens: from rows that a call on tokens left to the broker that they represent.
-use Rattle.std.specs.Prelude.{◌≡◌, ◌+◌, ℕ, List, Bool, true, false, cond, if◌then◌else◌, Option, Some, None, option_map, option_and_then, take, drop}
+use Rattle.std.specs.Prelude.{◌≡◌, ◌+◌, ℕ, List, Bool, true, false, cond, if◌then◌else◌}
+use Rattle.std.specs.Prelude.{Option, Some, None, option_map, option_and_then, take, drop}
 use Rattle.std.specs.FinMap.{get-empty}
 use Rattle.std.proofs.Common.{refl, sym, ◌∙◌, ap, subst}
 use Rattle.std.proofs.lemmas.Bool.{false≢true}
@@ -26,15 +27,20 @@ use Rattle.records.specs.Transaction.{Rows}
 use Rattle.token_tree.specs.SoundLaws.{renew_sound}
 use Rattle.token_tree.specs.Tokens.{AreEnded, MayBeMade, created, with_token, with_end, renew}
 use Rattle.broker_model.specs.Forms.{forms}
+use Rattle.leases.specs.Endings.{AreReadable, are_owned}
 use Rattle.leases.specs.LeftLaws.{go_with_tokens, nothing_ends}
 use Rattle.wrapping.specs.WaitingRows.{IsReadableWaiting}
-use Rattle.broker_rows.specs.Ending.{LeavesNothing}
+use Rattle.broker_rows.specs.Ending.{DropsResponse, LeavesNothing}
 use Rattle.broker_rows.specs.Left.{HaveEnded}
 use Rattle.broker_rows.specs.LeftLaws.{revoked_left}
 use Rattle.broker_rows.specs.MarkLaws.{marks_joined}
 use Rattle.broker_rows.specs.Representing.{Represents}
 use Rattle.broker_rows.specs.EndingLaws.{leaves_others, no_token, is_object, is_elsewhere, other_tokens}
+use Rattle.broker_rows.specs.ReadableLaws.{leases_before, readable_alone}
 use Rattle.broker_rows.specs.RepresentingLaws.{leases_still, changed_leases}
+use Rattle.token_operations.specs.Revoked.{EndsTokens, IsReadableBy, RevokesBy}
+use Rattle.token_operations.specs.declared.revocation.Descent.{Descent}
+use Rattle.token_operations.specs.declared.revocation.Descent.TheVariants.{Ends, Stays}
 
 -- ---- tokens that end
 
@@ -66,25 +72,49 @@ module _ {who : Option Text} (b : Broker) (t : Text) (old mid : Rows) (ended : L
     });
   }
 
--- a row of a response that can be read once they have can be read before
-pub response_still : (ended : List Text) (t : Text) (old mid left : Rows) → KeepsOthers of_tokens (table_of old) (table_of mid)
-    → LeavesNothing ended mid left → IsReadableWaiting (table_of left) t → IsReadableWaiting (table_of old) t
-response_still ended t old mid left others leaves readable =
-    subst (λ o. (w : Option Waiting) × IsRowOf IsWaitingInRange waiting_row o w)
-    (leaves_others ended mid left leaves kind.Waiting t refl ∙ others kind.Waiting t refl) readable
+module _ (t : Text) (ended : List Text) (old mid left new : Rows) (leaves : LeavesNothing ended mid left)
+    (drops : DropsResponse t left new) where
+  -- the rows that go with a token that is revoked
+  pub revoked_rows : (d : Descent) → EndsTokens d t old ended mid → RevokesBy d t old new
+  revoked_rows Ends ends = record {
+    left = left;
+    ends = record { ended = ended; left = mid; ends = ends; leaves = leaves };
+    drops = drops;
+  }
+  revoked_rows Stays ends = record {
+    left = left;
+    ends = record { ended = ended; left = mid; ends = ends; leaves = leaves };
+    drops = drops;
+  }
+
+  -- what was read once the tokens had ended could be read before
+  module _ (others : KeepsOthers of_tokens (table_of old) (table_of mid)) where
+    leases : AreReadable (are_owned ended) (table_of old)
+    leases = leases_before (are_owned ended) (table_of old) (table_of mid) others leaves.leases.readable
+
+    response : IsReadableWaiting (table_of old) t
+    response =
+        subst (λ o. (w : Option Waiting) × IsRowOf IsWaitingInRange waiting_row o w)
+        (leaves_others ended mid left leaves kind.Waiting t refl ∙ others kind.Waiting t refl) (drops.0, drops.1.was)
+
+    pub revoked_readable : (d : Descent) → EndsTokens d t old ended mid → IsReadableBy d old t
+    revoked_readable Ends ends = ((ended, ends.descent, ends.readable, leases), response)
+    revoked_readable Stays ends = (readable_alone t old ended mid ends leases, response)
 
 -- ---- rows of cubbyholes and leases that stay
 
 module _ (b : Broker) (us : Tokens) (alike : (t path : Text) → object_row us t path ≡ object_row b.tokens t path)
     (same : (t lease_id : Text) → lease_of (record b { tokens = us }) t lease_id ≡ lease_of b t lease_id) where
-  same_cubbyholes : (k : Kind) (q : Text) → of_cubbyholes k ≡ true → rows_of b k q ≡ rows_of (record b { tokens = us }) k q
+  same_cubbyholes : (k : Kind) (q : Text) → of_cubbyholes k ≡ true
+      → rows_of b k q ≡ rows_of (record b { tokens = us }) k q
   unfolding rows_of
   same_cubbyholes kind.Cubby q h =
       ap (λ o. if has_slash q then o else None) (sym (alike (take token_len q) (drop (token_len + 1) q)))
   same_cubbyholes _ q h = absurd (false≢true h)
 
   -- tokens that have the same cubbyholes and leases, where nothing else has changed
-  pub rows_alike : {who : Option Text} (old new : Rows) → Represents who old b → Tells of_tokens (table_of new) (record b { tokens = us })
+  pub rows_alike : {who : Option Text} (old new : Rows) → Represents who old b
+      → Tells of_tokens (table_of new) (record b { tokens = us })
       → KeepsOthers of_tokens (table_of old) (table_of new) → table_of new ≡ rows_of (record b { tokens = us })
   rows_alike old new st tells others =
       other_tokens b us (table_of old) (table_of new) st.rows tells
@@ -94,21 +124,26 @@ module _ (b : Broker) (us : Tokens) (alike : (t path : Text) → object_row us t
 
 -- ---- a renewal
 
-objects_renewed : (ts : Tokens) (t : Text) (ends : ℕ) (q path : Text) → object_row (change ts t (with_end ends)) q path ≡ object_row ts q path
+objects_renewed : (ts : Tokens) (t : Text) (ends : ℕ) (q path : Text)
+    → object_row (change ts t (with_end ends)) q path ≡ object_row ts q path
 objects_renewed ts t ends q path =
-    ap (option_and_then (λ (x : Token). option_map (cubby_row q) (get x.cubbyhole path))) (get-change ts t (with_end ends) q)
+    ap (option_and_then (λ (x : Token). option_map (cubby_row q) (get x.cubbyhole path)))
+    (get-change ts t (with_end ends) q)
     ∙ inner (same q t) (get ts q)
   where
     inner : (v : Bool) (o : Option Token)
-        → option_and_then (λ (x : Token). option_map (cubby_row q) (get x.cubbyhole path)) (option_map (λ x. if v then with_end ends x else x) o)
+        → option_and_then (λ (x : Token). option_map (cubby_row q) (get x.cubbyhole path))
+        (option_map (λ x. if v then with_end ends x else x) o)
         ≡ option_and_then (λ (x : Token). option_map (cubby_row q) (get x.cubbyhole path)) o
     inner v None = refl
     inner true (Some x) = refl
     inner false (Some x) = refl
 
 -- a token was given another end
-pub represents-renewed : {who : Option Text} (b : Broker) (t : Text) (ends : ℕ) (old new : Rows) → Represents who old b → IsEnd ends
-    → Tells of_tokens (table_of new) (renew b t ends) → KeepsOthers of_tokens (table_of old) (table_of new) → Represents who new (renew b t ends)
+pub represents-renewed : {who : Option Text} (b : Broker) (t : Text) (ends : ℕ) (old new : Rows)
+    → Represents who old b → IsEnd ends
+    → Tells of_tokens (table_of new) (renew b t ends) → KeepsOthers of_tokens (table_of old) (table_of new)
+    → Represents who new (renew b t ends)
 represents-renewed {who} b t ends old new st near tells others =
     record {
       rows = rows_alike b (change b.tokens t (with_end ends)) (objects_renewed b.tokens t ends)
@@ -125,10 +160,12 @@ objects_made ts t x absent bare q path =
     ∙ by (same q t) refl
   where
     by : (v : Bool) → same q t ≡ v
-        → option_and_then (λ (x : Token). option_map (cubby_row q) (get x.cubbyhole path)) (cond v (Some x) (get ts q)) ≡ object_row ts q path
+        → option_and_then (λ (x : Token). option_map (cubby_row q) (get x.cubbyhole path))
+        (cond v (Some x) (get ts q)) ≡ object_row ts q path
     by true is =
         ap (λ m. option_map (cubby_row q) (get m path)) bare ∙ ap (option_map (cubby_row q)) (get-empty text_cmp path)
-        ∙ sym (ap (option_and_then (λ (x : Token). option_map (cubby_row q) (get x.cubbyhole path))) (ap (get ts) (same_true q t is) ∙ absent))
+        ∙ sym (ap (option_and_then (λ (x : Token). option_map (cubby_row q) (get x.cubbyhole path)))
+        (ap (get ts) (same_true q t is) ∙ absent))
     by false other = refl
 
 leases_made : (b : Broker) (t : Text) (x : Token) → get b.tokens t ≡ None → x.leases ≡ empty → (q lease_id : Text)
@@ -137,28 +174,34 @@ leases_made b t x absent none q lease_id =
     ap (option_and_then (λ (x : Token). get x.leases lease_id)) (get-put b.tokens t x q) ∙ by (same q t) refl
   where
     by : (v : Bool) → same q t ≡ v
-        → option_and_then (λ (x : Token). get x.leases lease_id) (cond v (Some x) (get b.tokens q)) ≡ lease_of b q lease_id
+        → option_and_then (λ (x : Token). get x.leases lease_id) (cond v (Some x) (get b.tokens q))
+        ≡ lease_of b q lease_id
     by true is =
         ap (λ m. get m lease_id) none ∙ get-empty text_cmp lease_id
-        ∙ sym (ap (option_and_then (λ (x : Token). get x.leases lease_id)) (ap (get b.tokens) (same_true q t is) ∙ absent))
+        ∙ sym (ap (option_and_then (λ (x : Token). get x.leases lease_id)) (ap (get b.tokens) (same_true q t is)
+        ∙ absent))
     by false other = refl
 
-module _ {who : Option Text} (b : Broker) (t : Text) (x : Token) (old : Rows) (st : Represents who old b) (can : MayBeMade forms b t x) where
+module _ {who : Option Text} (b : Broker) (t : Text) (x : Token) (old : Rows) (st : Represents who old b)
+    (can : MayBeMade forms b t x) where
   absent : get b.tokens t ≡ None
   absent = by (get b.tokens t) refl
     where
       by : (o : Option Token) → get b.tokens t ≡ o → get b.tokens t ≡ None
       by None is = is
       by (Some y) is =
-          absurd (st.sound.identifiers.all_used (token t) (token_identifier t) (ap (option_map (λ (z : Token). token_identifier t)) is) can.token_is_new)
+          absurd (st.sound.identifiers.all_used (token t) (token_identifier t)
+          (ap (option_map (λ (z : Token). token_identifier t)) is) can.token_is_new)
 
   -- a token was made, without a cubbyhole, and then its identifiers were marked as used
   pub represents-created : (mid new : Rows) → x.cubbyhole ≡ empty → Sound forms who (created b t x)
       → Tells of_tokens (table_of mid) (with_token b t x) → KeepsOthers of_tokens (table_of old) (table_of mid)
-      → table_of new ≡ with_row (with_row (table_of mid) kind.Used x.accessor used_row) kind.Used (token_identifier t) used_row
+      → table_of new ≡ with_row (with_row (table_of mid) kind.Used x.accessor used_row) kind.Used
+      (token_identifier t) used_row
       → Represents who new (created b t x)
   represents-created mid new bare sound tells others marks =
-      let made = rows_alike b (put b.tokens t x) (objects_made b.tokens t x absent bare) (leases_made b t x absent can.no_lease)
+      let made =
+      rows_alike b (put b.tokens t x) (objects_made b.tokens t x absent bare) (leases_made b t x absent can.no_lease)
       old mid st tells others in
       record {
         rows = marks_joined (with_token b t x) (token_identifier t) x.accessor (table_of mid) (table_of new) marks made;

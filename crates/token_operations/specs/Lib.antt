@@ -1,4 +1,5 @@
 pub mod ChangedTokens
+pub mod Revoked
 pub mod Sudo
 pub mod TokenEntries
 pub mod TokenMaking

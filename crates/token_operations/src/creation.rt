@@ -51,7 +51,8 @@ pub(crate) fn create<T: RecordsTx>(
         (T.seen tx.old) (T.seen tx.new)
         (λ b. part.create b asker.now.caller.token (names_of context.now.words) making asked) result }
 
-    // Whatever the rows are: it is made only if the row of the caller and those of its policies say that the caller may.
+    // Whatever the rows are: it is made only if the row of the caller and those of its policies say that the caller
+    // may.
     ensures may { IsHonest (T.seen tx.new) → IsCallerAt (T.seen tx.old).rows asker.now.caller
         → AreItsRules (T.seen tx.old).rows asker.now
         → OnOk result (MayMakeAt (T.seen tx.old).rows asker.now.caller.token making asked) }

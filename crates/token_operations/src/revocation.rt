@@ -1,82 +1,93 @@
 //! Revocation of tokens and of wrapping tokens.
 
-ghost use Rattle.std.specs.Prelude.{◌≡◌, true, Ok, Option, None, OnOk};
+ghost use Rattle.std.specs.Prelude.{◌≡◌, true, Ok, Option, None, IfOk, IfErr, OnOk};
 ghost use Rattle.broker_types.specs.Broker.{Broker};
-ghost use Rattle.broker_types.specs.Fault.{IsNotBadStart};
+ghost use Rattle.broker_types.specs.Fault.{IsMemoryOrStorage, IsNotBadStart};
 ghost use Rattle.broker_types.specs.Text.{Text};
 ghost use Rattle.records.specs.Table.{table_of};
 ghost use Rattle.records.specs.Transaction.{IsHonest};
-ghost use Rattle.records.specs.Calls.{OnAnswer, OnRefused, IsRequestCall};
+ghost use Rattle.records.specs.Calls.{OnAnswer, OnRefused, IsChange, IsRequestCall};
+ghost use Rattle.records.specs.Parts.{KeepsOthers, of_tokens};
 ghost use Rattle.token_tree.specs.Tokens as tree;
 ghost use Rattle.wrapping.specs.AccessorRows as wrapping;
 ghost use Rattle.wrapping.specs.AccessorRows.{DropsAccessor};
 ghost use Rattle.broker_model.specs.parts.Tokens as part;
-ghost use Rattle.broker_rows.specs.Ending.{Revokes, RevokesOne};
+ghost use Rattle.broker_rows.specs.Left.{HaveEnded};
 ghost use Rattle.broker_rows.specs.Operating.{ActsAs};
-ghost use Rattle.broker_rows.specs.Reads.{IsReadableRevoked, IsReadableRevokedAlone, IsReadableByAccessor};
+ghost use Rattle.broker_rows.specs.Reads.{IsReadableByAccessor};
 ghost use Rattle.broker_rows.specs.Representing.{Represents};
 ghost use Rattle.token_operations.specs.ChangedTokens.{RevokesNamed};
+ghost use Rattle.token_operations.specs.Revoked.{EndsTokens, IsReadableBy, RevokesBy, left_by, revoked};
 
 use broker_rows::{Answered, leave_nothing};
-use broker_types::{Reason, Refusal, RequestError};
+use broker_types::{Fault, Reason, Refusal, RequestError, TextBuf};
 use records::RecordsTx;
 use std::alloc::Global;
-use token_tree::{find_accessor, revoke as end_descent, revoke_one};
+use token_tree::{find_accessor, revoke as end_descent, revoke_one as end_alone};
 use wrapping::{accessors_name_their_wrapping_tokens, drop_accessor, drop_token};
 
-/// Ends a token with all below it, and what belonged to them. A wrapping token ends with the response that waits under
-/// it. Any other text is passed over.
+/// What becomes of the tokens below one that is revoked (Vault's documentation, "Token auth method (API)", revoke a
+/// token, and revoke token and orphan children).
+#[derive(Clone, Copy, Debug, PartialEq, Eq)]
+pub(crate) enum Descent {
+    /// They end with it.
+    Ends,
+    /// They stay, and its children have no parent then.
+    Stays,
+}
+
+/// Ends a token, those below it as `descent` says, and what belonged to all that ended. A wrapping token ends with the
+/// response that waits under it. Any other text is passed over.
 pub(crate) fn revoke<T: RecordsTx>(
     alloc: Global,
     tx: &mut T,
     token: &str,
+    descent: Descent,
 ) -> Result<Answered, RequestError>
     ensures told { IsHonest (T.seen tx.new) → (who : Option Text) (b : Broker) → Represents who (T.seen tx.old).rows b
-        → ActsAs who b (T.seen tx.new).rows result (Ok (part.revoke b token.now)) }
+        → ActsAs who b (T.seen tx.new).rows result (Ok (revoked descent b token.now)) }
 
-    // Whatever the rows are: it is neither answered nor refused if the row of the token is damaged, or of one below it,
-    // or of a lease of these, or that of the wrapping token.
+    // Whatever the rows are: it is neither answered nor refused if the row of a token that ends is damaged, or of a
+    // lease of these, or that of the wrapping token.
     ensures readable { IsHonest (T.seen tx.new)
-        → OnAnswer result (IsReadableRevoked (T.seen tx.old).rows token.now) }
+        → OnAnswer result (IsReadableBy descent (T.seen tx.old).rows token.now) }
 
-    // And these rows go, with those of their accessors and what belonged to them, and no other changes.
+    // And these rows go, with those of their accessors and what belonged to them. No other row changes, but for those
+    // of children that stay.
     ensures rows { IsHonest (T.seen tx.new)
-        → OnAnswer result (Revokes token.now (T.seen tx.old).rows (T.seen tx.new).rows) }
+        → OnAnswer result (RevokesBy descent token.now (T.seen tx.old).rows (T.seen tx.new).rows) }
     ensures refused { IsHonest (T.seen tx.new) → OnRefused result ((T.seen tx.new).rows ≡ (T.seen tx.old).rows) }
     ensures call { IsRequestCall (T.seen tx.old) (T.seen tx.new) result IsNotBadStart }
 {
-    let ended = end_descent(alloc, tx, token)?;
+    let ended = end_tokens(alloc, tx, token, descent)?;
     leave_nothing(alloc, tx, &ended)?;
     drop_token(alloc, tx, token)?;
     Ok(Answered::Nothing)
 }
 
-/// Ends a token alone, and what belonged to it. A wrapping token ends with the response that waits under it. Any other
-/// text is passed over.
-pub(crate) fn revoke_orphan<T: RecordsTx>(
+/// Ends a token, and those below it as `descent` says. It answers the tokens that ended. What belonged to them is left
+/// to its caller.
+fn end_tokens<T: RecordsTx>(
     alloc: Global,
     tx: &mut T,
     token: &str,
-) -> Result<Answered, RequestError>
+    descent: Descent,
+) -> Result<Vec<TextBuf>, Fault>
     ensures told { IsHonest (T.seen tx.new) → (who : Option Text) (b : Broker) → Represents who (T.seen tx.old).rows b
-        → ActsAs who b (T.seen tx.new).rows result (Ok (part.revoke_alone b token.now)) }
+        → IfOk result (λ list.
+        HaveEnded who who b (left_by descent b.tokens token.now) list.items (T.seen tx.new).rows) }
 
-    // Whatever the rows are: it is neither answered nor refused if the row of the token is damaged, or of one of its
-    // leases, or that of the wrapping token.
-    ensures readable { IsHonest (T.seen tx.new)
-        → OnAnswer result (IsReadableRevokedAlone (T.seen tx.old).rows token.now) }
-
-    // And its row goes, with that of its accessor and what belonged to it; its children have no parent then, and no
-    // other row changes.
-    ensures rows { IsHonest (T.seen tx.new)
-        → OnAnswer result (RevokesOne token.now (T.seen tx.old).rows (T.seen tx.new).rows) }
-    ensures refused { IsHonest (T.seen tx.new) → OnRefused result ((T.seen tx.new).rows ≡ (T.seen tx.old).rows) }
-    ensures call { IsRequestCall (T.seen tx.old) (T.seen tx.new) result IsNotBadStart }
+    // Whatever the rows are: those of these tokens were read, and go with those of their accessors.
+    ensures rows { IsHonest (T.seen tx.new) → IfOk result (λ list.
+        EndsTokens descent token.now (T.seen tx.old).rows list.items (T.seen tx.new).rows) }
+    ensures wants { IsHonest (T.seen tx.new) → (who : Option Text) (b : Broker) → Represents who (T.seen tx.old).rows b
+        → IfErr result IsMemoryOrStorage }
+    ensures call { IsChange (KeepsOthers of_tokens) (T.seen tx.old) (T.seen tx.new) result IsNotBadStart }
 {
-    let ended = revoke_one(alloc, tx, token)?;
-    leave_nothing(alloc, tx, &ended)?;
-    drop_token(alloc, tx, token)?;
-    Ok(Answered::Nothing)
+    match descent {
+        Descent::Ends => end_descent(alloc, tx, token),
+        Descent::Stays => end_alone(alloc, tx, token),
+    }
 }
 
 /// Ends the token of an accessor, with all below it, and what belonged to them; or the wrapping token of it, with the
@@ -103,7 +114,7 @@ pub(crate) fn revoke_accessor<T: RecordsTx>(
     let Some(token) = find_accessor(tx, accessor)? else {
         return revoke_wrapping(alloc, tx, accessor);
     };
-    revoke(alloc, tx, token.as_str())
+    revoke(alloc, tx, token.as_str(), Descent::Ends)
 }
 
 /// Ends the wrapping token of an accessor that names no token, with the response that waits under it. An accessor of

@@ -24,7 +24,7 @@ ghost use Rattle.broker_model.specs.parts.Bodies.{read_as};
 use crate::creation::create;
 use crate::lookup::{list_accessors, look_up, look_up_accessor, look_up_self};
 use crate::renewal::renew;
-use crate::revocation::{revoke, revoke_accessor, revoke_orphan};
+use crate::revocation::{Descent, revoke, revoke_accessor};
 use api_json::{accessor, increment, read_body, token, token_creation, token_renewal};
 use broker_model::{Making, TokenCommand};
 use broker_rows::{Answered, Asker, Context};
@@ -137,10 +137,10 @@ pub fn act_on_tokens<T: RecordsTx>(
         TokenCommand::RenewSelf(increment) => {
             renew(alloc, tx, context, asker.caller.token, increment)
         }
-        TokenCommand::Revoke(token) => revoke(alloc, tx, token.as_str()),
-        TokenCommand::RevokeOrphan(token) => revoke_orphan(alloc, tx, token.as_str()),
+        TokenCommand::Revoke(token) => revoke(alloc, tx, token.as_str(), Descent::Ends),
+        TokenCommand::RevokeOrphan(token) => revoke(alloc, tx, token.as_str(), Descent::Stays),
         TokenCommand::RevokeAccessor(accessor) => revoke_accessor(alloc, tx, accessor.as_str()),
-        TokenCommand::RevokeSelf => revoke(alloc, tx, asker.caller.token),
+        TokenCommand::RevokeSelf => revoke(alloc, tx, asker.caller.token, Descent::Ends),
         TokenCommand::ListAccessors => list_accessors(alloc, tx, context),
     }
 }

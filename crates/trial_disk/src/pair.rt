@@ -28,7 +28,12 @@ pub struct Pair {
 impl Pair {
     /// Two files without a byte, which say that a torn write leaves each byte old or new, or do not say it.
     pub fn new(alloc: Global, is_mixing: bool) -> Pair {
-        Pair::of(alloc, is_mixing, RamFile::new(alloc), RamFile::new(alloc))
+        Pair::of(
+            alloc,
+            is_mixing,
+            RamFile::mixing(alloc),
+            RamFile::mixing(alloc),
+        )
     }
 
     fn of(alloc: Global, is_mixing: bool, log: RamFile, database: RamFile) -> Pair {

@@ -103,7 +103,7 @@ impl Trace {
     fn changed(&mut self, left: Left) -> io::Result<RamFile> {
         let len = self.synced.len()?;
         let bytes = bytes_of(self.alloc, &mut self.synced, 0, len)?;
-        let mut file = RamFile::new(self.alloc);
+        let mut file = RamFile::mixing(self.alloc);
         file.write_at(0, bytes.as_slice())?;
         match left {
             Left::First(count) => {

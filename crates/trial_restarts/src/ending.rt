@@ -9,8 +9,8 @@ use replay::Exit;
 pub(crate) enum End {
     /// As a replay ends.
     Replayed(Exit),
-    /// After this stop the files do not open, or have other rows, or give another reply, than the broker before the step
-    /// in progress, or after it.
+    /// After this stop the files do not open, or have other rows, or give another reply, than the broker before the
+    /// step in progress, or after it.
     Wrong(Stop),
 }
 

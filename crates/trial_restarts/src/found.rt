@@ -22,8 +22,8 @@ struct Found {
     prepared: Rows,
 }
 
-/// The rows that are found in files; none if the files have no table of rows, or if anything else is made of them than the
-/// second state of the first one, and than a start over no rows. The only error is `Memory`.
+/// The rows that are found in files; none if the files have no table of rows, or if anything else is made of them than
+/// the second state of the first one, and than a start over no rows. The only error is `Memory`.
 pub(crate) fn rows_found(
     alloc: Global,
     mut files: Pair,

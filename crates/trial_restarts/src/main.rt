@@ -1,5 +1,5 @@
-//! The program `trial_restarts`, for tests: it runs the lines of a replay over files that are closed and opened again, and
-//! over files that stop.
+//! The program `trial_restarts`, for tests: it runs the lines of a replay over files that are closed and opened again,
+//! and over files that stop.
 #![tactic(auto)]
 
 ghost use Rattle.std.specs.Prelude.{◌≡◌, IfOk};
@@ -89,8 +89,8 @@ fn print_tally<R: Print>(rt: &R, met: Result<Tally, End>) -> anyhow::Result<End>
     Ok(End::Replayed(Exit::Done))
 }
 
-/// Says on standard error why the task did not end well, if so, and answers the status: 0, or 1 after a fault or at rows
-/// that are not what they should be, or 2 at a bad line.
+/// Says on standard error why the task did not end well, if so, and answers the status: 0, or 1 after a fault or at
+/// rows that are not what they should be, or 2 at a bad line.
 fn tell<R: Eprint>(rt: &R, end: End) -> anyhow::Result<ExitCode>
     ensures { IfOk result (λ code. exit_status code ≡ status_after end) }
 {

@@ -58,7 +58,8 @@ pub(crate) fn open_records<D: Disk + Drop>(
     }
 }
 
-/// The store of two files, and whether a broker was started in it, since there were no rows. It fails as `prepare` does.
+/// The store of two files, and whether a broker was started in it, since there were no rows. It fails as `prepare`
+/// does.
 pub(crate) fn open<D: Disk + Drop>(
     alloc: Global,
     files: Files<D>,

@@ -4,8 +4,8 @@ use endpoints::Source;
 use replay::{Exit, Script, Unread, read_script, read_to_end};
 use std::alloc::Global;
 
-/// The script that the lines of the source are, up to the first that is bad. It fails as a replay of them does if memory
-/// runs out, a read fails, or the first line is bad.
+/// The script that the lines of the source are, up to the first that is bad. It fails as a replay of them does if
+/// memory runs out, a read fails, or the first line is bad.
 pub(crate) fn script_of<R: Source>(alloc: Global, reader: &mut R) -> Result<Script, Exit> {
     let input = match read_to_end(alloc, reader) {
         Ok(input) => input,

@@ -49,8 +49,8 @@ impl Run {
         Run::over(files, answered, ended)
     }
 
-    /// The run over files whose steps ended so after so many answers. It fails as they did, but for `Storage`, which is a
-    /// stop.
+    /// The run over files whose steps ended so after so many answers. It fails as they did, but for `Storage`, which is
+    /// a stop.
     pub(crate) fn over(
         files: Pair,
         answered: usize,

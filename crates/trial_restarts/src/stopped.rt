@@ -83,11 +83,12 @@ pub(crate) fn run_again<R: Source, W: Sink>(
     Ok(trial.run()?.last_step())
 }
 
-/// Stops the opening of files, in which a run of all lines but the last left the rows, but those of the keys are of format
-/// 1; the last line asks what is found. It tells what was met, and writes the reply of a broker in memory to the last line.
+/// Stops the opening of files, in which a run of all lines but the last left the rows, but those of the keys are of
+/// format 1; the last line asks what is found. It tells what was met, and writes the reply of a broker in memory to the
+/// last line.
 ///
-/// An opening that rewrites no row, or one page of them, would end as wrong at the first stop of the log, after no call; one
-/// that rewrites each row in a transaction of its own, after one of its syncs, if there are several keys.
+/// An opening that rewrites no row, or one page of them, would end as wrong at the first stop of the log, after no
+/// call; one that rewrites each row in a transaction of its own, after one of its syncs, if there are several keys.
 pub(crate) fn run_upgraded<R: Source, W: Sink>(
     alloc: Global,
     writes: Writes,

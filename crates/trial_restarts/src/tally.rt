@@ -95,8 +95,8 @@ impl Tally {
         Ok(Tally { steps, images: 0 })
     }
 
-    /// Counts a stop of a file. The run that stopped one call earlier came as far as `before`; before the first call there
-    /// is none.
+    /// Counts a stop of a file. The run that stopped one call earlier came as far as `before`; before the first call
+    /// there is none.
     pub(crate) fn count_stop(&mut self, part: Part, before: Option<Progress>, now: Progress) {
         let before = before.unwrap_or(now);
         let Some(step) = self.steps.get_mut(before.answered) else {

@@ -71,8 +71,8 @@ fn write_old_in<D: Disk + Drop>(
     close(records)
 }
 
-/// The opening of such files, one of which answers so many calls, and then fails each. It fails as the steps do, but for
-/// `Storage`, which is a stop.
+/// The opening of such files, one of which answers so many calls, and then fails each. It fails as the steps do, but
+/// for `Storage`, which is a stop.
 pub(crate) fn upgrade_until_stop(
     alloc: Global,
     script: &Script,

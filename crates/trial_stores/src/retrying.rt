@@ -115,8 +115,8 @@ pub(crate) fn retry_over_sql<R: Eprint, W: Sink>(
     }
 }
 
-/// Runs the script over a broker that was started, and writes the replies. After a fault the same piece comes once more,
-/// on another connection: so what the fault left is asked. Each fault is told on standard error.
+/// Runs the script over a broker that was started, and writes the replies. After a fault the same piece comes once
+/// more, on another connection: so what the fault left is asked. Each fault is told on standard error.
 fn run_retrying<R: Eprint, S: Looked + Drop, W: Sink>(
     rt: &R,
     alloc: Global,

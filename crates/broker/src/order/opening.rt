@@ -27,7 +27,7 @@ use crate::order::routing::find_route;
 use api_json::{read_body, wrapping_token};
 use broker_rows::{Answered, Context};
 use broker_types::{Answer, Ask, CowText, Fault, RequestError, TextBuf, Verb};
-use mounts::{Opens, operation_at};
+use mounts::{Opens, Routers, operation_at};
 use records::RecordsTx;
 use std::alloc::Global;
 
@@ -91,6 +91,7 @@ fn is_own(client: &Option<CowText<'_>>, named: &Option<TextBuf>) -> bool
 
 /// Answers an ask that needs no caller: it is served or refused.
 pub(crate) fn answer_openly<T: RecordsTx>(
+    routers: &Routers,
     alloc: Global,
     tx: &mut T,
     context: &Context<'_>,
@@ -108,7 +109,7 @@ pub(crate) fn answer_openly<T: RecordsTx>(
         (λ b. (serving.is_open ask.now ≡ true) × Begins None context.now (T.seen tx.old).rows b) result }
     ensures faults { IfErr result IsNotBadStart }
 {
-    match serve_openly(alloc, tx, context, ask) {
+    match serve_openly(routers, alloc, tx, context, ask) {
         Ok(answered) => Ok(answer(alloc, answered)?),
         Err(RequestError::Refused(refusal)) => refuse(alloc, refusal),
         Err(RequestError::Fault(fault)) => Err(fault),
@@ -117,6 +118,7 @@ pub(crate) fn answer_openly<T: RecordsTx>(
 
 /// Serves an ask that needs no caller.
 fn serve_openly<T: RecordsTx>(
+    routers: &Routers,
     alloc: Global,
     tx: &mut T,
     context: &Context<'_>,
@@ -134,7 +136,7 @@ fn serve_openly<T: RecordsTx>(
     ensures call { IsRequestCall (T.seen tx.old) (T.seen tx.new) result IsNotBadStart }
 {
     let path = ask.path.as_str();
-    let found = find_route(alloc, tx, ask.verb, path)?;
+    let found = find_route(routers, tx, ask.verb, path)?;
     let command = read_command(alloc, ask, &found?)?;
     operate(alloc, tx, context, &None, ask, command)
 }

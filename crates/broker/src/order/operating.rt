@@ -25,7 +25,7 @@ ghost use Rattle.broker.specs.Stages.{IsServed};
 
 use crate::answers::PERMISSION_DENIED;
 use crate::command::{Command, has_wrap_ttl, is_wrapped, needed_identifiers};
-use crate::order::keeping::wrap;
+use crate::order::wrap::{Wrapping, wrap};
 use broker_model::operations_are_proper;
 use broker_rows::{Answered, Asker, Context, are_new};
 use broker_types::{Ask, Reason, Refusal, RequestError, TextBuf};
@@ -133,19 +133,13 @@ fn carry_out<T: RecordsTx>(
     }
     let own = &needed[2..];
     let answered = act(alloc, tx, context, asker, own, command)?;
-    let token = needed[0].as_str();
-    let accessor = needed[1].as_str();
-    let path = ask.path.as_str();
-    Ok(wrap(
-        alloc,
-        tx,
-        context,
-        path,
-        ask.wrap_ttl,
-        token,
-        accessor,
-        answered,
-    )?)
+    let wrapping = Wrapping {
+        path: ask.path.as_str(),
+        ttl: ask.wrap_ttl,
+        token: needed[0].as_str(),
+        accessor: needed[1].as_str(),
+    };
+    Ok(wrap(alloc, tx, context, &wrapping, answered)?)
 }
 
 /// Carries out a command, of the caller who asks or of an open ask. Its own identifiers are new, and have been printed.

@@ -13,14 +13,13 @@ ghost use Rattle.mounts.specs.Route as spec;
 ghost use Rattle.mounts.specs.Table.{takes_parameter};
 
 use broker_types::{Fault, Refusal, RequestError, Verb};
-use mounts::{Route, route};
+use mounts::{Route, Routers, route};
 use records::RecordsTx;
-use std::alloc::Global;
 
 /// The route of an ask, or why it has none. Who may not ask is denied before it is told that there is no route, so
 /// only a fault ends the request here.
 pub(crate) fn find_route<'p, T: RecordsTx>(
-    alloc: Global,
+    routers: &Routers,
     tx: &mut T,
     verb: Verb,
     path: &'p str,
@@ -41,7 +40,7 @@ pub(crate) fn find_route<'p, T: RecordsTx>(
     ensures call { IsReading (T.seen tx.old) (T.seen tx.new) result
         (IsReadFault (IsHonest (T.seen tx.new) → IsDamagedAt (table (T.seen tx.old)) (spec.cut path.now).0)) }
 {
-    match route(alloc, tx, verb, path) {
+    match route(routers, tx, verb, path) {
         Ok(found) => Ok(Ok(found)),
         Err(RequestError::Refused(refusal)) => Ok(Err(refusal)),
         Err(RequestError::Fault(fault)) => Err(fault),

@@ -19,6 +19,7 @@ ghost use Rattle.broker.specs.Answering.{IsForbidden, IsCarriedOutOrForbidden, M
 ghost use Rattle.broker.specs.Safely.{AnswersSafely};
 ghost use Rattle.broker.specs.Stages.{IsServed};
 
+use crate::aids::Aids;
 use crate::answers::PERMISSION_DENIED;
 use crate::command::read_command;
 use crate::order::finishing::finish;
@@ -33,6 +34,7 @@ use std::alloc::Global;
 /// Answers an ask of the caller, which has spent its use: the ask is served or refused, and a caller without uses left
 /// ends.
 pub(crate) fn answer_caller<T: RecordsTx>(
+    aids: &mut Aids,
     alloc: Global,
     tx: &mut T,
     context: &Context<'_>,
@@ -57,7 +59,7 @@ pub(crate) fn answer_caller<T: RecordsTx>(
 {
     let token = caller.token;
     let is_last_use = caller.is_on_last_use();
-    match serve(alloc, tx, context, caller, ask) {
+    match serve(aids, alloc, tx, context, caller, ask) {
         Ok(answered) => finish(alloc, tx, token, is_last_use, Ok(answered)),
         Err(RequestError::Refused(refusal)) => finish(alloc, tx, token, is_last_use, Err(refusal)),
         Err(RequestError::Fault(fault)) => Err(fault),
@@ -66,6 +68,7 @@ pub(crate) fn answer_caller<T: RecordsTx>(
 
 /// Serves an ask of the caller, if it is permitted.
 fn serve<T: RecordsTx>(
+    aids: &mut Aids,
     alloc: Global,
     tx: &mut T,
     context: &Context<'_>,
@@ -92,8 +95,8 @@ fn serve<T: RecordsTx>(
     ensures call { IsRequestCall (T.seen tx.old) (T.seen tx.new) result IsNotBadStart }
 {
     let path = ask.path.as_str();
-    let found = find_route(alloc, tx, ask.verb, path)?;
-    let Some(rules) = permitted(alloc, tx, &caller, ask.verb, path, &found)? else {
+    let found = find_route(&aids.routers, tx, ask.verb, path)?;
+    let Some(rules) = permitted(&mut aids.policies, alloc, tx, &caller, ask, &found)? else {
         return Err(RequestError::Refused(PERMISSION_DENIED));
     };
     let command = read_command(alloc, ask, &found?)?;

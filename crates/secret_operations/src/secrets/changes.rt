@@ -10,6 +10,7 @@ ghost use Rattle.records.specs.Transaction.{IsHonest};
 ghost use Rattle.records.specs.Calls.{OnAnswer, IsRequestCall};
 ghost use Rattle.records.specs.Parts.{of_secrets};
 ghost use Rattle.records.specs.Table.{table};
+ghost use Rattle.kv2.specs.Changes.{ChangesVersions};
 ghost use Rattle.kv2.specs.SecretRows.{AreReadableVersions};
 ghost use Rattle.kv2.specs.Secrets as secrets;
 ghost use Rattle.kv2.specs.Secrets.{secret_name};
@@ -17,10 +18,11 @@ ghost use Rattle.broker_rows.specs.Changed.{ChangesOnly};
 ghost use Rattle.broker_rows.specs.Context as known;
 ghost use Rattle.broker_rows.specs.Operating.{Performs};
 ghost use Rattle.broker_rows.specs.Reads.{IsReadableCurrent};
+ghost use Rattle.secret_operations.specs.VersionChanges.{IsTimely, change_of, changed};
 
 use broker_rows::{Answered, Context};
-use broker_types::RequestError;
-use kv2::{delete_versions, remove_key};
+use broker_types::{Fault, Moment, RequestError};
+use kv2::{delete_versions, destroy, remove_key, undelete};
 use records::RecordsTx;
 use std::alloc::Global;
 
@@ -49,20 +51,32 @@ pub(super) fn delete_current<T: RecordsTx>(
     Ok(Answered::Nothing)
 }
 
-/// Deletes versions of a secret.
-pub(super) fn delete<T: RecordsTx>(
+/// What is done to versions of a secret by their numbers.
+#[derive(Clone, Copy, Debug, PartialEq, Eq)]
+pub(super) enum Change {
+    /// They are deleted at this moment, which is the clock's.
+    Delete(Moment),
+    /// Their deletion is taken back.
+    Undelete,
+    /// They are destroyed.
+    Destroy,
+}
+
+/// Changes versions of a secret.
+pub(super) fn change_versions<T: RecordsTx>(
     alloc: Global,
     tx: &mut T,
-    context: &Context<'_>,
     mount: &str,
     path: &str,
     numbers: &[u64],
+    change: Change,
 ) -> Result<Answered, RequestError>
     ensures told { is_mount_name mount.now ≡ true → is_path path.now ≡ true
-        → (who : Option Text) → Performs who context.now [] (T.seen tx.old) (T.seen tx.new)
-        (λ b. Ok (plainly nothing (secrets.delete_versions b mount.now path.now numbers.now))) result }
+        → (who : Option Text) (x : known.Context) → IsTimely x.clock change
+        → Performs who x [] (T.seen tx.old) (T.seen tx.new)
+        (λ b. Ok (plainly nothing (changed change b mount.now path.now numbers.now))) result }
 
-    // Whatever the rows are: a damaged row is told neither as deleted nor as absent.
+    // Whatever the rows are: a damaged row is told neither as changed nor as absent.
     ensures readable { IsHonest (T.seen tx.new) → OnAnswer result
         (AreReadableVersions (table (T.seen tx.old)) (secret_name mount.now path.now) numbers.now) }
 
@@ -71,58 +85,27 @@ pub(super) fn delete<T: RecordsTx>(
         → OnAnswer result (ChangesOnly of_secrets (T.seen tx.old).rows (T.seen tx.new).rows) }
     ensures call { IsRequestCall (T.seen tx.old) (T.seen tx.new) result IsNotBadStart }
 {
-    delete_versions(alloc, tx, context.clock, mount, path, numbers)?;
+    change_rows(alloc, tx, mount, path, numbers, change)?;
     Ok(Answered::Nothing)
 }
 
-/// Takes back the deletion of versions of a secret.
-pub(super) fn undelete<T: RecordsTx>(
+/// Changes the rows of versions of a secret.
+fn change_rows<T: RecordsTx>(
     alloc: Global,
     tx: &mut T,
     mount: &str,
     path: &str,
     numbers: &[u64],
-) -> Result<Answered, RequestError>
-    ensures told { is_mount_name mount.now ≡ true → is_path path.now ≡ true
-        → (who : Option Text) (x : known.Context) → Performs who x [] (T.seen tx.old) (T.seen tx.new)
-        (λ b. Ok (plainly nothing (secrets.undelete b mount.now path.now numbers.now))) result }
-
-    // Whatever the rows are: a damaged row is told neither as restored nor as absent.
-    ensures readable { IsHonest (T.seen tx.new) → OnAnswer result
-        (AreReadableVersions (table (T.seen tx.old)) (secret_name mount.now path.now) numbers.now) }
-
-    // And only rows of secrets and of versions change.
-    ensures rows { IsHonest (T.seen tx.new)
-        → OnAnswer result (ChangesOnly of_secrets (T.seen tx.old).rows (T.seen tx.new).rows) }
-    ensures call { IsRequestCall (T.seen tx.old) (T.seen tx.new) result IsNotBadStart }
+    change: Change,
+) -> Result<(), Fault>
+    ensures { ChangesVersions (change_of change) numbers.now mount.now path.now
+        (T.seen tx.old) (T.seen tx.new) result }
 {
-    kv2::undelete(alloc, tx, mount, path, numbers)?;
-    Ok(Answered::Nothing)
-}
-
-/// Destroys versions of a secret.
-pub(super) fn destroy<T: RecordsTx>(
-    alloc: Global,
-    tx: &mut T,
-    mount: &str,
-    path: &str,
-    numbers: &[u64],
-) -> Result<Answered, RequestError>
-    ensures told { is_mount_name mount.now ≡ true → is_path path.now ≡ true
-        → (who : Option Text) (x : known.Context) → Performs who x [] (T.seen tx.old) (T.seen tx.new)
-        (λ b. Ok (plainly nothing (secrets.destroy b mount.now path.now numbers.now))) result }
-
-    // Whatever the rows are: a damaged row is told neither as destroyed nor as absent.
-    ensures readable { IsHonest (T.seen tx.new) → OnAnswer result
-        (AreReadableVersions (table (T.seen tx.old)) (secret_name mount.now path.now) numbers.now) }
-
-    // And only rows of secrets and of versions change.
-    ensures rows { IsHonest (T.seen tx.new)
-        → OnAnswer result (ChangesOnly of_secrets (T.seen tx.old).rows (T.seen tx.new).rows) }
-    ensures call { IsRequestCall (T.seen tx.old) (T.seen tx.new) result IsNotBadStart }
-{
-    kv2::destroy(alloc, tx, mount, path, numbers)?;
-    Ok(Answered::Nothing)
+    match change {
+        Change::Delete(now) => delete_versions(alloc, tx, now, mount, path, numbers),
+        Change::Undelete => undelete(alloc, tx, mount, path, numbers),
+        Change::Destroy => destroy(alloc, tx, mount, path, numbers),
+    }
 }
 
 /// Removes a secret with all its versions.

@@ -10,7 +10,8 @@ returns c = λ b history asked.
     let times = c.tokens_end_in_time.ensures in
     record {
       gives_out_new = identifiers.since b history asked;
-      no_identifier_twice = λ s is. identifiers.since_start s history (subst (λ (x : Broker). AreAsked x history) is asked);
+      no_identifier_twice = λ s is. identifiers.since_start s history
+          (subst (λ (x : Broker). AreAsked x history) is asked);
       handed_out_once = c.responses_are_handed_out_once.ensures b history asked;
       hands_out_kept = replies.since b history asked;
       same_reply = λ s is. replies.since_start s history (subst (λ (x : Broker). AreAsked x history) is asked);

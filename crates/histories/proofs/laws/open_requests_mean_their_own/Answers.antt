@@ -7,7 +7,8 @@ returns-clause-means c mounts a command open_ means =
     let found = c.patterns_are_found_by_form.ensures.found in
     let none = c.patterns_are_found_by_form.ensures.none in
     let ordered = c.tables_are_in_order.ensures in
-    means_its_own c.wrapping_commands_are_proper.ensures.own (opened_are_routes found none ordered) mounts a command means open_
+    means_its_own c.wrapping_commands_are_proper.ensures.own (opened_are_routes found none ordered) mounts a command
+    means open_
 
 pub returns-clause-leaves : goal.returns-clause-leaves
 returns-clause-leaves c = changes_no_token c.operations_do_as_told.ensures

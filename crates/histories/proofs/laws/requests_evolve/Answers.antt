@@ -10,4 +10,5 @@ returns-clause-each c b history i a h at =
 
 pub returns-clause-between : goal.returns-clause-between
 returns-clause-between c b history i j a x h one other lt =
-    evolved_since unwrapped_body b history i j a x (history_keeps c.operations_do_as_told.ensures b history h) one other lt
+    evolved_since unwrapped_body b history i j a x (history_keeps c.operations_do_as_told.ensures b history h) one
+    other lt

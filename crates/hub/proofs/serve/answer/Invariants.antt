@@ -1,21 +1,16 @@
-use Rattle.std.proofs.Common.{◌≡◌, ◌+◌, false, if◌then◌else◌}
+use Rattle.std.proofs.Common.{◌≡◌, ◌+◌, Ok, IsTrue, false, if◌then◌else◌}
 use Rattle.std.specs.Io.KnownBytes.{Appends}
-use Rattle.broker.specs.Kept.{IsHonestStore}
-use Rattle.hub.specs.Feeding.{IsLater}
-use Rattle.hub.specs.Representing.{ConnectionsRepresent, hub_store, hub_waiting}
-use Rattle.hub.specs.Serving.{IsAnswered, LeavesOthers, Proceeds}
+use Rattle.hub.specs.Representing.{ConnectionsRepresent, hub_waiting}
+use Rattle.hub.specs.Serving.{IsAnswered, Serves}
 use Rattle.hub.specs.Supplies.{Supplies}
 use Rattle.hub.specs.World.{Connections}
 use Rattle.hub.proofs.serve.answer.Given as goal
 
 abbrev pub invariant-loop-more : goal.invariant-loop-more
 invariant-loop-more g l = record {
-  later : IsLater (hub_store g.S.Store.seen l.fn.hub) (hub_store g.S.Store.seen l.hub);
-  is_open : IsHonestStore (hub_store g.S.Store.seen l.hub)
-      → (hub_store g.S.Store.seen l.hub).is_open ≡ (hub_store g.S.Store.seen l.fn.hub).is_open;
-  proceeds : Proceeds g.S.Store.seen l.conn (λ read. read ≡ l.piece) (Appends (g.W.Sink.written l.fn.writer) (g.W.Sink.written l.writer))
-      (Supplies g.C.Clock.may_tell l.fn.clock l.clock g.D.WordSource.may_give l.fn.words l.words) l.fn.hub l.hub;
-  others : (all : Connections) → ConnectionsRepresent l.fn.hub all → LeavesOthers l.conn all l.hub;
+  served : Serves g.S.Store.seen l.conn (λ read. read ≡ l.piece) (Appends (g.W.Sink.written l.fn.writer) (g.W.Sink.written l.writer))
+      (Supplies g.C.Clock.may_tell l.fn.clock l.clock g.D.WordSource.may_give l.fn.words l.words) ⊥
+      (IsTrue (g.W.Sink.has_failed l.writer)) (Ok l.more) l.fn.hub l.hub;
   answered : l.more ≡ false → (all : Connections) → ConnectionsRepresent l.hub all → IsAnswered all l.conn;
 }
 

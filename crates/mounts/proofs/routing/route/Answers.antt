@@ -1,17 +1,15 @@
 use Rattle.std.proofs.Common.{◌≡◌, arith, sym, ap, subst, ◌∙◌, Err, true, option_map, rules}
-use Rattle.std.proofs.lemmas.Bool.{and_parts}
 use Rattle.std.proofs.lemmas.Result.{err_from_is_err_and}
 use Rattle.broker_types.specs.Map.{get}
 use Rattle.records.specs.CallLaws.{fault_then, not_damaged}
 use Rattle.records.specs.Table.{table}
 use Rattle.records.specs.ValueLaws.{none_of}
+use Rattle.mounts.specs.FoundLaws.{bytes_of_rest}
 use Rattle.mounts.specs.Forms.{are_bytes}
 use Rattle.mounts.specs.MountRows.{IsKnownAt}
-use Rattle.mounts.specs.Patterns.{pattern_found, fits}
 use Rattle.mounts.specs.Route.{cut, route_by}
 use Rattle.mounts.specs.Table.{route_rows}
 use Rattle.mounts.proofs.RouteSteps.{ends_refused, ends_found, route_none, route_some, within_none, within_some}
-use Rattle.mounts.specs.FoundLaws.{bytes_of_rest}
 use Rattle.mounts.proofs.Parameters.{parameter_is_path, are_bytes_from}
 use Rattle.mounts.proofs.PathParts.{IsRest, rest_of}
 use Rattle.mounts.proofs.Tables.{in_order}
@@ -51,11 +49,8 @@ pub returns-in_default-clause-told : goal.returns-in_default-clause-told
 returns-in_default-clause-told g c honest mounts are =
     returns-in_default-clause-found g c honest (get mounts (cut c.args.path.now).0) (λ _. are (cut c.args.path.now).0)
 
-pub pattern_found-requires : goal.pattern_found-requires
-pattern_found-requires g c = ap fits c.route_rows-rows.ensures ∙ (and_parts (fits (route_rows c.in-Some.mount_type)) _ (in_order c.in-Some.mount_type)).0
-
-pub returns-in_default-2-clause-found : goal.returns-in_default-2-clause-found
-returns-in_default-2-clause-found g c honest mount at =
+pub returns-in_default-pattern_found-clause-found : goal.returns-in_default-pattern_found-clause-found
+returns-in_default-pattern_found-clause-found g c honest mount at =
     let path = c.args.path.now in
     let rows = table (g.T.RecordsTx.seen c.args.tx.now) in
     let here = subst (λ n. IsKnownAt rows n mount) (sym c.cut.ensures.name) at in
@@ -65,12 +60,11 @@ returns-in_default-2-clause-found g c honest mount at =
     ends_refused _ _ (route_some mount c.args.verb path name rest type c.cut.ensures.name c.cut.ensures.rest
     (sym (c.in_ok-mount_type.ensures.found honest mount here) ∙ c.in-Some.is)
     ∙ within_none (route_rows type) c.args.verb name rest
-    (sym (ap (λ rs. pattern_found rs rest) c.route_rows-rows.ensures) ∙ sym c.in_ok-pattern.ensures.found
-    ∙ ap (option_map (λ s. s.now)) (none_of _ c.in_default-2.not-Some)))
+    (sym c.pattern_found.ensures ∙ ap (option_map (λ s. s.now)) (none_of _ c.in_default-pattern_found.not-Some)))
 
-pub returns-in_default-2-clause-told : goal.returns-in_default-2-clause-told
-returns-in_default-2-clause-told g c honest mounts are =
-    returns-in_default-2-clause-found g c honest (get mounts (cut c.args.path.now).0) (λ _. are (cut c.args.path.now).0)
+pub returns-in_default-pattern_found-clause-told : goal.returns-in_default-pattern_found-clause-told
+returns-in_default-pattern_found-clause-told g c honest mounts are =
+    returns-in_default-pattern_found-clause-found g c honest (get mounts (cut c.args.path.now).0) (λ _. are (cut c.args.path.now).0)
 
 pub returns-in_err-route_by-clause-found : goal.returns-in_err-route_by-clause-found
 returns-in_err-route_by-clause-found g c honest mount at =
@@ -83,10 +77,9 @@ returns-in_err-route_by-clause-found g c honest mount at =
     let p = err_from_is_err_and c.from_residual-in_err-route_by.result c.from_residual-in_err-route_by.ensures.1 in
     rw (p.1 ∙ ap Err p.2) (ends_refused _ _ (route_some mount c.args.verb path name rest type c.cut.ensures.name c.cut.ensures.rest
     (sym (c.in_ok-mount_type.ensures.found honest mount here) ∙ c.in-Some.is)
-    ∙ within_some (route_rows type) c.args.verb name rest c.in-Some-2.pattern.now
-    (sym (ap (λ rs. pattern_found rs rest) c.route_rows-rows.ensures) ∙ sym c.in_ok-pattern.ensures.found
-    ∙ ap (option_map (λ s. s.now)) c.in-Some-2.is)
-    ∙ sym (ap (λ rs. route_by rs c.args.verb name rest c.in-Some-2.pattern.now) c.route_rows-rows.ensures) ∙ sym c.in_err-route_by.ensures))
+    ∙ within_some (route_rows type) c.args.verb name rest c.in-Some-pattern_found.pattern.now
+    (sym c.pattern_found.ensures ∙ ap (option_map (λ s. s.now)) c.in-Some-pattern_found.is)
+    ∙ sym (ap (λ rs. route_by rs c.args.verb name rest c.in-Some-pattern_found.pattern.now) c.route_rows.ensures) ∙ sym c.in_err-route_by.ensures))
 
 pub returns-in_err-route_by-clause-told : goal.returns-in_err-route_by-clause-told
 returns-in_err-route_by-clause-told g c honest mounts are =
@@ -102,10 +95,9 @@ returns-clause-found g c honest mount at =
     let rest = c.cut.result.1.now in
     ends_found _ _ (route_some mount c.args.verb path name rest type c.cut.ensures.name c.cut.ensures.rest
     (sym (c.in_ok-mount_type.ensures.found honest mount here) ∙ c.in-Some.is)
-    ∙ within_some (route_rows type) c.args.verb name rest c.in-Some-2.pattern.now
-    (sym (ap (λ rs. pattern_found rs rest) c.route_rows-rows.ensures) ∙ sym c.in_ok-pattern.ensures.found
-    ∙ ap (option_map (λ s. s.now)) c.in-Some-2.is)
-    ∙ sym (ap (λ rs. route_by rs c.args.verb name rest c.in-Some-2.pattern.now) c.route_rows-rows.ensures) ∙ sym c.in_ok-route_by.ensures)
+    ∙ within_some (route_rows type) c.args.verb name rest c.in-Some-pattern_found.pattern.now
+    (sym c.pattern_found.ensures ∙ ap (option_map (λ s. s.now)) c.in-Some-pattern_found.is)
+    ∙ sym (ap (λ rs. route_by rs c.args.verb name rest c.in-Some-pattern_found.pattern.now) c.route_rows.ensures) ∙ sym c.in_ok-route_by.ensures)
 
 pub returns-clause-told : goal.returns-clause-told
 returns-clause-told g c honest mounts are = returns-clause-found g c honest (get mounts (cut c.args.path.now).0) (λ _. are (cut c.args.path.now).0)
@@ -115,10 +107,9 @@ returns-clause-parameter g c good takes =
     let path = c.args.path.now in
     let type = c.in-Some.mount_type in
     let rest = c.cut.result.1.now in
-    parameter_is_path (route_rows type) (in_order type) c.args.verb c.cut.result.0.now rest c.in-Some-2.pattern.now c.in_ok-route_by.field-0
+    parameter_is_path (route_rows type) (in_order type) c.args.verb c.cut.result.0.now rest c.in-Some-pattern_found.pattern.now c.in_ok-route_by.field-0
     (subst IsRest (sym c.cut.ensures.rest) (rest_of path good))
     (subst (λ t. are_bytes t ≡ true) (sym c.cut.ensures.rest) (bytes_of_rest path (are_bytes_from path (λ k. omega (arith, c.type_inv.path k)))))
-    (sym (ap (λ rs. pattern_found rs rest) c.route_rows-rows.ensures) ∙ sym c.in_ok-pattern.ensures.found
-    ∙ ap (option_map (λ s. s.now)) c.in-Some-2.is)
-    (sym (ap (λ rs. route_by rs c.args.verb c.cut.result.0.now rest c.in-Some-2.pattern.now) c.route_rows-rows.ensures) ∙ sym c.in_ok-route_by.ensures)
+    (sym c.pattern_found.ensures ∙ ap (option_map (λ s. s.now)) c.in-Some-pattern_found.is)
+    (sym (ap (λ rs. route_by rs c.args.verb c.cut.result.0.now rest c.in-Some-pattern_found.pattern.now) c.route_rows.ensures) ∙ sym c.in_ok-route_by.ensures)
     takes

@@ -1,4 +1,4 @@
-use Rattle.std.proofs.Common.{◌≡◌, ap, sym, ◌∙◌, Err, false, get_or, arith, rules}
+use Rattle.std.proofs.Common.{◌≡◌, ap, sym, ◌∙◌, Err, false, get_or, flat_map, arith, rules}
 use Rattle.std.proofs.lemmas.List.{take_all}
 use Rattle.std.proofs.lemmas.List.Elements.{All-same}
 use Rattle.std.proofs.lemmas.Result.{err_from_is_err_and}
@@ -11,19 +11,19 @@ use Rattle.policies.specs.PolicyRows.{IsReadable}
 use Rattle.policies.proofs.PoliciesGathered.{told_at, one_more_read, one_more, one_unread}
 use Rattle.policies.proofs.gathering.rules_of.Goals as goal
 
-pub returns-in_err-rules-clause-wants : goal.returns-in_err-rules-clause-wants
-returns-in_err-rules-clause-wants g c honest is_object policies sound are =
+pub returns-in_err-read-clause-wants : goal.returns-in_err-read-clause-wants
+returns-in_err-read-clause-wants g c honest is_object policies sound are =
     let seen = g.T.RecordsTx.seen in
-    let before = honest_before (seen c.loop-name.tx) (seen c.with_named.new.tx) _ c.in_err-rules.ensures.call.goes_on honest in
+    let before = honest_before (seen c.loop-name.tx) (seen c.with_named.new.tx) _ c.in_err-read.ensures.call.goes_on honest in
     let name : Text = c.as_str.result.now in
     let is : name ≡ get_or c.args.names.now c.loop-name.name-index c.name-item.result = c.as_str.ensures ∙ c.name-item.is in
     let at = told_at (seen c.loop-name.tx).rows (seen c.args.tx.now).rows c.args.names.now c.loop-name.name-index c.name-item.result name
     (c.loop-name.invariant.same before) is c.loop-name-test.true policies are in
     let p = err_from_is_err_and c.from_residual.result c.from_residual.ensures.1 in
-    rw (p.1 ∙ ap Err p.2) (c.in_err-rules.ensures.wants honest is_object policies sound at)
+    rw (p.1 ∙ ap Err p.2) (c.in_err-read.ensures.wants honest is_object policies sound at)
 
-pub returns-in_err-rules-clause-call : goal.returns-in_err-rules-clause-call
-returns-in_err-rules-clause-call g c =
+pub returns-in_err-read-clause-call : goal.returns-in_err-read-clause-call
+returns-in_err-read-clause-call g c =
     let seen = g.T.RecordsTx.seen in
     let name : Text = c.as_str.result.now in
     let is : name ≡ get_or c.args.names.now c.loop-name.name-index c.name-item.result = c.as_str.ensures ∙ c.name-item.is in
@@ -31,9 +31,9 @@ returns-in_err-rules-clause-call g c =
     record {
       same = search rules;
       faults = rw (p.1 ∙ ap Err p.2) (fault_then (λ unread honest.
-          let before = honest_before (seen c.loop-name.tx) (seen c.with_named.new.tx) _ c.in_err-rules.ensures.call.goes_on honest in
+          let before = honest_before (seen c.loop-name.tx) (seen c.with_named.new.tx) _ c.in_err-read.ensures.call.goes_on honest in
           one_unread (seen c.loop-name.tx).rows (seen c.args.tx.now).rows c.args.names.now c.loop-name.name-index c.name-item.result name
-          (c.loop-name.invariant.same before) is c.loop-name-test.true (unread honest)) c.in_err-rules.field-0.0 c.in_err-rules.ensures.call.faults);
+          (c.loop-name.invariant.same before) is c.loop-name-test.true (unread honest)) c.in_err-read.field-0.0 c.in_err-read.ensures.call.faults);
       goes_on = search rules;
     }
 
@@ -48,19 +48,19 @@ loop-name-preserved g c =
     let name : Text = c.as_str.result.now in
     let is : name ≡ get_or names i item = c.as_str.ensures ∙ c.name-item.is in
     let before : IsHonest (seen c.with_named.new.tx) → IsHonest (seen c.loop-name.tx) = λ honest.
-    honest_before (seen c.loop-name.tx) (seen c.with_named.new.tx) false c.in_ok-rules.ensures.call.goes_on honest in
+    honest_before (seen c.loop-name.tx) (seen c.with_named.new.tx) false c.in_ok-read.ensures.call.goes_on honest in
     record {
       told = λ honest policies are.
           let same = c.loop-name.invariant.same (before honest) in
-          one_more now old names i item name same is c.loop-name-test.true (rules_named policies) c.loop-name.rules.items
-          c.in_ok-rules.rules.items _ (c.loop-name.invariant.told (before honest) policies are)
-          (c.in_ok-rules.ensures.told honest policies (told_at now old names i item name same is c.loop-name-test.true policies are));
+          one_more now old names i item name same is c.loop-name-test.true (rules_named policies) (flat_map (λ p. p.value) c.loop-name.read.items)
+          (flat_map (λ p. p.value) c.in_ok-read.read.items) _ (c.loop-name.invariant.told (before honest) policies are)
+          (c.in_ok-read.ensures.told honest policies (told_at now old names i item name same is c.loop-name-test.true policies are));
       readable = λ honest.
           one_more_read now old names i item name (c.loop-name.invariant.same (before honest)) is c.loop-name-test.true
-          (c.loop-name.invariant.readable (before honest)) (c.in_ok-rules.ensures.readable honest);
-      same = λ honest. c.in_ok-rules.ensures.call.same honest ∙ c.loop-name.invariant.same (before honest);
+          (c.loop-name.invariant.readable (before honest)) (c.in_ok-read.ensures.readable honest);
+      same = λ honest. c.in_ok-read.ensures.call.same honest ∙ c.loop-name.invariant.same (before honest);
       goes_on = goes_further (seen c.args.tx.now) (seen c.loop-name.tx) (seen c.with_named.new.tx) false c.loop-name.invariant.goes_on
-          c.in_ok-rules.ensures.call.goes_on;
+          c.in_ok-read.ensures.call.goes_on;
     }
 
 pub returns-clause-readable : goal.returns-clause-readable

@@ -19,7 +19,8 @@ returns-in_err-object-clause-told g c honest b starts fresh =
     let st = starts.represents in
     let p = err_from_is_err_and c.from_residual.result c.from_residual.ensures.1 in
     rw (p.1 ∙ ap Err p.2)
-    (c.in_err-object.ensures.wants honest forms b st.sound.tokens (tells_part of_cubbyholes b old st) (caller_len b old caller st (starts.here caller refl)))
+    (c.in_err-object.ensures.wants honest forms b st.sound.tokens (tells_part of_cubbyholes b old st)
+    (caller_len b old caller st (starts.here caller refl)))
 
 pub returns-in_default-clause-told : goal.returns-in_default-clause-told
 returns-in_default-clause-told g c honest b starts fresh =
@@ -29,8 +30,10 @@ returns-in_default-clause-told g c honest b starts fresh =
     let request = (names_of c.args.context.now.words).request in
     let caller = c.args.caller.now in
     let st = starts.represents in
-    acts_absent b new (Some caller) (λ (kept : Text). plainly (reply (plain_reply request kept) None) b) (object_at b caller c.args.path.now)
-    (sym (c.in_ok-object.ensures.told honest b (tells_part of_cubbyholes b old st) (caller_len b old caller st (starts.here caller refl)))
+    acts_absent b new (Some caller) (λ (kept : Text). plainly (reply (plain_reply request kept) None) b)
+    (object_at b caller c.args.path.now)
+    (sym (c.in_ok-object.ensures.told honest b (tells_part of_cubbyholes b old st)
+    (caller_len b old caller st (starts.here caller refl)))
     ∙ none_of _ c.in_default.not-Some)
     (still_represented b old new (c.in_ok-object.ensures.call.same honest) st)
 
@@ -42,7 +45,9 @@ returns-clause-told g c honest b starts fresh =
     let request = (names_of c.args.context.now.words).request in
     let caller = c.args.caller.now in
     let st = starts.represents in
-    acts_found b new (Some caller) (λ (kept : Text). plainly (reply (plain_reply request kept) None) b) (object_at b caller c.args.path.now)
+    acts_found b new (Some caller) (λ (kept : Text). plainly (reply (plain_reply request kept) None) b)
+    (object_at b caller c.args.path.now)
     c.in-Some.object (Ok c.in_ok-shown.field-0)
-    (sym (c.in_ok-object.ensures.told honest b (tells_part of_cubbyholes b old st) (caller_len b old caller st (starts.here caller refl))) ∙ c.in-Some.is)
+    (sym (c.in_ok-object.ensures.told honest b (tells_part of_cubbyholes b old st)
+    (caller_len b old caller st (starts.here caller refl))) ∙ c.in-Some.is)
     (c.in_ok-shown.ensures, still_represented b old new (c.in_ok-object.ensures.call.same honest) st)

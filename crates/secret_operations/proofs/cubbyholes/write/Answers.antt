@@ -16,7 +16,8 @@ returns-clause-told g c good x honest b starts fresh =
       refl,
       represents-write b old new caller c.args.path.now c.args.text.now st (record { good = good; utf8 = c.utf8.path })
           (record { object = kept.object; short = record { utf8 = c.utf8.text; short = kept.short } })
-          (c.in_ok-write.ensures.told honest everything b (tells_part everything b old st) here (caller_len b old caller st here)),
+          (c.in_ok-write.ensures.told honest everything b (tells_part everything b old st) here
+          (caller_len b old caller st here)),
     )
 
 pub returns-clause-rows : goal.returns-clause-rows

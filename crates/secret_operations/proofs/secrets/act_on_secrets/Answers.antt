@@ -2,6 +2,7 @@ use Rattle.std.proofs.Common.{◌≡◌, true, ap, sym, subst}
 use Rattle.broker_types.specs.Name.{is_mount_name}
 use Rattle.broker_types.specs.Path.{is_path}
 use Rattle.broker_model.specs.parts.Place.{Place}
+use Rattle.broker_rows.specs.Context.{Context}
 use Rattle.secret_operations.specs.Paths.{needs_path}
 use Rattle.secret_operations.proofs.secrets.act_on_secrets.Goals as goal
 
@@ -13,22 +14,36 @@ pub returns-in-SetSettings-clause-told : goal.returns-in-SetSettings-clause-told
 returns-in-SetSettings-clause-told g c named good who =
     rw (c.in-SetSettings.is, ← c.place.view_is) (c.set.ensures.told c.place.inside.path.now who c.args.context.now)
 
+pub returns-in-Delete-clause-told : goal.returns-in-Delete-clause-told
+returns-in-Delete-clause-told g c named good who =
+    let mount = subst (λ (p : Place). is_mount_name p.mount ≡ true) (sym c.place.view_is) named in
+    let path =
+    subst (λ (p : Place). is_path p.path ≡ true) (sym c.place.view_is) (good (ap needs_path c.in-Delete.is)) in
+    rw (c.in-Delete.is, ← c.place.view_is, ← c.as_slice.ensures)
+    (c.change_versions.ensures.told mount path who c.args.context.now
+    (sym (ap (λ (x : Context). x.clock) c.context.view_is)))
+
 pub returns-in-Undelete-clause-told : goal.returns-in-Undelete-clause-told
 returns-in-Undelete-clause-told g c named good who =
     let mount = subst (λ (p : Place). is_mount_name p.mount ≡ true) (sym c.place.view_is) named in
-    let path = subst (λ (p : Place). is_path p.path ≡ true) (sym c.place.view_is) (good (ap needs_path c.in-Undelete.is)) in
-    rw (c.in-Undelete.is, ← c.place.view_is, ← c.as_slice-in-Undelete.ensures) (c.undelete.ensures.told mount path who c.args.context.now)
+    let path =
+    subst (λ (p : Place). is_path p.path ≡ true) (sym c.place.view_is) (good (ap needs_path c.in-Undelete.is)) in
+    rw (c.in-Undelete.is, ← c.place.view_is, ← c.as_slice-in-Undelete.ensures)
+    (c.change_versions-in-Undelete.ensures.told mount path who c.args.context.now tt)
 
 pub returns-in-Destroy-clause-told : goal.returns-in-Destroy-clause-told
 returns-in-Destroy-clause-told g c named good who =
     let mount = subst (λ (p : Place). is_mount_name p.mount ≡ true) (sym c.place.view_is) named in
-    let path = subst (λ (p : Place). is_path p.path ≡ true) (sym c.place.view_is) (good (ap needs_path c.in-Destroy.is)) in
-    rw (c.in-Destroy.is, ← c.place.view_is, ← c.as_slice-in-Destroy.ensures) (c.destroy.ensures.told mount path who c.args.context.now)
+    let path =
+    subst (λ (p : Place). is_path p.path ≡ true) (sym c.place.view_is) (good (ap needs_path c.in-Destroy.is)) in
+    rw (c.in-Destroy.is, ← c.place.view_is, ← c.as_slice-in-Destroy.ensures)
+    (c.change_versions-in-Destroy.ensures.told mount path who c.args.context.now tt)
 
 pub returns-in-Remove-clause-told : goal.returns-in-Remove-clause-told
 returns-in-Remove-clause-told g c named good who =
     let mount = subst (λ (p : Place). is_mount_name p.mount ≡ true) (sym c.place.view_is) named in
-    let path = subst (λ (p : Place). is_path p.path ≡ true) (sym c.place.view_is) (good (ap needs_path c.in-Remove.is)) in
+    let path =
+    subst (λ (p : Place). is_path p.path ≡ true) (sym c.place.view_is) (good (ap needs_path c.in-Remove.is)) in
     rw (c.in-Remove.is, ← c.place.view_is) (c.remove.ensures.told mount path who c.args.context.now)
 
 pub returns-in-ShowSettings-clause-rows : goal.returns-in-ShowSettings-clause-rows
@@ -38,7 +53,8 @@ pub returns-in-Read-clause-rows : goal.returns-in-Read-clause-rows
 returns-in-Read-clause-rows g c honest = rw c.in-Read.is (c.read.ensures.call.same honest)
 
 pub returns-in-ShowMetadata-clause-rows : goal.returns-in-ShowMetadata-clause-rows
-returns-in-ShowMetadata-clause-rows g c honest = rw c.in-ShowMetadata.is (c.show-in-ShowMetadata.ensures.call.same honest)
+returns-in-ShowMetadata-clause-rows g c honest =
+    rw c.in-ShowMetadata.is (c.show-in-ShowMetadata.ensures.call.same honest)
 
 pub returns-in-List-clause-rows : goal.returns-in-List-clause-rows
 returns-in-List-clause-rows g c honest = rw c.in-List.is (c.list.ensures.call.same honest)

@@ -1,6 +1,6 @@
 use Rattle.std.proofs.Common.{◌≡◌, ◌∙◌, Err, IsTrue, None, ap, sym, subst}
 use Rattle.std.proofs.lemmas.Result.{err_from_is_err_and}
-use Rattle.broker_types.specs.declared.fault.Fault.TheVariants.{Storage}
+use Rattle.broker_types.specs.declared.fault.Fault.TheVariants.{Memory, Storage}
 use Rattle.broker.specs.Kept.{Kept}
 use Rattle.broker_rows.specs.Representing.{Represents}
 use Rattle.hub.specs.World.{new_world}
@@ -18,3 +18,9 @@ returns-in_err-serve g c always none =
     let storage : c.in_err-serve.field-0.0 ≡ Storage =
     c.in_err-serve.ensures.served.wants (always (store_of c.serve.new.hub.store)) opened (new_world b.0) (c.new-hub.ensures.represents b.0 rows) in
     rw (p.1 ∙ ap Err p.2) (rw storage tt)
+
+pub returns-in_err-shared : goal.returns-in_err-shared
+returns-in_err-shared g c always none =
+    let p = err_from_is_err_and c.from_residual-in_err-shared.result c.from_residual-in_err-shared.ensures.1 in
+    let memory : c.in_err-shared.field-0.0 ≡ Memory = c.in_err-shared.ensures in
+    rw (p.1 ∙ ap Err p.2) (rw memory tt)

@@ -15,6 +15,7 @@ returns-clause-told g c who honest b starts fresh =
     let st = starts.represents in (
       c.in_ok-shown.ensures
           ∙ ap (λ o. reply (plain_reply request o) None)
-          (c.in_ok-object.ensures ∙ ap keys_object (c.deref.ensures.value ∙ c.in_ok-names.ensures.told honest b.policies (policies_there b old st))),
+          (c.in_ok-object.ensures ∙ ap keys_object (c.deref.ensures.value
+          ∙ c.in_ok-names.ensures.told honest b.policies (policies_there b old st))),
       still_represented b old new (c.in_ok-names.ensures.call.same honest) st,
     )

@@ -29,7 +29,8 @@ returns-clause-told g c who x honest b starts fresh =
     let st = starts.represents in
     acts_changed b who old new st c.in_ok-delete.field-0 (policies.deleted b.policies name)
     (λ next is. deleted_sound b next is_object who name st.sound is)
-    (c.in_ok-delete.ensures.told honest b.policies (policies_there b old st)) (c.in_ok-delete.ensures.call.others honest)
+    (c.in_ok-delete.ensures.told honest b.policies (policies_there b old st))
+    (c.in_ok-delete.ensures.call.others honest)
 
 pub returns-in_err-delete-clause-rows : goal.returns-in_err-delete-clause-rows
 returns-in_err-delete-clause-rows g c honest =

@@ -17,7 +17,8 @@ returns-in_err-text-clause-told g c who honest b starts fresh =
     let old = (g.T.RecordsTx.seen c.args.tx.now).rows in
     let st = starts.represents in
     let p = err_from_is_err_and c.from_residual.result c.from_residual.ensures.1 in
-    rw (p.1 ∙ ap Err p.2) (c.in_err-text.ensures.wants honest is_object b.policies st.sound.policies (policies_there b old st))
+    rw (p.1 ∙ ap Err p.2) (c.in_err-text.ensures.wants honest is_object b.policies st.sound.policies
+    (policies_there b old st))
 
 pub returns-in_default-clause-told : goal.returns-in_default-clause-told
 returns-in_default-clause-told g c who honest b starts fresh =
@@ -50,7 +51,9 @@ returns-clause-told g c who honest b starts fresh =
     )
 
 pub returns-in_default-clause-readable : goal.returns-in_default-clause-readable
-returns-in_default-clause-readable g c honest = (c.in_ok-text.field-0, c.in_ok-text.ensures.short, c.in_ok-text.ensures.found honest)
+returns-in_default-clause-readable g c honest =
+    (c.in_ok-text.field-0, c.in_ok-text.ensures.short, c.in_ok-text.ensures.found honest)
 
 pub returns-clause-readable : goal.returns-clause-readable
-returns-clause-readable g c honest = (c.in_ok-text.field-0, c.in_ok-text.ensures.short, c.in_ok-text.ensures.found honest)
+returns-clause-readable g c honest =
+    (c.in_ok-text.field-0, c.in_ok-text.ensures.short, c.in_ok-text.ensures.found honest)

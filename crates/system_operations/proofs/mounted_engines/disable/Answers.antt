@@ -40,21 +40,24 @@ returns-then-not-was_there-clause-told g c who x honest b starts fresh =
     let name = c.args.name.now in
     let st = starts.represents in
     acts_absent b who old new st name
-    (subst (λ was. EndsOk (IsDisabled b who old new st name) was (mounts.disabled b.mounts name)) c.if-not-was_there.true
+    (subst (λ was. EndsOk (IsDisabled b who old new st name) was (mounts.disabled b.mounts name))
+    c.if-not-was_there.true
     (c.in_ok-was_there.ensures.told honest b.mounts (mounts_there b old st)))
     (c.in_ok-was_there.ensures.call.others honest)
 
 pub returns-clause-told : goal.returns-clause-told
 returns-clause-told g c who x honest b starts fresh =
     let seen = g.T.RecordsTx.seen in
-    let asked = honest_before (seen c.disable.new.tx) (seen c.drop_kept.new.tx) _ c.drop_kept.ensures.call.goes_on honest in
+    let asked =
+    honest_before (seen c.disable.new.tx) (seen c.drop_kept.new.tx) _ c.drop_kept.ensures.call.goes_on honest in
     let old = (seen c.args.tx.now).rows in
     let mid = (seen c.disable.new.tx).rows in
     let new = (seen c.drop_kept.new.tx).rows in
     let name = c.args.name.now in
     let st = starts.represents in
     let gone = is_gone b who old mid st name
-    (subst (λ was. EndsOk (IsDisabled b who old mid st name) was (mounts.disabled b.mounts name)) c.if-not-was_there.false
+    (subst (λ was. EndsOk (IsDisabled b who old mid st name) was (mounts.disabled b.mounts name))
+    c.if-not-was_there.false
     (c.in_ok-was_there.ensures.told asked b.mounts (mounts_there b old st)))
     (c.in_ok-was_there.ensures.call.others asked) in
     acts_disabled b who old mid st name new gone
@@ -63,13 +66,15 @@ returns-clause-told g c who x honest b starts fresh =
 pub returns-in_err-drop_kept-clause-told : goal.returns-in_err-drop_kept-clause-told
 returns-in_err-drop_kept-clause-told g c who x honest b starts fresh =
     let seen = g.T.RecordsTx.seen in
-    let asked = honest_before (seen c.disable.new.tx) (seen c.drop_kept.new.tx) _ c.drop_kept.ensures.call.goes_on honest in
+    let asked =
+    honest_before (seen c.disable.new.tx) (seen c.drop_kept.new.tx) _ c.drop_kept.ensures.call.goes_on honest in
     let old = (seen c.args.tx.now).rows in
     let mid = (seen c.disable.new.tx).rows in
     let name = c.args.name.now in
     let st = starts.represents in
     let gone = is_gone b who old mid st name
-    (subst (λ was. EndsOk (IsDisabled b who old mid st name) was (mounts.disabled b.mounts name)) c.if-not-was_there.false
+    (subst (λ was. EndsOk (IsDisabled b who old mid st name) was (mounts.disabled b.mounts name))
+    c.if-not-was_there.false
     (c.in_ok-was_there.ensures.told asked b.mounts (mounts_there b old st)))
     (c.in_ok-was_there.ensures.call.others asked) in
     let p = err_from_is_err_and c.from_residual-in_err-drop_kept.result c.from_residual-in_err-drop_kept.ensures.1 in
@@ -93,13 +98,15 @@ returns-then-not-was_there-clause-readable g c honest go there =
     let new = table_of (seen c.disable.new.tx).rows in
     let name = c.args.name.now in
     absent_readable old name (AreReadable (is_under name) old) new
-    (subst (λ was. EndsOk (λ was next. (was ≡ is_some (old kind.Mount name)) × (new ≡ next)) was (rows.disabled old name))
+    (subst (λ was. EndsOk (λ was next. (was ≡ is_some (old kind.Mount name)) × (new ≡ next)) was
+    (rows.disabled old name))
     c.if-not-was_there.true (c.in_ok-was_there.ensures.rows honest)) go there
 
 pub returns-clause-readable : goal.returns-clause-readable
 returns-clause-readable g c honest go there =
     let seen = g.T.RecordsTx.seen in
-    let asked = honest_before (seen c.disable.new.tx) (seen c.drop_kept.new.tx) _ c.drop_kept.ensures.call.goes_on honest in
+    let asked =
+    honest_before (seen c.disable.new.tx) (seen c.drop_kept.new.tx) _ c.drop_kept.ensures.call.goes_on honest in
     let old = table_of (seen c.args.tx.now).rows in
     let mid = table_of (seen c.disable.new.tx).rows in
     let name = c.args.name.now in

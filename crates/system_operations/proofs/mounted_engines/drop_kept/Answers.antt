@@ -19,8 +19,10 @@ pub returns-clause-told : goal.returns-clause-told
 returns-clause-told g c honest who b st named =
     let seen = g.T.RecordsTx.seen in
     let name = c.args.name.now in
-    let bare = honest_before (seen c.drop_roles.new.tx) (seen c.revoke_under.new.tx) _ c.revoke_under.ensures.call.goes_on honest in
-    let empty = honest_before (seen c.drop_mount.new.tx) (seen c.drop_roles.new.tx) _ c.drop_roles.ensures.call.goes_on bare in
+    let bare = honest_before (seen c.drop_roles.new.tx) (seen c.revoke_under.new.tx) _
+    c.revoke_under.ensures.call.goes_on honest in
+    let empty =
+    honest_before (seen c.drop_mount.new.tx) (seen c.drop_roles.new.tx) _ c.drop_roles.ensures.call.goes_on bare in
     let old = (seen c.args.tx.now).rows in
     let mid = (seen c.drop_mount.new.tx).rows in
     let rest = (seen c.drop_roles.new.tx).rows in
@@ -41,8 +43,10 @@ pub returns-clause-wants : goal.returns-clause-wants
 returns-clause-wants g c honest who b st named =
     let seen = g.T.RecordsTx.seen in
     let name = c.args.name.now in
-    let bare = honest_before (seen c.drop_roles.new.tx) (seen c.revoke_under.new.tx) _ c.revoke_under.ensures.call.goes_on honest in
-    let empty = honest_before (seen c.drop_mount.new.tx) (seen c.drop_roles.new.tx) _ c.drop_roles.ensures.call.goes_on bare in
+    let bare = honest_before (seen c.drop_roles.new.tx) (seen c.revoke_under.new.tx) _
+    c.revoke_under.ensures.call.goes_on honest in
+    let empty =
+    honest_before (seen c.drop_mount.new.tx) (seen c.drop_roles.new.tx) _ c.drop_roles.ensures.call.goes_on bare in
     let old = (seen c.args.tx.now).rows in
     let mid = (seen c.drop_mount.new.tx).rows in
     let rest = (seen c.drop_roles.new.tx).rows in
@@ -60,12 +64,15 @@ pub returns-clause-readable : goal.returns-clause-readable
 returns-clause-readable g c honest =
     let seen = g.T.RecordsTx.seen in
     let name = c.args.name.now in
-    let bare = honest_before (seen c.drop_roles.new.tx) (seen c.revoke_under.new.tx) _ c.revoke_under.ensures.call.goes_on honest in
-    let empty = honest_before (seen c.drop_mount.new.tx) (seen c.drop_roles.new.tx) _ c.drop_roles.ensures.call.goes_on bare in
+    let bare = honest_before (seen c.drop_roles.new.tx) (seen c.revoke_under.new.tx) _
+    c.revoke_under.ensures.call.goes_on honest in
+    let empty =
+    honest_before (seen c.drop_mount.new.tx) (seen c.drop_roles.new.tx) _ c.drop_roles.ensures.call.goes_on bare in
     let old = table_of (seen c.args.tx.now).rows in
     let rest = table_of (seen c.drop_roles.new.tx).rows in
     on_ok_weaker c.revoke_under.result (λ ends. readable_before (is_under name) old rest (λ q.
-    c.in_ok-drop_roles.ensures.call.others bare kind.Lease q refl ∙ c.in_ok-drop_mount.ensures.call.others empty kind.Lease q refl)
+    c.in_ok-drop_roles.ensures.call.others bare kind.Lease q refl
+    ∙ c.in_ok-drop_mount.ensures.call.others empty kind.Lease q refl)
     ends.readable) (c.revoke_under.ensures.rows honest)
 
 pub returns-clause-rows : goal.returns-clause-rows

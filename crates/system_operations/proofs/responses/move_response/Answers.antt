@@ -49,8 +49,10 @@ returns-clause-told g c who honest b starts fresh =
     let old = (seen c.args.tx.now).rows in
     let mid = (seen c.rewrap.new.tx).rows in
     let new = (seen c.use_up-2.new.tx).rows in
-    let once = honest_before (seen c.use_up.new.tx) (seen c.use_up-2.new.tx) _ c.in_ok-use_up-2.ensures.call.goes_on honest in
-    let first = honest_before (seen c.rewrap.new.tx) (seen c.use_up.new.tx) _ c.in_ok-use_up.ensures.call.goes_on once in
+    let once =
+    honest_before (seen c.use_up.new.tx) (seen c.use_up-2.new.tx) _ c.in_ok-use_up-2.ensures.call.goes_on honest in
+    let first =
+    honest_before (seen c.rewrap.new.tx) (seen c.use_up.new.tx) _ c.in_ok-use_up.ensures.call.goes_on once in
     let names = names_of c.args.context.now.words in
     let t = c.args.token.now in
     let a = c.as_str-accessor.result.now in
@@ -74,7 +76,8 @@ returns-clause-told g c who honest b starts fresh =
     (c.in_ok-response.ensures.told first b there st.sound.identifiers.all_used token_new accessor_new) in
     let marks = c.in_ok-use_up-2.ensures.rows honest
     ∙ (λ i. with_row (c.in_ok-use_up.ensures.rows once i) kind.Used (identifier i) used_row)
-    ∙ (λ i. with_row (with_row (table_of mid) kind.Used (accessor i) used_row) kind.Used names.wrapping_token used_row) in (
+    ∙ (λ i. with_row (with_row (table_of mid) kind.Used (accessor i) used_row) kind.Used names.wrapping_token
+    used_row) in (
       w.0,
       w.1,
       w.2 ∙ (λ i. moved (accessor i) (clock i) w.0),
@@ -85,8 +88,10 @@ returns-clause-told g c who honest b starts fresh =
 pub returns-clause-readable : goal.returns-clause-readable
 returns-clause-readable g c honest =
     let seen = g.T.RecordsTx.seen in
-    let once = honest_before (seen c.use_up.new.tx) (seen c.use_up-2.new.tx) _ c.in_ok-use_up-2.ensures.call.goes_on honest in
-    let first = honest_before (seen c.rewrap.new.tx) (seen c.use_up.new.tx) _ c.in_ok-use_up.ensures.call.goes_on once in
+    let once =
+    honest_before (seen c.use_up.new.tx) (seen c.use_up-2.new.tx) _ c.in_ok-use_up-2.ensures.call.goes_on honest in
+    let first =
+    honest_before (seen c.rewrap.new.tx) (seen c.use_up.new.tx) _ c.in_ok-use_up.ensures.call.goes_on once in
     let moves = c.in_ok-response.ensures.rows first in
     (moves.response, moves.was)
 
@@ -96,8 +101,10 @@ returns-clause-rows g c honest some =
     let seen = g.T.RecordsTx.seen in
     let old = (seen c.args.tx.now).rows in
     let mid = (seen c.rewrap.new.tx).rows in
-    let once = honest_before (seen c.use_up.new.tx) (seen c.use_up-2.new.tx) _ c.in_ok-use_up-2.ensures.call.goes_on honest in
-    let first = honest_before (seen c.rewrap.new.tx) (seen c.use_up.new.tx) _ c.in_ok-use_up.ensures.call.goes_on once in
+    let once =
+    honest_before (seen c.use_up.new.tx) (seen c.use_up-2.new.tx) _ c.in_ok-use_up-2.ensures.call.goes_on honest in
+    let first =
+    honest_before (seen c.rewrap.new.tx) (seen c.use_up.new.tx) _ c.in_ok-use_up.ensures.call.goes_on once in
     let names = names_of c.args.context.now.words in
     let t = c.args.token.now in
     let a = c.as_str-accessor.result.now in
@@ -128,6 +135,7 @@ returns-in_default-clause-unknown g c honest none =
     let t = c.args.token.now in
     let a = c.as_str-accessor.result.now in
     let moves = c.in_ok-response.ensures.rows honest in
-    let absent = mapped_none (moved a c.context.inside.clock) moves.response (sym moves.is_moved ∙ none_of _ c.in_default.not-Some) in
+    let absent = mapped_none (moved a c.context.inside.clock) moves.response (sym moves.is_moved
+    ∙ none_of _ c.in_default.not-Some) in
     table_of-injective new old
     (moves.is ∙ ap (with_moved (table_of old) t c.args.new_token.now a c.context.inside.clock) absent)

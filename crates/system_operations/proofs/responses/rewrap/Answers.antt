@@ -48,7 +48,8 @@ returns-clause-told g c who honest b starts fresh =
     let clock : c.context.inside.clock ≡ b.clock = ap (λ (x : Context). x.clock) c.context.view_is ∙ sym starts.clock in
     let request = c.as_str-3.ensures.value ∙ c.in_ok-request.ensures ∙ ap id c.request.ensures
     ∙ ap (λ (x : Context). (names_of x.words).request) c.context.view_is in
-    let token = c.in_ok-token.ensures ∙ c.as_str-2.ensures ∙ c.in_ok-new_token.ensures ∙ ap (λ w. token_text (id w)) c.wrapping_token.ensures
+    let token = c.in_ok-token.ensures ∙ c.as_str-2.ensures ∙ c.in_ok-new_token.ensures
+    ∙ ap (λ w. token_text (id w)) c.wrapping_token.ensures
     ∙ ap (λ (x : Context). token_text (names_of x.words).wrapping_token) c.context.view_is in
     let entry : record c.in-Some.response { created = c.context.inside.clock }
     ≡ moved names.wrapping_accessor b.clock is.0 = (λ i. record (is.2 i) { created = clock i }) in

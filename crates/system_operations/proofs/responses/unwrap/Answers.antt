@@ -46,7 +46,8 @@ returns-clause-told g c who x honest b starts fresh =
     (sym (c.in_ok-text.ensures.taken honest b there) ∙ c.in-Some.is) in
     acts_on_found b who new t (handed_out b) w.0 (Kept c.in-Some.text) w.1 (
       ap kept_text w.2,
-      represents_dropped b t old new st (c.in_ok-text.ensures.told honest b there) (c.in_ok-text.ensures.call.others honest),
+      represents_dropped b t old new st (c.in_ok-text.ensures.told honest b there)
+          (c.in_ok-text.ensures.call.others honest),
     )
 
 pub returns-clause-readable : goal.returns-clause-readable

@@ -54,20 +54,32 @@ put-requires g c =
     let privileged = c.has_sudo-privileged.result in
     let e = c.caller.inside.known in
     let told = token_told e in
-    let may : may_make privileged making told c.deref.result.now asked ≡ Ok c.in_ok-check.field-0 = sym c.check.ensures ∙ c.in_ok-check.was in
+    let may : may_make privileged making told c.deref.result.now asked ≡ Ok c.in_ok-check.field-0 =
+    sym c.check.ensures ∙ c.in_ok-check.was in
     let names = (allowed privileged making told c.deref.result.now asked c.in_ok-check.field-0 may).named in
-    let known : e ≡ c.args.asker.now.caller.known = ap (λ (x : Caller). x.known) (c.caller.view_is ∙ ap (λ (a : Asker). a.caller) c.asker.view_is) in
+    let known : e ≡ c.args.asker.now.caller.known =
+    ap (λ (x : Caller). x.known) (c.caller.view_is ∙ ap (λ (a : Asker). a.caller) c.asker.view_is) in
     let read : IsTokenInRange e = subst IsTokenInRange (sym known) c.requires.known in
     let made = c.in_ok-token.ensures in
-    let range : IsInRange asked = record { kept = c.requires.kept; explicit_max_ttl = made.long; num_uses = made.wide; texts = each_pair asked.meta made.texts } in
-    let accessor : c.in_ok-accessor.accessor ≡ (names_of c.args.context.now.words).accessor = c.in_ok-accessor.ensures ∙ c.as_str.ensures ∙ c.index-own-1.is
+    let range : IsInRange asked =
+    record {
+      kept = c.requires.kept;
+      explicit_max_ttl = made.long;
+      num_uses = made.wide;
+      texts = each_pair asked.meta made.texts;
+    } in
+    let accessor : c.in_ok-accessor.accessor ≡ (names_of c.args.context.now.words).accessor =
+    c.in_ok-accessor.ensures ∙ c.as_str.ensures ∙ c.index-own-1.is
     ∙ ap (λ (own : List Text). get_or own 1 c.index-own-1.result) c.requires.own.are in
     subst IsTokenInRange (sym made.entry)
-    (new_in_range c.context.inside.clock c.in_ok-parent.parent c.in_ok-accessor.accessor c.in_ok-policies.policies.items asked made.within
+    (new_in_range c.context.inside.clock c.in_ok-parent.parent c.in_ok-accessor.accessor
+    c.in_ok-policies.policies.items asked made.within
     (parent_named c.caller.inside.token.now making asked c.in_ok-parent.parent c.in_ok-parent.ensures
     (not_empty c.caller.inside.token.now c.if-is_empty.ensures))
-    (subst IsIdentifier (sym accessor) (printed c.args.own.now (names_of c.args.context.now.words) c.requires.own).accessor)
-    (subst (ArePolicies IsShortText) (sym c.in_ok-policies.ensures) (new_policies_short privileged e asked read names range)) range)
+    (subst IsIdentifier (sym accessor) (printed c.args.own.now (names_of c.args.context.now.words)
+    c.requires.own).accessor)
+    (subst (ArePolicies IsShortText) (sym c.in_ok-policies.ensures)
+    (new_policies_short privileged e asked read names range)) range)
 
 pub returns-in_err-check-clause-told : goal.returns-in_err-check-clause-told
 returns-in_err-check-clause-told g c are honest b starts fresh =
@@ -81,16 +93,21 @@ returns-in_err-check-clause-told g c are honest b starts fresh =
     let names = names_of c.args.context.now.words in
     let st = starts.begins.represents in
     let p = err_from_is_err_and c.from_residual-in_err-check.result c.from_residual-in_err-check.ensures.1 in
-    let known : c.caller.inside.known ≡ e = ap (λ (x : Caller). x.known) (c.caller.view_is ∙ ap (λ (a : Asker). a.caller) c.asker.view_is) in
+    let known : c.caller.inside.known ≡ e =
+    ap (λ (x : Caller). x.known) (c.caller.view_is ∙ ap (λ (a : Asker). a.caller) c.asker.view_is) in
     let said = c.has_sudo-privileged.ensures
-    ∙ ap (λ (a : Asker). allows (record a.rules { verb = verb.Write }) (making_path making) capability.Sudo) c.asker.view_is in
+    ∙ ap (λ (a : Asker). allows (record a.rules { verb = verb.Write }) (making_path making) capability.Sudo)
+    c.asker.view_is in
     let sudo = sudo_told rows e.policies are.0 asker.rules b.policies (making_path making) privileged are.1
     (named_policies_there b rows e.policies st) said in
     let x = mapped token_entry (get b.tokens caller) e (sym starts.caller) in
-    let given = c.in_ok-policies.ensures ∙ ap (λ (y : TokenEntry). new_policies privileged (token_told y) asked) known in
+    let given =
+    c.in_ok-policies.ensures ∙ ap (λ (y : TokenEntry). new_policies privileged (token_told y) asked) known in
     let may = same_may b caller names making asked x.0 x.1 e x.2 privileged sudo c.in_ok-policies.policies.items given
-    c.check.result (c.check.ensures ∙ (λ i. may_make privileged making (token_told (known i)) (c.deref.ensures.value i) asked)) in
-    let refused = create_refused b caller names making asked x.0 x.1 c.in_err-check.field-0.0 (may ∙ c.in_err-check.was) in
+    c.check.result (c.check.ensures ∙ (λ i. may_make privileged making (token_told (known i))
+    (c.deref.ensures.value i) asked)) in
+    let refused =
+    create_refused b caller names making asked x.0 x.1 c.in_err-check.field-0.0 (may ∙ c.in_err-check.was) in
     rw (p.1 ∙ ap Err p.2) (rw refused (refl, st))
 
 pub returns-clause-may : goal.returns-clause-may
@@ -101,9 +118,11 @@ returns-clause-may g c honest at are =
     let asker = c.args.asker.now in
     let e = asker.caller.known in
     let privileged = c.has_sudo-privileged.result in
-    let known : c.caller.inside.known ≡ e = ap (λ (x : Caller). x.known) (c.caller.view_is ∙ ap (λ (a : Asker). a.caller) c.asker.view_is) in
+    let known : c.caller.inside.known ≡ e =
+    ap (λ (x : Caller). x.known) (c.caller.view_is ∙ ap (λ (a : Asker). a.caller) c.asker.view_is) in
     let said = c.has_sudo-privileged.ensures
-    ∙ ap (λ (a : Asker). allows (record a.rules { verb = verb.Write }) (making_path making) capability.Sudo) c.asker.view_is in
+    ∙ ap (λ (a : Asker). allows (record a.rules { verb = verb.Write }) (making_path making) capability.Sudo)
+    c.asker.view_is in
     let given = c.deref.ensures.value ∙ c.in_ok-policies.ensures
     ∙ ap (λ (y : TokenEntry). new_policies privileged (token_told y) asked) known in
     on_ok c.put.result (record {
@@ -112,7 +131,8 @@ returns-clause-may g c honest at are =
       row = at;
       privileged = privileged;
       sudo = sudo_at rows e.policies are.0 asker.rules (making_path making) privileged are.1 said;
-      may = (λ i. may_make privileged making (token_told (sym known i)) (sym given i) asked) ∙ sym c.check.ensures ∙ c.in_ok-check.was;
+      may = (λ i. may_make privileged making (token_told (sym known i)) (sym given i) asked) ∙ sym c.check.ensures
+          ∙ c.in_ok-check.was;
     })
 
 pub returns-clause-uses : goal.returns-clause-uses
@@ -131,25 +151,36 @@ returns-clause-told g c are honest b starts fresh =
     let names = names_of c.args.context.now.words in
     let st = starts.begins.represents in
     let row = c.in_ok-token.ensures in
-    let range : IsInRange asked = record { kept = c.requires.kept; explicit_max_ttl = row.long; num_uses = row.wide; texts = each_pair asked.meta row.texts } in
+    let range : IsInRange asked =
+    record {
+      kept = c.requires.kept;
+      explicit_max_ttl = row.long;
+      num_uses = row.wide;
+      texts = each_pair asked.meta row.texts;
+    } in
     let seen_as = c.caller.view_is ∙ ap (λ (a : Asker). a.caller) c.asker.view_is in
     let known : c.caller.inside.known ≡ e = ap (λ (x : Caller). x.known) seen_as in
     let parent : c.in_ok-parent.parent ≡ new_parent caller making asked = c.in_ok-parent.ensures
     ∙ ap (λ (x : Caller). new_parent x.token making asked) seen_as in
     let token : c.as_str-2.result.now ≡ names.token = c.as_str-2.ensures ∙ c.index-own-0.is
     ∙ ap (λ (own : List Text). get_or own 0 c.index-own-0.result) c.requires.own.are in
-    let accessor : c.in_ok-accessor.accessor ≡ names.accessor = c.in_ok-accessor.ensures ∙ c.as_str.ensures ∙ c.index-own-1.is
+    let accessor : c.in_ok-accessor.accessor ≡ names.accessor = c.in_ok-accessor.ensures ∙ c.as_str.ensures
+    ∙ c.index-own-1.is
     ∙ ap (λ (own : List Text). get_or own 1 c.index-own-1.result) c.requires.own.are in
-    let clock : b.clock ≡ c.context.inside.clock = starts.begins.clock ∙ sym (ap (λ (x : Context). x.clock) c.context.view_is) in
+    let clock : b.clock ≡ c.context.inside.clock =
+    starts.begins.clock ∙ sym (ap (λ (x : Context). x.clock) c.context.view_is) in
     let said = c.has_sudo-privileged.ensures
-    ∙ ap (λ (a : Asker). allows (record a.rules { verb = verb.Write }) (making_path making) capability.Sudo) c.asker.view_is in
+    ∙ ap (λ (a : Asker). allows (record a.rules { verb = verb.Write }) (making_path making) capability.Sudo)
+    c.asker.view_is in
     let sudo = sudo_told rows e.policies are.0 asker.rules b.policies (making_path making) privileged are.1
     (named_policies_there b rows e.policies st) said in
     let x = mapped token_entry (get b.tokens caller) e (sym starts.caller) in
     let ps = c.in_ok-policies.policies.items in
-    let gives = c.in_ok-policies.ensures ∙ ap (λ (y : TokenEntry). new_policies privileged (token_told y) asked) known in
+    let gives =
+    c.in_ok-policies.ensures ∙ ap (λ (y : TokenEntry). new_policies privileged (token_told y) asked) known in
     let may = same_may b caller names making asked x.0 x.1 e x.2 privileged sudo ps gives
-    c.check.result (c.check.ensures ∙ (λ i. may_make privileged making (token_told (known i)) (c.deref.ensures.value i) asked))
+    c.check.result (c.check.ensures ∙ (λ i. may_make privileged making (token_told (known i))
+    (c.deref.ensures.value i) asked))
     ∙ c.in_ok-check.was in
     let given = new_policies (is_privileged b (making_path making) x.0) x.0 asked in
     let same = same_policies_told b caller names making asked x.0 x.1 e x.2 privileged sudo ps gives in
@@ -157,11 +188,13 @@ returns-clause-told g c are honest b starts fresh =
     let entry : token_entry new ≡ c.in_ok-token.token =
     same_new b.clock (new_parent caller making asked) names.accessor given asked range
     ∙ (λ i. new_entry (clock i) (sym parent i) (sym accessor i) (sym same i) asked) ∙ sym row.entry in
-    let names_given = (allowed (is_privileged b (making_path making) x.0) making x.0 given asked c.in_ok-check.field-0 may).named in
+    let names_given =
+    (allowed (is_privileged b (making_path making) x.0) making x.0 given asked c.in_ok-check.field-0 may).named in
     let policies_are = new_policies_are IsPolicyName refl refl (is_privileged b (making_path making) x.0) x.0 asked
     (sound_policies forms caller x.0 (st.sound.tokens.each caller x.0 x.1))
     (each_passes asked.policies names_given) c.requires.kept.few_policies in
     let good = printed c.args.own.now names c.requires.own in
-    let can = may_be_made forms (Some caller) b st.sound names good fresh caller making given asked range (starts.begins.here caller refl) policies_are in
+    let can = may_be_made forms (Some caller) b st.sound names good fresh caller making given asked range
+    (starts.begins.here caller refl) policies_are in
     rw (create_made b caller names making asked x.0 x.1 c.in_ok-check.field-0 may)
     (c.put.ensures.told (Some caller) token honest b starts.begins new entry can refl refl)

@@ -26,17 +26,23 @@ unfolding names_of
 returns-clause-told g c who is =
     let seen = g.T.RecordsTx.seen in
     let names = names_of c.context.inside.words.now in
-    subst (λ x. PutsToken who x (seen c.args.tx.now) (seen c.use_up-2.new.tx) c.args.token (Ok (Made c.in_ok-reply.reply c.in_ok-accessor.accessor)))
+    subst (λ x. PutsToken who x (seen c.args.tx.now) (seen c.use_up-2.new.tx) c.args.token
+    (Ok (Made c.in_ok-reply.reply c.in_ok-accessor.accessor)))
     c.context.view_is
     (λ honest b starts y entry can bare named.
     let rows = (seen c.args.tx.now).rows in
     let st = starts.represents in
-    let once = honest_before (seen c.use_up.new.tx) (seen c.use_up-2.new.tx) _ c.in_ok-use_up-2.ensures.call.goes_on honest in
+    let once =
+    honest_before (seen c.use_up.new.tx) (seen c.use_up-2.new.tx) _ c.in_ok-use_up-2.ensures.call.goes_on honest in
     let made = honest_before (seen c.create.new.tx) (seen c.use_up.new.tx) _ c.in_ok-use_up.ensures.call.goes_on once in
-    let identifier : c.args.identifier.now ≡ names.token = is ∙ ap (λ (x : Context). (names_of x.words).token) (sym c.context.view_is) in
-    let text : c.as_str-2.result.now ≡ token_text names.token = c.as_str-2.ensures ∙ c.in_ok-text.ensures ∙ ap token_text identifier in
-    let request : c.as_str-4.result.now ≡ names.request = c.as_str-4.ensures.value ∙ c.in_ok-request.ensures ∙ ap id c.request.ensures in
-    let shown : c.as_str-5.result.now ≡ token_text names.token = c.as_str-5.ensures ∙ c.in_ok-text.ensures ∙ ap token_text identifier in
+    let identifier : c.args.identifier.now ≡ names.token =
+    is ∙ ap (λ (x : Context). (names_of x.words).token) (sym c.context.view_is) in
+    let text : c.as_str-2.result.now ≡ token_text names.token = c.as_str-2.ensures ∙ c.in_ok-text.ensures
+    ∙ ap token_text identifier in
+    let request : c.as_str-4.result.now ≡ names.request = c.as_str-4.ensures.value ∙ c.in_ok-request.ensures
+    ∙ ap id c.request.ensures in
+    let shown : c.as_str-5.result.now ≡ token_text names.token = c.as_str-5.ensures ∙ c.in_ok-text.ensures
+    ∙ ap token_text identifier in
     let given : c.in_ok-accessor.accessor ≡ y.accessor = c.in_ok-accessor.ensures ∙ c.as_str.ensures
     ∙ ap (λ (e : TokenEntry). e.accessor) (c.token.view_is ∙ sym entry) in
     let tells = subst (λ t. Tells of_tokens (table_of (seen c.create.new.tx).rows) (with_token b t y)) text
@@ -44,8 +50,10 @@ returns-clause-told g c who is =
     (subst (λ t. IsNew b (token_identifier t)) (sym text) can.token_is_new) can.accessor_is_new) in
     let marks = c.in_ok-use_up-2.ensures.rows honest
     ∙ (λ i. with_row (c.in_ok-use_up.ensures.rows once i) kind.Used (identifier i) used_row)
-    ∙ (λ i. with_row (with_row (table_of (seen c.create.new.tx).rows) kind.Used ((c.as_str-3.ensures ∙ given) i) used_row) kind.Used names.token used_row) in
-    made_done b names y rows (seen c.create.new.tx).rows (seen c.use_up-2.new.tx).rows st can bare named tells (c.in_ok-create.ensures.call.others made) marks
+    ∙ (λ i. with_row (with_row (table_of (seen c.create.new.tx).rows) kind.Used ((c.as_str-3.ensures ∙ given) i)
+    used_row) kind.Used names.token used_row) in
+    made_done b names y rows (seen c.create.new.tx).rows (seen c.use_up-2.new.tx).rows st can bare named tells
+    (c.in_ok-create.ensures.call.others made) marks
     c.in_ok-reply.reply c.in_ok-accessor.accessor
     (c.in_ok-reply.ensures ∙ (λ i. auth_reply (request i) (sym starts.clock i) (shown i) (sym entry i))) given)
 
@@ -54,19 +62,24 @@ returns-clause-told g c who is =
 pub returns-clause-rows : goal.returns-clause-rows
 returns-clause-rows g c honest =
     let seen = g.T.RecordsTx.seen in
-    let once = honest_before (seen c.use_up.new.tx) (seen c.use_up-2.new.tx) _ c.in_ok-use_up-2.ensures.call.goes_on honest in
+    let once =
+    honest_before (seen c.use_up.new.tx) (seen c.use_up-2.new.tx) _ c.in_ok-use_up-2.ensures.call.goes_on honest in
     let made = honest_before (seen c.create.new.tx) (seen c.use_up.new.tx) _ c.in_ok-use_up.ensures.call.goes_on once in
     let i = c.args.identifier.now in
-    let marks = c.in_ok-use_up-2.ensures.rows honest ∙ ap (λ (rows : Table). with_row rows kind.Used i used_row) (c.in_ok-use_up.ensures.rows once) in
-    made_others (table_of (seen c.args.tx.now).rows) (table_of (seen c.create.new.tx).rows) (table_of (seen c.use_up-2.new.tx).rows)
+    let marks = c.in_ok-use_up-2.ensures.rows honest
+    ∙ ap (λ (rows : Table). with_row rows kind.Used i used_row) (c.in_ok-use_up.ensures.rows once) in
+    made_others (table_of (seen c.args.tx.now).rows) (table_of (seen c.create.new.tx).rows)
+    (table_of (seen c.use_up-2.new.tx).rows)
     i c.as_str-3.result.now (c.in_ok-create.ensures.call.others made) marks
 
 pub returns-clause-uses : goal.returns-clause-uses
 returns-clause-uses g c honest unspent =
     let seen = g.T.RecordsTx.seen in
-    let once = honest_before (seen c.use_up.new.tx) (seen c.use_up-2.new.tx) _ c.in_ok-use_up-2.ensures.call.goes_on honest in
+    let once =
+    honest_before (seen c.use_up.new.tx) (seen c.use_up-2.new.tx) _ c.in_ok-use_up-2.ensures.call.goes_on honest in
     let made = honest_before (seen c.create.new.tx) (seen c.use_up.new.tx) _ c.in_ok-use_up.ensures.call.goes_on once in
     let i = c.args.identifier.now in
-    let marks = c.in_ok-use_up-2.ensures.rows honest ∙ ap (λ (rows : Table). with_row rows kind.Used i used_row) (c.in_ok-use_up.ensures.rows once) in
+    let marks = c.in_ok-use_up-2.ensures.rows honest
+    ∙ ap (λ (rows : Table). with_row rows kind.Used i used_row) (c.in_ok-use_up.ensures.rows once) in
     made_keep (seen c.args.tx.now).rows (seen c.create.new.tx).rows (seen c.use_up-2.new.tx).rows c.as_str-2.result.now
     i c.as_str-3.result.now c.args.token c.requires unspent (c.in_ok-create.ensures.rows made) marks

@@ -20,14 +20,16 @@ pub returns-in_err-found-clause-told : goal.returns-in_err-found-clause-told
 returns-in_err-found-clause-told g c who honest b starts fresh =
     let p = err_from_is_err_and c.from_residual.result c.from_residual.ensures.1 in
     rw (p.1 ∙ ap Err p.2)
-    (c.in_err-found.ensures.wants honest forms b (represents_tokens b (g.T.RecordsTx.seen c.args.tx.now).rows starts.represents))
+    (c.in_err-found.ensures.wants honest forms b
+    (represents_tokens b (g.T.RecordsTx.seen c.args.tx.now).rows starts.represents))
 
 pub returns-in_default-clause-told : goal.returns-in_default-clause-told
 returns-in_default-clause-told g c who honest b starts fresh =
     let seen = g.T.RecordsTx.seen in
     let rows = (seen c.args.tx.now).rows in
     let known = c.args.context.now in
-    acts_unknown b (seen c.find.new.tx).rows who c.args.token.now (names_of known.words) c.args.increment c.in_ok-found.field-0
+    acts_unknown b (seen c.find.new.tx).rows who c.args.token.now (names_of known.words) c.args.increment
+    c.in_ok-found.field-0
     (c.in_ok-found.ensures.told honest forms b (represents_tokens b rows starts.represents))
     (still_represented b rows (seen c.find.new.tx).rows (c.in_ok-found.ensures.call.same honest) starts.represents)
     (none_of _ c.in_default.not-Some)
@@ -36,10 +38,12 @@ pub returns-clause-told : goal.returns-clause-told
 returns-clause-told g c who honest b starts fresh =
     let seen = g.T.RecordsTx.seen in
     let rows = (seen c.args.tx.now).rows in
-    let before = honest_before (seen c.find.new.tx) (seen c.renew_found.new.tx) _ c.renew_found.ensures.call.goes_on honest in
+    let before =
+    honest_before (seen c.find.new.tx) (seen c.renew_found.new.tx) _ c.renew_found.ensures.call.goes_on honest in
     c.renew_found.ensures.told honest who b
     (record {
-      represents = still_represented b rows (seen c.find.new.tx).rows (c.in_ok-found.ensures.call.same before) starts.represents;
+      represents = still_represented b rows (seen c.find.new.tx).rows (c.in_ok-found.ensures.call.same before)
+          starts.represents;
       here = starts.here;
       clock = starts.clock;
     })
@@ -52,22 +56,30 @@ returns-in_default-clause-readable g c honest =
 pub returns-clause-readable : goal.returns-clause-readable
 returns-clause-readable g c honest =
     let seen = g.T.RecordsTx.seen in
-    let before = honest_before (seen c.find.new.tx) (seen c.renew_found.new.tx) _ c.renew_found.ensures.call.goes_on honest in
-    on_answer c.renew_found.result (c.in_ok-found.field-0, c.in_ok-found.ensures.in_range, c.in_ok-found.ensures.found before)
+    let before =
+    honest_before (seen c.find.new.tx) (seen c.renew_found.new.tx) _ c.renew_found.ensures.call.goes_on honest in
+    on_answer c.renew_found.result (
+      c.in_ok-found.field-0,
+      c.in_ok-found.ensures.in_range,
+      c.in_ok-found.ensures.found before,
+    )
 
 pub returns-clause-rows : goal.returns-clause-rows
 returns-clause-rows g c honest =
     let seen = g.T.RecordsTx.seen in
     let new = (seen c.renew_found.new.tx).rows in
-    let before = honest_before (seen c.find.new.tx) (seen c.renew_found.new.tx) _ c.renew_found.ensures.call.goes_on honest in
-    subst (λ (rows : Rows). OnOk c.renew_found.result (ChangesOnly of_tokens rows new)) (c.in_ok-found.ensures.call.same before)
+    let before =
+    honest_before (seen c.find.new.tx) (seen c.renew_found.new.tx) _ c.renew_found.ensures.call.goes_on honest in
+    subst (λ (rows : Rows). OnOk c.renew_found.result (ChangesOnly of_tokens rows new))
+    (c.in_ok-found.ensures.call.same before)
     (c.renew_found.ensures.rows honest)
 
 pub returns-clause-uses : goal.returns-clause-uses
 returns-clause-uses g c honest =
     let seen = g.T.RecordsTx.seen in
     let new = (seen c.renew_found.new.tx).rows in
-    let before = honest_before (seen c.find.new.tx) (seen c.renew_found.new.tx) _ c.renew_found.ensures.call.goes_on honest in
+    let before =
+    honest_before (seen c.find.new.tx) (seen c.renew_found.new.tx) _ c.renew_found.ensures.call.goes_on honest in
     subst (λ (rows : Rows). OnOk c.renew_found.result (KeepsUses rows new)) (c.in_ok-found.ensures.call.same before)
     (c.renew_found.ensures.uses honest)
 
@@ -75,11 +87,14 @@ pub renew_found-requires-clause-there : goal.renew_found-requires-clause-there
 renew_found-requires-clause-there g c honest =
     let seen = g.T.RecordsTx.seen in
     let t = c.args.token.now in
-    subst (λ (rows : Rows). IsTokenAt (table_of rows) t (Some c.in-Some.found)) (sym (c.in_ok-found.ensures.call.same honest))
+    subst (λ (rows : Rows). IsTokenAt (table_of rows) t (Some c.in-Some.found))
+    (sym (c.in_ok-found.ensures.call.same honest))
     (subst (IsTokenAt (table_of (seen c.args.tx.now).rows) t) c.in-Some.is (c.in_ok-found.ensures.found honest))
 
 pub returns-clause-refused : goal.returns-clause-refused
 returns-clause-refused g c honest =
     let seen = g.T.RecordsTx.seen in
-    let before = honest_before (seen c.find.new.tx) (seen c.renew_found.new.tx) _ c.renew_found.ensures.call.goes_on honest in
-    refused_weaker c.renew_found.result (λ same. same ∙ c.in_ok-found.ensures.call.same before) (c.renew_found.ensures.refused honest)
+    let before =
+    honest_before (seen c.find.new.tx) (seen c.renew_found.new.tx) _ c.renew_found.ensures.call.goes_on honest in
+    refused_weaker c.renew_found.result (λ same. same ∙ c.in_ok-found.ensures.call.same before)
+    (c.renew_found.ensures.refused honest)

@@ -18,7 +18,8 @@ use Rattle.token_operations.proofs.renewal.renew_found.Goals as goal
 
 pub returns-then-is_none-clause-told : goal.returns-then-is_none-clause-told
 returns-then-is_none-clause-told g c honest who b starts here =
-    acts_endless b (g.T.RecordsTx.seen c.args.tx.now).rows who c.args.token.now (names_of c.args.context.now.words) c.args.increment
+    acts_endless b (g.T.RecordsTx.seen c.args.tx.now).rows who c.args.token.now (names_of c.args.context.now.words)
+    c.args.increment
     (Some c.args.found) here c.args.found starts.represents refl
     (ap (λ (e : TokenEntry). is_some e.ends) (sym c.found.view_is) ∙ c.is_none.ensures ∙ ap not c.if-is_none.true)
 
@@ -33,11 +34,14 @@ returns-clause-told g c honest who b starts here =
     let ends = c.new_end-ends.result in
     let now = c.context.inside.clock in
     let st = starts.represents in
-    subst (λ (x : Context). ActsAs who b new (Ok (Given c.in_ok-auth_reply.field-0)) (renew b (names_of x.words) t asked)) c.context.view_is
+    subst (λ (x : Context). ActsAs who b new (Ok (Given c.in_ok-auth_reply.field-0))
+    (renew b (names_of x.words) t asked)) c.context.view_is
     (acts_renewed b new who t (names_of c.context.inside.words.now) asked (Some c.args.found) here
     c.as_str.result.now now ends c.args.found c.in_ok-auth_reply.field-0
-    (sym (c.as_str.ensures.value ∙ c.in_ok-request.ensures ∙ ap id c.request.ensures)) (starts.clock ∙ sym (ap (λ (x : Context). x.clock) c.context.view_is)) refl
-    (ap (λ (e : TokenEntry). is_some e.ends) (sym c.found.view_is) ∙ c.is_none.ensures ∙ ap not c.if-is_none.false) c.new_end-ends.ensures.is
+    (sym (c.as_str.ensures.value ∙ c.in_ok-request.ensures ∙ ap id c.request.ensures))
+    (starts.clock ∙ sym (ap (λ (x : Context). x.clock) c.context.view_is)) refl
+    (ap (λ (e : TokenEntry). is_some e.ends) (sym c.found.view_is) ∙ c.is_none.ensures ∙ ap not c.if-is_none.false)
+    c.new_end-ends.ensures.is
     (c.in_ok-auth_reply.ensures
     ∙ ap (auth_reply c.as_str.result.now now t) c.in_ok-renewed.ensures.renewed)
     (represents-renewed b t ends old new st
@@ -48,6 +52,8 @@ returns-clause-told g c honest who b starts here =
 pub returns-clause-uses : goal.returns-clause-uses
 returns-clause-uses g c honest =
     let seen = g.T.RecordsTx.seen in
-    let at = c.requires.there (honest_before (seen c.args.tx.now) (seen c.renew.new.tx) _ c.renew.ensures.call.goes_on honest) in
-    renewed_keep (seen c.args.tx.now).rows (seen c.renew.new.tx).rows c.args.token.now c.args.found c.new_end-ends.result
+    let at = c.requires.there (honest_before (seen c.args.tx.now) (seen c.renew.new.tx) _ c.renew.ensures.call.goes_on
+    honest) in
+    renewed_keep (seen c.args.tx.now).rows (seen c.renew.new.tx).rows c.args.token.now c.args.found
+    c.new_end-ends.result
     c.new_end-ends.ensures.near at (c.in_ok-renewed.ensures.rows honest)

@@ -27,8 +27,10 @@ returns-clause-told g c honest who b st none =
     let rows = (seen c.args.tx.now).rows in
     let waiting = represents_waiting b rows st in
     let told = c.in_ok-drop_accessor.ensures.dropped honest b waiting in
-    acts_on_wrapping who b (seen c.drop_accessor.new.tx).rows c.args.accessor.now none c.accessors_name_their_wrapping_tokens.ensures.only rows st
-    (sym c.if-not-branch.false ∙ told) (c.in_ok-drop_accessor.ensures.told honest b waiting) (c.in_ok-drop_accessor.ensures.call.others honest)
+    acts_on_wrapping who b (seen c.drop_accessor.new.tx).rows c.args.accessor.now none
+    c.accessors_name_their_wrapping_tokens.ensures.only rows st
+    (sym c.if-not-branch.false ∙ told) (c.in_ok-drop_accessor.ensures.told honest b waiting)
+    (c.in_ok-drop_accessor.ensures.call.others honest)
 
 pub returns-then-not-branch-clause-readable : goal.returns-then-not-branch-clause-readable
 returns-then-not-branch-clause-readable g c honest = readable_name _ _ _ _ (c.in_ok-drop_accessor.ensures.rows honest)

@@ -18,7 +18,8 @@ use Rattle.token_operations.proofs.tokens.act_on_tokens.Goals as goal
 readable : (rows : Rows) (c : Caller) → IsTokenInRange c.known → IsCallerAt rows c → IsReadableToken rows c.token
 readable rows c in_range at = (Some c.known, (λ e is. subst IsTokenInRange (same_Some _ _ is) in_range), at)
 
-pub returns-in_ok-look_up_self-in-LookUpSelf-clause-readable : goal.returns-in_ok-look_up_self-in-LookUpSelf-clause-readable
+pub returns-in_ok-look_up_self-in-LookUpSelf-clause-readable :
+    goal.returns-in_ok-look_up_self-in-LookUpSelf-clause-readable
 returns-in_ok-look_up_self-in-LookUpSelf-clause-readable g c honest at =
     let rows = (g.T.RecordsTx.seen c.args.tx.now).rows in
     let caller = c.args.asker.now.caller in
@@ -32,21 +33,26 @@ returns-in-LookUp-clause-rows g c honest =
     rw (c.in-LookUp.is) (answers c.look_up.result (λ same. same) (c.look_up.ensures.call.same honest))
 
 pub returns-in-LookUp-clause-refused : goal.returns-in-LookUp-clause-refused
-returns-in-LookUp-clause-refused g c honest = refuses c.look_up.result (λ same. same) (c.look_up.ensures.call.same honest)
+returns-in-LookUp-clause-refused g c honest =
+    refuses c.look_up.result (λ same. same) (c.look_up.ensures.call.same honest)
 
 pub returns-in-LookUpAccessor-clause-rows : goal.returns-in-LookUpAccessor-clause-rows
 returns-in-LookUpAccessor-clause-rows g c honest =
-    rw (c.in-LookUpAccessor.is) (answers c.look_up_accessor.result (λ same. same) (c.look_up_accessor.ensures.call.same honest))
+    rw (c.in-LookUpAccessor.is) (answers c.look_up_accessor.result (λ same. same)
+    (c.look_up_accessor.ensures.call.same honest))
 
 pub returns-in-LookUpAccessor-clause-refused : goal.returns-in-LookUpAccessor-clause-refused
-returns-in-LookUpAccessor-clause-refused g c honest = refuses c.look_up_accessor.result (λ same. same) (c.look_up_accessor.ensures.call.same honest)
+returns-in-LookUpAccessor-clause-refused g c honest =
+    refuses c.look_up_accessor.result (λ same. same) (c.look_up_accessor.ensures.call.same honest)
 
 pub returns-in-ListAccessors-clause-rows : goal.returns-in-ListAccessors-clause-rows
 returns-in-ListAccessors-clause-rows g c honest =
-    rw (c.in-ListAccessors.is) (answers c.list_accessors.result (λ same. same) (c.list_accessors.ensures.call.same honest))
+    rw (c.in-ListAccessors.is) (answers c.list_accessors.result (λ same. same)
+    (c.list_accessors.ensures.call.same honest))
 
 pub returns-in-ListAccessors-clause-refused : goal.returns-in-ListAccessors-clause-refused
-returns-in-ListAccessors-clause-refused g c honest = refuses c.list_accessors.result (λ same. same) (c.list_accessors.ensures.call.same honest)
+returns-in-ListAccessors-clause-refused g c honest =
+    refuses c.list_accessors.result (λ same. same) (c.list_accessors.ensures.call.same honest)
 
 pub returns-in_ok-look_up_self-in-LookUpSelf-clause-rows : goal.returns-in_ok-look_up_self-in-LookUpSelf-clause-rows
 returns-in_ok-look_up_self-in-LookUpSelf-clause-rows g c honest = rw (c.in-LookUpSelf.is) refl
@@ -67,7 +73,7 @@ returns-in-Revoke-clause-rows g c honest =
 
 pub returns-in-RevokeOrphan-clause-rows : goal.returns-in-RevokeOrphan-clause-rows
 returns-in-RevokeOrphan-clause-rows g c honest =
-    let rows = answers c.revoke_orphan.result (λ rows. rows) (c.revoke_orphan.ensures.rows honest) in
+    let rows = answers c.revoke-in-RevokeOrphan.result (λ rows. rows) (c.revoke-in-RevokeOrphan.ensures.rows honest) in
     rw (c.in-RevokeOrphan.is) (rw (sym c.as_str-in-RevokeOrphan.ensures) rows)
 
 pub returns-in-RevokeAccessor-clause-rows : goal.returns-in-RevokeAccessor-clause-rows
@@ -76,7 +82,8 @@ returns-in-RevokeAccessor-clause-rows g c honest =
 
 pub returns-in-RevokeSelf-clause-rows : goal.returns-in-RevokeSelf-clause-rows
 returns-in-RevokeSelf-clause-rows g c honest =
-    rw (c.in-RevokeSelf.is, ← c.asker.view_is, ← c.asker-inside.view_is) (answers c.revoke-in-RevokeSelf.result (λ rows. rows) (c.revoke-in-RevokeSelf.ensures.rows honest))
+    rw (c.in-RevokeSelf.is, ← c.asker.view_is, ← c.asker-inside.view_is)
+    (answers c.revoke-in-RevokeSelf.result (λ rows. rows) (c.revoke-in-RevokeSelf.ensures.rows honest))
 
 -- ---- the uses that tokens have left
 
@@ -93,11 +100,12 @@ returns-in-ListAccessors-clause-uses g c honest at =
     answers c.list_accessors.result (uses_same _ _) (c.list_accessors.ensures.call.same honest)
 
 pub returns-in-Revoke-clause-uses : goal.returns-in-Revoke-clause-uses
-returns-in-Revoke-clause-uses g c honest at = answers c.revoke.result (revokes_keep _ _ _) (c.revoke.ensures.rows honest)
+returns-in-Revoke-clause-uses g c honest at =
+    answers c.revoke.result (revokes_keep _ _ _) (c.revoke.ensures.rows honest)
 
 pub returns-in-RevokeOrphan-clause-uses : goal.returns-in-RevokeOrphan-clause-uses
 returns-in-RevokeOrphan-clause-uses g c honest at =
-    answers c.revoke_orphan.result (revokes_one_keep _ _ _) (c.revoke_orphan.ensures.rows honest)
+    answers c.revoke-in-RevokeOrphan.result (revokes_one_keep _ _ _) (c.revoke-in-RevokeOrphan.ensures.rows honest)
 
 pub returns-in-RevokeAccessor-clause-uses : goal.returns-in-RevokeAccessor-clause-uses
 returns-in-RevokeAccessor-clause-uses g c honest at =

@@ -1,13 +1,13 @@
 use Rattle.std.proofs.Common.{rules, ℕ, None, subst}
 use Rattle.broker_types.specs.First.{first_broker}
 use Rattle.broker_types.specs.Names.{accessor_word}
+use Rattle.records.specs.ListRows.{list_rows}
 use Rattle.broker_rows.specs.Representing.{Represents}
-use Rattle.broker.specs.StoreRows.{store_rows}
 use Rattle.broker.proofs.list_store.ListStore.start.Goals as goal
 
 pub returns-clause-told : goal.returns-clause-told
 returns-clause-told c =
-    let rows = store_rows (record { alloc = c.args.self.now.alloc; records = c.commit.new.self }) in
+    let rows = list_rows c.commit.new.self in
     subst (λ (token : ℕ). Represents None rows (first_broker c.args.moment token (accessor_word c.args.words.now))) c.token-token_word.ensures
     (subst (λ (accessor : ℕ). Represents None rows (first_broker c.args.moment c.token-token_word.result accessor)) c.accessor-accessor_word.ensures
     (search rules))

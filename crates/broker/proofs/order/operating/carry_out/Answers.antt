@@ -1,6 +1,7 @@
-use Rattle.std.specs.Prelude.{List, drop, take}
+use Rattle.std.specs.Prelude.{List, drop, nat_lt, take}
 use Rattle.std.proofs.Common.{◌≡◌, true, Err, sym, ap, ◌∙◌, subst, get_or}
 use Rattle.std.proofs.Math.Seq.{take-length}
+use Rattle.std.proofs.lemmas.Bool.{and_parts, ltb-true}
 use Rattle.std.proofs.lemmas.List.{length-drop}
 use Rattle.std.proofs.lemmas.Result.{err_from_is_err_and}
 use Rattle.broker_types.specs.Names.{names_of}
@@ -46,25 +47,24 @@ returns-in_err-answered-clause-told g c placed honest b begins fresh =
     (acted_not b (who_of c.args.asker.now) names ask command (seen c.act-2.new.tx).rows c.in_err-answered.field-0.0
     (c.in_err-answered.ensures.told placed honest b begins own))
 
-pub wrap-requires-clause-token : goal.wrap-requires-clause-token
-wrap-requires-clause-token g c =
+pub wrap-requires : goal.wrap-requires
+wrap-requires g c =
     let command = meant c.args.command in
     let ask = c.args.ask.now in
     let names = names_of c.args.context.now.words in
+    let needed = c.args.needed.now in
     let wraps : is_wrapped ask command ≡ true = sym c.is_wrapped.ensures ∙ c.if-not-is_wrapped.false in
-    let named = c.as_str-token.ensures ∙ c.index-needed-0.is
-    ∙ ap (λ (needed : List Text). get_or needed 0 c.index-needed-0.result) (printed_is ask names command wraps c.args.needed.now c.requires.needed) in
-    subst IsIdentifier (sym named) (token_good ask names command wraps c.args.needed.now c.requires.needed)
-
-pub wrap-requires-clause-accessor : goal.wrap-requires-clause-accessor
-wrap-requires-clause-accessor g c =
-    let command = meant c.args.command in
-    let ask = c.args.ask.now in
-    let names = names_of c.args.context.now.words in
-    let wraps : is_wrapped ask command ≡ true = sym c.is_wrapped.ensures ∙ c.if-not-is_wrapped.false in
-    let named = c.as_str-accessor.ensures ∙ c.index-needed-1.is
-    ∙ ap (λ (needed : List Text). get_or needed 1 c.index-needed-1.result) (printed_is ask names command wraps c.args.needed.now c.requires.needed) in
-    subst IsIdentifier (sym named) (accessor_good ask names command wraps c.args.needed.now c.requires.needed)
+    let printed = printed_is ask names command wraps needed c.requires.needed in
+    let token = c.as_str-2.ensures ∙ c.index-needed-0.is
+    ∙ ap (λ (needed : List Text). get_or needed 0 c.index-needed-0.result) printed in
+    let accessor = c.as_str-3.ensures ∙ c.index-needed-1.is
+    ∙ ap (λ (needed : List Text). get_or needed 1 c.index-needed-1.result) printed in
+    record {
+      path = c.as_str.ensures.good;
+      waits = ltb-true 0 ask.wrap_ttl (and_parts (nat_lt 0 ask.wrap_ttl) (traits command).may_wrap wraps).0;
+      token = subst IsIdentifier (sym token) (token_good ask names command wraps needed c.requires.needed);
+      accessor = subst IsIdentifier (sym accessor) (accessor_good ask names command wraps needed c.requires.needed);
+    }
 
 pub returns-clause-told : goal.returns-clause-told
 returns-clause-told g c placed honest b begins fresh =
@@ -86,12 +86,12 @@ returns-clause-told g c placed honest b begins fresh =
     (c.in_ok-answered.ensures.told placed before b begins own)
     (λ (d : Done) does done.
     subst (λ (path : Text). IsServed who new c.in_ok-wrap.field-0 (wrap_200 b path ask.wrap_ttl names d d.answered))
-    c.as_str-path.ensures.text
+    c.as_str.ensures.text
     (c.in_ok-wrap.ensures.told honest who b ((traits command).own names) d
     (record {
       clock = begins_clock c.args.asker.now c.args.context.now old b begins;
-      token_named = c.as_str-token.ensures ∙ c.index-needed-0.is ∙ ap (λ (needed : List Text). get_or needed 0 c.index-needed-0.result) printed;
-      accessor_named = c.as_str-accessor.ensures ∙ c.index-needed-1.is ∙ ap (λ (needed : List Text). get_or needed 1 c.index-needed-1.result) printed;
+      token = c.as_str-2.ensures ∙ c.index-needed-0.is ∙ ap (λ (needed : List Text). get_or needed 0 c.index-needed-0.result) printed;
+      accessor = c.as_str-3.ensures ∙ c.index-needed-1.is ∙ ap (λ (needed : List Text). get_or needed 1 c.index-needed-1.result) printed;
       new = all_new;
       proper = c.operations_are_proper.ensures b who c.args.context.now.words command d own does;
     }) done))

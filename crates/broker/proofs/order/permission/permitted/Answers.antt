@@ -12,6 +12,7 @@ use Rattle.api_json.specs.Kept.{is_object}
 use Rattle.policies.specs.Grants.{rules_of}
 use Rattle.policies.specs.PolicyRows.{IsUnreadable}
 use Rattle.broker_model.specs.Capabilities.{asked_by, has_stored}
+use Rattle.broker_model.specs.Permission.{may}
 use Rattle.broker_rows.specs.Caller.{AreRulesAt, Caller}
 use Rattle.broker_rows.specs.Representing.{Represents}
 use Rattle.broker_rows.specs.RepresentingLaws.{named_policies_there, still_represented}
@@ -35,8 +36,8 @@ pub returns-clause-told : goal.returns-clause-told
 returns-clause-told g c honest b st caller routed =
     let seen = g.T.RecordsTx.seen in
     let old = (seen c.args.tx.now).rows in
-    let verb = c.args.verb in
-    let path = c.args.path.now in
+    let verb = c.args.ask.now.verb in
+    let path = c.args.ask.now.path in
     let who = c.args.caller.now in
     let mid = honest_before (seen c.capability.new.tx) (seen c.rules_of.new.tx) _ c.in_ok-rules.ensures.call.goes_on honest in
     let token = (λ i. (c.caller-inside.view_is i).token.now) ∙ ap (λ (x : Caller). x.token) c.caller.view_is in
@@ -47,14 +48,14 @@ returns-clause-told g c honest b st caller routed =
     let asks = c.in_ok-asked.ensures.told mid b (subst (λ (t : Text). Represents (Some t) old b) (sym token) st)
     (subst (λ (t : Text). get b.tokens t ≢ None) (sym token) (entry_here b who caller))
     ∙ ap (λ (t : Text). asked_by (has_stored b t) verb c.args.found.now) token in
-    permitted_told b who verb path c.args.found.now c.in_ok-asked.asked c.in_ok-rules.rules true caller routed asks said c.if-not-may.ensures
+    permitted_told b who verb path c.args.found.now c.in_ok-asked.asked c.in_ok-rules.rules true caller routed asks said (c.if-not-may.ensures ∙ ap (λ (p : Text). may c.in_ok-rules.rules p c.in_ok-asked.asked) c.as_str-path.ensures.text)
 
 pub returns-then-not-may-clause-told : goal.returns-then-not-may-clause-told
 returns-then-not-may-clause-told g c honest b st caller routed =
     let seen = g.T.RecordsTx.seen in
     let old = (seen c.args.tx.now).rows in
-    let verb = c.args.verb in
-    let path = c.args.path.now in
+    let verb = c.args.ask.now.verb in
+    let path = c.args.ask.now.path in
     let who = c.args.caller.now in
     let mid = honest_before (seen c.capability.new.tx) (seen c.rules_of.new.tx) _ c.in_ok-rules.ensures.call.goes_on honest in
     let token = (λ i. (c.caller-inside.view_is i).token.now) ∙ ap (λ (x : Caller). x.token) c.caller.view_is in
@@ -65,7 +66,7 @@ returns-then-not-may-clause-told g c honest b st caller routed =
     let asks = c.in_ok-asked.ensures.told mid b (subst (λ (t : Text). Represents (Some t) old b) (sym token) st)
     (subst (λ (t : Text). get b.tokens t ≢ None) (sym token) (entry_here b who caller))
     ∙ ap (λ (t : Text). asked_by (has_stored b t) verb c.args.found.now) token in
-    permitted_told b who verb path c.args.found.now c.in_ok-asked.asked c.in_ok-rules.rules false caller routed asks said c.if-not-may.ensures
+    permitted_told b who verb path c.args.found.now c.in_ok-asked.asked c.in_ok-rules.rules false caller routed asks said (c.if-not-may.ensures ∙ ap (λ (p : Text). may c.in_ok-rules.rules p c.in_ok-asked.asked) c.as_str-path.ensures.text)
 
 -- ---- by the rows
 
@@ -73,8 +74,8 @@ pub returns-clause-found : goal.returns-clause-found
 returns-clause-found g c honest at mount known routed =
     let seen = g.T.RecordsTx.seen in
     let old = (seen c.args.tx.now).rows in
-    let verb = c.args.verb in
-    let path = c.args.path.now in
+    let verb = c.args.ask.now.verb in
+    let path = c.args.ask.now.path in
     let who = c.args.caller.now in
     let mid = honest_before (seen c.capability.new.tx) (seen c.rules_of.new.tx) _ c.in_ok-rules.ensures.call.goes_on honest in
     let token = (λ i. (c.caller-inside.view_is i).token.now) ∙ ap (λ (x : Caller). x.token) c.caller.view_is in
@@ -92,15 +93,15 @@ returns-clause-found g c honest at mount known routed =
         c.in_ok-asked.ensures.found mid ∙ ap (λ (t : Text). asked_by (has_row old t) verb c.args.found.now) token
             ∙ ap (asked_by (has_row old who.token) verb) routed,
       );
-      allowed = allowed_by old who.known.policies verb path c.in_ok-asked.asked c.in_ok-rules.rules true rules c.if-not-may.ensures;
+      allowed = allowed_by old who.known.policies verb path c.in_ok-asked.asked c.in_ok-rules.rules true rules (c.if-not-may.ensures ∙ ap (λ (p : Text). may c.in_ok-rules.rules p c.in_ok-asked.asked) c.as_str-path.ensures.text);
     }
 
 pub returns-then-not-may-clause-found : goal.returns-then-not-may-clause-found
 returns-then-not-may-clause-found g c honest at mount known routed =
     let seen = g.T.RecordsTx.seen in
     let old = (seen c.args.tx.now).rows in
-    let verb = c.args.verb in
-    let path = c.args.path.now in
+    let verb = c.args.ask.now.verb in
+    let path = c.args.ask.now.path in
     let who = c.args.caller.now in
     let mid = honest_before (seen c.capability.new.tx) (seen c.rules_of.new.tx) _ c.in_ok-rules.ensures.call.goes_on honest in
     let token = (λ i. (c.caller-inside.view_is i).token.now) ∙ ap (λ (x : Caller). x.token) c.caller.view_is in
@@ -118,7 +119,7 @@ returns-then-not-may-clause-found g c honest at mount known routed =
         c.in_ok-asked.ensures.found mid ∙ ap (λ (t : Text). asked_by (has_row old t) verb c.args.found.now) token
             ∙ ap (asked_by (has_row old who.token) verb) routed,
       );
-      allowed = allowed_by old who.known.policies verb path c.in_ok-asked.asked c.in_ok-rules.rules false rules c.if-not-may.ensures;
+      allowed = allowed_by old who.known.policies verb path c.in_ok-asked.asked c.in_ok-rules.rules false rules (c.if-not-may.ensures ∙ ap (λ (p : Text). may c.in_ok-rules.rules p c.in_ok-asked.asked) c.as_str-path.ensures.text);
     }
 
 pub returns-clause-rules : goal.returns-clause-rules
@@ -127,9 +128,9 @@ returns-clause-rules g c honest =
     let old = (seen c.args.tx.now).rows in
     let mid = honest_before (seen c.capability.new.tx) (seen c.rules_of.new.tx) _ c.in_ok-rules.ensures.call.goes_on honest in
     let names = c.deref.ensures.value ∙ (λ i. (c.caller-inside.view_is i).known.policies) ∙ ap (λ (x : Caller). x.known.policies) c.caller.view_is in
-    let rules = rules_before old (seen c.capability.new.tx).rows c.deref.result.now c.args.caller.now.known.policies c.args.verb c.in_ok-rules.rules
+    let rules = rules_before old (seen c.capability.new.tx).rows c.deref.result.now c.args.caller.now.known.policies c.args.ask.now.verb c.in_ok-rules.rules
     (c.in_ok-asked.ensures.call.same mid) names (record { readable = c.in_ok-rules.ensures.readable honest; told = c.in_ok-rules.ensures.told honest }) in
-    λ x is. subst (AreRulesAt old c.args.caller.now.known.policies c.args.verb) (same_Some _ _ is) rules
+    λ x is. subst (AreRulesAt old c.args.caller.now.known.policies c.args.ask.now.verb) (same_Some _ _ is) rules
 
 pub returns-in_err-rules-clause-call : goal.returns-in_err-rules-clause-call
 returns-in_err-rules-clause-call g c =

@@ -9,6 +9,7 @@ use Rattle.records.specs.Transaction.{Rows}
 use Rattle.records.specs.ValueLaws.{none_of, ok_inj}
 use Rattle.broker_types.specs.declared.request_error.RequestError.TheVariants.{Refused}
 use Rattle.broker_types.specs.Names.{names_of}
+use Rattle.mounts.specs.Route.{route_of}
 use Rattle.broker_model.specs.Command.{Command, command_for}
 use Rattle.broker_model.specs.Permission.{permits}
 use Rattle.broker_rows.specs.Caller.{Asker, AreRulesAt}
@@ -39,9 +40,9 @@ returns-in_default-clause-told g c shut honest b starts =
     let ask = c.args.ask.now in
     let mid = honest_before (seen c.find_route.new.tx) (seen c.permitted.new.tx) _ c.in_ok-rules.ensures.call.goes_on honest in
     let still = still_represented b old (seen c.find_route.new.tx).rows (c.in_ok-found.ensures.call.same mid) starts.begins.represents in
-    let told = c.in_ok-rules.ensures.told honest b still starts.caller (c.in_ok-found.ensures.told mid b.mounts (mounts_there b old starts.begins.represents)) in
-    let forbidden : permits b (Some caller) ask.verb ask.path ≡ false =
-    (λ i. permits b (Some caller) ask.verb (sym c.as_str-path.ensures.text i)) ∙ sym told ∙ ap is_some (none_of _ c.in_default.not-Some) in
+    let told = c.in_ok-rules.ensures.told honest b still starts.caller
+    (c.in_ok-found.ensures.told mid b.mounts (mounts_there b old starts.begins.represents) ∙ ap (route_of b.mounts ask.verb) c.as_str-path.ensures.text) in
+    let forbidden : permits b (Some caller) ask.verb ask.path ≡ false = sym told ∙ ap is_some (none_of _ c.in_default.not-Some) in
     not_served b (Some caller) (names_of c.args.context.now.words) ask (seen c.permitted.new.tx).rows
     (allowed_to b (Some caller) ask false shut forbidden)
     (still_represented b (seen c.find_route.new.tx).rows (seen c.permitted.new.tx).rows (c.in_ok-rules.ensures.call.same honest) still)
@@ -70,9 +71,8 @@ returns-in_err-found-2-clause-told g c shut honest b starts =
     let mid = honest_before (seen c.find_route.new.tx) (seen c.permitted.new.tx) _ c.in_ok-rules.ensures.call.goes_on honest in
     let still = still_represented b old (seen c.find_route.new.tx).rows (c.in_ok-found.ensures.call.same mid) starts.begins.represents in
     let routed = c.in_ok-found.ensures.told mid b.mounts (mounts_there b old starts.begins.represents) in
-    let told = c.in_ok-rules.ensures.told honest b still starts.caller routed in
-    let permitted : permits b (Some caller) ask.verb ask.path ≡ true =
-    (λ i. permits b (Some caller) ask.verb (sym c.as_str-path.ensures.text i)) ∙ sym told ∙ ap is_some c.in-Some.is in
+    let told = c.in_ok-rules.ensures.told honest b still starts.caller (routed ∙ ap (route_of b.mounts ask.verb) c.as_str-path.ensures.text) in
+    let permitted : permits b (Some caller) ask.verb ask.path ≡ true = sym told ∙ ap is_some c.in-Some.is in
     rw (p.1 ∙ ap Err p.2)
     (served_allowed b (Some caller) names ask (seen c.permitted.new.tx).rows (Err (Refused c.in_err-found-2.field-0.0)) (allowed_to b (Some caller) ask true shut permitted)
     (served_nowhere b (Some caller) names ask (seen c.permitted.new.tx).rows c.in_err-found-2.field-0.0 c.as_str-path.result.now
@@ -113,9 +113,8 @@ returns-in_err-command-clause-told g c shut honest b starts =
     let mid = honest_before (seen c.find_route.new.tx) (seen c.permitted.new.tx) _ c.in_ok-rules.ensures.call.goes_on honest in
     let still = still_represented b old (seen c.find_route.new.tx).rows (c.in_ok-found.ensures.call.same mid) starts.begins.represents in
     let routed = c.in_ok-found.ensures.told mid b.mounts (mounts_there b old starts.begins.represents) in
-    let told = c.in_ok-rules.ensures.told honest b still starts.caller routed in
-    let permitted : permits b (Some caller) ask.verb ask.path ≡ true =
-    (λ i. permits b (Some caller) ask.verb (sym c.as_str-path.ensures.text i)) ∙ sym told ∙ ap is_some c.in-Some.is in
+    let told = c.in_ok-rules.ensures.told honest b still starts.caller (routed ∙ ap (route_of b.mounts ask.verb) c.as_str-path.ensures.text) in
+    let permitted : permits b (Some caller) ask.verb ask.path ≡ true = sym told ∙ ap is_some c.in-Some.is in
     let then = still_represented b (seen c.find_route.new.tx).rows new (c.in_ok-rules.ensures.call.same honest) still in
     let p = err_from_is_err_and c.from_residual-in_err-command.result c.from_residual-in_err-command.ensures.1 in
     rw (p.1 ∙ ap Err p.2)
@@ -162,9 +161,8 @@ returns-clause-told g c shut honest b starts =
     let still = still_represented b old (seen c.find_route.new.tx).rows (c.in_ok-found.ensures.call.same mid) starts.begins.represents in
     let then = still_represented b (seen c.find_route.new.tx).rows (seen c.permitted.new.tx).rows (c.in_ok-rules.ensures.call.same later) still in
     let routed = c.in_ok-found.ensures.told mid b.mounts (mounts_there b old starts.begins.represents) in
-    let told = c.in_ok-rules.ensures.told later b still starts.caller routed in
-    let permitted : permits b (Some caller) ask.verb ask.path ≡ true =
-    (λ i. permits b (Some caller) ask.verb (sym c.as_str-path.ensures.text i)) ∙ sym told ∙ ap is_some c.in-Some.is in
+    let told = c.in_ok-rules.ensures.told later b still starts.caller (routed ∙ ap (route_of b.mounts ask.verb) c.as_str-path.ensures.text) in
+    let permitted : permits b (Some caller) ask.verb ask.path ≡ true = sym told ∙ ap is_some c.in-Some.is in
     let found = sym c.in_ok-found-2.was ∙ routed in
     let formed : IsWellFormed route = record {
       parameter = λ takes. c.in_ok-found.ensures.parameter c.as_str-path.ensures.good route takes c.in_ok-found-2.was;

@@ -13,8 +13,8 @@ pub returns-clause-answers : goal.returns-clause-answers
 returns-clause-answers g c honest =
     let r = response_of c.in_ok-answer.answer in
     let names = names_of c.args.words.now in
-    let last = c.handle.new.tx.records in
-    let same : c.commit.new.self.0 ≡ c.self-2-1.given.0 = search rules in
+    let last = c.handle_with.new.tx.records in
+    let same : c.commit.new.self.0 ≡ c.self-3-1.given.0 = search rules in
     let honest_commit = subst (λ h. mismatches (state g.S.Store h.conn) ≡ 0) (sym same) honest in
     let honest_last = le-zero (subst (λ n. mismatches (state g.S.Store last.now.conn) ≤ n) honest_commit c.in_ok-commit.ensures.mismatches) in
     let honest_first = honest_before (seen_of (state g.S.Store c.in_ok-tx.tx.records.now.conn) _ _) (seen_of (state g.S.Store last.now.conn) _ _) _ c.in_ok-answer.ensures.safely.goes_on honest_last in

@@ -17,4 +17,4 @@ returns g c =
     let X = Supplies g.C.Clock.may_tell c.args.clock.now t.new.clock g.D.WordSource.may_give c.args.words.now t.new.words in
     line_turned g.S.Store.seen g.R.NowSource.left g.W.NowSink.written g.R.NowSource.has_failed g.W.NowSink.has_failed X c.args.self.now t.new.link t.new.reader t.new.writer c.err-self.result
     t.result c.args.hub.now t.new.hub (none_at c.args.self.now.fault (sym c.is_some.ensures ∙ c.if-is_some.false)) c.err-self.ensures.value
-    t.ensures.same t.ensures.later t.ensures.others t.ensures.read t.ensures.write t.ensures.heard t.ensures.took
+    t.ensures.took t.ensures.heard

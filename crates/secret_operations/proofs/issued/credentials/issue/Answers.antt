@@ -19,11 +19,15 @@ returns-in_err-lease-clause-told g c is_mount honest b starts new =
     let names = names_of c.args.context.now.words in
     let token = c.args.caller.now.token in
     let p = err_from_is_err_and c.from_residual.result c.from_residual.ensures.1 in
-    let named = c.as_str-named.ensures ∙ c.index-own-0.is ∙ ap (λ (own : List Text). get_or own 0 c.index-own-0.result) c.requires.own.are in
-    let credential = c.as_str-credential.ensures ∙ c.index-own-1.is ∙ ap (λ (own : List Text). get_or own 1 c.index-own-1.result) c.requires.own.are in
-    let told = subst (λ (p : Text × Text). IssuesLease c.args.caller.now c.args.context.now mount name p.0 p.1 (seen c.args.tx.now) (seen c.put.new.tx)
+    let named = c.as_str-named.ensures ∙ c.index-own-0.is
+    ∙ ap (λ (own : List Text). get_or own 0 c.index-own-0.result) c.requires.own.are in
+    let credential = c.as_str-credential.ensures ∙ c.index-own-1.is
+    ∙ ap (λ (own : List Text). get_or own 1 c.index-own-1.result) c.requires.own.are in
+    let told = subst (λ (p : Text × Text). IssuesLease c.args.caller.now c.args.context.now mount name p.0 p.1
+    (seen c.args.tx.now) (seen c.put.new.tx)
     (Err c.in_err-lease.field-0.0)) (λ i. (named i, credential i)) (c.in_err-lease.ensures.told is_mount) in
-    rw (p.1 ∙ ap Err p.2) (acts_not_issued b token (seen c.put.new.tx).rows names (at mount name) c.in_err-lease.field-0.0 (told honest b starts new))
+    rw (p.1 ∙ ap Err p.2) (acts_not_issued b token (seen c.put.new.tx).rows names
+    (at mount name) c.in_err-lease.field-0.0 (told honest b starts new))
 
 pub returns-clause-told : goal.returns-clause-told
 unfolding names_of
@@ -34,9 +38,14 @@ returns-clause-told g c is_mount honest b starts new =
     let names = names_of c.args.context.now.words in
     let token = c.args.caller.now.token in
     let lease = c.in_ok-lease.lease in
-    let named = c.as_str-named.ensures ∙ c.index-own-0.is ∙ ap (λ (own : List Text). get_or own 0 c.index-own-0.result) c.requires.own.are in
-    let credential = c.as_str-credential.ensures ∙ c.index-own-1.is ∙ ap (λ (own : List Text). get_or own 1 c.index-own-1.result) c.requires.own.are in
-    let told = subst (λ (p : Text × Text). IssuesLease c.args.caller.now c.args.context.now mount name p.0 p.1 (seen c.args.tx.now) (seen c.put.new.tx)
+    let named = c.as_str-named.ensures ∙ c.index-own-0.is
+    ∙ ap (λ (own : List Text). get_or own 0 c.index-own-0.result) c.requires.own.are in
+    let credential = c.as_str-credential.ensures ∙ c.index-own-1.is
+    ∙ ap (λ (own : List Text). get_or own 1 c.index-own-1.result) c.requires.own.are in
+    let told = subst (λ (p : Text × Text). IssuesLease c.args.caller.now c.args.context.now mount name p.0 p.1
+    (seen c.args.tx.now) (seen c.put.new.tx)
     (Ok lease)) (λ i. (named i, credential i)) (c.in_ok-lease.ensures.told is_mount) in
-    acts_issued b token (seen c.put.new.tx).rows names (at mount name) lease c.in_ok-given.field-0 (told honest b starts new)
-    (c.in_ok-given.ensures ∙ ap (λ t. reply (lease_reply names.request lease.0 lease.1 (Some (credential_object t))) None) credential)
+    acts_issued b token (seen c.put.new.tx).rows names (at mount name) lease c.in_ok-given.field-0
+    (told honest b starts new)
+    (c.in_ok-given.ensures ∙ ap (λ t. reply (lease_reply names.request lease.0 lease.1 (Some (credential_object t)))
+    None) credential)

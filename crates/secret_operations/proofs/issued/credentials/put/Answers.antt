@@ -35,7 +35,8 @@ returns-in_err-lease-clause-told g c is_mount =
     let named = c.args.named.now in
     let credential = c.args.credential.now in
     let p = err_from_is_err_and c.from_residual.result c.from_residual.ensures.1 in
-    subst (λ x. IssuesLease x c.args.context.now mount name named credential (seen c.args.tx.now) (seen c.creds.new.tx) c.from_residual.result)
+    subst (λ x. IssuesLease x c.args.context.now mount name named credential (seen c.args.tx.now)
+    (seen c.creds.new.tx) c.from_residual.result)
     c.caller.view_is
     (λ honest b starts new.
     let old = (seen c.args.tx.now).rows in
@@ -43,12 +44,15 @@ returns-in_err-lease-clause-told g c is_mount =
     let st = starts.begins.represents in
     let here = starts.begins.here token refl in
     let last = c.is_on_last_use.ensures
-    ∙ ap (λ (x : Caller). option_map_or (λ n. n == 0) x.known.uses_left false) (sym c.caller.view_is) ∙ last_use b _ starts.caller in
+    ∙ ap (λ (x : Caller). option_map_or (λ n. n == 0) x.known.uses_left false) (sym c.caller.view_is)
+    ∙ last_use b _ starts.caller in
     let clock = ap (λ (x : Context). x.clock) c.context.view_is ∙ sym starts.begins.clock in
-    let ends = c.in_err-lease.ensures.told honest forms b (represents_leases b old old st (λ k q h. refl)) st.sound.roles (tells_part of_roles b old st)
+    let ends = c.in_err-lease.ensures.told honest forms b (represents_leases b old old st (λ k q h. refl))
+    st.sound.roles (tells_part of_roles b old st)
     clock last here st.sound.identifiers.all_used
     (id_new b token st.sound mount name named credential is_mount c.requires.named c.requires.credential new here)
-    (credential_new b token st.sound mount name named credential is_mount c.requires.named c.requires.credential new here) in
+    (credential_new b token st.sound mount name named credential is_mount c.requires.named c.requires.credential new
+    here) in
     rw (p.1 ∙ ap Err p.2)
     (ends_weaker (λ same. still_represented b old (seen c.creds.new.tx).rows same st) c.in_err-lease.field-0.0
     (creds b token mount name named credential) ends))
@@ -60,24 +64,31 @@ returns-clause-told g c is_mount =
     let name = c.args.name.now in
     let named = c.args.named.now in
     let credential = c.args.credential.now in
-    subst (λ x. IssuesLease x c.args.context.now mount name named credential (seen c.args.tx.now) (seen c.use_up-2.new.tx) (Ok c.in_ok-lease.lease))
+    subst (λ x. IssuesLease x c.args.context.now mount name named credential (seen c.args.tx.now)
+    (seen c.use_up-2.new.tx) (Ok c.in_ok-lease.lease))
     c.caller.view_is
     (λ honest b starts new.
     let old = (seen c.args.tx.now).rows in
     let token = c.caller.inside.token.now in
     let st = starts.begins.represents in
     let here = starts.begins.here token refl in
-    let once = honest_before (seen c.use_up.new.tx) (seen c.use_up-2.new.tx) _ c.in_ok-use_up-2.ensures.call.goes_on honest in
+    let once =
+    honest_before (seen c.use_up.new.tx) (seen c.use_up-2.new.tx) _ c.in_ok-use_up-2.ensures.call.goes_on honest in
     let made = honest_before (seen c.creds.new.tx) (seen c.use_up.new.tx) _ c.in_ok-use_up.ensures.call.goes_on once in
     let last = c.is_on_last_use.ensures
-    ∙ ap (λ (x : Caller). option_map_or (λ n. n == 0) x.known.uses_left false) (sym c.caller.view_is) ∙ last_use b _ starts.caller in
+    ∙ ap (λ (x : Caller). option_map_or (λ n. n == 0) x.known.uses_left false) (sym c.caller.view_is)
+    ∙ last_use b _ starts.caller in
     let clock = ap (λ (x : Context). x.clock) c.context.view_is ∙ sym starts.begins.clock in
-    let ends = c.in_ok-lease.ensures.told made forms b (represents_leases b old old st (λ k q h. refl)) st.sound.roles (tells_part of_roles b old st)
+    let ends = c.in_ok-lease.ensures.told made forms b (represents_leases b old old st (λ k q h. refl)) st.sound.roles
+    (tells_part of_roles b old st)
     clock last here st.sound.identifiers.all_used
     (id_new b token st.sound mount name named credential is_mount c.requires.named c.requires.credential new here)
-    (credential_new b token st.sound mount name named credential is_mount c.requires.named c.requires.credential new here) in
-    let marks = c.in_ok-use_up-2.ensures.rows honest ∙ (λ i. with_row (c.in_ok-use_up.ensures.rows once i) kind.Used named used_row) in
-    leased b token st.sound mount name named credential is_mount c.requires.named c.requires.credential new here old (seen c.creds.new.tx).rows
+    (credential_new b token st.sound mount name named credential is_mount c.requires.named c.requires.credential new
+    here) in
+    let marks = c.in_ok-use_up-2.ensures.rows honest
+    ∙ (λ i. with_row (c.in_ok-use_up.ensures.rows once i) kind.Used named used_row) in
+    leased b token st.sound mount name named credential is_mount c.requires.named c.requires.credential new here old
+    (seen c.creds.new.tx).rows
     (seen c.use_up-2.new.tx).rows st (c.in_ok-lease.ensures.call.others made) marks c.in_ok-lease.lease ends)
 
 pub returns-in_err-lease-clause-rows : goal.returns-in_err-lease-clause-rows
@@ -92,7 +103,8 @@ returns-in_err-lease-clause-rows g c honest =
 pub returns-clause-rows : goal.returns-clause-rows
 returns-clause-rows g c honest =
     let seen = g.T.RecordsTx.seen in
-    let once = honest_before (seen c.use_up.new.tx) (seen c.use_up-2.new.tx) _ c.in_ok-use_up-2.ensures.call.goes_on honest in
+    let once =
+    honest_before (seen c.use_up.new.tx) (seen c.use_up-2.new.tx) _ c.in_ok-use_up-2.ensures.call.goes_on honest in
     let made = honest_before (seen c.creds.new.tx) (seen c.use_up.new.tx) _ c.in_ok-use_up.ensures.call.goes_on once in
     only_issued c.args.named.now c.args.credential.now (seen c.args.tx.now).rows (seen c.creds.new.tx).rows
     (seen c.use_up-2.new.tx).rows (c.in_ok-lease.ensures.call.others made)

@@ -23,6 +23,7 @@ returns-clause-told g c who honest b starts fresh =
     let request = (names_of c.args.context.now.words).request in (
       c.in_ok-shown.ensures
           ∙ ap (λ o. reply (plain_reply request o) None)
-          (c.in_ok-object.ensures ∙ ap valid_object (c.in_ok-valid.ensures.told honest forms b (represents_leases b old old st (λ k q h. refl)))),
+          (c.in_ok-object.ensures ∙ ap valid_object
+          (c.in_ok-valid.ensures.told honest forms b (represents_leases b old old st (λ k q h. refl)))),
       still_represented b old (seen c.verify.new.tx).rows (c.in_ok-valid.ensures.call.same honest) st,
     )

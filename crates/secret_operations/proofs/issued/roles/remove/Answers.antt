@@ -17,7 +17,9 @@ returns-clause-told g c who x honest b starts fresh =
     let name = c.args.name.now in
     let st = starts.represents in (
       refl,
-      represents_next of_roles b (remove_role b mount name) old new st (remove_role_sound forms who b st.sound mount name)
+      represents_next of_roles b (remove_role b mount name) old new st
+          (remove_role_sound forms who b st.sound mount name)
           (rows_of-other_roles b (without b.roles (role_name mount name)))
-          (c.in_ok-remove_role.ensures.told honest b (tells_part of_roles b old st)) (c.in_ok-remove_role.ensures.call.others honest),
+          (c.in_ok-remove_role.ensures.told honest b (tells_part of_roles b old st))
+          (c.in_ok-remove_role.ensures.call.others honest),
     )

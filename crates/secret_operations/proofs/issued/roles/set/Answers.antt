@@ -14,7 +14,8 @@ returns-in_err-set_role-clause-told g c is_mount who x honest b starts fresh =
     let st = starts.represents in
     let p = err_from_is_err_and c.from_residual.result c.from_residual.ensures.1 in
     rw (p.1 ∙ ap Err p.2)
-    (acts_not_set b who old (seen c.set_role.new.tx).rows st c.args.mount.now c.args.name.now c.args.asked c.in_err-set_role.field-0.0
+    (acts_not_set b who old (seen c.set_role.new.tx).rows st c.args.mount.now c.args.name.now c.args.asked
+    c.in_err-set_role.field-0.0
     (c.in_err-set_role.ensures.told honest b (tells_part of_roles b old st)))
 
 pub returns-clause-told : goal.returns-clause-told
@@ -23,7 +24,8 @@ returns-clause-told g c is_mount who x honest b starts fresh =
     let old = (seen c.args.tx.now).rows in
     let st = starts.represents in
     acts_set b who old (seen c.set_role.new.tx).rows st c.args.mount.now c.args.name.now c.args.asked
-    (c.in_ok-set_role.ensures.told honest b (tells_part of_roles b old st)) (c.in_ok-set_role.ensures.call.others honest) is_mount c.requires.ttl
+    (c.in_ok-set_role.ensures.told honest b (tells_part of_roles b old st))
+    (c.in_ok-set_role.ensures.call.others honest) is_mount c.requires.ttl
     c.requires.max_ttl
 
 pub returns-in_err-set_role-clause-rows : goal.returns-in_err-set_role-clause-rows

@@ -28,7 +28,8 @@ returns-in_default-clause-told g c who honest b starts fresh =
     let st = starts.represents in
     acts_absent b new who (λ (r : Role). plainly (reply (plain_reply request (role_object r.max_ttl r.ttl)) None) b)
     (roles.role b c.args.mount.now c.args.name.now)
-    (sym (c.in_ok-found.ensures.told honest b st.sound.roles (tells_part of_roles b old st)) ∙ none_of _ c.in_default.not-Some)
+    (sym (c.in_ok-found.ensures.told honest b st.sound.roles (tells_part of_roles b old st))
+    ∙ none_of _ c.in_default.not-Some)
     (still_represented b old new (c.in_ok-found.ensures.call.same honest) st)
 
 pub returns-clause-told : goal.returns-clause-told

@@ -35,7 +35,8 @@ returns-clause-readable g c honest =
     let key = c.in_ok-delete.ensures.readable honest in (
       key.0,
       key.1,
-      changed_readable (soft_deleted c.context.inside.clock) (current_of key.0) (secret_name c.args.mount.now c.args.path.now) old new
+      changed_readable (soft_deleted c.context.inside.clock) (current_of key.0)
+          (secret_name c.args.mount.now c.args.path.now) old new
           (c.in_ok-delete.ensures.rows honest key.0 key.1),
     )
 

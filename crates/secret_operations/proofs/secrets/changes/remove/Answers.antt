@@ -19,7 +19,8 @@ returns-clause-told g c named good who x honest b starts fresh =
     acts_changed b who old new (remove_key b mount path).secrets st (remove_key_sound forms who b st.sound mount path)
     (c.in_ok-remove_key.ensures.told honest b (tells_part of_secrets b old st)
     (is_secret_name mount path named (record { good = good; utf8 = c.utf8.path })))
-    (keeps_outside (secret_name mount path) (table_of old) (table_of new) (c.in_ok-remove_key.ensures.call.others honest))
+    (keeps_outside (secret_name mount path) (table_of old) (table_of new)
+    (c.in_ok-remove_key.ensures.call.others honest))
 
 pub returns-clause-rows : goal.returns-clause-rows
 returns-clause-rows g c honest =

@@ -19,7 +19,8 @@ use Rattle.secret_operations.proofs.secrets.metadata.set.Goals as goal
 -- the settings can be kept in a row
 pub set_metadata-requires : goal.set_metadata-requires
 set_metadata-requires g c =
-    subst (λ (s : Settings). IsSomeIn IsMeta s.custom_metadata) (sym c.settings_given.ensures) (metadata_in_range c.args.asked c.requires)
+    subst (λ (s : Settings). IsSomeIn IsMeta s.custom_metadata) (sym c.settings_given.ensures)
+    (metadata_in_range c.args.asked c.requires)
 
 pub returns-clause-told : goal.returns-clause-told
 returns-clause-told g c named good who honest b starts fresh =
@@ -33,11 +34,14 @@ returns-clause-told g c named good who honest b starts fresh =
     let is_name = is_secret_name mount path named (record { good = good; utf8 = c.utf8.path }) in
     acts_changed b who old new (secrets.set_metadata b mount path (given asked)).secrets st
     (set_metadata_sound forms who b st.sound mount path (given asked) is_name (within_limits asked c.requires
-    (subst (λ (s : Settings). IsSomeIn IsWide s.max_versions) c.settings_given.ensures c.in_ok-set_metadata.ensures.wide)))
-    (subst (λ (s : Settings). Tells of_secrets (table_of new) (secrets.set_metadata b mount path s)) c.settings_given.ensures
+    (subst (λ (s : Settings). IsSomeIn IsWide s.max_versions) c.settings_given.ensures
+    c.in_ok-set_metadata.ensures.wide)))
+    (subst (λ (s : Settings). Tells of_secrets (table_of new) (secrets.set_metadata b mount path s))
+    c.settings_given.ensures
     (c.in_ok-set_metadata.ensures.told honest forms b st.sound.secrets (tells_part of_secrets b old st)
     (ap (λ (x : Context). x.clock) c.context.view_is ∙ sym starts.clock)))
-    (keeps_outside (secret_name mount path) (table_of old) (table_of new) (c.in_ok-set_metadata.ensures.call.others honest))
+    (keeps_outside (secret_name mount path) (table_of old) (table_of new)
+    (c.in_ok-set_metadata.ensures.call.others honest))
 
 pub returns-clause-rows : goal.returns-clause-rows
 returns-clause-rows g c honest =

@@ -22,7 +22,8 @@ returns-in_default-clause-told g c who honest b starts fresh =
     let st = starts.represents in
     acts_absent b new who (λ (m : Metadata). plainly (reply (metadata_reply request m) None) b)
     (secrets.metadata b c.args.mount.now c.args.path.now)
-    (sym (c.in_ok-found.ensures.told honest forms b st.sound.secrets (tells_part of_secrets b old st)) ∙ none_of _ c.in_default.not-Some)
+    (sym (c.in_ok-found.ensures.told honest forms b st.sound.secrets (tells_part of_secrets b old st))
+    ∙ none_of _ c.in_default.not-Some)
     (still_represented b old new (c.in_ok-found.ensures.call.same honest) st)
 
 pub returns-clause-told : goal.returns-clause-told

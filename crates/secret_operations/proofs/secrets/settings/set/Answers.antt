@@ -18,7 +18,8 @@ returns-clause-told g c path who x honest b starts fresh =
     let st = starts.represents in (
       refl,
       represents-settings b old new st mount (set_config b mount asked.cas_required asked.max_versions).mounts
-          (set_config_sound forms who b st.sound mount asked.cas_required asked.max_versions c.in_ok-set_config.ensures.wide)
+          (set_config_sound forms who b st.sound mount asked.cas_required asked.max_versions
+          c.in_ok-set_config.ensures.wide)
           (c.in_ok-set_config.ensures.told honest b st.sound.mounts (tells_part of_mounts b old st))
           (c.in_ok-set_config.ensures.call.others honest),
     )

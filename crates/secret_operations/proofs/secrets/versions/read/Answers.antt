@@ -18,7 +18,8 @@ returns-in_default-clause-told g c who honest b starts fresh =
     let st = starts.represents in
     acts_absent b new who (λ v. plainly (version_answered (names_of c.args.context.now.words).request v) b)
     (secrets.read b c.args.mount.now c.args.path.now c.args.number)
-    (sym (c.in_ok-found.ensures.told honest forms b st.sound.secrets (tells_part of_secrets b old st)) ∙ none_of _ c.in_default.not-Some)
+    (sym (c.in_ok-found.ensures.told honest forms b st.sound.secrets (tells_part of_secrets b old st))
+    ∙ none_of _ c.in_default.not-Some)
     (still_represented b old new (c.in_ok-found.ensures.call.same honest) st)
 
 pub returns-clause-told : goal.returns-clause-told
@@ -28,6 +29,7 @@ returns-clause-told g c who honest b starts fresh =
     let new = (seen c.read.new.tx).rows in
     let st = starts.represents in
     acts_found b new who (λ v. plainly (version_answered (names_of c.args.context.now.words).request v) b)
-    (secrets.read b c.args.mount.now c.args.path.now c.args.number) c.in-Some.found (Ok c.in_ok-version_answered.field-0)
+    (secrets.read b c.args.mount.now c.args.path.now c.args.number) c.in-Some.found
+    (Ok c.in_ok-version_answered.field-0)
     (sym (c.in_ok-found.ensures.told honest forms b st.sound.secrets (tells_part of_secrets b old st)) ∙ c.in-Some.is)
     (c.in_ok-version_answered.ensures, still_represented b old new (c.in_ok-found.ensures.call.same honest) st)

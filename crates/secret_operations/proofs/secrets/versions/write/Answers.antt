@@ -33,7 +33,8 @@ returns-in_err-written-clause-told g c good who honest b starts fresh =
     let st = starts.represents in
     let error = c.in_err-written.field-0.0 in
     let p = err_from_is_err_and c.from_residual.result c.from_residual.ensures.1 in
-    let ends = c.in_err-written.ensures.told honest forms b st.sound.secrets st.sound.mounts (tells_part of_secrets b old st) (tells_part of_mounts b old st)
+    let ends = c.in_err-written.ensures.told honest forms b st.sound.secrets st.sound.mounts
+    (tells_part of_secrets b old st) (tells_part of_mounts b old st)
     (ap (λ (x : Context). x.clock) c.context.view_is ∙ sym starts.clock) (record { good = good; utf8 = c.utf8.path }) in
     rw (p.1 ∙ ap Err p.2)
     (acts_not_written b who old new (names_of c.args.context.now.words) (at mount path) asked st error
@@ -53,16 +54,24 @@ returns-clause-told g c good who honest b starts fresh =
     let text = c.as_str-text.ensures in
     let clock = ap (λ (x : Context). x.clock) c.context.view_is ∙ sym starts.clock in
     let kept = c.requires in
-    let ends = c.in_ok-written.ensures.told honest forms b st.sound.secrets st.sound.mounts (tells_part of_secrets b old st) (tells_part of_mounts b old st)
+    let ends = c.in_ok-written.ensures.told honest forms b st.sound.secrets st.sound.mounts
+    (tells_part of_secrets b old st) (tells_part of_mounts b old st)
     clock (record { good = good; utf8 = c.utf8.path }) in
     acts_written b who old new names (at mount path) asked st (record { good = good; utf8 = c.utf8.path })
-    (record { object = kept.object; short = record { utf8 = subst IsUtf8 text c.as_str-text.utf8; short = kept.short } })
-    (c.in_ok-written.ensures.call.others honest) c.in_ok-written.written c.context.inside.clock c.in_ok-shown.field-0 clock
-    (subst (λ object. EndsOk (IsWrittenAs new) c.in_ok-written.written (secrets.write b mount path asked.cas object)) text ends)
+    (record {
+      object = kept.object;
+      short = record { utf8 = subst IsUtf8 text c.as_str-text.utf8; short = kept.short };
+    })
+    (c.in_ok-written.ensures.call.others honest) c.in_ok-written.written c.context.inside.clock c.in_ok-shown.field-0
+    clock
+    (subst (λ object. EndsOk (IsWrittenAs new) c.in_ok-written.written (secrets.write b mount path asked.cas object))
+    text ends)
     (c.in_ok-shown.ensures
     ∙ ap (λ o. reply (plain_reply names.request o) None)
-    (c.in_ok-object.ensures ∙ ap (λ m. version_object m (version_made c.context.inside.clock c.written.inside.number)) c.as_slice.ensures.value)
-    ∙ ap (λ (v : WriteAnswer). reply (written_reply names.request c.context.inside.clock v.custom_metadata v.number) None) c.written.view_is)
+    (c.in_ok-object.ensures ∙ ap (λ m. version_object m (version_made c.context.inside.clock c.written.inside.number))
+    c.as_slice.ensures.value)
+    ∙ ap (λ (v : WriteAnswer). reply (written_reply names.request c.context.inside.clock v.custom_metadata v.number)
+    None) c.written.view_is)
 
 pub returns-in_err-written-clause-readable : goal.returns-in_err-written-clause-readable
 returns-in_err-written-clause-readable g c honest =

@@ -1,0 +1,87 @@
+-- What each way of serving gives is what its front gives.
+use Rattle.std.proofs.Common.{◌≡◌, ℕ, Bool, true, List, Some, None, Result, Ok, Err, IfOk, OnOk, sym, subst}
+use Rattle.broker_types.specs.declared.fault.Fault.{Fault}
+use Rattle.broker_types.specs.declared.status.Status.{Status}
+use Rattle.broker_types.specs.declared.words.Words.{Words}
+use Rattle.broker_types.specs.Answer.{Response}
+use Rattle.broker_types.specs.Broker.{Broker}
+use Rattle.broker_types.specs.declared.ask.Ask.{Ask}
+use Rattle.broker_model.specs.Step.{step}
+use Rattle.broker_rows.specs.ClockRow.{HasClock}
+use Rattle.broker_rows.specs.Representing.{Represents}
+use Rattle.broker.specs.Kept.{Kept, IsHonestStore}
+use Rattle.records.specs.Transaction.{Rows}
+use Rattle.http_layer.specs.Asked.{asked}
+use Rattle.http_layer.specs.Refusing.{RefusalParts, front_refused}
+use Rattle.http_layer.specs.Closing.{closes}
+use Rattle.http_layer.specs.Front.{refused_with, whole, IsFront}
+use Rattle.http_layer.specs.HeadParts.{HeadParts}
+use Rattle.http_layer.specs.Reply.{IsReply}
+use Rattle.hub.specs.AnyRows.{IsRequestReply}
+use Rattle.hub.specs.World.{request_closes, request_effect}
+use Rattle.hub.specs.Feeding.{IsServed, ServesFront}
+use Rattle.hub.specs.declared.front.Served.{Served}
+
+-- a front is refused, and the store is not asked
+pub refusal_serves : (r : Result Served Fault) (rest : List ℕ) (status : Status) (store : Kept) (m : ℕ) (w : Words) → IsFront rest (refused_with status)
+    → IfOk r (λ s. IsReply (front_refused status) m true s.bytes.items) → IfOk r (λ s. s.len ≡ None) → IfOk r (λ s. s.closes ≡ true)
+    → IfOk r (ServesFront store store m w rest)
+refusal_serves (Err e) rest status store m w front reply len closing = tt
+refusal_serves (Ok s) rest status store m w front reply len closing =
+    record {
+      front = refused_with status;
+      is_front = front;
+      len = len;
+      closes = closing;
+      reply = reply;
+      broker = λ honest b held. record { reply = reply; broker = held };
+      clock = λ honest. tt;
+    }
+
+-- what was served is the reply to a whole request
+pub record RequestServed (old new : Kept) (m : ℕ) (w : Words) (p : HeadParts) (body : List ℕ) (s : Served) : Type 0 where
+  pub closes : s.closes ≡ request_closes p (asked p body)
+  pub reply : IsRequestReply m (request_closes p (asked p body)) (asked p body) s.bytes.items
+  pub broker : IsHonestStore new → (b : Broker) → Represents None old.rows b
+      → IsServed (request_effect b m w (asked p body)) m (request_closes p (asked p body)) s.bytes.items new.rows
+  pub clock : IsHonestStore new → OnOk (asked p body) (HasClock old.rows)
+
+pub request_serves : (r : Result Served Fault) (rest : List ℕ) (len : ℕ) (p : HeadParts) (body : List ℕ) (old new : Kept) (m : ℕ) (w : Words)
+    → IsFront rest (whole len p body) → IfOk r (λ s. s.len ≡ Some len)
+    → IfOk r (RequestServed old new m w p body) → IfOk r (ServesFront old new m w rest)
+request_serves (Err e) rest len p body old new m w front told served = tt
+request_serves (Ok s) rest len p body old new m w front told served =
+    record {
+      front = whole len p body;
+      is_front = front;
+      len = told;
+      closes = served.closes;
+      reply = served.reply;
+      broker = served.broker;
+      clock = served.clock;
+    }
+
+-- the clauses of `serve_request`, as one
+pub request_served : (r : Result Served Fault) (old new : Kept) (m : ℕ) (w : Words) (p : HeadParts) (body : List ℕ)
+    → IfOk r (λ s. s.closes ≡ request_closes p (asked p body))
+    → IfOk r (λ s. IsRequestReply m (request_closes p (asked p body)) (asked p body) s.bytes.items)
+    → (IsHonestStore new → (b : Broker) → Represents None old.rows b
+    → IfOk r (λ s. IsServed (request_effect b m w (asked p body)) m (request_closes p (asked p body)) s.bytes.items new.rows))
+    → (IsHonestStore new → OnOk r (OnOk (asked p body) (HasClock old.rows)))
+    → IfOk r (RequestServed old new m w p body)
+request_served (Err e) old new m w p body closing reply broker clock = tt
+request_served (Ok s) old new m w p body closing reply broker clock =
+    record { closes = closing; reply = reply; broker = broker; clock = clock }
+
+-- ---- what a request that asks the broker gives
+
+pub asked_served : (b : Broker) (m : ℕ) (w : Words) (p : HeadParts) (x : Result Ask RefusalParts) (ask : Ask) (a : Response) (close : Bool)
+    (bytes : List ℕ) (rows : Rows)
+    → x ≡ Ok ask → close ≡ closes p → a ≡ (step b m w ask).response → IsReply a m close bytes → Represents None rows (step b m w ask).next
+    → IsServed (request_effect b m w x) m (request_closes p x) bytes rows
+asked_served b m w p x ask a close bytes rows is same response reply held =
+    subst (λ (y : Result Ask RefusalParts). IsServed (request_effect b m w y) m (request_closes p y) bytes rows) (sym is)
+    (record {
+      reply = subst (λ (c : Bool). IsReply (step b m w ask).response m c bytes) same (subst (λ (t : Response). IsReply t m close bytes) response reply);
+      broker = held;
+    })

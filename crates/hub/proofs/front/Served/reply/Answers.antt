@@ -1,0 +1,11 @@
+use Rattle.std.proofs.Common.{◌≡◌, ◌∙◌, ◌++◌, List, ℕ, ap, sym, subst}
+use Rattle.broker_types.specs.Answer.{response_of}
+use Rattle.http_layer.specs.Reply.{IsReply}
+use Rattle.hub.proofs.front.Served.reply.Goals as goal
+
+pub returns-clause-reply : goal.returns-clause-reply
+returns-clause-reply c =
+    let reply = c.reply_bytes.result in
+    let same : c.append_to.new.room.items ≡ reply =
+    c.in-Ok.ensures.ok ∙ ap (λ (l : List ℕ). l ++ reply) c.into_vec-bytes.ensures.empty in
+    subst (IsReply (response_of c.args.answer) c.args.moment c.args.closes) (sym same) c.reply_bytes.ensures.reply

@@ -1,0 +1,49 @@
+use Rattle.std.proofs.Common.{Ok, Err, ap, sym, subst, ◌∙◌}
+use Rattle.std.proofs.lemmas.Result.{err_from_is_err_and}
+use Rattle.broker_types.specs.Operation.{nothing, plainly}
+use Rattle.broker_types.specs.Sound.{Sound}
+use Rattle.records.specs.Parts.{of_secrets}
+use Rattle.kv2.specs.SoundLaws.{is_secret_name}
+use Rattle.broker_model.specs.Forms.{forms}
+use Rattle.broker_rows.specs.Operating.{ActsAs}
+use Rattle.broker_rows.specs.RepresentingLaws.{tells_part}
+use Rattle.broker_rows.specs.declared.answered.Answered.TheVariants.{Nothing}
+use Rattle.secret_operations.specs.VersionChanges.{IsTimely, change_of}
+use Rattle.secret_operations.proofs.Changes.{acts_on_versions, as_changed, changed_sound}
+use Rattle.secret_operations.proofs.Changes.{only_secrets, versions_readable}
+use Rattle.secret_operations.proofs.secrets.changes.change_versions.Goals as goal
+
+pub returns-in_err-change_rows-clause-told : goal.returns-in_err-change_rows-clause-told
+returns-in_err-change_rows-clause-told g c named good who x timely honest b starts fresh =
+    let p = err_from_is_err_and c.from_residual.result c.from_residual.ensures.1 in
+    rw (p.1 ∙ ap Err p.2)
+    (c.in_err-change_rows.ensures.wants honest forms b starts.represents.sound.secrets
+    (tells_part of_secrets b (g.T.RecordsTx.seen c.args.tx.now).rows starts.represents)
+    (is_secret_name c.args.mount.now c.args.path.now named (record { good = good; utf8 = c.utf8.path })))
+
+pub returns-clause-told : goal.returns-clause-told
+returns-clause-told g c named good who x timely honest b starts fresh =
+    let seen = g.T.RecordsTx.seen in
+    let mount = c.args.mount.now in
+    let path = c.args.path.now in
+    let ns = c.args.numbers.now in
+    let st = starts.represents in
+    let timely_there = subst (λ n. IsTimely n c.args.change) (sym starts.clock) timely in
+    let is = as_changed b mount path ns c.args.change timely_there in
+    subst (λ next. ActsAs who b (seen c.change_rows.new.tx).rows (Ok Nothing) (Ok (plainly nothing next))) is
+    (acts_on_versions (change_of c.args.change) ns mount path (seen c.args.tx.now) (seen c.change_rows.new.tx)
+    c.in_ok-change_rows.field-0 c.in_ok-change_rows.ensures honest b who st
+    (is_secret_name mount path named (record { good = good; utf8 = c.utf8.path }))
+    (subst (Sound forms who) (sym is) (changed_sound b mount path ns who st.sound c.args.change)))
+
+pub returns-clause-readable : goal.returns-clause-readable
+returns-clause-readable g c honest =
+    let seen = g.T.RecordsTx.seen in
+    versions_readable (change_of c.args.change) c.args.numbers.now c.args.mount.now c.args.path.now
+    (seen c.args.tx.now) (seen c.change_rows.new.tx) c.in_ok-change_rows.field-0 c.in_ok-change_rows.ensures honest
+
+pub returns-clause-rows : goal.returns-clause-rows
+returns-clause-rows g c honest =
+    let seen = g.T.RecordsTx.seen in
+    only_secrets (change_of c.args.change) c.args.numbers.now c.args.mount.now c.args.path.now
+    (seen c.args.tx.now) (seen c.change_rows.new.tx) c.in_ok-change_rows.field-0 c.in_ok-change_rows.ensures honest

@@ -1,0 +1,68 @@
+//! What is said before a large database is opened.
+
+ghost use Rattle.std.specs.Prelude.{◌≡◌, IfOk, option_map, string_bytes};
+ghost use Rattle.server.specs.Opening.{megabytes, opening_text};
+
+use crate::log::Log;
+use broker_types::Fault;
+use std::alloc::{AllocError, Global};
+use std::fs;
+use std::io::Eprint;
+use std::rc::Rc;
+use std::rt::HostRuntime;
+
+/// From so many bytes on a database takes a second or more to open.
+const LARGE: u64 = 20_000_000;
+
+/// The bytes of a megabyte.
+const MEGABYTE: u64 = 1_000_000;
+
+/// Says on standard error, or in the log, that a database is opened, if it is large. Nobody has to read it. The only
+/// error is running out of memory.
+pub(crate) fn tell_opening(
+    rt: &HostRuntime,
+    path: &str,
+    log: &Option<Rc<Log>>,
+) -> Result<(), Fault> {
+    let Some(line) = opening_line(rt.alloc(), path, bytes_of(rt, path)?)? else {
+        return Ok(());
+    };
+    match log {
+        Some(log) => log.tell(line),
+        None => {
+            let _ = eprintln!(rt; "{line}");
+        }
+    }
+    Ok(())
+}
+
+/// The bytes of a database and of its log, which is beside it; a file that is not there has none.
+fn bytes_of(rt: &HostRuntime, path: &str) -> Result<u64, AllocError> {
+    let log = format!(in rt.alloc(); "{path}-wal")?;
+    Ok(length(rt, path).saturating_add(length(rt, &log)))
+}
+
+fn length(rt: &HostRuntime, path: &str) -> u64 {
+    match fs::metadata(rt, path) {
+        Ok(found) => found.len(),
+        Err(_) => 0,
+    }
+}
+
+/// The line that says that a database of so many bytes is opened, without its end; none if it is not large.
+fn opening_line(alloc: Global, path: &str, bytes: u64) -> Result<Option<String>, AllocError>
+    ensures { IfOk result (λ line. option_map string_bytes line ≡ opening_text path.now bytes) }
+{
+    if bytes < LARGE {
+        return Ok(None);
+    }
+    let size = megabytes(bytes);
+    Ok(Some(format!(in alloc; "opening {path}: {size} MB")?))
+}
+
+/// So many bytes in megabytes, rounded.
+fn megabytes(bytes: u64) -> u64
+    ensures { result ≡ megabytes bytes }
+{
+    bytes / MEGABYTE + (bytes % MEGABYTE + MEGABYTE / 2) / MEGABYTE
+}
