@@ -41,6 +41,8 @@ is_read() {
     cp "$part/$name" "$part/$name-wal" "$part/read"
     said=$("${BROKERD:-brokerd}" serve --listen nowhere --db "$part/read/$name" 2>&1) || true
     rm -r "$part/read"
+    # It says first that it opens a large one.
+    said=${said#"opening $part/read/$name: "* MB$'\n'}
     [ "$said" = 'fault 5' ]
 }
 

@@ -1,9 +1,10 @@
 #!/bin/bash
 # Starts `brokerd serve` and asks it as its users do: by curl, by `client` if it is there, by Python's hvac and by
 # Ansible if they are installed, and on one connection 10,000 times; then by wrong command lines, over a file that is
-# opened again, over one that an earlier program wrote, by many peers at once, some of which are idle or slow, by drawn
-# requests on 64 connections, and on 100,000 connections. It takes some 90 seconds, and more with Ansible. BROKERD and
-# CLIENT name other programs. The last line is 'N passed, M failed'; the status is 0 if nothing failed.
+# opened again, over one that an earlier program wrote, for what changes after a hundred replies, by many peers at once,
+# some of which are idle or slow, by drawn requests on 64 connections, and on 100,000 connections. It takes some two
+# minutes, and more with Ansible. BROKERD and CLIENT name other programs. The last line is 'N passed, M failed'; the
+# status is 0 if nothing failed.
 set -u
 cd "$(dirname "$0")/.."
 
@@ -333,7 +334,9 @@ if [ "$status" -eq 0 ] && [ ! -s "$found/served.err" ]; then pass; else fail "af
 serve_without_an_end
 keep_in_a_file
 count python3 tests/clients/databases.py "$program"
+count python3 tests/clients/large_files.py "$program"
 count python3 tests/clients/damaged.py "$program"
+limit=300 count python3 tests/clients/remembered.py "$program"
 count python3 tests/upgrade/opened.py "$program"
 count python3 tests/upgrade/rewritten.py "$program"
 count python3 tests/upgrade/killed.py "$program" --keys 5000

@@ -2,6 +2,7 @@
 
 import itertools
 import os
+import re
 import resource
 import select
 import signal
@@ -15,6 +16,7 @@ PATIENCE = 200  # seconds until a program listens, answers or has ended by itsel
 PAUSE = 0.001  # between two looks at it
 IDLE = 0.15  # after which the program may have closed a connection: it does after 0.25
 PORTS = itertools.count()
+OPENING = re.compile(r"\Aopening .*: \d+ MB\n")  # what a start says first of a large database
 
 
 class Wrong(Exception):
@@ -35,7 +37,7 @@ class End:
     """How a program ended."""
     status: int  # its exit status, or minus the signal that ended it
     printed: str  # on standard output
-    said: str  # on standard error
+    said: str  # on standard error, after the line of a large database
     memory: int  # the most that it had in memory at once, in kB
     seconds: float  # of processor time that it took
 
@@ -196,7 +198,7 @@ class Running:
             self.connection.close()
         with self.process.stdout as printed, self.process.stderr as said:
             told = (self.printed + printed.read()).decode(errors="replace")
-            error = said.read().decode(errors="replace")
+            error = OPENING.sub("", said.read().decode(errors="replace"))
         return End(self.process.returncode, told, error, self.memory, self.seconds)
 
     def __enter__(self):
