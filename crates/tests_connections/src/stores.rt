@@ -132,6 +132,17 @@ fn a_broker_is_started_once(rt: HostRuntime) -> Result<(), Fail> {
     Ok(())
 }
 
+/// Whether the records have the row of the key in format 2.
+fn has_new_key(records: &mut Records) -> Result<bool, Fault> {
+    let found = records.begin()?.get(Kind::KvKey, "secret/x")?;
+    match found {
+        Some(key) => {
+            Ok(key.owner.as_str() == "" && key.due.is_none() && key.body.as_slice() == KEY)
+        }
+        None => Ok(false),
+    }
+}
+
 /// Whether opening makes the row of a key in format 1 that of the same key in format 2.
 fn upgrades(alloc: Global) -> Result<bool, Fault> {
     let mut records = SqlRecords::in_memory(alloc)?;
@@ -140,10 +151,7 @@ fn upgrades(alloc: Global) -> Result<bool, Fault> {
     tx.put(Kind::KvKey, "secret/x", row(alloc, "", OLD_KEY)?)?;
     tx.commit()?;
     let mut records = SqlStore::adopt(alloc, records)?.into_records();
-    let found = records.begin()?.get(Kind::KvKey, "secret/x")?;
-    Ok(found.is_some_and(|key| {
-        key.owner.as_str() == "" && key.due.is_none() && key.body.as_slice() == KEY
-    }))
+    has_new_key(&mut records)
 }
 
 #[test]
