@@ -1,0 +1,15 @@
+mod AnswerLemmas
+mod ChainLemmas
+mod Gather
+mod IdentifiersSound
+mod OthersSound
+mod PageLemmas
+mod ReadBack
+mod SecretTells
+mod TextLemmas
+mod TokenFacts
+mod TokenTells
+mod TokensSound
+mod VisitLemmas
+mod WalkLemmas
+mod Whole

@@ -1,0 +1,203 @@
+-- A walk over the rows of a kind by pages.
+use Rattle.std.specs.Prelude.{◌≡◌, ◌<◌, ◌-◌, ◌&&◌, ◌++◌, [], ◌∷◌, ℕ, List, take, drop, length, slice_get, min, nat_eq}
+use Rattle.std.specs.Prelude.{Bool, true, false, not, cond, T, Some, None, All, Contains}
+use Rattle.std.specs.declared.cmp.Ordering.{Ordering}
+use Rattle.std.specs.declared.cmp.Ordering.TheVariants.{Less, Equal, Greater}
+use Rattle.std.specs.Cmp.{eq_by_cmp_equiv, nat_cmp_total}
+use Rattle.std.specs.FinMap.{get, entries, find, is_sorted, entries_sorted}
+use Rattle.std.specs.FinMap.Entries.{is_sorted-where_key}
+use Rattle.std.specs.List.{starts_with}
+use Rattle.std.specs.Ordering.{nat_cmp, is_eq, is_ge, is_le, ordering_then}
+use Rattle.std.proofs.Common.{refl, sym, ◌∙◌, ap, subst, arith}
+use Rattle.std.proofs.lemmas.Bool.{and_parts, false≢true}
+use Rattle.std.proofs.lemmas.List.{take-append-drop, take_all, length-take}
+use Rattle.std.proofs.lemmas.List.Elements.{All-contains, All-contains_itself, Contains-append_left, Contains-append_right}
+use Rattle.broker_types.specs.Text.{Text, text_cmp}
+use Rattle.records.specs.declared.kind.Kind.{Kind}
+use Rattle.records.specs.declared.row.Row.{Row}
+use Rattle.records.specs.EntryLaws.{Contains-filter, kept_cases, passing_whole, found_in, in_found}
+use Rattle.records.specs.Kind.{RowKey, key_cmp, kind_number, is_of_kind}
+use Rattle.records.specs.KeyLaws.{key_cmp_total, key_cmp_exact, same_kind}
+use Rattle.records.specs.SplitLaws.{eqb_self}
+use Rattle.records.specs.Table.{table_of}
+use Rattle.records.specs.Transaction.{Rows, rows_under, rows_from}
+use Rattle.records.proofs.ChildLemmas.{begins_with}
+use Rattle.records.proofs.UpgradeWalk.{last_of, last_got, page_finds}
+use Rattle.soundness.specs.SoundRows.{Places}
+use Rattle.soundness.specs.Visiting.{Grows, IsPassed, ArePassed}
+use Rattle.soundness.proofs.VisitLemmas.{still_passed}
+
+-- ---- the least text above another
+
+not_below_none : (q : Text) → is_ge (text_cmp q []) ≡ true
+not_below_none [] = refl
+not_below_none (c ∷ q) = refl
+
+above_none : (c : ℕ) (q : Text) → is_ge (ordering_then (nat_cmp c 0) (text_cmp q [])) ≡ true
+above_none c q = one (nat_cmp c 0) refl
+  where
+    one : (o : Ordering) → nat_cmp c 0 ≡ o → is_ge (ordering_then o (text_cmp q [])) ≡ true
+    one Less is = let low : c < 0 = grind (arith, is) in absurd (omega (arith, low))
+    one Equal is = not_below_none q
+    one Greater is = refl
+
+just_above : (q k : Text) → is_ge (text_cmp q (k ++ 0 ∷ [])) ≡ not (is_le (text_cmp q k))
+just_above [] [] = refl
+just_above [] (d ∷ k) = refl
+just_above (c ∷ q) [] = above_none c q
+just_above (c ∷ q) (d ∷ k) = elim (nat_cmp c d) as
+    (λ o. is_ge (ordering_then o (text_cmp q (k ++ 0 ∷ []))) ≡ not (is_le (ordering_then o (text_cmp q k)))) [
+      | Less ↦ refl
+      | Equal ↦ just_above q k
+      | Greater ↦ refl
+    ]
+
+turned : (b : Bool) → not b ≡ false → b ≡ true
+turned true h = refl
+turned false h = absurd (false≢true (sym h))
+
+tied : (o : Ordering) → is_eq o ≡ true → o ≡ Equal
+tied Less h = absurd (false≢true h)
+tied Equal h = refl
+tied Greater h = absurd (false≢true h)
+
+T_true : (b : Bool) → T b → b ≡ true
+T_true true t = refl
+T_true false t = absurd t
+
+-- keys of one kind are in the order of their texts
+one_kind : (k : Kind) (q t : Text) → key_cmp (k, q) (k, t) ≡ text_cmp q t
+one_kind k q t =
+    ap (λ o. ordering_then o (text_cmp q t)) (tied _ ((eq_by_cmp_equiv nat_cmp_total).refl (kind_number k)))
+
+-- the last of a list is in it
+last_in : (e : RowKey × Row) (es : List (RowKey × Row)) → Contains (e ∷ es) (last_of key_cmp key_cmp_total e es)
+last_in e [] = All-contains_itself (e ∷ []) 0 e (omega arith)
+last_in e (f ∷ fs) = Contains-append_right (e ∷ []) (f ∷ fs) _ (last_in f fs)
+
+-- ---- a page
+
+module _ (rows : Rows) (k : Kind) (from : Text) (count : ℕ) (page : List (RowKey × Row))
+    (is : page ≡ take count (rows_from rows k [] from)) where
+  abbrev listed : List (RowKey × Row)
+  listed = rows_from rows k [] from
+
+  abbrev is_under : RowKey × Row → Bool
+  is_under e = is_of_kind k e.0 && starts_with nat_eq e.0.1 []
+
+  abbrev is_from : RowKey × Row → Bool
+  is_from e = is_ge (text_cmp e.0.1 from)
+
+  -- a row from the key on is listed
+  in_list : (q : Text) (row : Row) → get rows (k, q) ≡ Some row → is_ge (text_cmp q from) ≡ true
+      → Contains listed ((k, q), row)
+  in_list q row here at =
+      Contains-filter is_from (rows_under rows k []) ((k, q), row)
+      (passing_whole rows is_under (k, q) row here
+      (λ i. eqb_self (kind_number k) i && begins_with [] q q refl i)) at
+
+  split : page ++ drop count listed ≡ listed
+  split = ap (λ es. es ++ drop count listed) is ∙ take-append-drop count listed
+
+  listed_sorted : T (is_sorted key_cmp listed)
+  listed_sorted =
+      is_sorted-where_key key_cmp (λ x. is_ge (text_cmp x.1 from)) (rows_under rows k [])
+      (is_sorted-where_key key_cmp (λ x. is_of_kind k x && starts_with nat_eq x.1 []) (entries rows) (entries_sorted rows))
+
+  -- a page that is not full has all
+  pub short_page : length page < count → (q : Text) (row : Row) → get rows (k, q) ≡ Some row
+      → is_ge (text_cmp q from) ≡ true → Contains page ((k, q), row)
+  short_page short q row here at =
+      let long : length page ≡ min count (length listed) = ap length is ∙ length-take count listed in
+      let whole : page ≡ listed = is ∙ take_all count listed (omega (arith, long, short)) in
+      subst (λ es. Contains es ((k, q), row)) (sym whole) (in_list q row here at)
+
+  listed_kind : (e : RowKey × Row) → Contains listed e → is_of_kind k e.0 ≡ true
+  listed_kind e has =
+      let under = kept_cases is_from (rows_under rows k []) in
+      let each = kept_cases is_under (entries rows) in
+      (and_parts _ _ (All-contains (λ f. Contains (entries rows) f × (is_under f ≡ true)) (rows_under rows k []) e each
+      (All-contains (λ f. Contains (rows_under rows k []) f × (is_from f ≡ true)) listed e under has).0).1).0
+
+  -- a page has all rows up to the last of it
+  module _ (first : RowKey × Row) (others : List (RowKey × Row)) (begins : page ≡ first ∷ others) where
+    abbrev last : RowKey × Row
+    last = last_of key_cmp key_cmp_total first others
+
+    whole : first ∷ others ++ drop count listed ≡ listed
+    whole = ap (λ es. es ++ drop count listed) (sym begins) ∙ split
+
+    last_kind : last.0.0 ≡ k
+    last_kind =
+        same_kind last.0.0 k (listed_kind last
+        (subst (λ es. Contains es last) whole
+        (Contains-append_left (first ∷ others) (drop count listed) last (last_in first others))))
+
+    pub long_page : (q : Text) (row : Row) → get rows (k, q) ≡ Some row → is_ge (text_cmp q from) ≡ true
+        → is_ge (text_cmp q (last.0.1 ++ 0 ∷ [])) ≡ false → Contains page ((k, q), row)
+    long_page q row here at low =
+        let key : last.0 ≡ (k, last.0.1) = λ i. (last_kind i, last.0.1) in
+        let upto : is_le (key_cmp (k, q) last.0) ≡ true =
+        ap (λ x. is_le (key_cmp (k, q) x)) key ∙ ap is_le (one_kind k q last.0.1)
+        ∙ turned _ (sym (just_above q last.0.1) ∙ low) in
+        let sorted : is_sorted key_cmp (first ∷ others ++ drop count listed) ≡ true =
+        ap (is_sorted key_cmp) whole ∙ T_true _ listed_sorted in
+        let all : find key_cmp (k, q) (first ∷ others ++ drop count listed) ≡ Some row =
+        ap (find key_cmp (k, q)) whole
+        ∙ in_found key_cmp key_cmp_total listed listed_sorted ((k, q), row) (in_list q row here at) in
+        let found : find key_cmp (k, q) (first ∷ others) ≡ Some row =
+        page_finds key_cmp key_cmp_total first others (drop count listed) sorted (k, q)
+        ∙ ap (λ b. cond b (find key_cmp (k, q) (first ∷ others ++ drop count listed)) None) upto ∙ all in
+        subst (λ es. Contains es ((k, q), row)) (sym begins)
+        (found_in key_cmp key_cmp_exact (k, q) row (first ∷ others) found)
+
+-- ---- the walk
+
+-- each row of the kind below a key has passed
+abbrev pub ArePassedBelow : Rows → Places → Places → Kind → Text → Type 0
+ArePassedBelow rows i o k from =
+    (q : Text) (row : Row) → get rows (k, q) ≡ Some row → is_ge (text_cmp q from) ≡ false
+    → IsPassed (table_of rows) i o ((k, q), row)
+
+-- no key is below the first
+pub none_below : (rows : Rows) (i o : Places) (k : Kind) → ArePassedBelow rows i o k []
+none_below rows i o k q row here low = absurd (false≢true (sym low ∙ not_below_none q))
+
+pub below_still : (rows : Rows) (i j o p : Places) → Grows i j → Grows o p → (k : Kind) (from : Text)
+    → ArePassedBelow rows i o k from → ArePassedBelow rows j p k from
+below_still rows i j o p more_i more_o k from below =
+    λ q row here low. still_passed (table_of rows) i j o p more_i more_o ((k, q), row) (below q row here low)
+
+module _ (rows : Rows) (i o : Places) (k : Kind) (from : Text) (count : ℕ) (page : List (RowKey × Row))
+    (is : page ≡ take count (rows_from rows k [] from)) (below : ArePassedBelow rows i o k from)
+    (all : All (IsPassed (table_of rows) i o) page) where
+  -- a page that is not full ends the walk
+  pub pages_end : length page < count → ArePassed (table_of rows) i o k
+  pages_end short q row here =
+      elim (is_ge (text_cmp q from))
+      as (λ v. is_ge (text_cmp q from) ≡ v → IsPassed (table_of rows) i o ((k, q), row)) [
+        | true ↦ λ at. All-contains (IsPassed (table_of rows) i o) page ((k, q), row) all
+            (short_page rows k from count page is short q row here at)
+        | false ↦ λ low. below q row here low
+      ] refl
+
+  -- any other is followed by the one from just above its last key on
+  pub pages_go_on : 0 < length page
+      → (e : RowKey × Row) × (slice_get page (length page - 1) ≡ Some e)
+      × ArePassedBelow rows i o k (e.0.1 ++ 0 ∷ [])
+  pages_go_on some = by page refl
+    where
+      by : (es : List (RowKey × Row)) → page ≡ es
+          → (e : RowKey × Row) × (slice_get page (length page - 1) ≡ Some e)
+          × ArePassedBelow rows i o k (e.0.1 ++ 0 ∷ [])
+      by [] none = absurd (let long : length page ≡ 0 = ap length none in omega (arith, some, long))
+      by (e ∷ es) begins = (
+        last_of key_cmp key_cmp_total e es,
+        ap (λ (l : List (RowKey × Row)). slice_get l (length l - 1)) begins ∙ last_got key_cmp key_cmp_total e es,
+        λ q row here low. elim (is_ge (text_cmp q from))
+            as (λ v. is_ge (text_cmp q from) ≡ v → IsPassed (table_of rows) i o ((k, q), row)) [
+              | true ↦ λ at. All-contains (IsPassed (table_of rows) i o) page ((k, q), row) all
+                  (long_page rows k from count page is e es begins q row here at low)
+              | false ↦ λ under. below q row here under
+            ] refl,
+      )

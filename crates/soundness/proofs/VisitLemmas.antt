@@ -1,0 +1,84 @@
+-- What a walk over rows knows of the rows that it has passed.
+use Rattle.std.specs.Prelude.{◌≢◌, ◌&&◌, [], List, nat_eq, None, All}
+use Rattle.std.specs.List.{starts_with}
+use Rattle.std.proofs.lemmas.List.Elements.{All-weaker, All-contains}
+use Rattle.std.proofs.Common.{refl}
+use Rattle.broker_types.specs.Text.{Text}
+use Rattle.records.specs.declared.kind.Kind.{Kind}
+use Rattle.records.specs.declared.kind.Kind.TheVariants as kind
+use Rattle.records.specs.declared.row.Row.{Row}
+use Rattle.records.specs.EntryLaws.{passing_whole}
+use Rattle.records.specs.Kind.{RowKey, kind_number, is_of_kind}
+use Rattle.records.specs.SplitLaws.{eqb_self}
+use Rattle.records.specs.Table.{Table, table_of}
+use Rattle.records.specs.Transaction.{Rows, rows_under}
+use Rattle.records.proofs.ChildLemmas.{begins_with}
+use Rattle.soundness.specs.SoundRows.{Places, IsHad, HasItsIdentifier, AreSound}
+use Rattle.soundness.specs.Visiting.{Grows, HasItsOrigin, IsPassed, ArePassed}
+
+-- ---- more rows that are noted
+
+module _ (rows : Table) (old new : Places) (grows : Grows old new) where
+  still_had : (key : RowKey) (i : Text) → IsHad rows old key i → IsHad rows new key i
+  still_had key i had = (had.0, had.1, had.2, had.3, grows had.0 key had.4)
+
+  still_identified : (k : Kind) (q : Text) → HasItsIdentifier rows old k q → HasItsIdentifier rows new k q
+  still_identified kind.Token q had = (had.0, had.1, still_had (kind.Token, q) had.0 had.2)
+  still_identified kind.Waiting q had = (had.0, had.1, still_had (kind.Waiting, q) had.0 had.2)
+  still_identified kind.Accessor q had = still_had (kind.Accessor, q) q had
+  still_identified kind.Credential q had = still_had (kind.Credential, q) q had
+  still_identified kind.Lease q had = still_had (kind.Lease, q) _ had
+  still_identified _ q had = tt
+
+  still_of_origin : (k : Kind) (q : Text) (row : Row) → HasItsOrigin rows old k q row → HasItsOrigin rows new k q row
+  still_of_origin kind.Waiting q row had =
+      (had.0, (had.1.0, still_had (kind.Waiting, q) had.0.origin had.1.1), had.2)
+  still_of_origin _ q row had = tt
+
+-- what was passed stays so
+pub still_passed : (rows : Table) (i j o p : Places) → Grows i j → Grows o p → (e : RowKey × Row) → IsPassed rows i o e
+    → IsPassed rows j p e
+still_passed rows i j o p more_i more_o e passed =
+    record {
+      sound = passed.sound;
+      identifier = still_identified rows i j more_i e.0.0 e.0.1 passed.identifier;
+      origin = still_of_origin rows o p more_o e.0.0 e.0.1 e.1 passed.origin;
+      chain = passed.chain;
+    }
+
+pub all_still_passed : (rows : Table) (i j o p : Places) → Grows i j → Grows o p → (es : List (RowKey × Row))
+    → All (IsPassed rows i o) es → All (IsPassed rows j p) es
+all_still_passed rows i j o p more_i more_o es all =
+    All-weaker (IsPassed rows i o) (IsPassed rows j p) (still_passed rows i j o p more_i more_o) es all
+
+-- nothing grows less
+pub grows_further : (a b c : Places) → Grows a b → Grows b c → Grows a c
+grows_further a b c ab bc = λ word key is. bc word key (ab word key is)
+
+-- ---- rows of a kind
+
+-- a walk over the rows of a kind has passed each
+pub kind_passed : (rows : Rows) (k : Kind) (identifiers origins : Places)
+    → All (IsPassed (table_of rows) identifiers origins) (rows_under rows k [])
+    → ArePassed (table_of rows) identifiers origins k
+kind_passed rows k identifiers origins all q row is =
+    All-contains (IsPassed (table_of rows) identifiers origins) (rows_under rows k []) ((k, q), row) all
+    (passing_whole rows (λ e. is_of_kind k e.0 && starts_with nat_eq e.0.1 []) (k, q) row is
+    (λ i. eqb_self (kind_number k) i && begins_with [] q q refl i))
+
+pub kind_still_passed : (rows : Table) (i j o p : Places) → Grows i j → Grows o p → (k : Kind) → ArePassed rows i o k
+    → ArePassed rows j p k
+kind_still_passed rows i j o p more_i more_o k passed =
+    λ q row is. still_passed rows i j o p more_i more_o ((k, q), row) (passed q row is)
+
+-- rows that were all passed keep the rules
+pub passed_sound : (rows : Table) (identifiers origins : Places) → rows kind.Clock [] ≢ None
+    → ((k : Kind) → ArePassed rows identifiers origins k) → AreSound rows
+passed_sound rows identifiers origins clock passed =
+    record {
+      clock = clock;
+      each = λ k q row is. (passed k q row is).sound;
+      identifiers = (identifiers, λ k q row is. (passed k q row is).identifier);
+      origins = (origins, λ t row is. (passed kind.Waiting t row is).origin);
+      chains = λ t row is. (passed kind.Token t row is).chain;
+    }

@@ -1,0 +1,15 @@
+use Rattle.std.specs.Prelude.{All}
+use Rattle.records.specs.Table.{Table}
+use Rattle.soundness.specs.SoundRows.{Ends}
+use Rattle.soundness.specs.Visiting.{EachEnds, IsAbove}
+use Rattle.soundness.proofs.chains.add_each.Given as goal
+
+-- chains end as before
+abbrev pub invariant-loop-token : goal.invariant-loop-token
+invariant-loop-token l =
+    record {
+      words : (rows : Table) → All (λ e. Ends rows e.0.1) l.tokens → EachEnds rows l.initial.words
+          → EachEnds rows l.words;
+      queue : (rows : Table) → All (λ e. Ends rows e.0.1) l.tokens → All (IsAbove rows) l.initial.queue.items
+          → All (IsAbove rows) l.queue.items;
+    }

@@ -1,0 +1,54 @@
+use Rattle.std.proofs.Common.{rules, ◌<◌, length, sym, ◌∙◌, subst, refl, arith, inl}
+use Rattle.std.specs.Prelude.{All}
+use Rattle.std.proofs.lemmas.List.Elements.{All-push, All-nil}
+use Rattle.records.specs.declared.kind.Kind.TheVariants as kind
+use Rattle.records.specs.declared.row.Row.{Row}
+use Rattle.records.specs.CallLaws.{honest_before}
+use Rattle.records.specs.Kind.{RowKey}
+use Rattle.records.specs.Table.{table_of}
+use Rattle.records.specs.Transaction.{IsHonest, rows_owned}
+use Rattle.soundness.specs.SoundRows.{Ends}
+use Rattle.soundness.specs.Visiting.{IsAbove}
+use Rattle.soundness.proofs.ChainLemmas.{children_end, none_ends}
+use Rattle.soundness.proofs.chains.rooted.Goals as goal
+
+pub loop-next-init : goal.loop-next-init
+loop-next-init g c =
+    let rows = table_of (g.T.RecordsTx.seen c.args.tx.now).rows in
+    record {
+      same = λ honest. refl;
+      words = λ honest. none_ends rows _ c.new-words.ensures.empty;
+      queue = λ honest. subst (All (IsAbove rows)) (sym c.in_ok-push.ensures.items)
+          (All-push (IsAbove rows) _ c.in_ok-copied.field-0
+          (subst (All (IsAbove rows)) (sym c.new-queue.ensures.items) (All-nil (IsAbove rows)))
+          (inl c.in_ok-copied.ensures));
+      goes_on = search rules;
+    }
+
+pub loop-next-preserved : goal.loop-next-preserved
+loop-next-preserved g c =
+    let seen = g.T.RecordsTx.seen in
+    let rows = (seen c.args.tx.now).rows in
+    let es = c.loop-next.queue.items in
+    let next = c.index.result.now in
+    let below : c.loop-next.next < length es = omega (arith, c.loop-next-test.true, c.len.ensures) in
+    let asked = c.as_str.ensures ∙ c.index.ensures in
+    let children : (honest : IsHonest (seen c.by_owner.new.self))
+    → All (λ (e : RowKey × Row). Ends (table_of rows) e.0.1) c.deref.result.now = λ honest.
+    let before = honest_before (seen c.loop-next.tx) (seen c.by_owner.new.self) _ c.in_ok-children.ensures.call.goes_on honest in
+    let above = c.loop-next.invariant.queue before c.loop-next.next next below in
+    let listed = c.deref.ensures.value ∙ c.in_ok-children.ensures.listed honest
+    ∙ (λ i. rows_owned (c.loop-next.invariant.same before i) kind.Token (asked i)) in
+    subst (All (λ (e : RowKey × Row). Ends (table_of rows) e.0.1)) (sym listed) (children_end rows _ above) in
+    record {
+      same = λ honest.
+          let before = honest_before (seen c.loop-next.tx) (seen c.by_owner.new.self) _ c.in_ok-children.ensures.call.goes_on honest in
+          c.in_ok-children.ensures.call.same honest ∙ c.loop-next.invariant.same before;
+      words = λ honest.
+          let before = honest_before (seen c.loop-next.tx) (seen c.by_owner.new.self) _ c.in_ok-children.ensures.call.goes_on honest in
+          c.in_ok-add_each.ensures.words (table_of rows) (children honest) (c.loop-next.invariant.words before);
+      queue = λ honest.
+          let before = honest_before (seen c.loop-next.tx) (seen c.by_owner.new.self) _ c.in_ok-children.ensures.call.goes_on honest in
+          c.in_ok-add_each.ensures.queue (table_of rows) (children honest) (c.loop-next.invariant.queue before);
+      goes_on = search rules;
+    }

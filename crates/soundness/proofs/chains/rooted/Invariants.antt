@@ -1,0 +1,22 @@
+use Rattle.std.proofs.Common.{◌≡◌, ◌-◌, ◌^◌, false}
+use Rattle.std.specs.Prelude.{All}
+use Rattle.records.specs.Table.{table_of}
+use Rattle.records.specs.Transaction.{IsHonest, GoesOn}
+use Rattle.soundness.specs.Visiting.{EachEnds, IsAbove}
+use Rattle.soundness.proofs.chains.rooted.Given as goal
+
+-- the chain of each token so far ends
+abbrev pub invariant-loop-next : goal.invariant-loop-next
+invariant-loop-next g l =
+    let seen = g.T.RecordsTx.seen in
+    let rows = table_of (seen l.fn.tx).rows in
+    record {
+      same : IsHonest (seen l.tx) → (seen l.tx).rows ≡ (seen l.fn.tx).rows;
+      words : IsHonest (seen l.tx) → EachEnds rows l.words;
+      queue : IsHonest (seen l.tx) → All (IsAbove rows) l.queue.items;
+      goes_on : GoesOn (seen l.fn.tx) (seen l.tx) false;
+    }
+
+-- no list is longer than the numbers go
+abbrev pub decreases-loop-next : goal.decreases-loop-next
+decreases-loop-next g l = 2 ^ 64 - l.next

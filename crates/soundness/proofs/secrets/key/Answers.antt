@@ -1,0 +1,27 @@
+use Rattle.std.proofs.Common.{◌≡◌, true, sym, ap, ◌∙◌}
+use Rattle.std.proofs.lemmas.Option.{MatchOption-at_some}
+use Rattle.records.specs.KeyEntry.{KeyEntry}
+use Rattle.records.specs.Ranges.{IsKeyInRange}
+use Rattle.records.specs.RowForms.{key_entry_row}
+use Rattle.soundness.specs.Texts.{are_fit}
+use Rattle.soundness.proofs.AnswerLemmas.{from_true, fit_metadata}
+use Rattle.soundness.proofs.secrets.key.Goals as goal
+
+pub returns-clause-sound : goal.returns-clause-sound
+returns-clause-sound c =
+    let k = c.in-Some.found in
+    let read = MatchOption-at_some _ (λ (k : KeyEntry). IsKeyInRange k × (c.args.row.now ≡ key_entry_row k)) k c.in-Some.is
+    c.in_ok-found.ensures.found in
+    let fits : are_fit k.custom_metadata ≡ true =
+    ap (λ (k : KeyEntry). are_fit k.custom_metadata) (sym c.found.view_is)
+    ∙ ap are_fit (sym c.deref.ensures.value) ∙ sym c.are_fit.ensures ∙ c.if-not-are_fit.false in
+    let meta = fit_metadata k.custom_metadata fits read.0.custom_metadata in (
+      k,
+      record {
+        in_range = read.0;
+        name = from_true c.is_secret_name.result c.if-not-is_secret_name.false c.is_secret_name.ensures;
+        few_metadata = meta.0;
+        metadata = meta.1;
+      },
+      read.1,
+    )

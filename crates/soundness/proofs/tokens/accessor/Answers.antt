@@ -1,0 +1,15 @@
+use Rattle.std.proofs.Common.{subst}
+use Rattle.broker_types.specs.Text.{Text}
+use Rattle.records.specs.Table.{table_of}
+use Rattle.soundness.specs.RowRules.{IsNamedBy}
+use Rattle.soundness.proofs.AnswerLemmas.{from_true}
+use Rattle.soundness.proofs.tokens.accessor.Goals as goal
+
+pub returns-clause-sound : goal.returns-clause-sound
+returns-clause-sound g c honest = (
+  (c.args.row.now.owner, c.in-Ok.what),
+  subst (λ (t : Text). IsNamedBy (table_of (g.T.RecordsTx.seen c.args.tx.now).rows) c.args.key.now (t, c.in-Ok.what))
+      c.as_str.ensures
+      (from_true c.in_ok-is_held.field-0 c.if-not-branch.false (c.in_ok-is_held.ensures.found honest)),
+  c.in-Ok.ensures.exact.1,
+)

@@ -1,0 +1,38 @@
+use Rattle.std.proofs.Common.{◌≡◌, true, sym, ◌∙◌, ap}
+use Rattle.std.specs.List.{list_all}
+use Rattle.std.proofs.lemmas.Option.{MatchOption-at_some}
+use Rattle.broker_types.specs.Name.{is_name}
+use Rattle.records.specs.declared.kind.Kind.TheVariants as kind
+use Rattle.records.specs.CallLaws.{honest_before}
+use Rattle.records.specs.Ranges.{IsTokenInRange}
+use Rattle.records.specs.RowForms.{entry_row}
+use Rattle.records.specs.Table.{table_of}
+use Rattle.records.specs.TokenEntry.{TokenEntry}
+use Rattle.soundness.proofs.AnswerLemmas.{from_true, all_from}
+use Rattle.soundness.proofs.tokens.token.Goals as goal
+
+pub returns-clause-sound : goal.returns-clause-sound
+returns-clause-sound g c honest =
+    let seen = g.T.RecordsTx.seen in
+    let mid = honest_before (seen c.has_parent.new.tx) (seen c.is_named.new.tx) _ c.in_ok-is_named.ensures.call.goes_on honest in
+    let x = c.in-Some.token in
+    let read = MatchOption-at_some _ (λ (x : TokenEntry). IsTokenInRange x × (c.args.row.now ≡ entry_row x)) x c.in-Some.is
+    c.in_ok-token.ensures.found in
+    let names : list_all is_name x.policies ≡ true =
+    ap (λ (x : TokenEntry). list_all is_name x.policies) (sym c.token.view_is)
+    ∙ ap (list_all is_name) (sym c.deref.ensures.value) ∙ sym c.are_names.ensures ∙ c.if-not-are_names.false in
+    let same = c.in_ok-has_parent.ensures.call.same mid in
+    let accessor = c.as_str.ensures ∙ ap (λ (x : TokenEntry). x.accessor) c.token.view_is in
+    let named = from_true c.in_ok-is_named.field-0 c.if-not-branch-2.false (c.in_ok-is_named.ensures.found honest) in (
+      x,
+      record {
+        in_range = read.0;
+        policy_names = all_from is_name x.policies names;
+        unspent = λ spent. c.is_spent.ensures c.if-is_spent.false
+            (ap (λ (x : TokenEntry). x.uses_left) c.token.view_is ∙ spent);
+        parent = λ p is. from_true c.in_ok-has_parent.field-0 c.if-not-branch.false (c.in_ok-has_parent.ensures.found mid) p
+            (ap (λ (x : TokenEntry). x.parent) c.token.view_is ∙ is);
+        accessor = (λ i. table_of (sym same i) kind.Accessor (sym accessor i)) ∙ named;
+      },
+      read.1,
+    )

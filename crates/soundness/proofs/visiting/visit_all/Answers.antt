@@ -1,0 +1,11 @@
+use Rattle.std.proofs.lemmas.Result.{IfOk-weaker}
+use Rattle.records.specs.Table.{table_of}
+use Rattle.soundness.proofs.WalkLemmas.{KindPassed, each_kind, if_none_weaker}
+use Rattle.soundness.proofs.visiting.visit_all.Goals as goal
+
+pub returns-clause-passed : goal.returns-clause-passed
+returns-clause-passed g c honest ends =
+    IfOk-weaker c.visit_kinds.result _ _
+    (λ o. if_none_weaker o
+    (λ passed. each_kind (KindPassed (table_of (g.T.RecordsTx.seen c.args.tx.now).rows) c.visit_kinds.new.notes) passed.1))
+    (c.visit_kinds.ensures.passed honest ends)

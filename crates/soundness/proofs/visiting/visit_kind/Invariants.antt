@@ -1,0 +1,21 @@
+use Rattle.std.proofs.Common.{◌≡◌, false}
+use Rattle.std.specs.Prelude.{string_bytes}
+use Rattle.records.specs.Table.{table_of}
+use Rattle.records.specs.Transaction.{IsHonest, GoesOn}
+use Rattle.soundness.specs.Notes.{GoesOnFrom}
+use Rattle.soundness.specs.Visiting.{EachEnds, noted}
+use Rattle.soundness.proofs.PageLemmas.{ArePassedBelow}
+use Rattle.soundness.proofs.visiting.visit_kind.Given as goal
+
+-- the rows below the next page have passed
+abbrev pub invariant-loop : goal.invariant-loop
+invariant-loop g l =
+    let seen = g.T.RecordsTx.seen in
+    let rows = (seen l.initial.tx).rows in
+    record {
+      same : IsHonest (seen l.tx) → (seen l.tx).rows ≡ rows;
+      passed : IsHonest (seen l.tx) → EachEnds (table_of rows) l.initial.notes.rooted
+          → GoesOnFrom l.initial.notes l.notes
+          × ArePassedBelow rows (noted l.notes.identifiers) (noted l.notes.origins) l.kind (string_bytes l.from);
+      goes_on : GoesOn (seen l.initial.tx) (seen l.tx) false;
+    }

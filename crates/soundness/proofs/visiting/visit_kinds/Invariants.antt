@@ -1,0 +1,20 @@
+use Rattle.std.proofs.Common.{◌≡◌, false, take}
+use Rattle.std.specs.Prelude.{All}
+use Rattle.records.specs.Table.{table_of}
+use Rattle.records.specs.Transaction.{IsHonest, GoesOn}
+use Rattle.soundness.specs.Notes.{GoesOnFrom}
+use Rattle.soundness.specs.Visiting.{EachEnds, ArePassed, noted}
+use Rattle.soundness.proofs.visiting.visit_kinds.Given as goal
+
+-- the rows of the kinds so far have passed
+abbrev pub invariant-loop-kind : goal.invariant-loop-kind
+invariant-loop-kind g l =
+    let seen = g.T.RecordsTx.seen in
+    let rows = table_of (seen l.initial.tx).rows in
+    record {
+      same : IsHonest (seen l.tx) → (seen l.tx).rows ≡ (seen l.initial.tx).rows;
+      passed : IsHonest (seen l.tx) → EachEnds rows l.initial.notes.rooted
+          → GoesOnFrom l.initial.notes l.notes
+          × All (ArePassed rows (noted l.notes.identifiers) (noted l.notes.origins)) (take l.kind-index l.kinds);
+      goes_on : GoesOn (seen l.initial.tx) (seen l.tx) false;
+    }

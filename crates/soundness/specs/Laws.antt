@@ -1,0 +1,19 @@
+-- Laws of sound rows, as statements (this project's definition).
+use Rattle.std.specs.Prelude.{None}
+use Rattle.broker_types.specs.Broker.{Broker}
+use Rattle.broker_rows.specs.Representing.{Represents}
+use Rattle.records.specs.Table.{table_of}
+use Rattle.records.specs.Transaction.{Rows}
+use Rattle.soundness.specs.SoundRows.{AreSound}
+
+-- the rows are those of a sound broker, between two requests
+abbrev pub AreOfABroker : Rows → Type 0
+AreOfABroker rows = (b : Broker) × Represents None rows b
+
+-- rows that keep the rules are those of a sound broker
+abbrev pub SoundRowsAreOfABroker : Type 0
+SoundRowsAreOfABroker = (rows : Rows) → AreSound (table_of rows) → AreOfABroker rows
+
+-- and the rows of a sound broker keep them (no law says so yet)
+abbrev pub RowsOfABrokerAreSound : Type 0
+RowsOfABrokerAreSound = (rows : Rows) → AreOfABroker rows → AreSound (table_of rows)
