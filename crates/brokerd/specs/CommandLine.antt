@@ -5,7 +5,7 @@ use Rattle.clap.specs.Words.{App, Row, Rule, Text, first_of, new_app, new_rule, 
 use Rattle.clap.specs.declared.builder.action.ArgAction.TheVariants.{SetTrue}
 use Rattle.clap.specs.declared.builder.value_parser.ValueParser.TheVariants.{Signed}
 use Rattle.brokerd.specs.declared.command.Command.{Command}
-use Rattle.brokerd.specs.declared.command.Command.TheVariants.{Replay, Serve}
+use Rattle.brokerd.specs.declared.command.Command.TheVariants.{Check, Replay, Serve}
 
 -- `--listen ADDR`, which is required
 abbrev pub listen_rule : Rule
@@ -15,6 +15,10 @@ listen_rule =
 -- `--db FILE`
 abbrev pub db_rule : Rule
 db_rule = record (new_rule (codes "db")) { long = Some (codes "db"); value_names = 1 }
+
+-- `--db FILE`, which is required
+abbrev pub checked_rule : Rule
+checked_rule = record (new_rule (codes "db")) { long = Some (codes "db"); value_names = 1; required = true }
 
 -- `--connections N`, from 1 to 4,294,967,295
 abbrev pub connections_rule : Rule
@@ -52,6 +56,10 @@ log_rule = record (new_rule (codes "log")) { long = Some (codes "log"); action =
 abbrev pub replay_app : App
 replay_app = new_app (codes "replay")
 
+-- `brokerd check --db FILE`
+abbrev pub check_app : App
+check_app = with_rule (new_app (codes "check")) checked_rule
+
 -- `brokerd serve --listen ADDR [--db FILE] [--connections N] [--at-once M] [--until-stopped] [--stop-on-input] [--log]`
 abbrev pub serve_app : App
 serve_app =
@@ -74,7 +82,7 @@ top_app =
 
 -- the whole command line
 unfoldable pub program_app : App
-program_app = with_subcommand (with_subcommand top_app replay_app.top) serve_app.top
+program_app = with_subcommand (with_subcommand (with_subcommand top_app replay_app.top) check_app.top) serve_app.top
 
 -- the text is a number below 2^32
 abbrev pub IsNumber : Text → Type 0
@@ -126,8 +134,12 @@ LacksValues rows = (first_of (codes "listen") rows ≡ None) ⊎ (LacksCount row
 
 -- the command that a subcommand's name and the values of its matches mean; none if it is the name of another
 abbrev pub IsMeant : Text → List Row → Option Command → Type 0
-IsMeant name rows None = (name ≢ codes "replay") × (name ≡ codes "serve" → LacksValues rows)
+IsMeant name rows None =
+    (name ≢ codes "replay")
+    × (name ≡ codes "check" → first_of (codes "db") rows ≡ None)
+    × (name ≡ codes "serve" → LacksValues rows)
 IsMeant name rows (Some Replay) = name ≡ codes "replay"
+IsMeant name rows (Some (Check db)) = (name ≡ codes "check") × (first_of (codes "db") rows ≡ Some db.now)
 IsMeant name rows (Some (Serve db settings)) =
     (name ≡ codes "serve")
     × (option_map (λ path. path.now) db ≡ first_of (codes "db") rows)

@@ -1,6 +1,8 @@
 -- How the program ends (this project's).
 use Rattle.std.specs.Prelude.{ℕ}
 use Rattle.replay.specs.declared.replaying.Exit.{Exit}
+use Rattle.database_check.specs.declared.checking.Finding.{Finding}
+use Rattle.database_check.specs.declared.checking.Finding.TheVariants.{Sound, Unsound}
 use Rattle.replay.specs.declared.replaying.Exit.TheVariants.{Done, Faulted, BadLine}
 
 -- the status that the program ends with after a replay
@@ -8,3 +10,8 @@ abbrev pub status_after : Exit → ℕ
 status_after Done = 0
 status_after (Faulted number) = 1
 status_after (BadLine line) = 2
+
+-- the status that the program ends with after a check
+abbrev pub status_of : Finding → ℕ
+status_of (Sound counts) = 0
+status_of (Unsound defect) = 1

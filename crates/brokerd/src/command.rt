@@ -1,7 +1,7 @@
 ghost use Rattle.std.specs.Prelude.{◌≡◌, IfOk, IfErr, IfSome, None, codes, false, map, string_bytes, true};
 ghost use Rattle.clap.specs.Words.{app_of, found_of, kind_of, rows_of, rule_of, subcommand_of, takes};
-ghost use Rattle.brokerd.specs.CommandLine.{program_app, replay_app, serve_app, listen_rule};
-ghost use Rattle.brokerd.specs.CommandLine.{at_once_rule, connections_rule, db_rule, log_rule};
+ghost use Rattle.brokerd.specs.CommandLine.{program_app, check_app, replay_app, serve_app, listen_rule};
+ghost use Rattle.brokerd.specs.CommandLine.{at_once_rule, checked_rule, connections_rule, db_rule, log_rule};
 ghost use Rattle.brokerd.specs.CommandLine.{stop_on_input_rule, until_stopped_rule};
 ghost use Rattle.brokerd.specs.CommandLine.{IsMeant, IsCommandOf, IsCount, IsPlaces, LacksCount, LacksPlaces};
 
@@ -22,6 +22,10 @@ const AT_ONCE: u32 = 256;
 pub(crate) enum Command<'a> {
     /// Run the lines of standard input, and write the replies to standard output.
     Replay,
+    /// Tell whether a file is the database of a broker.
+    Check {
+        db: &'a str,
+    },
     /// Serve the broker of a file, or one in memory.
     Serve {
         db: Option<&'a str>,
@@ -55,6 +59,10 @@ fn meant<'a>(name: &str, found: &ArgMatches<'a>) -> Option<Command<'a>>
 {
     if name == "replay" {
         return Some(Command::Replay);
+    }
+    if name == "check" {
+        let db = found.get_str("db")?;
+        return Some(Command::Check { db });
     }
     if name != "serve" {
         return None;
@@ -111,6 +119,7 @@ fn program<'a>(alloc: Global) -> Result<clap::Command<'a>, AllocError>
         .version(VERSION)
         .subcommand_required(true)
         .subcommand(replay(alloc))?
+        .subcommand(check(alloc)?)?
         .subcommand(serve(alloc)?)
 }
 
@@ -120,6 +129,25 @@ fn replay<'a>(alloc: Global) -> clap::Command<'a>
     clap::Command::new(alloc, "replay").about(
         "Runs the lines of standard input, and writes the replies to standard output",
     )
+}
+
+fn check<'a>(alloc: Global) -> Result<clap::Command<'a>, AllocError>
+    ensures { IfOk result (λ c. app_of c ≡ check_app) }
+{
+    clap::Command::new(alloc, "check")
+        .about("Tells whether a file is the database of a broker, and changes no row of it")
+        .arg(checked(alloc))
+}
+
+fn checked<'a>(alloc: Global) -> Arg<'a>
+    ensures rule { rule_of result ≡ checked_rule }
+    ensures local { result.global ≡ false }
+{
+    Arg::new(alloc, "db")
+        .long("db")
+        .value_name("FILE")
+        .help("The database; no program may have it open")
+        .required(true)
 }
 
 fn serve<'a>(alloc: Global) -> Result<clap::Command<'a>, AllocError>

@@ -6,12 +6,13 @@ ghost use Rattle.std.specs.IoError.{error_kind};
 ghost use Rattle.std.specs.declared.io.ErrorKind.TheVariants.{OutOfMemory};
 ghost use Rattle.std.specs.Process.{exit_status};
 ghost use Rattle.clap.specs.Words.{kind_of};
-ghost use Rattle.brokerd.specs.Exits.{status_after};
+ghost use Rattle.brokerd.specs.Exits.{status_after, status_of};
 
 mod command;
 
 use clap::error::{Error, ErrorKind};
 use command::{Command, command_of};
+use database_check::{Finding, check_file};
 use endpoints::{Reading, Writing};
 use replay::{Exit, replay};
 use server::{Settings, serve_file, serve_in_memory};
@@ -32,6 +33,7 @@ fn main(rt: HostRuntime) -> anyhow::Result<ExitCode> {
             let exit = replay(alloc, &mut reader, &mut writer);
             tell(&rt, exit)
         }
+        Ok(Some(Command::Check { db })) => check(&rt, db),
         Ok(Some(Command::Serve { db, settings })) => {
             let exit = serve(&rt, db, &settings);
             tell(&rt, exit)
@@ -43,6 +45,27 @@ fn main(rt: HostRuntime) -> anyhow::Result<ExitCode> {
             Ok(ExitCode::from(2))
         }
         Err(error) => refuse(&rt, &error),
+    }
+}
+
+/// Says on standard output whether a file is the database of a broker, and answers the status: 0 if it is, else 1, also
+/// after a fault.
+fn check(rt: &HostRuntime, path: &str) -> anyhow::Result<ExitCode> {
+    let finding = match check_file(rt, path) {
+        Ok(finding) => finding,
+        Err(fault) => return tell(rt, Exit::Faulted(fault.number())),
+    };
+    println!(rt; "{path}: {finding}")?;
+    Ok(ExitCode::from(found_status(&finding)))
+}
+
+/// The exit status after a check: 0 where the rows are those of a sound broker.
+fn found_status(finding: &Finding) -> u8
+    ensures { result ≡ status_of finding.now }
+{
+    match finding {
+        Finding::Sound(_) => 0,
+        Finding::Unsound(_) => 1,
     }
 }
 

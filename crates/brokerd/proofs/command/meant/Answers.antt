@@ -12,7 +12,7 @@ pub returns-in_default : goal.returns-in_default
 returns-in_default c =
     let f = found_of c.args.found.now in
     let none = none_of c.get_str.result c.in_default.not-Some in
-    (search rules, λ _. inl (sym (c.get_str.ensures ∙ first_value-rows f (codes "listen")) ∙ ap (option_map _) none))
+    (search rules, search rules, λ _. inl (sym (c.get_str.ensures ∙ first_value-rows f (codes "listen")) ∙ ap (option_map _) none))
 
 pub returns-in_err-count : goal.returns-in_err-count
 returns-in_err-count c = rw (c.from_residual.ensures) (search rules, λ _. inr (inl (c.in_err-count.ensures.none refl)))

@@ -1,0 +1,10 @@
+//! Whether a database is that of a sound broker.
+#![tactic(auto)]
+
+mod checking;
+mod counts;
+mod defect;
+
+pub use checking::{Finding, check_file, check_records};
+pub use counts::Counts;
+pub use defect::Defect;
