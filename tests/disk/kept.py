@@ -50,6 +50,24 @@ LOOKS = (("GET", "auth/token/lookup-self"), ("LIST", "auth/token/accessors"), ("
 LEAST_USUAL = 0.95  # of the replies to rows of tests/rows have the status that is stated there
 
 
+def in_a_format(place, row, draw):
+    """The row of a place; half of those of secrets that have no settings are in the older format."""
+    owner, due, body = row
+    if place[0] != SECRET or not body.endswith(NO_SETTINGS) or draw.randrange(2):
+        return row
+    return owner, due, b"\x01" + body[1:-len(NO_SETTINGS)]
+
+
+def write(file, rows, draw):
+    """Makes the database of rows by SQLite, as docs/STORAGE.md has it, in a drawn order."""
+    table = STORAGE.read_text(encoding="utf-8").partition("## The table\n\n")[2].partition("\n\n")[0]
+    made = [(*place, *row) for place, row in rows.items()]
+    draw.shuffle(made)
+    with contextlib.closing(sqlite3.connect(file)) as database, database:
+        database.executescript(table)
+        database.executemany("INSERT INTO broker_rows VALUES (?, ?, ?, ?, ?)", made)
+
+
 class Watched:
     """A program over a new file, and the reference broker in step with it."""
 
@@ -90,22 +108,12 @@ class Watched:
         """Stops the program, and starts it over a database that SQLite has made. Raises Wrong."""
         self.stop()
         self.file = self.place / "outside.db"
-        rows = [(*place, *self.in_a_format(place, row)) for place, row in self.server.rows().items()]
-        self.draw.shuffle(rows)
-        table = STORAGE.read_text(encoding="utf-8").partition("## The table\n\n")[2].partition("\n\n")[0]
-        with contextlib.closing(sqlite3.connect(self.file)) as database, database:
-            database.executescript(table)
-            database.executemany("INSERT INTO broker_rows VALUES (?, ?, ?, ?, ?)", rows)
+        rows = self.server.rows()
+        made = {place: in_a_format(place, row, self.draw) for place, row in rows.items()}
+        write(self.file, made, self.draw)
         self.start(moment)
         self.counts["databases made by SQLite"] += 1
-
-    def in_a_format(self, place, row):
-        """The row of a place; half of those of secrets that have no settings are in the older format."""
-        owner, due, body = row
-        if place[0] != SECRET or not body.endswith(NO_SETTINGS) or self.draw.randrange(2):
-            return row
-        self.counts["rows in the older format"] += 1
-        return owner, due, b"\x01" + body[1:-len(NO_SETTINGS)]
+        self.counts["rows in the older format"] += sum(made[place] != rows[place] for place in rows)
 
     def __enter__(self):
         return self

@@ -3,7 +3,7 @@
 
     python3 tests/disk/run.py PROGRAM [--hours H] [--seed S] [PART...]
 
-The parts are `kept`, `calls`, `images`, `full`, `changed` and `kills`; README.md beside this says what each does.
+The parts are `kept`, `checked`, `calls`, `images`, `full`, `changed` and `kills`; README.md beside this says what each does.
 Without `--hours` each is tried once, by a fixed seed, in a minute together. With it all are tried again and again with
 seeds that follow from the first one: each tear and more mixes of the images, images of the recovery of images, limits
 of all lengths, small disks, further requests, changes and kills. Each part tells what it met. The last line is `N
@@ -23,6 +23,7 @@ sys.path += [str(TESTS), *(str(TESTS / name) for name in ("reference", "differen
 
 from calls import try_calls  # noqa: E402
 from changed import try_changes  # noqa: E402
+from checked import try_checked  # noqa: E402
 from full import try_disks, try_full  # noqa: E402
 from images import try_images, try_recoveries  # noqa: E402
 from kept import try_kept  # noqa: E402
@@ -31,6 +32,7 @@ from trial import Trial, temporary_folder  # noqa: E402
 
 GATE = {
     "kept": try_kept,
+    "checked": try_checked,
     "calls": try_calls,
     "images": try_images,
     "full": try_full,
