@@ -12,8 +12,7 @@ returns-in_ok-of-in-None-clause-sound g c honest =
     let seen = g.T.RecordsTx.seen in
     let checked : IsHonest (seen c.check.new.tx) = honest_before (seen c.check.new.tx) (seen c.of.new.tx) _ c.in_ok-of-in-None.ensures.goes_on honest in
     let upgraded : IsHonest (seen c.upgrade_keys.new.tx) =
-          honest_before (seen c.upgrade_keys.new.tx) (seen c.check.new.tx) _ c.in_ok-check.ensures.call.goes_on checked in
-    (
+    honest_before (seen c.upgrade_keys.new.tx) (seen c.check.new.tx) _ c.in_ok-check.ensures.call.goes_on checked in (
       (seen c.upgrade_keys.new.tx).rows,
       c.in_ok-upgrade_keys.ensures.rows upgraded,
       none_found c.in_ok-check.field-0 c.in-None.is (c.in_ok-check.ensures.sound checked),
