@@ -1,4 +1,4 @@
-use Rattle.std.proofs.Common.{◌≡◌, ◌≢◌, ◌∙◌, inl, inr, List, ℕ, Option, Some, None, option_map, sym, refl, ap, codes, Bor, rules}
+use Rattle.std.proofs.Common.{◌≡◌, ◌≢◌, ◌∙◌, ◌∷◌, [], arith, inl, inr, List, ℕ, Option, Some, None, option_map, sym, refl, ap, codes, Bor, rules}
 use Rattle.clap.specs.Words.{found_of, one_text}
 use Rattle.clap.proofs.WalkLemmas.{first_value-rows, one_text-rows}
 use Rattle.brokerd.proofs.FlagLemmas.{is_flag}
@@ -8,25 +8,47 @@ none_of : {X : Type 0} (o : Option X) → ((x : X) → o ≢ Some x) → o ≡ N
 none_of None never = refl
 none_of (Some x) never = absurd (never x refl)
 
+abbrev first : List ℕ → ℕ
+first [] = 0
+first (c ∷ cs) = c
+
+differ : codes "check" ≢ codes "serve"
+differ e = let c : 99 ≡ 115 = ap first e in omega (arith, c)
+
+pub returns-in_err-db : goal.returns-in_err-db
+returns-in_err-db c =
+    let f = found_of c.args.found.now in
+    let is : c.args.name.now ≡ codes "check" = search rules in
+    rw (c.from_residual.ensures) (search rules, λ _. sym (c.in_err-db.ensures ∙ first_value-rows f (codes "db")), λ other. absurd (differ (sym is ∙ other)))
+
+pub returns-then-eq-2 : goal.returns-then-eq-2
+returns-then-eq-2 c =
+    let f = found_of c.args.found.now in
+    (search rules, sym (c.in_ok-db.ensures ∙ first_value-rows f (codes "db")))
+
 pub returns-in_default : goal.returns-in_default
 returns-in_default c =
     let f = found_of c.args.found.now in
-    let none = none_of c.get_str.result c.in_default.not-Some in
-    (search rules, search rules, λ _. inl (sym (c.get_str.ensures ∙ first_value-rows f (codes "listen")) ∙ ap (option_map _) none))
+    let none = none_of c.get_str-2.result c.in_default.not-Some in
+    let differs : c.args.name.now ≢ codes "check" = search rules in
+    (search rules, λ is. absurd (differs is), λ _. inl (sym (c.get_str-2.ensures ∙ first_value-rows f (codes "listen")) ∙ ap (option_map _) none))
 
 pub returns-in_err-count : goal.returns-in_err-count
-returns-in_err-count c = rw (c.from_residual.ensures) (search rules, λ _. inr (inl (c.in_err-count.ensures.none refl)))
+returns-in_err-count c =
+    let differs : c.args.name.now ≢ codes "check" = search rules in
+    rw (c.from_residual-in_err-count.ensures) (search rules, λ is. absurd (differs is), λ _. inr (inl (c.in_err-count.ensures.none refl)))
 
 pub returns-in_err-places : goal.returns-in_err-places
 returns-in_err-places c =
-    rw (c.from_residual-in_err-places.ensures) (search rules, λ _. inr (inr (c.in_err-places.ensures.none refl)))
+    let differs : c.args.name.now ≢ codes "check" = search rules in
+    rw (c.from_residual-in_err-places.ensures) (search rules, λ is. absurd (differs is), λ _. inr (inr (c.in_err-places.ensures.none refl)))
 
 pub returns : goal.returns
 returns c =
     let f = found_of c.args.found.now in (
       search rules,
-      c.get_str-2.ensures ∙ first_value-rows f (codes "db"),
-      sym (c.get_str.ensures ∙ first_value-rows f (codes "listen")) ∙ ap (λ (o : Option (Bor (List ℕ))). option_map (λ s. s.now) o) c.in-Some.is,
+      c.get_str-3.ensures ∙ first_value-rows f (codes "db"),
+      sym (c.get_str-2.ensures ∙ first_value-rows f (codes "listen")) ∙ ap (λ (o : Option (Bor (List ℕ))). option_map (λ s. s.now) o) c.in-Some.is,
       c.in_ok-count.ensures.some,
       c.in_ok-places.ensures.some,
       rw (← one_text-rows f (codes "stop-on-input"))
