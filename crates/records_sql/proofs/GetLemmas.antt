@@ -16,7 +16,8 @@ use Rattle.records.specs.Kind.{RowKey as Key, key_cmp}
 use Rattle.records.specs.Transaction.{rows_under, rows_from, rows_upto, rows_owned}
 use Rattle.records.specs.declared.row.Row.{Row as Fields}
 use Rattle.records.specs.KeyLaws.{key_cmp_total}
-use Rattle.records_sql.specs.Table.{Kept, stored, kept, due_value, broker_schema, IsStore, IsSoundAt, IsActive, IsUsable, rows_of, entries_of, are_apart, due_in, Stays, read_row, entry_in, whole_entry}
+use Rattle.row_memory.specs.Memory.{Memory, Agrees}
+use Rattle.records_sql.specs.Table.{AgreesAt, Kept, stored, kept, due_value, broker_schema, IsStore, IsSoundAt, IsActive, IsUsable, rows_of, entries_of, are_apart, due_in, Stays, read_row, entry_in, whole_entry}
 use Rattle.records_sql.specs.Texts.{get_text, under_text, from_text, upto_text, owner_text, due_text, key_params, under_params, from_params, upto_params, due_params}
 use Rattle.records_sql.specs.Bounds.{IsAbove, IsLater}
 use Rattle.records.specs.DueRows.{AreDue}
@@ -58,6 +59,8 @@ module _ (old new : State) (P : Trees → Type 0) (s : Survives old new P) (was 
     pub stays : Stays old new
     pub active : IsActive new
     pub rows : HasCleanDisk new → Q
+    pub was_clean : HasCleanDisk new → HasCleanDisk old
+    pub agrees : (memory : Memory) → AgreesAt memory old → AgreesAt memory new
     pub same : HasCleanDisk new → rows_of new.now.trees ≡ rows_of old.now.trees
 
   usable_before : HasCleanDisk new → IsUsable old
@@ -75,6 +78,9 @@ module _ (old new : State) (P : Trees → Type 0) (s : Survives old new P) (was 
     };
     active = λ clean. ((unchanged clean).0.is_open, subst IsTrue (sym (unchanged clean).0.mode) (begun (omega (arith, s.clean))).1);
     rows = λ clean. step clean (was (usable_before clean)).0;
+    was_clean = λ clean. omega (arith, s.clean);
+    agrees = λ memory known clean.
+        subst (Agrees memory) (sym (ap (λ (d : Database). rows_of d.trees) (unchanged clean).0.now_is)) (known (omega (arith, s.clean)));
     same = λ clean. ap (λ (d : Database). rows_of d.trees) (unchanged clean).0.now_is;
   }
     where

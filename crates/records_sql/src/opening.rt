@@ -3,7 +3,8 @@
 ghost use Rattle.std.specs.Prelude.{◌≡◌, ◌≤◌, codes, false, IsTrue, IfOk, IfErr, OnOk, Err};
 ghost use Rattle.std.specs.FinMap as map;
 ghost use Rattle.sqlite.specs.WalFiles.{image_at};
-ghost use Rattle.sqlite.specs.Files.{file_state};
+ghost use Rattle.sqlite.specs.Files.{IsOpened, file_state};
+ghost use Rattle.sqlite.specs.Start.{FindsIn};
 ghost use Rattle.sqlite.specs.Held.{state};
 ghost use Rattle.sqlite.specs.State.{HasCleanDisk, IsLive, IsUnchanged};
 ghost use Rattle.records_sql.specs.Adopted.{HasRows, IsAdopted, IsKeptIn, IsSettled};
@@ -16,9 +17,21 @@ use crate::sql_records::SqlRecords;
 use crate::statements;
 use broker_types::Fault;
 use ram_disk::RamFile;
-use sqlite::{Alter, Connection, FileFrom, FileStore, Start};
+use row_memory::RowMemory;
+use sqlite::{Alter, Connection, FileFrom, FileStore, Options, Start};
 use std::alloc::Global;
+use std::fs;
+use std::hash::{BuildHasher, RandomState};
 use std::rt::HostRuntime;
+
+/// How many bytes a page of a database has.
+const PAGE: u64 = 4_096;
+
+/// How many pages are kept in memory at least.
+const FEWEST_PAGES: u64 = 2_000;
+
+/// How many pages are kept in memory at most.
+const MOST_PAGES: u64 = 16_384;
 
 /// Makes the table and its indexes in one transaction, so that a database never has a part of them.
 fn make_table<S: Alter>(conn: &mut Connection<S>) -> Result<(), Fault>
@@ -102,6 +115,7 @@ impl<S: Alter + Drop> SqlRecords<S> {
             conn,
             is_active: false,
             failed: false,
+            memory: RowMemory::new(alloc),
         })
     }
 }
@@ -116,6 +130,7 @@ impl<S: Alter> SqlRecords<S> {
             conn,
             is_active: _,
             failed: _,
+            memory: _,
         } = self;
         conn
     }
@@ -153,9 +168,56 @@ impl<S: Start> SqlRecords<FileStore<FileFrom<S>>> {
         ensures memory { path.now ≡ codes ":memory:" → result ≡ Err Fault.Storage }
         ensures storage { IfErr result (λ fault. fault ≡ Fault.Storage) }
     {
-        match Connection::open_from(rt, path, false, start) {
-            Ok(conn) => SqlRecords::adopt(rt.alloc(), conn),
-            Err(_) => Err(Fault::Storage),
-        }
+        let conn = open_files(rt, path, start)?;
+        SqlRecords::adopt(rt.alloc(), conn)
     }
+}
+
+/// Opens the file and its log, as `Connection::open_from` does, with options for their size.
+fn open_files<S: Start>(
+    rt: &HostRuntime,
+    path: &str,
+    start: S,
+) -> Result<Connection<FileStore<FileFrom<S>>>, Fault>
+    ensures found { IfOk result (λ conn. HasCleanDisk (file_state conn)
+        → FindsIn (image_at S.Start) (file_state conn)) }
+    ensures opened { IfOk result (λ conn. HasCleanDisk (file_state conn) → IsOpened conn) }
+    ensures memory { path.now ≡ codes ":memory:" → result ≡ Err Fault.Storage }
+    ensures storage { IfErr result (λ fault. fault ≡ Fault.Storage) }
+{
+    // To SQLite these are no names of files.
+    if path == ":memory:" || path.starts_with("file:") {
+        return Err(Fault::Storage);
+    }
+    let bytes = size_of(rt, path);
+    let Ok(files) = sqlite_std_file::open(rt, path, start) else {
+        return Err(Fault::Storage);
+    };
+    let Ok(random) = RandomState::new(rt) else {
+        return Err(Fault::Storage);
+    };
+    let options = options_for(bytes, random.hash_one(&0u8));
+    match Connection::open_files_with(rt.alloc(), files, options, false) {
+        Ok(conn) => Ok(conn),
+        Err(_) => Err(Fault::Storage),
+    }
+}
+
+/// The size of a file, in bytes, or 0 if it cannot be told.
+fn size_of(rt: &HostRuntime, path: &str) -> u64 {
+    match fs::metadata(rt, path) {
+        Ok(found) => found.len(),
+        Err(_) => 0,
+    }
+}
+
+/// The options for a database of so many bytes: it is kept in memory as a whole, as far as 64 MiB go, and its log grows
+/// to half of that before it is copied back (SQLite's `cache_size` and `wal_autocheckpoint`). Up to 8 MB they are the
+/// library's own.
+fn options_for(bytes: u64, seed: u64) -> Options {
+    let pages = (bytes / PAGE).clamp(FEWEST_PAGES, MOST_PAGES) as usize;
+    let mut options = Options::new(seed);
+    options.cache_pages = pages;
+    options.checkpoint_frames = pages / 2;
+    options
 }

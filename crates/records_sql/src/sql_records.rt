@@ -8,13 +8,14 @@ ghost use Rattle.sqlite.specs.State.{HasCleanDisk};
 ghost use Rattle.broker_types.specs.Fault.{IsMemoryOrStorage};
 ghost use Rattle.records.specs.DueRows.{AreDue};
 ghost use Rattle.records.specs.Transaction.{is_storage, rows_under, rows_from, rows_upto, rows_owned};
-ghost use Rattle.records_sql.specs.Props.{state_props};
-ghost use Rattle.records_sql.specs.Table.{IsSoundAt, IsActive, IsUsable, HasEnded, Stays, rows_of, mismatches};
+ghost use Rattle.records_sql.specs.Props.{state_props, AgreesAt-prop};
+ghost use Rattle.records_sql.specs.Table.{IsSoundAt, IsActive, AgreesAt, IsUsable, HasEnded, Stays, rows_of, mismatches};
 
 use crate::reading::{bound_above, entries_of, entries_under, first_row, later, whole_entries};
 use crate::statements;
 use broker_types::{Fault, Moment};
 use records::{Entry, Kind, Row};
+use row_memory::RowMemory;
 use sqlite::{Alter, Connection};
 use std::alloc::Global;
 
@@ -28,8 +29,11 @@ pub struct SqlRecords<S: Alter> {
     /// statement would then commit by itself, so none is given to the database any more.
     pub(crate) is_active: bool,
     pub(crate) failed: bool,
+    /// What is known of the rows that a transaction would show, or the open one shows.
+    pub(crate) memory: RowMemory,
     ghost sound: { IsSoundAt (state S.Store conn) } by { Prim.hlevel state_props },
     ghost active: { IsTrue is_active → IsActive (state S.Store conn) } by { Prim.hlevel state_props },
+    ghost remembered: { AgreesAt memory (state S.Store conn) } by { AgreesAt-prop memory (state S.Store conn) },
 }
 
 impl<S: Alter> SqlRecords<S> {
@@ -53,16 +57,22 @@ impl<S: Alter> SqlRecords<S> {
             self.failed = true;
             return Err(Fault::Storage);
         }
+        if let Some(row) = self.memory.recalled(kind, key) {
+            return Ok(row);
+        }
         let Ok(rows) = statements::get(&mut self.conn, kind, key) else {
             self.is_active = false;
             self.failed = true;
+            self.memory.clear();
             return Err(Fault::Storage);
         };
         let Ok(found) = first_row(&rows) else {
             self.is_active = false;
             self.failed = true;
+            self.memory.clear();
             return Err(Fault::Storage);
         };
+        self.memory.keep(kind, key, found.as_ref());
         Ok(found)
     }
 
@@ -79,10 +89,14 @@ impl<S: Alter> SqlRecords<S> {
             return Err(Fault::Storage);
         }
         match statements::put(&mut self.conn, kind, key, row) {
-            Ok(_) => Ok(()),
+            Ok(_) => {
+                self.memory.replace(kind, key, row);
+                Ok(())
+            }
             Err(_) => {
                 self.is_active = false;
                 self.failed = true;
+                self.memory.clear();
                 Err(Fault::Storage)
             }
         }
@@ -101,10 +115,14 @@ impl<S: Alter> SqlRecords<S> {
             return Err(Fault::Storage);
         }
         match statements::remove(&mut self.conn, kind, key) {
-            Ok(_) => Ok(()),
+            Ok(_) => {
+                self.memory.forget(kind, key);
+                Ok(())
+            }
             Err(_) => {
                 self.is_active = false;
                 self.failed = true;
+                self.memory.clear();
                 Err(Fault::Storage)
             }
         }
@@ -139,6 +157,7 @@ impl<S: Alter> SqlRecords<S> {
         let Ok(rows) = statements::under(&mut self.conn, kind, prefix, lent(&bound)) else {
             self.is_active = false;
             self.failed = true;
+            self.memory.clear();
             return Err(Fault::Storage);
         };
         match entries_under(self.alloc, kind, prefix, &rows) {
@@ -147,6 +166,7 @@ impl<S: Alter> SqlRecords<S> {
             Err(_) => {
                 self.is_active = false;
                 self.failed = true;
+                self.memory.clear();
                 Err(Fault::Storage)
             }
         }
@@ -177,6 +197,7 @@ impl<S: Alter> SqlRecords<S> {
         else {
             self.is_active = false;
             self.failed = true;
+            self.memory.clear();
             return Err(Fault::Storage);
         };
         match entries_under(self.alloc, kind, prefix, &rows) {
@@ -185,6 +206,7 @@ impl<S: Alter> SqlRecords<S> {
             Err(_) => {
                 self.is_active = false;
                 self.failed = true;
+                self.memory.clear();
                 Err(Fault::Storage)
             }
         }
@@ -211,6 +233,7 @@ impl<S: Alter> SqlRecords<S> {
         let Ok(rows) = statements::under_upto(&mut self.conn, kind, prefix, last) else {
             self.is_active = false;
             self.failed = true;
+            self.memory.clear();
             return Err(Fault::Storage);
         };
         match entries_under(self.alloc, kind, prefix, &rows) {
@@ -219,6 +242,7 @@ impl<S: Alter> SqlRecords<S> {
             Err(_) => {
                 self.is_active = false;
                 self.failed = true;
+                self.memory.clear();
                 Err(Fault::Storage)
             }
         }
@@ -240,6 +264,7 @@ impl<S: Alter> SqlRecords<S> {
         let Ok(rows) = statements::by_owner(&mut self.conn, kind, owner) else {
             self.is_active = false;
             self.failed = true;
+            self.memory.clear();
             return Err(Fault::Storage);
         };
         match entries_of(self.alloc, kind, &rows) {
@@ -248,6 +273,7 @@ impl<S: Alter> SqlRecords<S> {
             Err(_) => {
                 self.is_active = false;
                 self.failed = true;
+                self.memory.clear();
                 Err(Fault::Storage)
             }
         }
@@ -266,17 +292,25 @@ impl<S: Alter> SqlRecords<S> {
             self.failed = true;
             return Err(Fault::Storage);
         }
+        if let Some(none) = self.memory.none_due(moment) {
+            return Ok(none);
+        }
         let Ok(rows) = statements::due_until(&mut self.conn, moment) else {
             self.is_active = false;
             self.failed = true;
+            self.memory.clear();
             return Err(Fault::Storage);
         };
         match whole_entries(self.alloc, &rows) {
-            Ok(list) => Ok(list),
+            Ok(list) => {
+                self.memory.keep_due(moment, &list);
+                Ok(list)
+            }
             Err(Fault::Memory) => Err(Fault::Memory),
             Err(_) => {
                 self.is_active = false;
                 self.failed = true;
+                self.memory.clear();
                 Err(Fault::Storage)
             }
         }
@@ -294,6 +328,7 @@ impl<S: Alter> SqlRecords<S> {
         ensures storage { IfErr result (λ fault. fault ≡ Fault.Storage) }
     {
         self.is_active = false;
+        self.memory.clear();
         let Ok(_) = statements::get(&mut self.conn, Kind::Clock, "") else {
             self.failed = true;
             return Err(Fault::Storage);
@@ -314,10 +349,12 @@ impl<S: Alter> SqlRecords<S> {
         self.roll_back();
         let Ok(_) = statements::begin(&mut self.conn) else {
             self.failed = true;
+            self.memory.clear();
             return Err(Fault::Storage);
         };
         if self.conn.is_autocommit() {
             self.failed = true;
+            self.memory.clear();
             return Err(Fault::Storage);
         }
         self.is_active = true;
@@ -337,6 +374,7 @@ impl<S: Alter> SqlRecords<S> {
     {
         self.is_active = false;
         if !self.conn.is_autocommit() {
+            self.memory.clear();
             let _ = statements::roll_back(&mut self.conn);
         }
     }
@@ -362,6 +400,7 @@ impl<S: Alter> SqlRecords<S> {
         self.is_active = false;
         let Ok(_) = statements::commit(&mut self.conn) else {
             self.failed = true;
+            self.memory.clear();
             return Err(Fault::Storage);
         };
         Ok(())

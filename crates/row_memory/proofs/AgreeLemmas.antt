@@ -15,12 +15,12 @@ use Rattle.std.proofs.lemmas.Option.{none-some, same_Some}
 use Rattle.broker_types.specs.Text.{text_cmp, same}
 use Rattle.broker_types.specs.TextLaws.{same-text_cmp}
 use Rattle.records.specs.declared.row.Row.{Row}
-use Rattle.records.specs.DueRows.{AreDue, is_due, rows_due, due_cmp}
+use Rattle.records.specs.DueRows.{AreDue, is_due, rows_due}
 use Rattle.records.specs.EntryLaws.{passing_each, passing_whole}
 use Rattle.records.specs.Kind.{RowKey, key_cmp, kind_number}
 use Rattle.records.specs.KeyLaws.{key_cmp_total}
 use Rattle.records.specs.Transaction.{Rows}
-use Rattle.row_memory.specs.Memory.{Memory, AreFound, IsDueFrom, IsCalmUntil, Agrees, others}
+use Rattle.row_memory.specs.Memory.{AreFound, IsDueFrom, IsCalmUntil, others}
 
 -- ---- keys
 
@@ -142,3 +142,8 @@ pub none_listed : (rows : Rows) (moment : ℕ) (list : List (RowKey × Row)) →
 none_listed rows moment list due short =
     let same : length list ≡ length (rows_due rows moment) = length_permutation (rows_due rows moment) list due.whole in
     no_entries (rows_due rows moment) (sym same ∙ eqb-true (length list) 0 short)
+
+-- and the empty list has all where none is due
+pub due_of_none : (rows : Rows) (moment : ℕ) → rows_due rows moment ≡ [] → AreDue rows moment []
+due_of_none rows moment none =
+    record { whole = subst (λ l. IsPermutation l []) (sym none) (IsPermutation-refl []); sorted = λ k d low high. absurd (omega (arith, high)) }

@@ -6,7 +6,7 @@ use Rattle.records.specs.declared.kind.Kind.{Kind}
 use Rattle.records.specs.declared.kind.Kind.TheVariants as kind
 use Rattle.records.specs.declared.row.Row.{Row}
 use Rattle.records.specs.Kind.{RowKey, key_cmp}
-use Rattle.records.specs.Transaction.{Rows, Seen, IsHonest}
+use Rattle.records.specs.Transaction.{Rows}
 
 -- Whether what was found at a kind is remembered. Of most kinds it never is: not of those whose rows hold what a client
 -- keeps secret, and of the clock and of tokens only a row that is there.
@@ -66,7 +66,3 @@ IsCalmUntil moment rows = (key : RowKey) (row : Row) → get rows key ≡ Some r
 pub record Agrees (memory : Memory) (rows : Rows) : Type 0 where
   pub entries : AreFound memory.entries rows
   pub calm : IsCalmUntil memory.calm_until rows
-
--- it is true of the rows that a transaction shows, as long as the storage returns what was written
-abbrev pub AgreesWith : Memory → Seen → Type 0
-AgreesWith memory seen = IsHonest seen → Agrees memory seen.rows

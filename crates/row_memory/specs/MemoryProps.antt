@@ -1,11 +1,10 @@
 -- That something remembered is true of rows is a fact with one proof at most: for structs that keep it (this project's).
-use Rattle.std.specs.Prelude.{◌≡◌, ℕ, ◌≤◌, Option}
+use Rattle.std.specs.Prelude.{ℕ, Option}
 use Rattle.std.specs.Coded.{Coded, Coded-set, coded_option, Π_prop, →_prop, le_prop}
-use Rattle.std.specs.FinMap.{get}
 use Rattle.records.specs.contracts.row.Row as row
 use Rattle.records.specs.declared.row.Row.{Row}
-use Rattle.records.specs.Transaction.{Rows, Seen}
-use Rattle.row_memory.specs.Memory.{Memory, AreFound, IsCalmUntil, Agrees, AgreesWith}
+use Rattle.records.specs.Transaction.{Rows}
+use Rattle.row_memory.specs.Memory.{Memory, AreFound, IsCalmUntil, Agrees}
 
 row_coded : Coded (Option Row)
 row_coded = coded_option row.the_row.coded
@@ -22,6 +21,3 @@ Agrees-prop memory rows x y =
       entries = AreFound-prop memory rows x.entries y.entries i;
       calm = IsCalmUntil-prop memory.calm_until rows x.calm y.calm i;
     }
-
-pub AgreesWith-prop : (memory : Memory) (seen : Seen) → IsProp (AgreesWith memory seen)
-AgreesWith-prop memory seen = →_prop (Agrees-prop memory seen.rows)

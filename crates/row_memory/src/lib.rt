@@ -3,7 +3,5 @@
 
 mod memory;
 mod remembered;
-mod remembering;
 
 pub use memory::RowMemory;
-pub use remembering::Remembering;

@@ -1,8 +1,8 @@
 //! What is remembered of rows.
 
-ghost use Rattle.std.specs.Prelude.{◌≡◌, ◌≤◌, ℕ, [], length, IfSome, option_map};
+ghost use Rattle.std.specs.Prelude.{◌≡◌, ◌≤◌, ℕ, length, IfSome, option_map};
 ghost use Rattle.std.specs.FinMap as map;
-ghost use Rattle.records.specs.DueRows.{rows_due};
+ghost use Rattle.records.specs.DueRows.{AreDue};
 ghost use Rattle.records.specs.Transaction.{Rows};
 ghost use Rattle.row_memory.specs.Memory.{AreFound, Agrees, nothing, others};
 
@@ -60,7 +60,7 @@ impl RowMemory {
     }
 
     /// A copy of the row at a kind and key, or that there is none, if that is remembered and memory suffices.
-    pub(crate) fn recalled(&self, kind: Kind, key: &str) -> Option<Option<Row>>
+    pub fn recalled(&self, kind: Kind, key: &str) -> Option<Option<Row>>
         ensures { IfSome result (λ row. (rows : Rows) → Agrees self.now rows
             → row ≡ map.get rows (kind, key.now)) }
     {
@@ -72,7 +72,7 @@ impl RowMemory {
 
     /// Remembers the row at a kind and key, or that there is none, unless it is of another kind or too long, or memory is
     /// refused.
-    pub(crate) fn keep(&mut self, kind: Kind, key: &str, row: Option<&Row>)
+    pub fn keep(&mut self, kind: Kind, key: &str, row: Option<&Row>)
         ensures { (rows : Rows) → Agrees self.old rows
             → option_map (λ r. r.now) row.entry ≡ map.get rows (kind, key.now) → Agrees self.new rows }
     {
@@ -92,7 +92,7 @@ impl RowMemory {
     }
 
     /// Forgets the row at a kind and key, which is removed.
-    pub(crate) fn forget(&mut self, kind: Kind, key: &str)
+    pub fn forget(&mut self, kind: Kind, key: &str)
         ensures { (rows : Rows) → Agrees self.old rows
             → Agrees self.new (map.remove rows (kind, key.now)) }
     {
@@ -100,7 +100,7 @@ impl RowMemory {
     }
 
     /// Remembers the row that is put at a kind and key, in place of the one that was there.
-    pub(crate) fn replace(&mut self, kind: Kind, key: &str, row: &Row)
+    pub fn replace(&mut self, kind: Kind, key: &str, row: &Row)
         ensures { (rows : Rows) → Agrees self.old rows
             → Agrees self.new (map.insert rows (kind, key.now) row.now) }
     {
@@ -110,10 +110,8 @@ impl RowMemory {
     }
 
     /// The rows that are due at or before the moment, if it is known that there is none.
-    pub(crate) fn none_due(&self, moment: Moment) -> Option<Vec<Entry>>
-        ensures none { IfSome result (λ list. list.items ≡ []) }
-        ensures known { IfSome result (λ list. (rows : Rows) → Agrees self.now rows
-            → rows_due rows moment ≡ []) }
+    pub fn none_due(&self, moment: Moment) -> Option<Vec<Entry>>
+        ensures { IfSome result (λ list. (rows : Rows) → Agrees self.now rows → AreDue rows moment list.items) }
     {
         if moment.seconds() < self.calm_until {
             return Some(Vec::new(self.alloc));
@@ -121,11 +119,13 @@ impl RowMemory {
         None
     }
 
-    /// Remembers that no row is due at or before the moment.
-    pub(crate) fn keep_calm(&mut self, moment: Moment)
-        ensures { (rows : Rows) → Agrees self.old rows → rows_due rows moment ≡ [] → Agrees self.new rows }
+    /// Remembers that no row is due at or before the moment, if the list of those that are due has none.
+    pub fn keep_due(&mut self, moment: Moment, due: &[Entry])
+        ensures { (rows : Rows) → Agrees self.old rows → AreDue rows moment due.now → Agrees self.new rows }
     {
-        self.calm_until = moment.seconds() + 1;
+        if due.is_empty() {
+            self.calm_until = moment.seconds() + 1;
+        }
     }
 }
 

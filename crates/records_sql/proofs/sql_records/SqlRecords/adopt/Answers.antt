@@ -10,6 +10,7 @@ invariant_of-result g c = record {
       let it = c.in_ok-find_table.ensures.found clean (c.if-not-is_autocommit.ensures.settled refl) in
       (it.now, it.committed);
   active = λ t. absurd (let e = t in cc);
+  remembered = λ _. c.new.ensures.agrees _;
 }
 
 pub returns-clause-found : goal.returns-clause-found

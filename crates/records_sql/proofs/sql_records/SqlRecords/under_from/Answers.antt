@@ -20,7 +20,7 @@ invariant_of-self-in_default g c =
     let old = state g.S.Store c.args.self.now.conn in
     let new = state g.S.Store c.under_from.new.conn in
     let it = stays old new _ c.under_from.ensures.survives (λ clean. query_err _ _ old new _ (c.in_default.ensures.err clean)) in
-    record { sound = it.sound c.args.self.now.sound; active = λ t. absurd (let e = t in cc) }
+    record { sound = it.sound c.args.self.now.sound; active = λ t. absurd (let e = t in cc); remembered = λ _. c.clear.ensures _ }
 
 pub returns-in_default-clause-stays : goal.returns-in_default-clause-stays
 returns-in_default-clause-stays g c =
@@ -34,7 +34,7 @@ invariant_of-self-in-Ok-entries_under g c =
     let old = state g.S.Store c.args.self.now.conn in
     let new = state g.S.Store c.under_from.new.conn in
     let it = from_reads old new _ c.under_from.ensures.survives c.args.self.now.sound (c.args.self.now.active c.if-not-self.false) q c.args.from.now c.later-first.result.now (option_copied c.lent.result) c.args.count c.in-Ok.rows.items (subst (IsAbove q.1) (sym c.lent.ensures) c.in_ok-bound.ensures) c.later-first.ensures c.in-Ok.ensures.ok in
-    record { sound = it.stays.sound c.args.self.now.sound; active = λ _. it.active }
+    record { sound = it.stays.sound c.args.self.now.sound; active = λ _. it.active; remembered = it.agrees _ c.args.self.now.remembered }
 
 pub returns-in-Ok-entries_under-clause-listed : goal.returns-in-Ok-entries_under-clause-listed
 returns-in-Ok-entries_under-clause-listed g c clean =
@@ -64,7 +64,7 @@ invariant_of-self-in-Err-Memory g c =
     let old = state g.S.Store c.args.self.now.conn in
     let new = state g.S.Store c.under_from.new.conn in
     let it = from_reads old new _ c.under_from.ensures.survives c.args.self.now.sound (c.args.self.now.active c.if-not-self.false) q c.args.from.now c.later-first.result.now (option_copied c.lent.result) c.args.count c.in-Ok.rows.items (subst (IsAbove q.1) (sym c.lent.ensures) c.in_ok-bound.ensures) c.later-first.ensures c.in-Ok.ensures.ok in
-    record { sound = it.stays.sound c.args.self.now.sound; active = λ _. it.active }
+    record { sound = it.stays.sound c.args.self.now.sound; active = λ _. it.active; remembered = it.agrees _ c.args.self.now.remembered }
 
 pub returns-in-Err-Memory-clause-stays : goal.returns-in-Err-Memory-clause-stays
 returns-in-Err-Memory-clause-stays g c =
@@ -79,7 +79,7 @@ invariant_of-self-in-Err g c =
     let old = state g.S.Store c.args.self.now.conn in
     let new = state g.S.Store c.under_from.new.conn in
     let it = from_reads old new _ c.under_from.ensures.survives c.args.self.now.sound (c.args.self.now.active c.if-not-self.false) q c.args.from.now c.later-first.result.now (option_copied c.lent.result) c.args.count c.in-Ok.rows.items (subst (IsAbove q.1) (sym c.lent.ensures) c.in_ok-bound.ensures) c.later-first.ensures c.in-Ok.ensures.ok in
-    record { sound = it.stays.sound c.args.self.now.sound; active = λ t. absurd (let e = t in cc) }
+    record { sound = it.stays.sound c.args.self.now.sound; active = λ t. absurd (let e = t in cc); remembered = λ _. c.clear-in-Err.ensures _ }
 
 pub returns : goal.returns
 returns g c =

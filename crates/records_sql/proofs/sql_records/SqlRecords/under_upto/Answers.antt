@@ -18,7 +18,7 @@ invariant_of-self-in_default g c =
     let old = state g.S.Store c.args.self.now.conn in
     let new = state g.S.Store c.under_upto.new.conn in
     let it = stays old new _ c.under_upto.ensures.survives (λ clean. query_err _ _ old new _ (c.in_default.ensures.err clean)) in
-    record { sound = it.sound c.args.self.now.sound; active = λ t. absurd (let e = t in cc) }
+    record { sound = it.sound c.args.self.now.sound; active = λ t. absurd (let e = t in cc); remembered = λ _. c.clear.ensures _ }
 
 pub returns-in_default-clause-stays : goal.returns-in_default-clause-stays
 returns-in_default-clause-stays g c =
@@ -32,7 +32,7 @@ invariant_of-self-in-Ok-entries_under g c =
     let old = state g.S.Store c.args.self.now.conn in
     let new = state g.S.Store c.under_upto.new.conn in
     let it = upto_reads old new _ c.under_upto.ensures.survives c.args.self.now.sound (c.args.self.now.active c.if-not-self.false) q c.args.last.now c.in-Ok.rows.items c.in-Ok.ensures.ok in
-    record { sound = it.stays.sound c.args.self.now.sound; active = λ _. it.active }
+    record { sound = it.stays.sound c.args.self.now.sound; active = λ _. it.active; remembered = it.agrees _ c.args.self.now.remembered }
 
 pub returns-in-Ok-entries_under-clause-listed : goal.returns-in-Ok-entries_under-clause-listed
 returns-in-Ok-entries_under-clause-listed g c clean =
@@ -62,7 +62,7 @@ invariant_of-self-in-Err-Memory g c =
     let old = state g.S.Store c.args.self.now.conn in
     let new = state g.S.Store c.under_upto.new.conn in
     let it = upto_reads old new _ c.under_upto.ensures.survives c.args.self.now.sound (c.args.self.now.active c.if-not-self.false) q c.args.last.now c.in-Ok.rows.items c.in-Ok.ensures.ok in
-    record { sound = it.stays.sound c.args.self.now.sound; active = λ _. it.active }
+    record { sound = it.stays.sound c.args.self.now.sound; active = λ _. it.active; remembered = it.agrees _ c.args.self.now.remembered }
 
 pub returns-in-Err-Memory-clause-stays : goal.returns-in-Err-Memory-clause-stays
 returns-in-Err-Memory-clause-stays g c =
@@ -77,7 +77,7 @@ invariant_of-self-in-Err g c =
     let old = state g.S.Store c.args.self.now.conn in
     let new = state g.S.Store c.under_upto.new.conn in
     let it = upto_reads old new _ c.under_upto.ensures.survives c.args.self.now.sound (c.args.self.now.active c.if-not-self.false) q c.args.last.now c.in-Ok.rows.items c.in-Ok.ensures.ok in
-    record { sound = it.stays.sound c.args.self.now.sound; active = λ t. absurd (let e = t in cc) }
+    record { sound = it.stays.sound c.args.self.now.sound; active = λ t. absurd (let e = t in cc); remembered = λ _. c.clear-in-Err.ensures _ }
 
 pub returns : goal.returns
 returns g c =

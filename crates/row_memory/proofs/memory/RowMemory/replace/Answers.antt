@@ -1,4 +1,4 @@
-use Rattle.std.proofs.Common.{◌≡◌, Some, sym, subst, ap, ◌∙◌}
+use Rattle.std.proofs.Common.{sym, subst}
 use Rattle.std.specs.FinMap.{insert}
 use Rattle.records.specs.Kind.{RowKey}
 use Rattle.row_memory.specs.Memory.{Memory, Agrees, AreFound}
