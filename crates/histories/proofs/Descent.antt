@@ -1,40 +1,31 @@
 -- What becomes of each token by a request, with its cubbyhole and its leases, and which token it makes.
-use Rattle.std.specs.Prelude.{◌≡◌, ◌⊎◌, ◌<◌, ◌-◌, ◌==◌, ℕ, Bool, true, false, not, cond, nat_lt, is_some, if◌then◌else◌}
+use Rattle.std.specs.Prelude.{◌≡◌, ◌⊎◌, ℕ, Bool, true, false, not, cond, is_some, if◌then◌else◌}
 use Rattle.std.specs.Prelude.{Option, Some, None, Ok, option_map, option_and_then, ◌≢◌, ⊤}
-use Rattle.std.specs.Option.{option_map_or}
-use Rattle.std.proofs.Common.{refl, sym, ◌∙◌, ap, subst, inl, inr, arith}
-use Rattle.std.proofs.lemmas.Bool.{false≢true, ltb-false, ltb-true, not-true}
-use Rattle.std.proofs.lemmas.Option.{same_Some}
+use Rattle.std.proofs.Common.{refl, sym, ◌∙◌, ap, subst, inl, inr}
+use Rattle.std.proofs.lemmas.Bool.{false≢true}
+use Rattle.std.proofs.lemmas.Option.{none-some, same_Some}
 use Rattle.broker_types.specs.Text.{Text, same}
 use Rattle.broker_types.specs.TextLaws.{same_self, same_true}
-use Rattle.broker_types.specs.Map.{Map, change, get, keep, map_values, put, without}
-use Rattle.broker_types.specs.MapLaws.{get-change, get-keep, get-map_values, get-put, get-without, valued_is}
-use Rattle.broker_types.specs.Broker.{Broker, Mount}
+use Rattle.broker_types.specs.Map.{Map, get, put, without}
+use Rattle.broker_types.specs.MapLaws.{get-change, get-map_values, get-put, get-without}
+use Rattle.broker_types.specs.Broker.{Broker}
 use Rattle.broker_types.specs.Names.{names_of, Names}
 use Rattle.broker_types.specs.Answer.{Response}
-use Rattle.broker_types.specs.Operation.{nothing, plainly, reply, Done}
+use Rattle.broker_types.specs.Operation.{nothing, Done}
 use Rattle.broker_types.specs.Refuse.{some_or, unless}
 use Rattle.broker_types.specs.RefuseLaws.{ok_step}
-use Rattle.broker_types.specs.Spending.{is_spent}
 use Rattle.broker_types.specs.Token.{Token, Tokens, Lease}
-use Rattle.broker_types.specs.declared.reply.Reply.{Reply}
 use Rattle.broker_types.specs.Lineage.{is_under, orphaned_by}
 use Rattle.broker_types.specs.LineageLaws.{get-revoke}
 use Rattle.broker_types.specs.TokenText.{token_text}
 use Rattle.broker_types.specs.Sound.{Sound}
 use Rattle.broker_types.specs.declared.refusal.Refusal.TheVariants as refusal
 use Rattle.broker_types.specs.declared.refusal.Reason.TheVariants as reason
-use Rattle.records.specs.Parts.{Part}
 use Rattle.records.specs.ValueLaws.{ok_inj}
 use Rattle.records.specs.TokenEntry.{token_entry}
 use Rattle.records.specs.declared.kind.Kind.TheVariants as kind
 use Rattle.cubbyhole.specs.Cubbyhole as cubbyhole
 use Rattle.token_tree.specs.Tokens as tree
-use Rattle.leases.specs.Roles.{Issued, is_last_use}
-use Rattle.leases.specs.Leases as leases
-use Rattle.leases.specs.Roles as roles
-use Rattle.mounts.specs.Mounts.{disabled}
-use Rattle.api_json.specs.declared.lease_bodies.LeaseRenewal.{LeaseRenewal}
 use Rattle.api_json.specs.declared.token_bodies.TokenCreation.{TokenCreation}
 use Rattle.broker_model.specs.Command.{Command, on_cubbyhole, on_issued, on_lease, on_mount, on_policy, on_secret}
 use Rattle.broker_model.specs.Command.{on_token, on_wrapping}
@@ -44,19 +35,12 @@ use Rattle.broker_model.specs.declared.commands.CubbyholeCommand.{CubbyholeComma
 use Rattle.broker_model.specs.declared.commands.IssuedCommand.{IssuedCommand}
 use Rattle.broker_model.specs.declared.commands.LeaseCommand.{LeaseCommand}
 use Rattle.broker_model.specs.declared.commands.MountCommand.{MountCommand}
-use Rattle.broker_model.specs.declared.commands.PolicyCommand.{PolicyCommand}
-use Rattle.broker_model.specs.declared.commands.SecretCommand.{SecretCommand}
 use Rattle.broker_model.specs.declared.commands.TokenCommand.{TokenCommand}
-use Rattle.broker_model.specs.declared.commands.WrappingCommand.{WrappingCommand}
-use Rattle.broker_model.specs.parts.AclPolicies.{policy_changes}
 use Rattle.broker_model.specs.parts.Cubbyholes.{cubbyhole_changes}
 use Rattle.broker_model.specs.parts.Issued.{issued_changes}
 use Rattle.broker_model.specs.parts.Leases.{lease_changes}
-use Rattle.broker_model.specs.parts.Mounts.{mount_changes, without_kept}
-use Rattle.broker_model.specs.parts.Place.{Place}
-use Rattle.broker_model.specs.parts.Secrets.{secret_changes}
-use Rattle.broker_model.specs.parts.TokenCommands.{token_changes, token_fate}
-use Rattle.broker_model.specs.parts.WrappingCommands.{wrapping_changes}
+use Rattle.broker_model.specs.parts.Mounts.{mount_changes}
+use Rattle.broker_model.specs.parts.TokenCommands.{token_fate}
 use Rattle.broker_model.specs.Effects.{Both, IsFated, Stay, StaysAt}
 use Rattle.broker_model.specs.declared.making.Making.{Making}
 use Rattle.broker_model.specs.declared.making.Making.TheVariants.{OfCaller, WithoutParent}
@@ -69,45 +53,19 @@ use Rattle.broker_model.specs.declared.commands.CubbyholeCommand.TheVariants as 
 use Rattle.broker_model.specs.declared.commands.IssuedCommand.TheVariants as of_issued
 use Rattle.broker_model.specs.declared.commands.LeaseCommand.TheVariants as of_lease
 use Rattle.broker_model.specs.declared.commands.MountCommand.TheVariants as of_mount
-use Rattle.broker_model.specs.declared.commands.PolicyCommand.TheVariants as of_policy
-use Rattle.broker_model.specs.declared.commands.SecretCommand.TheVariants as of_secret
 use Rattle.broker_model.specs.declared.commands.TokenCommand.TheVariants as of_token
-use Rattle.broker_model.specs.declared.commands.WrappingCommand.TheVariants as of_response
 use Rattle.broker_model.specs.parts.Tokens as tokens
 use Rattle.histories.specs.History.{Asking, clocked, spent_by}
-use Rattle.histories.specs.LeaseEnds.{EndsLease}
-use Rattle.histories.specs.LeaseOwners.{IsIssuedTo}
 use Rattle.histories.specs.Own.{EditsCubbyhole, Edits, IsRevoked, LeaseBecomes, RenewalOf, RenewsToken, Stands}
-use Rattle.histories.specs.Own.{with_changed}
+use Rattle.histories.specs.Own.{IsRenewedTo, increment_of, with_changed}
 use Rattle.histories.specs.Revocation.{IsClient, IsMade, IsOrphaned, orphaning_by, parent_asked, WasToken}
 use Rattle.histories.specs.Revocation.{IsGranted, RevokesAlone, left_by_caller, revoked_by}
 use Rattle.histories.proofs.Clients.{CarriesOut, from_clock, Course, FromClock, course, from_itself, left_is}
 use Rattle.histories.proofs.Clients.{left_unspent}
+use Rattle.histories.proofs.LeaseChanges.{edited_is, leases_left, policies_neither, responses_neither}
+use Rattle.histories.proofs.LeaseChanges.{secrets_neither, tokens_neither}
 use Rattle.histories.proofs.OrderCases.{unless_ok, some_ok}
-
--- ---- parts that change neither
-
-abbrev Neither : Option Part → Type 0
-Neither changes = (may_change changes kind.Cubby ≡ false) × (may_change changes kind.Lease ≡ false)
-
-tokens_neither : (k : TokenCommand) → token_fate k ≡ stay → Neither (token_changes k)
-tokens_neither (of_token.Revoke t) e = absurd (cc)
-tokens_neither (of_token.RevokeOrphan t) e = absurd (cc)
-tokens_neither (of_token.RevokeAccessor accessor) e = absurd (cc)
-tokens_neither of_token.RevokeSelf e = absurd (cc)
-tokens_neither _ e = (refl, refl)
-
-secrets_neither : (k : SecretCommand) → Neither (secret_changes k)
-secrets_neither of_secret.ShowSettings = (refl, refl)
-secrets_neither _ = (refl, refl)
-
-policies_neither : (k : PolicyCommand) → Neither (policy_changes k)
-policies_neither of_policy.List = (refl, refl)
-policies_neither _ = (refl, refl)
-
-responses_neither : (k : WrappingCommand) → Neither (wrapping_changes k)
-responses_neither (of_response.Wrap text) = (refl, refl)
-responses_neither _ = (refl, refl)
+use Rattle.histories.proofs.RenewedEnds.{is_new_end}
 
 -- those that change no cubbyhole
 leases_no_cubbyhole : (k : LeaseCommand) → may_change (lease_changes k) kind.Cubby ≡ false
@@ -122,44 +80,10 @@ issued_no_cubbyhole : (k : IssuedCommand) → may_change (issued_changes k) kind
 issued_no_cubbyhole of_issued.ShowRole = refl
 issued_no_cubbyhole _ = refl
 
--- and no lease
-cubbyholes_no_lease : (k : CubbyholeCommand) → may_change (cubbyhole_changes k) kind.Lease ≡ false
-cubbyholes_no_lease of_cubbyhole.Read = refl
-cubbyholes_no_lease _ = refl
-
--- ---- one token
-
--- what is taken out is none
-without_it : {X : Type 0} (v : Bool) (o : Option X) → cond v None o ≡ (if v then None else o)
-without_it true o = refl
-without_it false o = refl
-
-not_kept : {X : Type 0} (v : Bool) (o : Option X) → cond (not v) o None ≡ (if v then None else o)
-not_kept true o = refl
-not_kept false o = refl
-
--- more than one use, before one was spent that was not the last
-more_than_one : (n : ℕ) → (n - 1 == 0) ≡ false → 1 < n
-more_than_one n e = by (nat_lt 1 n) refl
-  where
-    by : (v : Bool) → nat_lt 1 n ≡ v → 1 < n
-    by true lt = ltb-true 1 n lt
-    by false ge =
-        let none : n - 1 ≡ 0 = omega (arith, ltb-false 1 n ge) in
-        absurd (false≢true (sym e ∙ ap (λ m. m == 0) none))
+-- ---- its cubbyhole
 
 module _ (a : Asking) (c : Text) (q : Text) (x y : Token) (was : get (spent_by a c).tokens q ≡ Some x) (d : Done)
     (is : get d.next.tokens q ≡ Some y) where
-  abbrev b : Broker
-  b = spent_by a c
-
-  edited_is : (f : Text → Token → Token) → d.next.tokens ≡ map_values f b.tokens → y ≡ f q x
-  edited_is f e =
-      let v = valued_is f b.tokens q y (ap (λ (m : Tokens). get m q) (sym e) ∙ is) in
-      v.2 ∙ ap (f q) (same_Some _ _ (sym v.1 ∙ was))
-
-  -- ---- its cubbyhole
-
   module _ (path : Text) where
     abbrev AtPath : Type 0
     AtPath = (get y.cubbyhole path ≡ get x.cubbyhole path) ⊎ EditsCubbyhole a q path (get y.cubbyhole path)
@@ -167,12 +91,12 @@ module _ (a : Asking) (c : Text) (q : Text) (x y : Token) (was : get (spent_by a
     -- an edit at a path changes no other
     edited_at : (p : Text) (k : CubbyholeCommand) → CarriesOut a c (on_cubbyhole p k) d
         → IsClient a q → d.answered ≡ nothing → (edit : Map Text → Map Text) (new : Option Text) → Edits new k
-        → d.next.tokens ≡ (cubbyhole.edited b c edit).tokens
+        → d.next.tokens ≡ (cubbyhole.edited (spent_by a c) c edit).tokens
         → ((m : Map Text) → get (edit m) path ≡ cond (same path p) new (get m path)) → AtPath
     edited_at p k s client answered edit new edits next at_each =
         at_path (same path p) refl
         (ap (λ (z : Token). get z.cubbyhole path)
-        (edited_is (λ u z. if same u c then cubbyhole.with_cubbyhole edit z else z) next
+        (edited_is a c q x y was d is (λ u z. if same u c then cubbyhole.with_cubbyhole edit z else z) next
         ∙ ap (λ u. if same u c then cubbyhole.with_cubbyhole edit x else x)
         (same_Some _ _ (sym client.token ∙ s.client.token))
         ∙ ap (λ v. if v then cubbyhole.with_cubbyhole edit x else x) (same_self c))
@@ -216,174 +140,10 @@ module _ (a : Asking) (c : Text) (q : Text) (x y : Token) (was : get (spent_by a
     cubbyhole_left (on_issued p k) s client fate may = absurd (false≢true (sym (issued_no_cubbyhole k) ∙ may))
     cubbyhole_left (on_wrapping k) s client fate may = absurd (false≢true (sym (responses_neither k).0 ∙ may))
 
-  -- ---- its leases
-
-  module _ (lease_id : Text) where
-    abbrev Becomes : Option Lease → Type 0
-    Becomes new = LeaseBecomes a q lease_id (get x.leases lease_id) new
-
-    -- where each token's leases are edited
-    leases_edited : (edit : Text → Map Lease → Map Lease)
-        → d.next.tokens ≡ (leases.edited b edit).tokens → Becomes (get (edit q x.leases) lease_id)
-        → Becomes (get y.leases lease_id)
-    leases_edited edit next becomes =
-        subst Becomes (ap (λ (z : Token). get z.leases lease_id)
-        (sym (edited_is (λ t z. leases.with_leases (edit t z.leases) z) next))) becomes
-
-    -- a lease that was revoked is none, and the others are as they were
-    taken_out : (command : Command) → CarriesOut a c command d → d.answered ≡ nothing → (v : Bool)
-        → (v ≡ true → EndsLease (clocked a) lease_id command) → Becomes (if v then None else get x.leases lease_id)
-    taken_out command s answered true ends = inr (inr (inr (
-      refl,
-      record {
-        command = command;
-        means = s.means;
-        ends = ends refl;
-        answered = ap (λ (r : Response). r.status) (s.is_204 answered);
-      },
-    )))
-    taken_out command s answered false ends = inl refl
-
-    lease_renewed : (prefix : Text) (asked : LeaseRenewal) → CarriesOut a c (on_lease prefix (of_lease.Renew asked)) d
-        → Becomes (get y.leases lease_id)
-    lease_renewed prefix asked s =
-        let f = leases.renewed b.clock asked.increment in
-        let r = ok_step (leases.renew b asked.lease_id asked.increment) _ d s.acted in
-        let l = ok_step (leases.lookup b asked.lease_id) _ r.0 r.1 in
-        leases_edited (λ t m. change m asked.lease_id f)
-        (ap (λ (z : Done). z.next.tokens) (sym (ok_inj r.2))
-        ∙ ap (λ (z : leases.Renewed). z.next.tokens) (sym (ok_inj l.2)))
-        (subst Becomes (sym (get-change x.leases asked.lease_id f lease_id))
-        (by _ (ap (λ (z : Done). z.answered) (sym (ok_inj r.2))) (same lease_id asked.lease_id) refl
-        (get x.leases lease_id)))
-      where
-        by : (r : Reply) → d.answered ≡ reply r None → (v : Bool) → same lease_id asked.lease_id ≡ v
-            → (o : Option Lease)
-            → LeaseBecomes a q lease_id o
-            (option_map (λ l. if v then leases.renewed b.clock asked.increment l else l) o)
-        by r answered v at None = inl refl
-        by r answered false at (Some k) = inl refl
-        by r answered true at (Some k) = inr (inl (record {
-          renews = record {
-            prefix = prefix;
-            asked = asked;
-            means = s.means;
-            names = sym (same_true lease_id asked.lease_id at);
-            answered = s.is_200 r None answered;
-          };
-          earlier = k;
-          there = refl;
-          later = leases.renewed b.clock asked.increment k;
-          is = refl;
-          rest = refl;
-        }))
-
-    at_lease : (prefix : Text) (k : LeaseCommand) → CarriesOut a c (on_lease prefix k) d
-        → may_change (lease_changes k) kind.Lease ≡ true → Becomes (get y.leases lease_id)
-    at_lease prefix (of_lease.LookUp id) s may = absurd (false≢true may)
-    at_lease prefix (of_lease.Renew asked) s may = lease_renewed prefix asked s
-    at_lease prefix (of_lease.Revoke id) s may =
-        leases_edited (λ t m. without m id) (ap (λ (z : Done). z.next.tokens) (sym (ok_inj s.acted)))
-        (subst Becomes (sym (get-without x.leases id lease_id ∙ without_it (same lease_id id) (get x.leases lease_id)))
-        (taken_out (on_lease prefix (of_lease.Revoke id)) s (ap (λ (z : Done). z.answered) (sym (ok_inj s.acted)))
-        (same lease_id id) (λ at. sym (same_true lease_id id at))))
-    at_lease prefix of_lease.RevokeUnder s may =
-        leases_edited (λ t m. keep (λ u. not (leases.is_under prefix u)) m)
-        (ap (λ (z : Done). z.next.tokens) (sym (ok_inj s.acted)))
-        (subst Becomes (sym (get-keep (λ u. not (leases.is_under prefix u)) x.leases lease_id
-        ∙ not_kept (leases.is_under prefix lease_id) (get x.leases lease_id)))
-        (taken_out (on_lease prefix of_lease.RevokeUnder) s (ap (λ (z : Done). z.answered) (sym (ok_inj s.acted)))
-        (leases.is_under prefix lease_id) (λ under. under)))
-
-    -- what is below the name of a mount goes with it, if it was there
-    disabled_left : (name : Text) → CarriesOut a c (on_mount name of_mount.Disable) d
-        → Becomes (get y.leases lease_id)
-    disabled_left name s =
-        let next = ok_step (disabled b.mounts name) _ d s.acted in
-        by next.0 (is_some (get b.mounts name)) refl (ok_inj next.2)
-      where
-        by : (mounts : Map Mount) (v : Bool) → is_some (get b.mounts name) ≡ v
-            → plainly nothing (if v then without_kept (record b { mounts = mounts }) name else b) ≡ d
-            → Becomes (get y.leases lease_id)
-        by mounts true there e =
-            leases_edited (λ t m. keep (λ u. not (leases.is_under name u)) m) (ap (λ (z : Done). z.next.tokens) (sym e))
-            (subst Becomes (sym (get-keep (λ u. not (leases.is_under name u)) x.leases lease_id
-            ∙ not_kept (leases.is_under name lease_id) (get x.leases lease_id)))
-            (taken_out (on_mount name of_mount.Disable) s (ap (λ (z : Done). z.answered) (sym e))
-            (leases.is_under name lease_id)
-            (λ under. (under, λ none. false≢true (sym (ap (λ (o : Option Mount). is_some o) none) ∙ there)))))
-        by mounts false none e =
-            inl (ap (λ (z : Token). get z.leases lease_id)
-            (same_Some _ _ (sym (ap (λ (z : Done). get z.next.tokens q) e ∙ is) ∙ was)))
-
-    at_mount : (name : Text) (k : MountCommand) → CarriesOut a c (on_mount name k) d
-        → may_change (mount_changes k) kind.Lease ≡ true → Becomes (get y.leases lease_id)
-    at_mount name of_mount.Disable s may = disabled_left name s
-    at_mount name _ s may = absurd (false≢true may)
-
-    -- what is issued is the caller's, whose last use this is not
-    issued_left : (p : Place) → CarriesOut a c (on_issued p of_issued.Issue) d
-        → Becomes (get y.leases lease_id)
-    issued_left p s =
-        let names = names_of a.words in
-        let i = ok_step (roles.creds b c p.mount p.path names.lease names.credential) _ d s.acted in
-        let made = ok_step (roles.issued (roles.role b p.mount p.path)
-        (is_last_use b c) b.clock p.mount p.path names.lease names.credential) _ i.0 i.1 in
-        let r = ok_step (some_or refusal.NotFound (roles.role b p.mount p.path)) _ made.0 made.1 in
-        let lasts = ok_step (unless (not (is_last_use b c))
-        (refusal.BadRequest reason.LastUseTakesLease)) _ made.0 r.2 in
-        let id = made.0.lease_id in
-        let l = made.0.lease in
-        let last : is_last_use b c ≡ false = not-true _ (unless_ok _ _ lasts.0 lasts.1) in
-        let w = from_clock a c s.client q x was in
-        let issued : q ≡ c → IsIssuedTo a q l = λ at.
-        let client = subst (IsClient a) (sym at) s.client in
-        record {
-          client = client;
-          place = p;
-          means = s.means;
-          answered = s.is_200 _ _ (ap (λ (z : Done). z.answered) (sym (ok_inj i.2)));
-          own = w.earlier;
-          there = w.there;
-          lasting = λ n few. more_than_one n
-              (sym (ap (λ (o : Option ℕ). option_map_or (λ m. m == 0) o false)
-              (w.uses client ∙ ap (option_map (λ m. m - 1)) few))
-              ∙ sym (ap (λ (o : Option Token). option_map_or is_spent o false) was) ∙ ap (is_last_use b) at ∙ last);
-          credential = ap (λ (z : roles.IssuedLease). z.lease.credential) (sym (ok_inj lasts.2));
-        } in
-        leases_edited (λ u m. if same u c then put m id l else m)
-        (ap (λ (z : Done). z.next.tokens) (sym (ok_inj i.2)) ∙ ap (λ (z : Issued). z.next.tokens) (sym (ok_inj made.2)))
-        (elim (same q c) as (λ v. same q c ≡ v → Becomes (get (if v then put x.leases id l else x.leases) lease_id)) [
-          | true ↦ λ at. subst Becomes (sym (get-put x.leases id l lease_id))
-              (elim (same lease_id id) as (λ v. Becomes (cond v (Some l) (get x.leases lease_id))) [
-                | true ↦ inr (inr (inl (l, refl, issued (same_true q c at))))
-                | false ↦ inl refl
-              ])
-          | false ↦ λ _. inl refl
-        ] refl)
-
-    at_issued : (p : Place) (k : IssuedCommand) → CarriesOut a c (on_issued p k) d
-        → may_change (issued_changes k) kind.Lease ≡ true → Becomes (get y.leases lease_id)
-    at_issued p of_issued.Issue s may = issued_left p s
-    at_issued p _ s may = absurd (false≢true may)
-
-    -- what may change leases renews, revokes or issues
-    pub leases_left : (command : Command) → CarriesOut a c command d
-        → (traits command).fate ≡ stay → may_change (traits command).changes kind.Lease ≡ true
-        → Becomes (get y.leases lease_id)
-    leases_left (on_lease prefix k) s fate may = at_lease prefix k s may
-    leases_left (on_mount name k) s fate may = at_mount name k s may
-    leases_left (on_issued p k) s fate may = at_issued p k s may
-    leases_left (on_cubbyhole p k) s fate may = absurd (false≢true (sym (cubbyholes_no_lease k) ∙ may))
-    leases_left (on_token k) s fate may = absurd (false≢true (sym (tokens_neither k fate).1 ∙ may))
-    leases_left (on_secret p k) s fate may = absurd (false≢true (sym (secrets_neither k).1 ∙ may))
-    leases_left (on_policy name k) s fate may = absurd (false≢true (sym (policies_neither k).1 ∙ may))
-    leases_left (on_wrapping k) s fate may = absurd (false≢true (sym (responses_neither k).1 ∙ may))
-
 -- ---- which commands make, renew and revoke
 
 -- whose child a new token is
-parent_is : (c : Text) (making : Making) (asked : TokenCreation)
+pub parent_is : (c : Text) (making : Making) (asked : TokenCreation)
     → new_parent c making asked ≡ parent_asked c making asked
 parent_is c OfCaller asked = refl
 parent_is c WithoutParent asked = refl
@@ -401,6 +161,16 @@ creation_is _ making asked e = absurd (cc)
 same_renewed : {x y : Named} {n m : ℕ} → renew x n ≡ renew y m → x ≡ y
 same_renewed e = cc
 
+same_increment : {x y : Named} {n m : ℕ} → renew x n ≡ renew y m → m ≡ n
+same_increment e = cc
+
+-- and for how long
+increment_is : (k : TokenCommand) (named : Named) (increment : ℕ) → token_fate k ≡ renew named increment
+    → increment ≡ increment_of k
+increment_is (of_token.Renew asked) named increment e = same_increment e
+increment_is (of_token.RenewSelf n) named increment e = same_increment e
+increment_is _ named increment e = absurd (cc)
+
 same_revoked : {x y : Named} → revoke x ≡ revoke y → x ≡ y
 same_revoked e = cc
 
@@ -412,8 +182,8 @@ module _ (b : Broker) (c t : Text) (named : Named) (is : text_named b c named �
   renewal_of _ increment e = absurd (cc)
 
   renewal_is : (command : Command) (increment : ℕ) → (traits command).fate ≡ renew named increment
-      → (k : TokenCommand) × (command ≡ on_token k) × RenewalOf c t k
-  renewal_is (on_token k) increment e = (k, refl, renewal_of k increment e)
+      → (k : TokenCommand) × (command ≡ on_token k) × RenewalOf c t k × (increment ≡ increment_of k)
+  renewal_is (on_token k) increment e = (k, refl, renewal_of k increment e, increment_is k named increment e)
   renewal_is _ increment e = absurd (cc)
 
   revocation_of : (k : TokenCommand) → token_fate k ≡ revoke named → revoked_by b c (on_token k) ≡ Some t
@@ -447,15 +217,40 @@ parent_left t (Some r) =
       | false ↦ λ _. inl refl
     ] refl
 
+-- what is something is there
+pub there_is : {X : Type 0} (o : Option X) → is_some o ≡ true → (x : X) × (o ≡ Some x)
+there_is None none = absurd (false≢true none)
+there_is (Some x) some = (x, refl)
+
 -- ---- what becomes of a token
+
+-- the request renewed the token x at q, which had an end, and this is the new one
+pub record HasNewEnd (a : Asking) (q : Text) (x : Token) (ends : Option ℕ) : Type 0 where
+  pub renews : RenewsToken a q
+  pub had : x.ends ≢ None
+  pub is : ends ≡ Some (new_end (clocked a).clock (token_entry x) (increment_of renews.command))
+
+-- it is as documented
+pub renewed_to : (a : Asking) (q : Text) (x : Token) (ends : Option ℕ) → HasNewEnd a q x ends → IsRenewedTo a q x ends
+renewed_to a q x ends h = record {
+  renews = h.renews;
+  had = h.had;
+  end = new_end (clocked a).clock (token_entry x) (increment_of h.renews.command);
+  is = h.is;
+  in_time = is_new_end (clocked a).clock (increment_of h.renews.command) x;
+}
+
+-- the use that was spent before plays no part
+pub before_use : (a : Asking) (q : Text) (x : Token) (uses : Option ℕ) (ends : Option ℕ)
+    → HasNewEnd a q (record x { uses_left = uses }) ends → HasNewEnd a q x ends
+before_use a q x uses ends h = record { renews = h.renews; had = h.had; is = h.is }
 
 module _ (a : Asking) where
   -- y is what the operation of the request left of the token x at q
   pub record Became (q : Text) (x y : Token) : Type 0 where
     pub parent : (y.parent ≡ x.parent) ⊎ IsOrphaned a x y
     pub uses : y.uses_left ≡ x.uses_left
-    pub ends : (y.ends ≡ x.ends)
-        ⊎ (RenewsToken a q × (increment : ℕ) × (y.ends ≡ Some (new_end (clocked a).clock (token_entry x) increment)))
+    pub ends : (y.ends ≡ x.ends) ⊎ HasNewEnd a q x y.ends
     pub cubbyhole : (path : Text)
         → (get y.cubbyhole path ≡ get x.cubbyhole path) ⊎ EditsCubbyhole a q path (get y.cubbyhole path)
     pub leases : (lease_id : Text) → LeaseBecomes a q lease_id (get x.leases lease_id) (get y.leases lease_id)
@@ -464,8 +259,7 @@ module _ (a : Asking) where
   -- nothing, but for its end or its parent
   became : (q : Text) (x : Token) (parent : Option Text) (ends : Option ℕ)
       → (parent ≡ x.parent) ⊎ IsOrphaned a x (record x { parent = parent; ends = ends })
-      → (ends ≡ x.ends) ⊎ (RenewsToken a q × (increment : ℕ)
-      × (ends ≡ Some (new_end (clocked a).clock (token_entry x) increment)))
+      → (ends ≡ x.ends) ⊎ HasNewEnd a q x ends
       → Became q x (record x { parent = parent; ends = ends })
   became q x parent ends how_parent how_ends = record {
     parent = how_parent;
@@ -582,20 +376,15 @@ module _ (a : Asking) where
           | false ↦ λ _. fated_itself q (get start.tokens q)
         ] refl)
 
-    renewed : (t : Text) (increment : ℕ) → ((k : TokenCommand) × (command ≡ on_token k) × RenewalOf c t k)
+    renewed : (t : Text) (increment : ℕ)
+        → ((k : TokenCommand) × (command ≡ on_token k) × RenewalOf c t k × (increment ≡ increment_of k))
         → tokens.renew start names t increment ≡ Ok d → Here
     renewed t increment k e =
         let x = ok_step (known start t) _ d e in
         let ending = ok_step (unless (is_some x.0.ends) (refusal.BadRequest reason.TokenNotRenewable)) _ d x.2 in
         let f = tree.with_end (new_end start.clock (token_entry x.0) increment) in
-        let renews : RenewsToken a t = record {
-          caller = c;
-          client = s.client;
-          command = k.0;
-          means = s.means ∙ ap Ok k.1;
-          names = k.2;
-          answered = s.is_200 _ _ (ap (λ (z : Done). z.answered) (sym (ok_inj ending.2)));
-        } in
+        let answered = s.is_200 _ _ (ap (λ (z : Done). z.answered) (sym (ok_inj ending.2))) in
+        let had = there_is x.0.ends (unless_ok _ _ ending.0 ending.1) in
         subst (Fated q (get start.tokens q))
         (sym (get-change start.tokens t f q) ∙ ap (λ (z : Done). get z.next.tokens q) (ok_inj ending.2))
         (elim (get start.tokens q) as
@@ -607,11 +396,19 @@ module _ (a : Asking) where
                     let is_t : q ≡ t = same_true q t at in
                     let is_x : x.0 ≡ z = same_Some _ _ (sym (some_ok _ (get start.tokens t) x.1)
                     ∙ ap (get start.tokens) (sym is_t) ∙ there) in
-                    inl (became q z z.parent (f z).ends (inl refl) (inr (
-                      subst (RenewsToken a) (sym is_t) renews,
-                      increment,
-                      ap (λ (w : Token). Some (new_end start.clock (token_entry w) increment)) is_x,
-                    )))
+                    inl (became q z z.parent (f z).ends (inl refl) (inr (record {
+                      renews = record {
+                        caller = c;
+                        client = s.client;
+                        command = k.0;
+                        means = s.means ∙ ap Ok k.1;
+                        names = subst (λ u. RenewalOf c u k.0) (sym is_t) k.2;
+                        answered = answered;
+                      };
+                      had = λ none. none-some _ (sym none ∙ ap (λ (w : Token). w.ends) (sym is_x) ∙ had.1);
+                      is = ap (λ (w : Token). Some (new_end start.clock (token_entry w) increment)) is_x
+                          ∙ ap (λ n. Some (new_end start.clock (token_entry z) n)) k.3;
+                    })))
                 | false ↦ λ _. inl (became_itself q z)
               ] refl
         ] refl)
@@ -733,7 +530,7 @@ module _ (a : Asking) where
           };
           ends = elim became.ends [
             | inl same_ ↦ inl (same_ ∙ ap (λ (z : Token). z.ends) from.rest)
-            | inr renewed ↦ inr renewed.0
+            | inr renewed ↦ inr (renewed_to a q from.earlier y.ends (at_clock renewed))
           ];
           cubbyhole = λ path. subst (λ (m : Map Text). (get y.cubbyhole path ≡ get m path)
               ⊎ EditsCubbyhole a q path (get y.cubbyhole path))
@@ -745,12 +542,13 @@ module _ (a : Asking) where
         };
         ends = elim became.ends [
           | inl same_ ↦ inl (same_ ∙ ap (λ (z : Token). z.ends) from.rest)
-          | inr (renews, increment, is) ↦ inr (
-            increment,
-            is ∙ ap (λ (z : Token). Some (new_end (clocked a).clock (token_entry z) increment)) from.rest,
-          )
+          | inr renewed ↦ let at = at_clock renewed in inr (increment_of at.renews.command, at.is)
         ];
       }
+    where
+      at_clock : HasNewEnd a q x y.ends → HasNewEnd a q from.earlier y.ends
+      at_clock h = before_use a q from.earlier x.uses_left y.ends
+          (subst (λ (z : Token). HasNewEnd a q z y.ends) from.rest h)
 
   -- the client token has a use left, if it is left
   unspent_client : (ts : Tokens) (c : Text) → IsClient a c → (q : Text) (y : Token) → left_by_caller ts c q ≡ Some y

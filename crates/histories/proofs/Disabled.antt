@@ -40,7 +40,7 @@ use Rattle.histories.proofs.Served.{Served, served}
 module _ {X : Type 0} (f : Broker → X) (by_tokens : (b : Broker) (ts : Tokens) → f (record b { tokens = ts }) ≡ f b)
     (by_used : (b : Broker) (us : Map ⊤) → f (record b { used = us }) ≡ f b)
     (by_waiting : (b : Broker) (ws : Map Waiting) → f (record b { waiting = ws }) ≡ f b) where
-  left : (a : Asking) (s : Served a) → f a.outcome.next ≡ f (s.done).next
+  pub left : (a : Asking) (s : Served a) → f a.outcome.next ≡ f (s.done).next
   left a s =
       let start = spent (clocked a) s.caller in
       let v = wrapped permits traits act start (request_of a.ask) (names_of a.words) s.command s.done in

@@ -1,5 +1,8 @@
+pub mod Allowed
+pub mod Callers
 pub mod Clients
 pub mod Cover
+pub mod Created
 pub mod CreationRoutes
 pub mod CubbyholeEdits
 pub mod Descent
@@ -14,6 +17,8 @@ pub mod Keeping
 pub mod KeptReplies
 pub mod KeptStay
 pub mod Lasting
+pub mod LeaseChanges
+pub mod LeaseGiven
 pub mod LeaseRoutes
 pub mod LeasesDue
 pub mod LeasesGone
@@ -25,7 +30,11 @@ pub mod OrderKeeps
 pub mod OwnStays
 pub mod Placed
 pub mod Plain
+pub mod ReadsEnded
+pub mod Reasons
 pub mod Refused
+pub mod Renewals
+pub mod RenewedEnds
 pub mod Requests
 pub mod RequestsPlace
 pub mod RevocationLasts
@@ -34,6 +43,11 @@ pub mod Routes
 pub mod SecretsFollow
 pub mod SecretsStay
 pub mod Served
+pub mod ServedFor
+pub mod Settings
+pub mod Shown
+pub mod Statuses
+pub mod TokenGiven
 pub mod TokenLaws
 pub mod Used
 pub mod VersionsFollow

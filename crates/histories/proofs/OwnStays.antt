@@ -50,11 +50,13 @@ use Rattle.histories.specs.Laws.{AllOwnStays}
 use Rattle.histories.specs.Own.{AnswersOwn, EndsWithClient, Goes, IsListAt, IsObjectAt}
 use Rattle.histories.specs.Revocation.{IsClient, has_no_use, left_by_caller}
 use Rattle.histories.proofs.Clients.{CarriesOut, Course, from_clock}
+use Rattle.histories.proofs.Created.{new_unspent}
 use Rattle.histories.proofs.CubbyholeEdits.{edits_stand}
 use Rattle.histories.proofs.Descent.{Makes, follows, keeps, leaves}
 use Rattle.histories.proofs.OrderCases.{IsCaller, some_ok, spent}
 use Rattle.histories.proofs.OrderKeeps.{wrapped_cases}
 use Rattle.histories.proofs.Requests.{answers_plainly, asked_at, means_at_clock}
+use Rattle.histories.proofs.Renewals.{had_lease, renewed_lease, renewed_token}
 use Rattle.histories.proofs.RevocationLasts.{called_tree, not_due_stays}
 use Rattle.histories.proofs.Served.{Served, served}
 use Rattle.histories.proofs.TokenLaws.{asked_course}
@@ -126,12 +128,6 @@ kept_by_caller ts c q there apart none =
       | true ↦ λ on _. let both = and_parts (has_no_use ts c) (is_under ts q c) on in apart both.0 both.1
       | false ↦ λ _ away. there away
     ] refl none
-
--- a new token has not spent its last use
-new_unspent : (n : ℕ) → option_map_or (λ m. m == 0) (if n == 0 then None else Some n) false ≡ false
-new_unspent n = elim (n == 0) as
-    (λ v. (n == 0) ≡ v → option_map_or (λ m. m == 0) (if v then None else Some n) false
-    ≡ false) [ true ↦ λ _. refl | false ↦ λ e. e ] refl
 
 -- ---- one request
 
@@ -293,6 +289,10 @@ own_stays told b history h = record {
       no_lease = λ lease_id. ap (λ (z : Token). get z.leases lease_id) m.is ∙ get-empty text_cmp lease_id;
     })
   ];
+  renewed = λ i a q y at r there. renewed_token a (asked_at b history i a h at).outcome q y r there;
+  renewed_lease = λ i a lease_id at r. had_lease a (asked_at b history i a h at).outcome lease_id r;
+  lease_ends = λ i a q lease_id l at r was stays.
+      renewed_lease a (asked_at b history i a h at).outcome lease_id r q l was stays;
   edited = λ i a q path command y at client means answered there.
       edits_stand a (asked_at b history i a h at).outcome q path client answered y there command means;
   reads = λ i a path at means success.

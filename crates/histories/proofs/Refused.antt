@@ -1,8 +1,8 @@
 -- What a refused request leaves, and what policies decide.
-use Rattle.std.specs.Prelude.{◌≡◌, ◌≤◌, ◌||◌, ℕ, List, Bool, true, false, not, nat_lt, is_some, if◌then◌else◌}
+use Rattle.std.specs.Prelude.{◌≡◌, ◌≢◌, ◌≤◌, ◌||◌, ℕ, List, Bool, true, false, not, nat_lt, is_some, if◌then◌else◌}
 use Rattle.std.specs.Prelude.{Option, Some, None, Result, Ok, Err, ⊤}
 use Rattle.std.specs.Option.{option_map_or}
-use Rattle.std.proofs.Common.{refl, sym, ◌∙◌, ap, inl, inr, arith}
+use Rattle.std.proofs.Common.{refl, sym, ◌∙◌, ap, subst, inl, inr, arith}
 use Rattle.std.proofs.lemmas.Bool.{false≢true}
 use Rattle.std.proofs.lemmas.Option.{none-some}
 use Rattle.broker_types.specs.Text.{Text, same}
@@ -14,7 +14,7 @@ use Rattle.broker_types.specs.Names.{Names, names_of}
 use Rattle.broker_types.specs.Operation.{Answered, nothing, reply, kept_text, missing, Done}
 use Rattle.broker_types.specs.Refuse.{◌>>=◌, unless}
 use Rattle.broker_types.specs.RefuseLaws.{ok_step}
-use Rattle.broker_types.specs.Spending.{spend, end_spent, one_less}
+use Rattle.broker_types.specs.Spending.{spend, drop_waiting, end_spent, one_less}
 use Rattle.broker_types.specs.Status.{status_code}
 use Rattle.broker_types.specs.Token.{Token}
 use Rattle.broker_types.specs.Used.{are_new, use_up}
@@ -27,14 +27,15 @@ use Rattle.records.specs.ValueLaws.{ok_inj}
 use Rattle.broker_model.specs.Act.{act}
 use Rattle.broker_model.specs.Command.{Command, on_wrapping, command_of}
 use Rattle.broker_model.specs.Laws.{OperationsDoAsTold}
-use Rattle.broker_model.specs.Order.{Outcome, Wrapped, counted, finish, needed, permission_denied, response_to, serve}
+use Rattle.broker_model.specs.Order.{Outcome, Wrapped, counted, denied, finish, for_caller, needed}
+use Rattle.broker_model.specs.Order.{permission_denied, response_to, serve}
 use Rattle.broker_model.specs.Order.{unwrapped}
 use Rattle.broker_model.specs.Permission.{may_ask, permits}
 use Rattle.broker_model.specs.Request.{Request}
 use Rattle.broker_model.specs.Serving.{operated}
 use Rattle.broker_model.specs.Step.{request_of, step, traits}
 use Rattle.broker_model.specs.declared.commands.WrappingCommand.TheVariants as response
-use Rattle.histories.specs.Refused.{Calls, ChangesNothingElse, PoliciesDecide}
+use Rattle.histories.specs.Refused.{Calls, ChangesNothingElse, HasNoCaller, HasResponse, IsDenial, PoliciesDecide}
 use Rattle.histories.specs.Refused.{RefusedChangeNothing, WrapNeedsTtl, is_granted}
 use Rattle.histories.proofs.InOrder.{in_order}
 use Rattle.histories.proofs.OrderCases.{IsCaller, spent, unless_ok, with_caller}
@@ -206,8 +207,54 @@ module _ (b : Broker) (moment : ℕ) (words : Words) (a : Ask) (c : Text) (x : T
       (inr (c, h.closed, h.client, refl, no_wait, there))
       ∙ ap (λ z. finish spent_ (Some c) (unless z permission_denied >>= rest)) (decides v e)
 
+-- ---- without a caller
+
+-- a denial, whatever it leaves
+denial_of : (left next : Broker) → next ≡ left → IsDenial left (denied next)
+denial_of left next is = record { denied = record { forbidden = refl; is = refl }; next = is }
+
+-- what is there is something
+is_there : {X : Type 0} (o : Option X) → o ≢ None → is_some o ≡ true
+is_there None some = absurd (some refl)
+is_there (Some x) some = refl
+
+module _ (b : Broker) (moment : ℕ) (words : Words) (a : Ask) where
+  abbrev at_clock : Broker
+  at_clock = at_moment b moment
+
+  no_caller : HasNoCaller at_clock a → IsDenial at_clock (step b moment words a)
+  unfolding step
+  no_caller h =
+      in_order permits traits act b moment (request_of a) (names_of words) (IsDenial at_clock)
+      (λ closed none. denial_of at_clock at_clock refl)
+      (λ t closed is_token waits.
+      absurd (false≢true (sym (ap (λ (o : Option Waiting). is_some o) (h.no_response t is_token)) ∙ waits)))
+      (λ caller is. absurd (none_calls caller is))
+    where
+      none_calls : (caller : Option Text) → IsCaller at_clock (request_of a) caller → ⊥
+      none_calls caller (inl (open_, none)) = false≢true (sym h.closed ∙ open_)
+      none_calls caller (inr (t, closed, is_token, some, not_waiting, there)) =
+          false≢true (sym (ap (λ (o : Option Token). is_some o) (h.no_token t is_token)) ∙ there)
+
+  -- the step of an ask whose client token is a wrapping token
+  response_dropped : (t : Text) → HasResponse at_clock a t → step b moment words a ≡ denied (drop_waiting at_clock t)
+  unfolding step
+  response_dropped t h =
+      let go : Text → Outcome = λ c. finish (spend at_clock c) (Some c)
+      (serve permits traits act (spend at_clock c) (Some c) (request_of a) (names_of words)) in
+      ap (λ v. if v then finish at_clock None (serve permits traits act at_clock None (request_of a) (names_of words))
+      else for_caller at_clock a.token go) h.closed
+      ∙ ap (λ o. for_caller at_clock o go) h.client
+      ∙ ap (λ v. if v then denied (drop_waiting at_clock t)
+      else (if is_some (get at_clock.tokens t) then go t else denied at_clock))
+      (is_there (get at_clock.waiting t) h.waits)
+
 pub policies_decide : PoliciesDecide
 policies_decide = record {
+  nobody = λ b moment words a h. no_caller b moment words a h;
+  response = λ b moment words a t h.
+      subst (IsDenial (drop_waiting (at_moment b moment) t)) (sym (response_dropped b moment words a t h))
+      (denial_of (drop_waiting (at_moment b moment) t) (drop_waiting (at_moment b moment) t) refl);
   denied = λ b moment words a c x h e. ap (λ (o : Outcome). o.response) (as_decided b moment words a c x h false e);
   granted = λ b moment words a c x h e. as_decided b moment words a c x h true e;
 }

@@ -63,6 +63,7 @@ use Rattle.histories.specs.Revocation.{IsGranted, Revocation, Revokes, RevokesAl
 use Rattle.histories.specs.Revocation.{with_later_leases}
 use Rattle.histories.specs.Revocation.{is_orphaning, is_revocation, named_by, orphaning_by}
 use Rattle.histories.specs.Revocation.{orphaning_of, revoked_by, revoked_of, taken_as}
+use Rattle.histories.proofs.Clients.{course}
 use Rattle.histories.proofs.Descent.{descends}
 use Rattle.histories.proofs.Ending.{IsLeaseGone, ended_lasts, gone_has_ended, lease_lasts, leases_are_gone}
 use Rattle.histories.proofs.Keeping.{EachKeeps, Keeps}
@@ -539,6 +540,9 @@ module _ (told : OperationsDoAsTold) (b : Broker) (history : History) (h : AreAs
         descends told a is.sound is.outcome q y there;
     stays = λ i a q x at is not_due. not_due_stays a q x is not_due;
     clock = λ i a at. refl;
+    clock_left = λ i a at.
+        let is = asked_at b history i a h at in
+        (course told a is.sound is.outcome).clock;
     spends = λ i a c q at. get-change (clocked a).tokens c one_less q;
     responses = λ i a c t u at how other. others_wait a (asked_at b history i a h at).outcome c t u how other;
     answered = λ i a command at means does. revoking_answer a (asked_at b history i a h at).outcome command means does;

@@ -14,7 +14,9 @@ use Rattle.broker_types.specs.TextLaws.{same_self, same_true}
 use Rattle.broker_types.specs.Token.{Token, Lease}
 use Rattle.broker_types.specs.MapLaws.{no_entry, one_entry}
 use Rattle.broker_types.specs.Broker.{Broker}
+use Rattle.broker_types.specs.Evolves.{WasBefore}
 use Rattle.broker_types.specs.First.{root_token}
+use Rattle.broker_types.specs.Places.{lease_of}
 use Rattle.broker_types.specs.Identifier.{id}
 use Rattle.broker_types.specs.TokenText.{token_text}
 use Rattle.broker_types.specs.TreeLaws.{alive_is}
@@ -22,7 +24,7 @@ use Rattle.broker_types.specs.declared.ask.Verb.TheVariants as verb
 use Rattle.records.specs.Children.{has}
 use Rattle.records.specs.TokenEntry.{token_entry}
 use Rattle.policies.specs.Grants.{grants}
-use Rattle.policies.specs.Laws.{IsGranted, OnlyWhatIsGranted}
+use Rattle.policies.specs.Laws.{AllThatIsGranted, IsGranted, OnlyWhatIsGranted, RootMayDoAll}
 use Rattle.policies.specs.Policies.{is_root}
 use Rattle.policies.specs.declared.capability.Capability.TheVariants.{Sudo}
 use Rattle.api_json.specs.declared.token_bodies.TokenCreation.{TokenCreation}
@@ -36,15 +38,17 @@ use Rattle.broker_model.specs.parts.Tokens.{new_end, prolonged_end}
 use Rattle.broker_model.specs.EffectLaws.{chained}
 use Rattle.broker_model.specs.Laws.{OperationsDoAsTold}
 use Rattle.histories.specs.Creations.{HasRoot, HasSudo, IsWithin, MightMake}
-use Rattle.histories.specs.History.{Asking, clocked, Beginning, IsAsked, begun}
+use Rattle.histories.specs.History.{AreAsked, AskedAt, Asking, History, clocked, Beginning, IsAsked, begun}
 use Rattle.histories.specs.Lifetimes.{EndsInTime, AllEndInTime, EndInTimeAt}
 use Rattle.histories.specs.Own.{with_changed}
 use Rattle.histories.specs.Paths.{CreatesAtPath, path_of}
 use Rattle.histories.specs.LeaseOwners.{IsIssuedTo}
-use Rattle.histories.specs.Laws.{AllLeasesAreOfCallers, AllMadeAsAllowed, AllTokensEndInTime, TokensEndInTimeSinceStart}
+use Rattle.histories.specs.Laws.{AllLeasesAreOfCallers, AllTokensEndInTime, TokensEndInTimeSinceStart}
 use Rattle.histories.proofs.Clients.{from_clock, Course, course}
+use Rattle.histories.proofs.Created.{has_no_end_, has_policies, lasts}
 use Rattle.histories.proofs.Descent.{Makes}
 use Rattle.histories.proofs.Descent.{follows}
+use Rattle.histories.proofs.LeaseGiven.{gives_lease}
 use Rattle.histories.proofs.Requests.{asked_at}
 
 -- ---- privileges
@@ -119,8 +123,23 @@ chosen_some false x y e = same_Some _ _ (sym e)
 
 -- ---- who might make it
 
-module _ (only : OnlyWhatIsGranted) (creates : CreatesAtPath) (a : Asking) (q : Text) (y : Token)
-    (m : Makes a q y) where
+-- and what is granted, or is asked for by `root`, may be done
+has_any_root : (names : List Text) → has names (codes "root") ≡ true → list_any is_root names ≡ true
+has_any_root [] e = absurd (false≢true e)
+has_any_root (name ∷ names) e = elim (or_cases (same (codes "root") name) (has names (codes "root")) e) [
+  | inl here ↦ ap (λ v. v || list_any is_root names)
+      (subst (λ u. same u (codes "root") ≡ true) (same_true (codes "root") name here) (same_self (codes "root")))
+  | inr later ↦ or_right (same name (codes "root")) (list_any is_root names) (has_any_root names later)
+]
+
+granted_so : AllThatIsGranted → RootMayDoAll → (policies : Map Text) (names : List Text) (path : Text)
+    → (has names (codes "root") ≡ true) ⊎ IsGranted policies names verb.Write path Sudo
+    → grants policies names verb.Write path Sudo ≡ true
+granted_so all root policies names path (inl is) = root policies names verb.Write path Sudo (has_any_root names is)
+granted_so all root policies names path (inr is) = all policies names verb.Write path Sudo is
+
+module _ (only : OnlyWhatIsGranted) (all : AllThatIsGranted) (root_all : RootMayDoAll) (creates : CreatesAtPath)
+    (a : Asking) (q : Text) (y : Token) (m : Makes a q y) where
   abbrev privileged : Bool
   privileged = is_privileged (clocked a) (making_path m.made.making) m.own
 
@@ -181,6 +200,16 @@ module _ (only : OnlyWhatIsGranted) (creates : CreatesAtPath) (a : Asking) (q : 
         no_limit = λ none. ap (λ (z : Token). z.uses_left) m.is ∙ ap use_limit none;
         longest = ap (λ (z : Token). z.explicit_max_ttl) m.is;
         period = ap (λ (z : Token). z.period) m.is;
+        lasts = lasts (clocked a).clock chosen asked y (ap (λ (z : Token). z.ends) m.is)
+            (ap (λ (z : Token). z.ttl) m.is) are_chosen;
+        no_end = has_no_end_ (clocked a).clock chosen asked y (ap (λ (z : Token). z.ends) m.is)
+            (ap (λ (z : Token). z.ttl) m.is) are_chosen;
+        policies = has_policies privileged own asked (HasRoot own ⊎ HasSudo (clocked a) own (path_of m.made.making))
+            (λ p. ap (λ u. grants (clocked a).policies m.own.policies verb.Write u Sudo) (path_is m.made.making)
+            ∙ ap (λ ps. grants (clocked a).policies ps verb.Write (path_of m.made.making) Sudo) same_policies
+            ∙ granted_so all root_all (clocked a).policies own.policies (path_of m.made.making) p)
+            granted y (are_chosen ∙ ap (λ (z : Token). new_policies privileged z asked) from.rest);
+        meta = ap (λ (z : Token). z.meta) m.is;
       }
 
 -- ---- when it ends
@@ -298,19 +327,12 @@ module _ (told : OperationsDoAsTold) where
   asked_course b a is =
       let own = subst (λ c. IsAsked c a) (sym is.broker) is in course told a own.sound own.outcome
 
-  -- ---- who makes which token
-
-  pub made_as_allowed : OnlyWhatIsGranted → CreatesAtPath → AllMadeAsAllowed
-  made_as_allowed only creates b history h i a q y at there =
-      elim (follows a (asked_course a.broker a (asked_at b history i a h at)) q y there) [
-        | inl s ↦ inl s.stands.was
-        | inr m ↦ inr (might only creates a q y m)
-      ]
-
   -- ---- whose each lease is
 
-  pub leases_are_of_callers : AllLeasesAreOfCallers
-  leases_are_of_callers b history h i a q lease_id l at is =
+  each_of_caller : (b : Broker) (history : History) → AreAsked b history → (i : ℕ) (a : Asking) (q lease_id : Text)
+      (l : Lease) → AskedAt history i a → lease_of a.outcome.next q lease_id ≡ Some l
+      → WasBefore (clocked a) q lease_id l ⊎ IsIssuedTo a q lease_id l
+  each_of_caller b history h i a q lease_id l at is =
       let y = chained (λ (x : Token). get x.leases lease_id) (get a.outcome.next.tokens q) l is in
       elim (follows a (asked_course a.broker a (asked_at b history i a h at)) q y.0 y.1) [
         | inl s ↦
@@ -325,13 +347,20 @@ module _ (told : OperationsDoAsTold) where
                   ap (λ (k : Lease). k.credential) (sym renewed.rest ∙ same_Some _ _ (sym renewed.is ∙ y.2)),
                 )
                 | inr new ↦ elim new [
-                  | inl (k, here, issued) ↦ inr (subst (IsIssuedTo a q) (same_Some _ _ (sym here ∙ y.2)) issued)
+                  | inl (k, here, issued) ↦ inr
+                      (subst (IsIssuedTo a q lease_id) (same_Some _ _ (sym here ∙ y.2)) issued)
                   | inr (none, revokes) ↦ absurd (none-some _ (sym none ∙ y.2))
                 ]
               ]
             ]
         | inr m ↦ absurd (no_entry lease_id l (ap (λ (z : Token). get z.leases lease_id) (sym m.is) ∙ y.2))
       ]
+
+  pub leases_are_of_callers : AllLeasesAreOfCallers
+  leases_are_of_callers b history h = record {
+    each = λ i a q lease_id l at is. each_of_caller b history h i a q lease_id l at is;
+    given = λ i a p at means success. gives_lease told a (asked_at b history i a h at).outcome p means success;
+  }
 
   -- ---- how long a token lives
 

@@ -48,7 +48,8 @@ use Rattle.broker_model.specs.declared.commands.SecretCommand.{SecretCommand}
 use Rattle.broker_model.specs.declared.commands.SecretCommand.TheVariants as secret
 use Rattle.broker_model.specs.parts.Mounts.{without_kept}
 use Rattle.broker_model.specs.parts.Place.{Place}
-use Rattle.broker_model.specs.parts.SecretReplies.{object_left, version_answered, version_reply, version_shown}
+use Rattle.broker_model.specs.parts.SecretReplies.{object_left, version_answered, version_made, version_reply}
+use Rattle.broker_model.specs.parts.SecretReplies.{version_shown, written_reply}
 use Rattle.broker_model.specs.parts.Secrets.{act_on_secrets, given}
 use Rattle.histories.specs.History.{AreAsked, Asking, IsAsked, AskedAt, History, clocked}
 use Rattle.histories.specs.Versions.{AllVersionsFollow, AreSet, Commands, Deletes, DidSet, DidWrite, DisablesAbove}
@@ -56,6 +57,7 @@ use Rattle.histories.specs.Versions.{Goes, Holds, IsAsAsked, IsNewKey, ReadsVers
 use Rattle.histories.specs.Versions.{WroteBefore, Writes, named}
 use Rattle.histories.proofs.EventSecrets.{is_404, served_left}
 use Rattle.histories.proofs.OrderCases.{some_ok, spent}
+use Rattle.histories.proofs.ReadsEnded.{read_404}
 use Rattle.histories.proofs.Requests.{asked_at, means_at_clock, tells_body}
 use Rattle.histories.proofs.SecretsFollow.{Moves, is_written, secrets_moved}
 use Rattle.histories.proofs.Served.{Served, served}
@@ -120,8 +122,8 @@ was_named a q p name =
     × IsNewKey (clocked a).clock (key_or_new (clocked a).clock (get (clocked a).secrets u)))) name
     (was_there a q (get (clocked a).secrets q) refl)
 
-module _ (a : Asking) (is : a.outcome ≡ step a.broker a.moment a.words a.ask) (q : Text) (asked : SecretWrite)
-    (w : Writes a q asked) where
+module _ (told : OperationsDoAsTold) (a : Asking) (is : a.outcome ≡ step a.broker a.moment a.words a.ask) (q : Text)
+    (asked : SecretWrite) (w : Writes a q asked) where
   abbrev here : Broker
   here = clocked a
 
@@ -151,6 +153,12 @@ module _ (a : Asking) (is : a.outcome ≡ step a.broker a.moment a.words a.ask) 
           there = ap (get a.outcome.next.secrets) w.name ∙ ap (λ (z : Map Key). get z name) left
               ∙ get-put_self here.secrets name after;
           is = is_written here.clock m.0 asked (get here.secrets name) passed.1;
+          made = version_made here.clock after.current;
+          is_made = refl;
+          told = sym (tells_body told a s _ None (ap (λ (d : Done). d.answered) (sym (ok_inj x.2))
+              ∙ ap (λ (z : Written).
+              reply (written_reply (names_of a.words).request here.clock z.custom_metadata z.number)
+              None) (sym (ok_inj passed.2)))).0;
         }
 
   pub did_write : DidWrite a q asked
@@ -460,9 +468,9 @@ module _ (told : OperationsDoAsTold) (a : Asking) (is : a.outcome ≡ step a.bro
     ]
 
     by_before : (o : Option Key) → get (clocked a).secrets q ≡ o → Moves a q o (Some m) → From
-    by_before (Some k) was (inl (asked, w)) = from_write asked (did_write a is q asked w)
+    by_before (Some k) was (inl (asked, w)) = from_write asked (did_write told a is q asked w)
     by_before (Some k) was (inr s) = from_unwritten k was s
-    by_before None none (inl (asked, w)) = from_write asked (did_write a is q asked w)
+    by_before None none (inl (asked, w)) = from_write asked (did_write told a is q asked w)
     by_before None none (inr (it, current, empty)) = absurd (none-some v (sym (empty n) ∙ kept))
 
   held_from : Holds a.outcome.next q n object → From
@@ -536,7 +544,7 @@ given_at told b (Some y ∷ later) (suc j) x q n object (is, h) at holds =
 
 pub versions_follow : OperationsDoAsTold → AllVersionsFollow
 versions_follow told b history h = record {
-  written = λ i a q asked at w. did_write a (asked_at b history i a h at).outcome q asked w;
+  written = λ i a q asked at w. did_write told a (asked_at b history i a h at).outcome q asked w;
   set = λ i a q asked at w. did_set a (asked_at b history i a h at).outcome q asked w;
   stand = λ i a q k m at was there.
       subst (λ (o : Option Key). Moves a q o (Some m)) was
@@ -552,6 +560,7 @@ versions_follow told b history h = record {
       (secrets_moved told a (asked_at b history i a h at).outcome q));
   gone = λ i a q at goes. goes_away a (asked_at b history i a h at).outcome q goes;
   read = λ i a p n at means success. reads_version told a (asked_at b history i a h at).outcome p n means success;
+  read_404 = λ i a p n at means is_404. read_404 a (asked_at b history i a h at).outcome p n means is_404;
   given = λ j x q n object at holds. given_at told b history j x q n object h at holds;
 }
   where

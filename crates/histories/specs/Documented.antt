@@ -56,8 +56,8 @@ pub record AsksByVerb (b : Broker) (c path : Text) : Type 0 where
 
 -- ---- sudo
 
--- The root-protected paths, and no other: the list of accessors, the revocation of a token alone, and that of the leases
--- under a prefix.
+-- The root-protected paths, and no other: the list of accessors, the revocation of a token alone, and that of the
+-- leases under a prefix.
 pub record SudoAlone : Type 0 where
   pub only : (path : Text) → asks_sudo path ≡ true
       → (path ≡ codes "auth/token/accessors") ⊎ ((path ≡ codes "auth/token/revoke-orphan")
@@ -74,8 +74,8 @@ SudoIsNeeded =
 
 -- ---- look-ups by accessor
 
--- What is answered to a look-up by accessor does not depend on the text of the token: at two brokers with the same clock
--- at which the accessor is that of the same token, under whatever texts, it is the same.
+-- What is answered to a look-up by accessor does not depend on the text of the token: at two brokers with the same
+-- clock at which the accessor is that of the same token, under whatever texts, it is the same.
 abbrev pub AccessorsHideTokens : Type 0
 AccessorsHideTokens =
     (b d : Broker) (caller other : Text) (names : Names) (accessor t u : Text) (x : Token) (done next : Done)

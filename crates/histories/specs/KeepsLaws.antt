@@ -1,6 +1,8 @@
 -- The laws over a history, together, as a statement (this project's).
 use Rattle.std.specs.Prelude.{◌≡◌}
 use Rattle.broker_types.specs.Broker.{Broker}
+use Rattle.histories.specs.Allowed.{DoesAllowed}
+use Rattle.histories.specs.Callers.{ServesAllowed}
 use Rattle.histories.specs.Creations.{MadeAsAllowed}
 use Rattle.histories.specs.Disabled.{DisabledMountsGo}
 use Rattle.histories.specs.History.{AreAsked, Beginning, History, begun}
@@ -12,6 +14,9 @@ use Rattle.histories.specs.LeaseOwners.{LeasesAreOfCallers}
 use Rattle.histories.specs.Lifetimes.{AllEndInTime, TokensEndInTime}
 use Rattle.histories.specs.Own.{OwnStays}
 use Rattle.histories.specs.Revocation.{Revocation}
+use Rattle.histories.specs.Settings.{SettingsFollow}
+use Rattle.histories.specs.Shown.{AnswersShow}
+use Rattle.histories.specs.Statuses.{StatusesFollow}
 use Rattle.histories.specs.Versions.{VersionsFollow}
 
 -- What the history asks, from the broker b on, keeps the laws.
@@ -40,6 +45,15 @@ pub record KeepsLaws (b : Broker) (history : History) : Type 0 where
   -- Versions follow what was asked, and of a mount that is disabled nothing is left.
   pub versions : VersionsFollow b history
   pub disabled : DisabledMountsGo history
+  -- Roles, policies and mounts change by requests for them alone, to what these ask for.
+  pub settings : SettingsFollow history
+  -- Only what is allowed is served, and what is carried out is answered as it should be.
+  pub callers : ServesAllowed history
+  pub statuses : StatusesFollow history
+  -- And some of what is allowed is always done.
+  pub allowed : DoesAllowed history
+  -- A look-up shows what there is.
+  pub shown : AnswersShow history
 
 -- whatever is asked, one request after another
 abbrev pub AllKeepLaws : Type 0

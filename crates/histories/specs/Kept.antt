@@ -51,8 +51,8 @@ pub record TakesTokenOut (a : Asking) (t : Text) : Type 0 where
   pub how : HasAsClient a t
       ⊎ (((c : Text) × Revokes a c t) ⊎ (((c : Text) × RevokesAlone a c t) ⊎ Rewraps a t))
 
--- The wrapping token t ended with the request, in whichever way: a response waited under it before, and none does at the
--- clock or after it.
+-- The wrapping token t ended with the request, in whichever way: a response waited under it before, and none does at
+-- the clock or after it.
 pub record EndsWrappingToken (a : Asking) (t : Text) : Type 0 where
   pub was : get a.broker.waiting t ≢ None
   pub gone : (get (clocked a).waiting t ≡ None) ⊎ (get a.outcome.next.waiting t ≡ None)

@@ -1,3 +1,5 @@
+pub mod Allowed
+pub mod Callers
 pub mod Creations
 pub mod Disabled
 pub mod Documented
@@ -17,4 +19,7 @@ pub mod Paths
 pub mod Refused
 pub mod Revocation
 pub mod Secrets
+pub mod Settings
+pub mod Shown
+pub mod Statuses
 pub mod Versions

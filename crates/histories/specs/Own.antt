@@ -1,11 +1,12 @@
 -- The law that what is another's stays, as a statement: what makes a token go, what may change of one that stands, and
 -- who reads a cubbyhole (Vault's documentation, "Tokens"; "Lease, renew, and revoke"; "Cubbyhole secrets engine").
-use Rattle.std.specs.Prelude.{◌≡◌, ◌≢◌, ◌⊎◌, ◌≤◌, ℕ, true, Option, Some, None, Ok, ⊤}
+use Rattle.std.specs.Prelude.{◌≡◌, ◌≢◌, ◌⊎◌, ◌≤◌, ◌+◌, ℕ, min, true, Option, Some, None, Ok, ⊤}
 use Rattle.broker_types.specs.Text.{Text}
 use Rattle.broker_types.specs.Map.{Map, get, keys}
 use Rattle.broker_types.specs.Token.{Token, Lease}
 use Rattle.broker_types.specs.Lineage.{is_under}
 use Rattle.broker_types.specs.Names.{names_of}
+use Rattle.broker_types.specs.Places.{lease_of}
 use Rattle.broker_types.specs.declared.status.Status.TheVariants as status
 use Rattle.records.specs.Children.{children, folder}
 use Rattle.api_json.specs.Objects.{keys_object}
@@ -56,6 +57,12 @@ RenewalOf c q (token.Renew asked) = asked.token ≡ q
 RenewalOf c q (token.RenewSelf increment) = c ≡ q
 RenewalOf c q _ = ⊥
 
+-- for how long the command asks, and 0 if it does not say
+abbrev pub increment_of : TokenCommand → ℕ
+increment_of (token.Renew asked) = asked.increment
+increment_of (token.RenewSelf increment) = increment
+increment_of _ = 0
+
 -- the request was a 200 to a renewal of the token q
 pub record RenewsToken (a : Asking) (q : Text) : Type 0 where
   pub caller : Text
@@ -64,6 +71,29 @@ pub record RenewsToken (a : Asking) (q : Text) : Type 0 where
   pub means : command_of (clocked a).mounts a.ask ≡ Ok (on_token command)
   pub names : RenewalOf caller q command
   pub answered : a.outcome.response.status ≡ status.Success
+
+-- The end of the token x that is renewed now by an increment. It is as far ahead as the increment, or if that is 0, as
+-- the time that the token was made for; that of a periodic token, as its period. But it is no later than its own
+-- longest time after its issue, if it has one, nor than 32 days after it, if it is not periodic.
+pub record IsNewEnd (now increment : ℕ) (x : Token) (end : ℕ) : Type 0 where
+  pub ahead : ℕ
+  pub asked : x.period ≡ 0 → increment ≢ 0 → ahead ≡ increment
+  pub not_asked : x.period ≡ 0 → increment ≡ 0 → ahead ≡ x.ttl
+  pub periodic : x.period ≢ 0 → ahead ≡ x.period
+  pub own : x.period ≡ 0 → x.explicit_max_ttl ≢ 0
+      → end ≡ min (now + ahead) (x.issued + min 2764800 x.explicit_max_ttl)
+  pub longest : x.period ≡ 0 → x.explicit_max_ttl ≡ 0 → end ≡ min (now + ahead) (x.issued + 2764800)
+  pub own_periodic : x.period ≢ 0 → x.explicit_max_ttl ≢ 0
+      → end ≡ min (now + ahead) (x.issued + x.explicit_max_ttl)
+  pub unbounded : x.period ≢ 0 → x.explicit_max_ttl ≡ 0 → end ≡ now + ahead
+
+-- The request renewed the token q, which was x at its clock, and had an end; this is the new one.
+pub record IsRenewedTo (a : Asking) (q : Text) (x : Token) (ends : Option ℕ) : Type 0 where
+  pub renews : RenewsToken a q
+  pub had : x.ends ≢ None
+  pub end : ℕ
+  pub is : ends ≡ Some end
+  pub in_time : IsNewEnd (clocked a).clock (increment_of renews.command) x end
 
 -- a write leaves the object of its body, and a deletion none
 abbrev pub Edits : Option Text → CubbyholeCommand → Type 0
@@ -94,7 +124,8 @@ pub record RenewsLease (a : Asking) (lease_id : Text) : Type 0 where
   pub names : asked.lease_id ≡ lease_id
   pub answered : a.outcome.response.status ≡ status.Success
 
--- The lease was renewed: only its end, and when it was renewed last, are others.
+-- The lease was renewed now: only its end, and when it was renewed last, are others. The end is as far ahead as was
+-- asked for, or if 0 was, as the time that it was made for, but no later than its longest time after its issue.
 pub record IsRenewedLease (a : Asking) (lease_id : Text) (old new : Option Lease) : Type 0 where
   pub renews : RenewsLease a lease_id
   pub earlier : Lease
@@ -102,6 +133,11 @@ pub record IsRenewedLease (a : Asking) (lease_id : Text) (old new : Option Lease
   pub later : Lease
   pub is : new ≡ Some later
   pub rest : later ≡ record earlier { ends = later.ends; renewed = later.renewed }
+  pub renewed : later.renewed ≡ Some (clocked a).clock
+  pub asked : renews.asked.increment ≢ 0
+      → later.ends ≡ min ((clocked a).clock + renews.asked.increment) (earlier.issued + earlier.max_ttl)
+  pub not_asked : renews.asked.increment ≡ 0
+      → later.ends ≡ min ((clocked a).clock + earlier.ttl) (earlier.issued + earlier.max_ttl)
 
 -- What the token q has under the id of a lease: what it had there, or that renewed, or one that was issued to it, or
 -- none after a revocation.
@@ -109,7 +145,7 @@ abbrev pub LeaseBecomes : Asking → Text → Text → Option Lease → Option L
 LeaseBecomes a q lease_id old new =
     (new ≡ old)
     ⊎ (IsRenewedLease a lease_id old new
-    ⊎ (((l : Lease) × (new ≡ Some l) × IsIssuedTo a q l) ⊎ ((new ≡ None) × RevokesLease a lease_id)))
+    ⊎ (((l : Lease) × (new ≡ Some l) × IsIssuedTo a q lease_id l) ⊎ ((new ≡ None) × RevokesLease a lease_id)))
 
 -- the token x, with the parent, end, uses, cubbyhole and leases of y
 abbrev pub with_changed : Token → Token → Token
@@ -121,7 +157,7 @@ pub record Stands (a : Asking) (q : Text) (y : Token) : Type 0 where
   -- its parent and its uses change as in the law of revocation: by `revoke-orphan` of its parent, by its own requests
   pub was : WasToken a q y
   -- its end changes by a renewal of it
-  pub ends : (y.ends ≡ was.earlier.ends) ⊎ RenewsToken a q
+  pub ends : (y.ends ≡ was.earlier.ends) ⊎ IsRenewedTo a q was.earlier y.ends
   -- its cubbyhole by its own write or deletion, and there alone
   pub cubbyhole : (path : Text)
       → (get y.cubbyhole path ≡ get was.earlier.cubbyhole path) ⊎ EditsCubbyhole a q path (get y.cubbyhole path)
@@ -169,6 +205,16 @@ pub record OwnStays (history : History) : Type 0 where
   -- each token after an event stood at its clock, or was made by it
   pub stands : (i : ℕ) (a : Asking) (q : Text) (y : Token) → AskedAt history i a
       → get a.outcome.next.tokens q ≡ Some y → Stands a q y ⊎ Begins a q y
+  -- after a 200 to a renewal of a token it has its new end, if it is still there
+  pub renewed : (i : ℕ) (a : Asking) (q : Text) (y : Token) → AskedAt history i a → RenewsToken a q
+      → get a.outcome.next.tokens q ≡ Some y
+      → (x : Token) × (get (clocked a).tokens q ≡ Some x) × IsRenewedTo a q x y.ends
+  -- and after one to a renewal of a lease, which some token had, that has its new end, if its token is still there
+  pub renewed_lease : (i : ℕ) (a : Asking) (lease_id : Text) → AskedAt history i a → RenewsLease a lease_id
+      → (q : Text) × (lease_of (clocked a) q lease_id ≢ None)
+  pub lease_ends : (i : ℕ) (a : Asking) (q lease_id : Text) (l : Lease) → AskedAt history i a
+      → RenewsLease a lease_id → lease_of (clocked a) q lease_id ≡ Some l → get a.outcome.next.tokens q ≢ None
+      → IsRenewedLease a lease_id (Some l) (lease_of a.outcome.next q lease_id)
   -- after a 204 to a write or a deletion the client token's cubbyhole has there what that leaves
   pub edited : (i : ℕ) (a : Asking) (q path : Text) (command : CubbyholeCommand) (y : Token) → AskedAt history i a
       → IsClient a q → command_of (clocked a).mounts a.ask ≡ Ok (on_cubbyhole path command)

@@ -52,7 +52,8 @@ abbrev pub on_none : TokenCommand → Ask → Result Command Refusal
 on_none command a = meant_by on_token (read_none command a.body)
 
 -- one on leases, by what the reader finds in the body
-abbrev pub on_found_lease : {X : Type 0} → (Members → Result X Refusal) → (X → LeaseCommand) → Ask → Result Command Refusal
+abbrev pub on_found_lease : {X : Type 0} → (Members → Result X Refusal) → (X → LeaseCommand) → Ask
+    → Result Command Refusal
 on_found_lease read command a = meant_by (on_lease []) (read_as read command a.body)
 
 -- a command at a path of the caller's cubbyhole, whatever the body is
@@ -69,7 +70,8 @@ path_of WithoutParent = codes "auth/token/create-orphan"
 abbrev pub CreatesAtPath : Type 0
 CreatesAtPath =
     (mounts : Map Mount) (a : Ask) (making : Making) (asked : TokenCreation) → are_bytes a.path ≡ true
-    → command_of mounts a ≡ Ok (on_token (token.Create making asked)) → (a.verb ≡ verb.Write) × (a.path ≡ path_of making)
+    → command_of mounts a ≡ Ok (on_token (token.Create making asked))
+    → (a.verb ≡ verb.Write) × (a.path ≡ path_of making)
 
 -- Each of these paths means its command. So what a law says of a command, it says of the path.
 pub record PathsMeanCommands : Type 0 where
@@ -99,6 +101,7 @@ pub record PathsMeanCommands : Type 0 where
       → AskedMeans verb.Get (codes "cubbyhole/" ++ c ∷ path) (on_path (c ∷ path) cubbyhole.Read)
   pub delete_object : (c : ℕ) (path : Text) → are_bytes (c ∷ path) ≡ true
       → AskedMeans verb.Delete (codes "cubbyhole/" ++ c ∷ path) (on_path (c ∷ path) cubbyhole.Delete)
-  -- And the wrapping token that is meant is the one that the body names, else the client token; an empty text names none.
+  -- And the wrapping token that is meant is the one that the body names, else the client token; an empty text names
+  -- none.
   pub named : (client : Option Text) (c : ℕ) (t : Text) → token_meant client (Some (c ∷ t)) ≡ Some (c ∷ t)
   pub not_named : (client : Option Text) → (token_meant client None ≡ client) × (token_meant client (Some []) ≡ client)

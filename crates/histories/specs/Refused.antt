@@ -1,9 +1,9 @@
--- The laws of refused requests, and of what policies decide, as statements (Vault's documentation, "Policies"; "Tokens",
--- use limits).
+-- The laws of refused requests, and of what policies decide, as statements (Vault's documentation, "Policies";
+-- "Tokens", use limits; "Response wrapping").
 use Rattle.std.specs.Prelude.{◌≡◌, ◌≢◌, ◌≤◌, ◌⊎◌, ◌&&◌, ◌||◌, ℕ, Bool, true, false, not, Some, None, Ok}
 use Rattle.broker_types.specs.Text.{Text}
-use Rattle.broker_types.specs.Map.{get}
-use Rattle.broker_types.specs.Answer.{IsRefused, refused}
+use Rattle.broker_types.specs.Map.{get, without}
+use Rattle.broker_types.specs.Answer.{IsRefused, Response, refused}
 use Rattle.broker_types.specs.Broker.{Broker, at_moment}
 use Rattle.broker_types.specs.Names.{names_of}
 use Rattle.broker_types.specs.Refuse.{◌>>=◌}
@@ -11,16 +11,19 @@ use Rattle.broker_types.specs.Spending.{spend, end_spent, drop_waiting}
 use Rattle.broker_types.specs.Status.{status_code}
 use Rattle.broker_types.specs.Token.{Token}
 use Rattle.broker_types.specs.declared.ask.Ask.{Ask}
+use Rattle.broker_types.specs.declared.refusal.Denial.TheVariants as denial
+use Rattle.broker_types.specs.declared.refusal.Refusal.TheVariants as refusal
+use Rattle.broker_types.specs.declared.status.Status.TheVariants as status
 use Rattle.broker_types.specs.declared.words.Words.{Words}
 use Rattle.mounts.specs.Route.{asks_sudo}
 use Rattle.policies.specs.Grants.{grants}
 use Rattle.policies.specs.declared.capability.Capability.TheVariants.{Sudo}
 use Rattle.broker_model.specs.Capabilities.{asked}
 use Rattle.broker_model.specs.Command.{on_wrapping, command_of}
-use Rattle.broker_model.specs.Order.{finish, permission_denied}
+use Rattle.broker_model.specs.Order.{Outcome, finish, permission_denied}
 use Rattle.broker_model.specs.Serving.{is_open, operated}
 use Rattle.broker_model.specs.Step.{step}
-use Rattle.broker_model.specs.declared.commands.WrappingCommand.TheVariants as response
+use Rattle.broker_model.specs.declared.commands.WrappingCommand.TheVariants as of_responses
 
 -- ---- what a refused request leaves
 
@@ -54,7 +57,7 @@ RefusedChangeNothing =
 abbrev pub WrapNeedsTtl : Type 0
 WrapNeedsTtl =
     (b : Broker) (moment : ℕ) (words : Words) (a : Ask) (text : Text)
-    → command_of (at_moment b moment).mounts a ≡ Ok (on_wrapping (response.Wrap text)) → a.wrap_ttl ≡ 0
+    → command_of (at_moment b moment).mounts a ≡ Ok (on_wrapping (of_responses.Wrap text)) → a.wrap_ttl ≡ 0
     → IsRefused (step b moment words a).response
 
 -- ---- what policies decide
@@ -72,14 +75,42 @@ pub record Calls (now : Broker) (a : Ask) (c : Text) (x : Token) : Type 0 where
   pub no_response : get now.waiting c ≡ None
   pub there : get (spend now c).tokens c ≡ Some x
 
+-- the ask is not open, and it has no client token, or one that is neither a token nor a wrapping token
+pub record HasNoCaller (now : Broker) (a : Ask) : Type 0 where
+  pub closed : is_open a ≡ false
+  pub no_token : (t : Text) → a.token ≡ Some t → get now.tokens t ≡ None
+  pub no_response : (t : Text) → a.token ≡ Some t → get now.waiting t ≡ None
+
+-- the ask is not open, and its client token is a wrapping token
+pub record HasResponse (now : Broker) (a : Ask) (t : Text) : Type 0 where
+  pub closed : is_open a ≡ false
+  pub client : a.token ≡ Some t
+  pub waits : get now.waiting t ≢ None
+
+-- 403 `permission denied`
+pub record IsDenied (r : Response) : Type 0 where
+  pub forbidden : r.status ≡ status.Forbidden
+  pub is : r ≡ refused (refusal.Forbidden denial.PermissionDenied)
+
+-- the outcome is a denial, and leaves this broker
+pub record IsDenial (left : Broker) (o : Outcome) : Type 0 where
+  pub denied : IsDenied o.response
+  pub next : o.next ≡ left
+
 -- An ask that needs a caller is denied where the policies of its client token do not grant it. Where they do, it is
--- what its command leads to, and nothing else is asked of policies.
+-- what its command leads to, and nothing else is asked of policies. Without a client token that is known it is denied,
+-- and nothing is done; so it is with a wrapping token, which is taken out.
 pub record PoliciesDecide : Type 0 where
-  pub denied : (b : Broker) (moment : ℕ) (words : Words) (a : Ask) (c : Text) (x : Token) → Calls (at_moment b moment) a c x
-      → is_granted (spend (at_moment b moment) c) c x a ≡ false
+  pub nobody : (b : Broker) (moment : ℕ) (words : Words) (a : Ask) → HasNoCaller (at_moment b moment) a
+      → IsDenial (at_moment b moment) (step b moment words a)
+  pub response : (b : Broker) (moment : ℕ) (words : Words) (a : Ask) (t : Text) → HasResponse (at_moment b moment) a t
+      → IsDenial (record (at_moment b moment) { waiting = without (at_moment b moment).waiting t })
+      (step b moment words a)
+  pub denied : (b : Broker) (moment : ℕ) (words : Words) (a : Ask) (c : Text) (x : Token)
+      → Calls (at_moment b moment) a c x → is_granted (spend (at_moment b moment) c) c x a ≡ false
       → (step b moment words a).response ≡ refused permission_denied
-  pub granted : (b : Broker) (moment : ℕ) (words : Words) (a : Ask) (c : Text) (x : Token) → Calls (at_moment b moment) a c x
-      → is_granted (spend (at_moment b moment) c) c x a ≡ true
+  pub granted : (b : Broker) (moment : ℕ) (words : Words) (a : Ask) (c : Text) (x : Token)
+      → Calls (at_moment b moment) a c x → is_granted (spend (at_moment b moment) c) c x a ≡ true
       → step b moment words a
       ≡ finish (spend (at_moment b moment) c) (Some c)
       (command_of (at_moment b moment).mounts a

@@ -102,8 +102,8 @@ pub record EndsToken (a : Asking) (q : Text) : Type 0 where
   pub was : get a.broker.tokens q ≢ None
   pub gone : (get (clocked a).tokens q ≡ None) ⊎ (get a.outcome.next.tokens q ≡ None)
 
--- The token q comes to its end with the request: its end, or that of a token that it is under, is at or before the later
--- of the request's moment and the clock before it (Vault's documentation, "Lease, renew, and revoke").
+-- The token q comes to its end with the request: its end, or that of a token that it is under, is at or before the
+-- later of the request's moment and the clock before it (Vault's documentation, "Lease, renew, and revoke").
 pub record IsDue (a : Asking) (q : Text) : Type 0 where
   pub above : Text
   pub under : is_under a.broker.tokens q above ≡ true
@@ -189,7 +189,8 @@ abbrev pub parent_asked : Text → Making → TokenCreation → Option Text
 parent_asked c OfCaller asked = if asked.no_parent then None else Some c
 parent_asked c WithoutParent asked = None
 
--- The request asked for a token, and y is it, of the request's words: the child of the caller, unless it asked for none.
+-- The request asked for a token, and y is it, of the request's words: the child of the caller, unless it asked for
+-- none.
 pub record IsMade (a : Asking) (q : Text) (y : Token) : Type 0 where
   pub caller : Text
   pub client : IsClient a caller
@@ -236,6 +237,8 @@ pub record Revocation (history : History) : Type 0 where
       → (IsDue a q → ⊥) → get (clocked a).tokens q ≡ Some (with_later_leases (max a.broker.clock a.moment) x)
   -- The clock is the later of that before the event and the event's moment.
   pub clock : (i : ℕ) (a : Asking) → AskedAt history i a → (clocked a).clock ≡ max a.broker.clock a.moment
+  -- And so it is after the event: it is neither moved back nor on.
+  pub clock_left : (i : ℕ) (a : Asking) → AskedAt history i a → a.outcome.next.clock ≡ max a.broker.clock a.moment
   -- A caller that spends a use has one less, if its uses are limited; nothing else of it changes, nor any other token.
   pub spends : (i : ℕ) (a : Asking) (c q : Text) → AskedAt history i a
       → get (spent_by a c).tokens q

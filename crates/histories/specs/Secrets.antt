@@ -1,4 +1,5 @@
--- The law of versioned secrets over all histories, as statements (Vault's documentation, "KV secrets engine - version 2").
+-- The law of versioned secrets over all histories, as statements (Vault's documentation, "KV secrets engine - version
+-- 2").
 use Rattle.std.specs.Prelude.{◌≡◌, ℕ, List, Contains, Some, None, Ok}
 use Rattle.std.specs.FinMap as fin
 use Rattle.broker_types.specs.Broker.{Broker}

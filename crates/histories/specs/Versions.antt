@@ -1,22 +1,25 @@
 -- The law of what becomes of versioned secrets, as a statement (Vault's documentation, "KV secrets engine - version 2",
 -- check-and-set, deleting and destroying data, key metadata; "/sys/mounts", disable secrets engine).
 use Rattle.std.specs.Prelude.{◌≡◌, ◌≢◌, ◌⊎◌, ◌<◌, ◌≤◌, ◌+◌, ◌++◌, ℕ, List, [], ◌∷◌, Contains, Bool, true, false, nat_eq}
-use Rattle.std.specs.Prelude.{Some, None, Ok}
+use Rattle.std.specs.Prelude.{Some, None, Ok, is_none}
 use Rattle.std.specs.FinMap as fin
 use Rattle.std.specs.List.{starts_with}
+use Rattle.broker_types.specs.Answer.{refused}
 use Rattle.broker_types.specs.Text.{Text}
 use Rattle.broker_types.specs.Map.{get}
 use Rattle.broker_types.specs.Broker.{Broker, Mount}
 use Rattle.broker_types.specs.Names.{names_of}
 use Rattle.broker_types.specs.Secret.{Key, Version}
+use Rattle.broker_types.specs.declared.refusal.Refusal.TheVariants as refusal
 use Rattle.broker_types.specs.declared.status.Status.TheVariants as status
 use Rattle.records.specs.Splits.{slash}
-use Rattle.api_json.specs.Objects.{secret_object}
+use Rattle.api_json.specs.Objects.{secret_object, version_object}
 use Rattle.api_json.specs.Reply.{plain_reply, reply_text}
 use Rattle.api_json.specs.declared.secret_bodies.KeySettings.{KeySettings}
 use Rattle.api_json.specs.declared.secret_bodies.SecretWrite.{SecretWrite}
 use Rattle.api_json.specs.declared.version_list.VersionObject.{VersionObject}
 use Rattle.broker_model.specs.Command.{on_mount, on_secret, command_of}
+use Rattle.broker_model.specs.Responses.{not_found}
 use Rattle.broker_model.specs.declared.commands.MountCommand.TheVariants as mount
 use Rattle.broker_model.specs.declared.commands.SecretCommand.{SecretCommand}
 use Rattle.broker_model.specs.declared.commands.SecretCommand.TheVariants as command
@@ -57,7 +60,8 @@ pub record DisablesAbove (a : Asking) (q : Text) : Type 0 where
 -- the version n, if it is the current one, was deleted by a 204
 abbrev pub Deletes : Asking → Text → ℕ → ℕ → Type 0
 Deletes a q current n =
-    (Commands a q command.DeleteCurrent × (n ≡ current)) ⊎ ((ns : List ℕ) × Commands a q (command.Delete ns) × Contains ns n)
+    (Commands a q command.DeleteCurrent × (n ≡ current))
+    ⊎ ((ns : List ℕ) × Commands a q (command.Delete ns) × Contains ns n)
 
 -- What became of the version n of the secret q, whose current one has this number. What it holds goes by a destruction
 -- that names it; a time of deletion comes by a deletion that names it, and goes by its taking back.
@@ -114,7 +118,8 @@ pub record IsNewKey (now : ℕ) (k : Key) : Type 0 where
   pub free : k.cas_required ≡ false
   pub unlimited : k.max_versions ≡ 0
 
--- The write wrote: over the secret that was there, or over a new one. So a 200 to a write is no lie.
+-- The write wrote: over the secret that was there, or over a new one. So a 200 to a write is no lie. The reply, without
+-- wrapping, shows the version that it made.
 pub record DidWrite (a : Asking) (q : Text) (asked : SecretWrite) : Type 0 where
   pub place : Place
   pub name : q ≡ named place
@@ -126,6 +131,12 @@ pub record DidWrite (a : Asking) (q : Text) (asked : SecretWrite) : Type 0 where
   pub after : Key
   pub there : get a.outcome.next.secrets q ≡ Some after
   pub is : IsWritten (clocked a).clock of_mount asked before after
+  pub made : VersionObject
+  pub is_made : made
+      ≡ record { created = (clocked a).clock; deleted = None; destroyed = false; version = after.current }
+  pub told : unwrapped_body a
+      ≡ reply_text (plain_reply (names_of a.words).request
+      (version_object (fin.entries after.custom_metadata) made))
 
 -- ---- settings
 
@@ -200,6 +211,36 @@ pub record ReadsVersion (a : Asking) (p : Place) (asked : ℕ) : Type 0 where
       ≡ reply_text (plain_reply (names_of a.words).request
       (secret_object (Some object) (fin.entries key.custom_metadata) shown))
 
+-- The request asked for a version that is kept, but deleted or destroyed. The reply, which is never wrapped, is a 404
+-- with its number, its times and the custom metadata of the secret, and nothing of what it held.
+pub record ShowsEnded (a : Asking) (p : Place) (asked : ℕ) : Type 0 where
+  pub key : Key
+  pub there : get (clocked a).secrets (named p) ≡ Some key
+  pub number : ℕ
+  pub by_number : asked ≢ 0 → number ≡ asked
+  pub by_current : asked ≡ 0 → number ≡ key.current
+  pub version : Version
+  pub is_kept : fin.get key.versions number ≡ Some version
+  pub ended : (version.deleted ≢ None) ⊎ (version.secret ≡ None)
+  pub shown : VersionObject
+  pub is_shown : shown
+      ≡ record {
+        created = version.created;
+        deleted = version.deleted;
+        destroyed = is_none version.secret;
+        version = number;
+      }
+  pub response : a.outcome.response
+      ≡ not_found (reply_text (plain_reply (names_of a.words).request
+      (secret_object None (fin.entries key.custom_metadata) shown)))
+
+-- There is no version of this number, or no secret; 0 asks for the current one.
+pub record LacksVersion (a : Asking) (p : Place) (asked : ℕ) : Type 0 where
+  pub by_number : (key : Key) → get (clocked a).secrets (named p) ≡ Some key → asked ≢ 0
+      → fin.get key.versions asked ≡ None
+  pub by_current : (key : Key) → get (clocked a).secrets (named p) ≡ Some key → asked ≡ 0
+      → fin.get key.versions key.current ≡ None
+
 -- the broker has the version n of the secret q, and it holds the object
 pub record Holds (b : Broker) (q : Text) (n : ℕ) (object : Text) : Type 0 where
   pub key : Key
@@ -244,6 +285,11 @@ pub record VersionsFollow (b : Broker) (history : History) : Type 0 where
   pub read : (i : ℕ) (a : Asking) (p : Place) (n : ℕ) → AskedAt history i a
       → command_of (clocked a).mounts a.ask ≡ Ok (on_secret p (command.Read n))
       → a.outcome.response.status ≡ status.Success → ReadsVersion a p n
+  -- A 404 to it shows a version that is deleted or destroyed, without what it held; or there is none.
+  pub read_404 : (i : ℕ) (a : Asking) (p : Place) (n : ℕ) → AskedAt history i a
+      → command_of (clocked a).mounts a.ask ≡ Ok (on_secret p (command.Read n))
+      → a.outcome.response.status ≡ status.NotFound
+      → ShowsEnded a p n ⊎ (LacksVersion a p n × (a.outcome.response ≡ refused refusal.NotFound))
   -- And what a version holds was given by the write that made it, or it was there at first.
   pub given : (j : ℕ) (x : Asking) (q : Text) (n : ℕ) (object : Text) → AskedAt history j x
       → Holds (clocked x) q n object → WroteBefore history j q n object ⊎ Holds b q n object

@@ -1,5 +1,7 @@
 //! Laws over histories, each the contract of a function that does nothing.
 
+ghost use Rattle.histories.specs.Allowed.{AllDoAllowed};
+ghost use Rattle.histories.specs.Callers.{AllServeAllowed};
 ghost use Rattle.histories.specs.Disabled.{AllDisabledMountsGo};
 ghost use Rattle.histories.specs.Documented.{AreAsDocumented};
 ghost use Rattle.histories.specs.Laws.{AllGiveOutNew, NoneIsGivenTwice, AllAreHandedOutOnce, RevocationLasts};
@@ -15,11 +17,15 @@ ghost use Rattle.histories.specs.LeasePaths.{PathsEndLeases};
 ghost use Rattle.histories.specs.Paths.{CreatesAtPath, PathsMeanCommands};
 ghost use Rattle.histories.specs.Refused.{RefusedChangeNothing, WrapNeedsTtl, PoliciesDecide};
 ghost use Rattle.histories.specs.Secrets.{AllSecretsStay};
+ghost use Rattle.histories.specs.Settings.{AllSettingsFollow};
+ghost use Rattle.histories.specs.Shown.{AllAnswersShow};
+ghost use Rattle.histories.specs.Statuses.{AllStatusesFollow};
 ghost use Rattle.histories.specs.Versions.{AllVersionsFollow};
 
 use broker_model::{operations_do_as_told, wrapping_commands_are_proper};
 use mounts::{patterns_are_found_by_form, tables_are_in_order};
 use policies::granted_as_said;
+use token_tree::accessors_name_their_tokens;
 
 /// A law: each request lets the broker evolve, and so do all between two of them. So what ended, or is gone, stays so.
 pub fn requests_evolve()
@@ -31,8 +37,8 @@ pub fn requests_evolve()
 
 /// A law: the identifiers that requests give out are new, and no two of them are equal. Nothing else is given out: what
 /// is in a place of identifiers after a request was there before, or the request gave it out. So from a start on, no
-/// identifier is given out twice. For this no broker needs to be sound: what is given out is marked, so all that is in a
-/// place later was given out.
+/// identifier is given out twice. For this no broker needs to be sound: what is given out is marked, so all that is in
+/// a place later was given out.
 pub fn identifiers_are_given_out_once()
     ensures since { AllGiveOutNew }
     ensures since_start { NoneIsGivenTwice }
@@ -64,9 +70,9 @@ pub fn revocation_lasts()
     operations_do_as_told();
 }
 
-/// A law: a command that ends leases, by their id, below a prefix, or with their mount, is answered with 204, or refused.
-/// After a 204 no token has a lease that was named, and no later state has one with its identifier or its credential
-/// (Vault's documentation, "Lease, renew, and revoke", "/sys/leases", "/sys/mounts").
+/// A law: a command that ends leases, by their id, below a prefix, or with their mount, is answered with 204, or
+/// refused. After a 204 no token has a lease that was named, and no later state has one with its identifier or its
+/// credential (Vault's documentation, "Lease, renew, and revoke", "/sys/leases", "/sys/mounts").
 pub fn leases_stay_revoked()
     ensures { AllLeasesStayRevoked }
 {
@@ -84,18 +90,18 @@ pub fn kept_replies_are_the_replies()
     operations_do_as_told();
 }
 
-/// A law: a response that waits before an event waits unchanged after it, unless its time is over, or the event revoked,
-/// spent, rewrapped or unwrapped its wrapping token; a rewrap moves it. It is given out by an unwrap that means its
-/// wrapping token, and by nothing else (Vault's documentation, "Response wrapping").
+/// A law: a response that waits before an event waits unchanged after it, unless its time is over, or the event
+/// revoked, spent, rewrapped or unwrapped its wrapping token; a rewrap moves it. It is given out by an unwrap that
+/// means its wrapping token, and by nothing else (Vault's documentation, "Response wrapping").
 pub fn kept_responses_stay()
     ensures { AllKeptResponsesStay }
 {
     operations_do_as_told();
 }
 
-/// A law: an open request, which needs no caller, means a look-up, or a rewrap or an unwrap of its own client token, and
-/// nothing else; and each of these is open. It spends no use and changes no token, beside what comes to its end at that
-/// moment; nothing changes but which responses wait, and which identifiers were given out (Vault's documentation,
+/// A law: an open request, which needs no caller, means a look-up, or a rewrap or an unwrap of its own client token,
+/// and nothing else; and each of these is open. It spends no use and changes no token, beside what comes to its end at
+/// that moment; nothing changes but which responses wait, and which identifiers were given out (Vault's documentation,
 /// "/sys/wrapping").
 pub fn open_requests_mean_their_own()
     ensures means { OpenMeansItsOwn }
@@ -108,9 +114,9 @@ pub fn open_requests_mean_their_own()
     tables_are_in_order();
 }
 
-/// A law: the paths of `sys/wrapping`, those of `auth/token`, those of `sys/leases` and the disabling of a mount, and GET
-/// and DELETE of a cubbyhole's path mean their commands, whatever mounts there are. So what a law says of an unwrap or a
-/// revocation, it says of these requests. And an ask that means a creation is one of the path that makes tokens so
+/// A law: the paths of `sys/wrapping`, those of `auth/token`, those of `sys/leases` and the disabling of a mount, and
+/// GET and DELETE of a cubbyhole's path mean their commands, whatever mounts there are. So what a law says of an unwrap
+/// or a revocation, it says of these requests. And an ask that means a creation is one of the path that makes tokens so
 /// (Vault's documentation, "/sys/wrapping", "Token auth method (API)", "/sys/leases", "/sys/mounts", "Cubbyhole secrets
 /// engine (API)").
 pub fn paths_mean_their_commands()
@@ -146,8 +152,9 @@ pub fn versions_stay()
     operations_do_as_told();
 }
 
-/// A law: what a secret holds follows the writes, deletions and destructions that were asked for, and each that succeeded
-/// was done. A read shows the version that was asked for (Vault's documentation, "KV secrets engine - version 2").
+/// A law: what a secret holds follows the writes, deletions and destructions that were asked for, and each that
+/// succeeded was done. A read shows the version that was asked for (Vault's documentation, "KV secrets engine - version
+/// 2").
 pub fn versions_follow()
     ensures { AllVersionsFollow }
 {
@@ -162,17 +169,63 @@ pub fn disabled_mounts_leave_nothing()
     operations_do_as_told();
 }
 
-/// A law: only `root` lets do everything; a verb asks for its capability, and a write for `create` exactly where it makes
-/// an object of a cubbyhole or a secret that is not there; and a look-up by accessor does not tell the token's text
-/// (Vault's documentation, "Policies", "Token auth method (API)").
+/// A law: a role, a policy or a mount changes by a request for it alone, and a role also goes with its mount. It
+/// becomes what that request asks for, and each that was answered with 204 was done (Vault's documentation,
+/// "/sys/policies", "/sys/mounts").
+pub fn settings_follow()
+    ensures { AllSettingsFollow }
+{
+    operations_do_as_told();
+}
+
+/// A law: a request that is not open is denied, or its client token is a token whose policies grant what it asks for.
+/// Without a client token that is known nothing is done, and a wrapping token is taken out (Vault's documentation,
+/// "Policies", "Response wrapping").
+pub fn only_allowed_requests_are_served()
+    ensures { AllServeAllowed }
+{
+    policies_decide();
+}
+
+/// A law: a command that tells nothing is answered with 204, or refused; any other with 200, or refused, but that a
+/// read of a version that is deleted or destroyed is a 404 which shows nothing of what it held (Vault's documentation,
+/// "HTTP API", HTTP status codes).
+pub fn statuses_follow()
+    ensures { AllStatusesFollow }
+{}
+
+/// A law: a 200 to a look-up of a token, of an accessor, of a lease, of a role, of a policy, of settings or of a
+/// secret's metadata shows what the broker has, and so does one to a list of secrets, of policies or of accessors. One
+/// to a renewal tells of the new end, and one that asks whether a credential is valid says whether a token has its
+/// lease (Vault's documentation, "Token auth method (API)", "/sys/leases", "/sys/policies", "KV secrets engine -
+/// version 2 (API)").
+pub fn look_ups_show_what_there_is()
+    ensures { AllAnswersShow }
+{
+    operations_do_as_told();
+    accessors_name_their_tokens();
+}
+
+/// A law: of requests without a wrap TTL that policies allow, revocations by a text, deletions and others are carried
+/// out; so are a read of a version or an object that is there, and a write that check-and-set lets pass (Vault's
+/// documentation, "Tokens", "KV secrets engine - version 2 (API)").
+pub fn allowed_requests_are_carried_out()
+    ensures { AllDoAllowed }
+{
+    policies_decide();
+}
+
+/// A law: only `root` lets do everything; a verb asks for its capability, and a write for `create` exactly where it
+/// makes an object of a cubbyhole or a secret that is not there; and a look-up by accessor does not tell the token's
+/// text (Vault's documentation, "Policies", "Token auth method (API)").
 pub fn permission_is_as_documented()
     ensures { AreAsDocumented }
 {}
 
-/// A law: a token is made by a caller without a limit of uses. That caller is a root token, or has `sudo` on the path that
-/// it asks, or the new token has none but its policies, no period, and it as parent, unless the path makes tokens without.
-/// The policy `root` comes from a token that has it, and a token without end from one without end (Vault's documentation,
-/// "Token auth method (API)", create token).
+/// A law: a token is made by a caller without a limit of uses. That caller is a root token, or has `sudo` on the path
+/// that it asks, or the new token has none but its policies, no period, and it as parent, unless the path makes tokens
+/// without. The policy `root` comes from a token that has it, and a token without end from one without end (Vault's
+/// documentation, "Token auth method (API)", create token).
 pub fn tokens_are_made_as_allowed()
     ensures { AllMadeAsAllowed }
 {
@@ -181,10 +234,10 @@ pub fn tokens_are_made_as_allowed()
     paths_mean_their_commands();
 }
 
-/// A law: in each state, a token of `root`, without a longest time of its own and without a period, may have no end. Each
-/// other ends: by its own longest time after its issue, if it has one; by its period from now on, if it is periodic; and
-/// else by 32 days after its issue (Vault's documentation, "Tokens", token time-to-live, periodic tokens, explicit max
-/// TTLs).
+/// A law: in each state, a token of `root`, without a longest time of its own and without a period, may have no end.
+/// Each other ends: by its own longest time after its issue, if it has one; by its period from now on, if it is
+/// periodic; and else by 32 days after its issue (Vault's documentation, "Tokens", token time-to-live, periodic tokens,
+/// explicit max TTLs).
 pub fn tokens_end_in_time()
     ensures since { AllTokensEndInTime }
     ensures since_start { TokensEndInTimeSinceStart }
@@ -201,11 +254,11 @@ pub fn leases_are_of_their_callers()
     operations_do_as_told();
 }
 
-/// A law: a token goes only by its end, by a revocation, or with the last use of a client token, each of itself or of one
-/// above it; `revoke-orphan` ends none below. As long as it stands, its end changes by a renewal of it, its uses by its own
-/// requests, its parent by `revoke-orphan` of that, its cubbyhole by its own writes and deletions, each of its leases by a
-/// renewal or a revocation of that lease or by one that is issued to it, and nothing else of it does. A cubbyhole is read
-/// and listed by its own token (Vault's documentation, "Tokens", "Cubbyhole secrets engine").
+/// A law: a token goes only by its end, by a revocation, or with the last use of a client token, each of itself or of
+/// one above it; `revoke-orphan` ends none below. As long as it stands, its end changes by a renewal of it, its uses by
+/// its own requests, its parent by `revoke-orphan` of that, its cubbyhole by its own writes and deletions, each of its
+/// leases by a renewal or a revocation of that lease or by one that is issued to it, and nothing else of it does. A
+/// cubbyhole is read and listed by its own token (Vault's documentation, "Tokens", "Cubbyhole secrets engine").
 pub fn tokens_keep_their_own()
     ensures { AllOwnStays }
 {
@@ -213,8 +266,8 @@ pub fn tokens_keep_their_own()
 }
 
 /// A law: whatever was asked of a broker, one request after another, keeps the laws over a history together: those of
-/// what is given out, handed out and kept, of tokens and leases, and of secrets and mounts. The answers of a run and of a
-/// server say so of all that their connections asked.
+/// what is given out, handed out and kept, of tokens and leases, and of secrets and mounts. The answers of a run and of
+/// a server say so of all that their connections asked.
 pub fn all_that_is_asked_keeps_the_laws()
     ensures { AllKeepLaws }
 {
@@ -230,4 +283,9 @@ pub fn all_that_is_asked_keeps_the_laws()
     tokens_keep_their_own();
     versions_follow();
     disabled_mounts_leave_nothing();
+    settings_follow();
+    only_allowed_requests_are_served();
+    statuses_follow();
+    allowed_requests_are_carried_out();
+    look_ups_show_what_there_is();
 }

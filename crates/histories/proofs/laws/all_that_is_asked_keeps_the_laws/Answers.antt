@@ -25,4 +25,9 @@ returns c = λ b history asked.
       own = c.tokens_keep_their_own.ensures b history asked;
       versions = c.versions_follow.ensures b history asked;
       disabled = c.disabled_mounts_leave_nothing.ensures b history asked;
+      settings = c.settings_follow.ensures b history asked;
+      callers = c.only_allowed_requests_are_served.ensures b history asked;
+      statuses = c.statuses_follow.ensures b history asked;
+      allowed = c.allowed_requests_are_carried_out.ensures b history asked;
+      shown = c.look_ups_show_what_there_is.ensures b history asked;
     }

@@ -1,0 +1,410 @@
+-- What is allowed is done: some commands always, some where what they ask for is there.
+use Rattle.std.specs.Prelude.{◌≡◌, ◌≢◌, ◌⊎◌, ◌<◌, ◌==◌, ◌||◌, ◌&&◌, ℕ, [], ◌∷◌, Bool, true, false, not, nat_lt}
+use Rattle.std.specs.Prelude.{is_some, if◌then◌else◌, Option, Some, None, Result, Ok, option_and_then, option_map, ⊤}
+use Rattle.std.specs.FinMap as fin
+use Rattle.std.proofs.Common.{refl, sym, ◌∙◌, ap, subst, inl, inr}
+use Rattle.std.proofs.lemmas.Bool.{eq-eqb, eqb-true, false≢true, lt-ltb}
+use Rattle.broker_types.specs.Text.{Text, same}
+use Rattle.broker_types.specs.Limits.{greatest_version}
+use Rattle.broker_types.specs.Map.{Map, entries, get}
+use Rattle.broker_types.specs.MapLaws.{get-change}
+use Rattle.broker_types.specs.Answer.{Response}
+use Rattle.broker_types.specs.Broker.{Broker, Mount}
+use Rattle.broker_types.specs.Names.{Names, names_of}
+use Rattle.broker_types.specs.Operation.{missing, nothing, plainly, reply, Done}
+use Rattle.broker_types.specs.OptionLaws.{found_or_not}
+use Rattle.broker_types.specs.Refuse.{◌>>=◌, some_or, unless}
+use Rattle.broker_types.specs.Secret.{Key, Version}
+use Rattle.broker_types.specs.Spending.{one_less}
+use Rattle.broker_types.specs.Token.{Token}
+use Rattle.broker_types.specs.Used.{are_new}
+use Rattle.broker_types.specs.declared.refusal.Denial.TheVariants as denial
+use Rattle.broker_types.specs.declared.refusal.Field.TheVariants as field
+use Rattle.broker_types.specs.declared.refusal.Reason.TheVariants as reason
+use Rattle.broker_types.specs.declared.refusal.Refusal.{Refusal}
+use Rattle.broker_types.specs.declared.refusal.Refusal.TheVariants as refusal
+use Rattle.broker_types.specs.declared.reply.Reply.{Reply}
+use Rattle.broker_types.specs.declared.status.Status.TheVariants as status
+use Rattle.records.specs.TokenEntry.{token_entry}
+use Rattle.token_tree.specs.Tokens as tree
+use Rattle.kv2.specs.Secrets as secrets
+use Rattle.kv2.specs.Secrets.{Written, secret_name, write_over, written}
+use Rattle.kv2.specs.Versions.{Found, asked_number, check_and_set, checked, key_or_new, numbered}
+use Rattle.api_json.specs.Reply.{plain_reply}
+use Rattle.api_json.specs.declared.secret_bodies.SecretWrite.{SecretWrite}
+use Rattle.api_json.specs.declared.token_bodies.TokenRenewal.{TokenRenewal}
+use Rattle.broker_model.specs.Act.{act}
+use Rattle.broker_model.specs.Command.{Command, command_of, on_cubbyhole, on_issued, on_lease, on_mount, on_policy}
+use Rattle.broker_model.specs.Command.{on_secret, on_token, on_wrapping}
+use Rattle.broker_model.specs.Order.{Outcome, Wrapped, finish, needed, response_to, unwrapped, wrap_200, wrapped, wraps}
+use Rattle.broker_model.specs.Permission.{permits}
+use Rattle.broker_model.specs.Request.{Request}
+use Rattle.broker_model.specs.Responses.{no_content}
+use Rattle.broker_model.specs.Serving.{operated}
+use Rattle.broker_model.specs.Step.{request_of, step, traits}
+use Rattle.broker_model.specs.declared.commands.CubbyholeCommand.{CubbyholeCommand}
+use Rattle.broker_model.specs.declared.commands.CubbyholeCommand.TheVariants as of_cubbyhole
+use Rattle.broker_model.specs.declared.commands.IssuedCommand.{IssuedCommand}
+use Rattle.broker_model.specs.declared.commands.IssuedCommand.TheVariants as of_issued
+use Rattle.broker_model.specs.declared.commands.LeaseCommand.{LeaseCommand}
+use Rattle.broker_model.specs.declared.commands.LeaseCommand.TheVariants as of_lease
+use Rattle.broker_model.specs.declared.commands.SecretCommand.{SecretCommand}
+use Rattle.broker_model.specs.declared.commands.SecretCommand.TheVariants as of_secret
+use Rattle.broker_model.specs.declared.commands.TokenCommand.{TokenCommand}
+use Rattle.broker_model.specs.declared.commands.TokenCommand.TheVariants as of_token
+use Rattle.broker_model.specs.parts.Place.{Place}
+use Rattle.broker_model.specs.parts.SecretReplies.{object_left, version_answered, version_reply, written_reply}
+use Rattle.broker_model.specs.parts.TokenReplies.{auth_reply, token_reply}
+use Rattle.broker_model.specs.parts.Tokens.{new_end}
+use Rattle.histories.specs.Allowed.{AllDoAllowed, HasVersion, MayWrite, is_done}
+use Rattle.histories.specs.Callers.{IsAllowed}
+use Rattle.histories.specs.History.{Asking, clocked, spent_by}
+use Rattle.histories.specs.Refused.{PoliciesDecide}
+use Rattle.histories.proofs.ReadsEnded.{current_is, number_is}
+use Rattle.histories.proofs.Requests.{asked_at}
+
+module _ (decide : PoliciesDecide) (a : Asking) (is : a.outcome ≡ step a.broker a.moment a.words a.ask)
+    (k : IsAllowed a) (plain : a.ask.wrap_ttl ≡ 0) (command : Command)
+    (means : command_of (clocked a).mounts a.ask ≡ Ok command) where
+  abbrev start : Broker
+  start = spent_by a k.caller
+
+  abbrev names : Names
+  names = names_of a.words
+
+  abbrev q : Request Command
+  q = request_of a.ask
+
+  -- what its command leads to is the outcome
+  carried : a.outcome ≡ finish start (Some k.caller) (operated start (Some k.caller) names a.ask command)
+  carried =
+      is ∙ decide.granted a.broker a.moment a.words a.ask k.caller k.own k.calls k.granted
+      ∙ ap (λ (r : Result Command Refusal). finish start (Some k.caller)
+      (r >>= operated start (Some k.caller) names a.ask)) means
+
+  no_wrap : wraps permits traits act q command ≡ false
+  no_wrap = ap (λ n. nat_lt 0 n && (traits command).may_wrap) plain
+
+  module _ (own : (traits command).own names ≡ []) (free : (traits command).must_wrap ≡ false) where
+    no_names : needed permits traits act q names command ≡ []
+    no_names =
+        ap (λ v. if v then names.wrapping_token ∷ names.wrapping_accessor ∷ (traits command).own names
+        else (traits command).own names) no_wrap ∙ own
+
+    -- where the command is carried out, what it answers is the answer
+    answers : (d : Done) → act start (Some k.caller) names command ≡ Ok d
+        → a.outcome.response ≡ response_to d.answered
+    answers d acted =
+        let tried : Result Done Refusal → Result Wrapped Refusal =
+        λ r. r >>= (λ d. Ok (wrapped permits traits act start q names command d)) in
+        let asked : Bool → Result Wrapped Refusal =
+        λ v. unless (not v || nat_lt 0 q.wrap_ttl) (refusal.BadRequest reason.WrappingRequired)
+        >>= (λ w. tried (act start (Some k.caller) names command)) in
+        ap (λ (o : Outcome). o.response) (carried
+        ∙ ap (λ ns. finish start (Some k.caller) (unless (are_new start.used ns) refusal.IdentifierUsed
+        >>= (λ u. asked (traits command).must_wrap))) no_names
+        ∙ ap (λ v. finish start (Some k.caller) (asked v)) free
+        ∙ ap (λ r. finish start (Some k.caller) (tried r)) acted
+        ∙ ap (λ v. finish start (Some k.caller) (Ok
+        (if v then wrap_200 start q.path q.wrap_ttl names d d.answered else unwrapped d))) no_wrap)
+
+-- ---- commands that are never refused
+
+-- it is carried out, needs no identifier, may lack a wrap TTL, and answers nothing
+abbrev IsDoneBy : Broker → Text → Names → Command → Type 0
+IsDoneBy b c names command =
+    (d : Done) × (act b (Some c) names command ≡ Ok d) × ((traits command).own names ≡ [])
+    × ((traits command).must_wrap ≡ false) × (d.answered ≡ nothing)
+
+module _ (b : Broker) (c : Text) (names : Names) where
+  cubbyhole_done : (path : Text) (k : CubbyholeCommand) → is_done (on_cubbyhole path k) ≡ true
+      → IsDoneBy b c names (on_cubbyhole path k)
+  cubbyhole_done path (of_cubbyhole.Write (Some text)) h = (_, refl, refl, refl, refl)
+  cubbyhole_done path of_cubbyhole.Delete h = (_, refl, refl, refl, refl)
+  cubbyhole_done path _ h = absurd (false≢true h)
+
+  token_done : (k : TokenCommand) → is_done (on_token k) ≡ true → IsDoneBy b c names (on_token k)
+  token_done (of_token.Revoke t) h = (_, refl, refl, refl, refl)
+  token_done (of_token.RevokeOrphan t) h = (_, refl, refl, refl, refl)
+  token_done of_token.RevokeSelf h = (_, refl, refl, refl, refl)
+  token_done _ h = absurd (false≢true h)
+
+  secret_done : (p : Place) (k : SecretCommand) → is_done (on_secret p k) ≡ true → IsDoneBy b c names (on_secret p k)
+  secret_done p (of_secret.SetSettings asked) h = (_, refl, refl, refl, refl)
+  secret_done p of_secret.DeleteCurrent h = (_, refl, refl, refl, refl)
+  secret_done p (of_secret.Delete ns) h = (_, refl, refl, refl, refl)
+  secret_done p (of_secret.Undelete ns) h = (_, refl, refl, refl, refl)
+  secret_done p (of_secret.Destroy ns) h = (_, refl, refl, refl, refl)
+  secret_done p (of_secret.SetMetadata asked) h = (_, refl, refl, refl, refl)
+  secret_done p of_secret.Remove h = (_, refl, refl, refl, refl)
+  secret_done p _ h = absurd (false≢true h)
+
+  lease_done : (prefix : Text) (k : LeaseCommand) → is_done (on_lease prefix k) ≡ true
+      → IsDoneBy b c names (on_lease prefix k)
+  lease_done prefix (of_lease.Revoke id) h = (_, refl, refl, refl, refl)
+  lease_done prefix of_lease.RevokeUnder h = (_, refl, refl, refl, refl)
+  lease_done prefix _ h = absurd (false≢true h)
+
+  issued_done : (p : Place) (k : IssuedCommand) → is_done (on_issued p k) ≡ true → IsDoneBy b c names (on_issued p k)
+  issued_done p of_issued.RemoveRole h = (_, refl, refl, refl, refl)
+  issued_done p _ h = absurd (false≢true h)
+
+  all_done : (k : Command) → is_done k ≡ true → IsDoneBy b c names k
+  all_done (on_cubbyhole path k) h = cubbyhole_done path k h
+  all_done (on_token k) h = token_done k h
+  all_done (on_secret p k) h = secret_done p k h
+  all_done (on_lease prefix k) h = lease_done prefix k h
+  all_done (on_issued p k) h = issued_done p k h
+  all_done (on_policy name k) h = absurd (false≢true h)
+  all_done (on_mount name k) h = absurd (false≢true h)
+  all_done (on_wrapping k) h = absurd (false≢true h)
+
+-- ---- a read of a version that is there
+
+module _ (b : Broker) (c : Text) (names : Names) (p : Place) (n : ℕ) (key : Key)
+    (there : get b.secrets (secret_name p.mount p.path) ≡ Some key) (v : Version)
+    (kept : fin.get key.versions (asked_number key.current n) ≡ Some v)
+    (not_deleted : v.deleted ≡ None) (not_destroyed : v.secret ≢ None) where
+  abbrev found : Found
+  found = numbered (entries key.custom_metadata) (asked_number key.current n) v
+
+  finds : secrets.read b p.mount p.path n ≡ Some found
+  finds =
+      ap (option_and_then (λ (k : Key). option_map (numbered (entries k.custom_metadata) (asked_number k.current n))
+      (fin.get k.versions (asked_number k.current n)))) there
+      ∙ ap (option_map (numbered (entries key.custom_metadata) (asked_number key.current n))) kept
+
+  something : (o : Option Text) → o ≢ None → is_some o ≡ true
+  something None some = absurd (some refl)
+  something (Some t) some = refl
+
+  left : is_some (object_left v) ≡ true
+  left = ap (λ (o : Option ℕ). is_some (if is_some o then None else v.secret)) not_deleted
+      ∙ something v.secret not_destroyed
+
+  pub read_done : (d : Done) × (act b (Some c) names (on_secret p (of_secret.Read n)) ≡ Ok d)
+      × (d.answered ≡ reply (version_reply names.request found) None)
+  read_done = (
+    _,
+    ap (λ o. some_or refusal.NotFound o >>= (λ x. Ok (record {
+      answered = version_answered names.request x;
+      next = b;
+      taken = [];
+      handed = None;
+    }))) finds,
+    ap (λ w. if w then reply (version_reply names.request found) None
+        else missing (version_reply names.request found)) left,
+  )
+
+-- ---- a write that passes
+
+module _ (own of_mount : Bool) (current : ℕ) (cas : Option ℕ)
+    (told : (cas ≡ Some current) ⊎ ((cas ≡ None) × (of_mount ≡ false) × (own ≡ false)))
+    (low : current < greatest_version) where
+  set_passes : check_and_set (own || of_mount) current cas ≡ Ok tt
+  set_passes = elim told [
+    | inl it ↦ ap (check_and_set (own || of_mount) current) it ∙ by (own || of_mount)
+    | inr none ↦ ap (check_and_set (own || of_mount) current) none.0
+        ∙ ap (λ v. check_and_set (v || of_mount) current None) none.2
+        ∙ ap (λ v. check_and_set v current None) none.1
+  ]
+    where
+      same_number : unless (current == current) (refusal.BadRequest reason.CheckAndSetFailed) ≡ Ok tt
+      same_number =
+          ap (λ v. unless v (refusal.BadRequest reason.CheckAndSetFailed)) (eq-eqb current current refl)
+
+      by : (v : Bool) → check_and_set v current (Some current) ≡ Ok tt
+      by true = same_number
+      by false = same_number
+
+  pub all_pass : checked (own || of_mount) current cas ≡ Ok tt
+  all_pass =
+      let below : Bool → Result ⊤ Refusal = λ v. unless v (refusal.BadRequest (reason.InvalidField field.Version)) in
+      ap (λ (r : Result ⊤ Refusal). r >>= (λ passed. below (nat_lt current greatest_version))) set_passes
+      ∙ ap below (lt-ltb current greatest_version low)
+
+module _ (a : Asking) (b : Broker) (same_mounts : b.mounts ≡ (clocked a).mounts)
+    (same_secrets : b.secrets ≡ (clocked a).secrets) (p : Place) (asked : SecretWrite) (m : MayWrite a p asked) where
+  abbrev name : Text
+  name = secret_name p.mount p.path
+
+  -- the secret that it is written over
+  pub record IsOver (o : Option Key) : Type 0 where
+    pub current : (key_or_new b.clock o).current ≡ m.current
+    pub free : ((key : Key) → o ≡ Some key → key.cas_required ≡ false) → (key_or_new b.clock o).cas_required ≡ false
+
+  is_over : (o : Option Key) → get (clocked a).secrets name ≡ o → IsOver o
+  is_over None none = record { current = sym (m.by_none none); free = λ _. refl }
+  is_over (Some key) there = record { current = sym (m.by_key key there); free = λ free. free key refl }
+
+  abbrev over : Key
+  over = key_or_new b.clock (get b.secrets name)
+
+  passes : checked (over.cas_required || m.of_mount.cas_required) over.current asked.cas ≡ Ok tt
+  passes =
+      let o = is_over (get b.secrets name) (ap (λ (s : Map Key). get s name) (sym same_secrets)) in
+      all_pass over.cas_required m.of_mount.cas_required over.current asked.cas
+      (elim m.told [
+        | inl it ↦ inl (it ∙ ap Some (sym o.current))
+        | inr (none, of_mount, own) ↦ inr (
+          none,
+          of_mount,
+          o.free (λ key there. own key (ap (λ (s : Map Key). get s name) (sym same_secrets) ∙ there)),
+        )
+      ]) (subst (λ n. n < greatest_version) (sym o.current) m.low)
+
+  pub writes_it : secrets.write b p.mount p.path asked.cas asked.object
+      ≡ Ok (written b m.of_mount name asked.object over)
+  writes_it =
+      ap (λ (o : Option Mount). some_or refusal.NotFound o
+      >>= (λ n. write_over b n name asked.cas asked.object over))
+      (ap (λ (s : Map Mount). get s p.mount) same_mounts ∙ m.in_mount)
+      ∙ ap (λ (r : Result ⊤ Refusal). r >>= (λ passed. Ok (written b m.of_mount name asked.object over))) passes
+
+-- ---- a token that is there
+
+module _ (b : Broker) (c : Text) (names : Names) (t : Text) (x : Token) (there : get b.tokens t ≡ Some x) where
+  looked_up_done : (d : Done) × (r : Reply) × (act b (Some c) names (on_token (of_token.LookUp t)) ≡ Ok d)
+      × (d.answered ≡ reply r None)
+  looked_up_done =
+      let answer : Token → Done = λ y. plainly (reply (token_reply names.request b.clock t (token_entry y)) None) b in (
+        answer x,
+        token_reply names.request b.clock t (token_entry x),
+        ap (λ (o : Option Token). some_or (refusal.Forbidden denial.BadToken) o >>= (λ y. Ok (answer y))) there,
+        refl,
+      )
+
+  renewed_done : (increment : ℕ) → is_some x.ends ≡ true → (d : Done) × (r : Reply)
+      × (act b (Some c) names (on_token (of_token.Renew (record { token = t; increment = increment }))) ≡ Ok d)
+      × (d.answered ≡ reply r None)
+  renewed_done increment ends =
+      let next : Token → ℕ = λ y. new_end b.clock (token_entry y) increment in
+      let tells : Token → Reply = λ y.
+      auth_reply names.request b.clock t (token_entry (tree.with_end (next y) y)) in
+      let answer : Token → Done = λ y. plainly (reply (tells y) None) (tree.renew b t (next y)) in
+      let ending : Token → Bool → Result Done Refusal = λ y v.
+      unless v (refusal.BadRequest reason.TokenNotRenewable) >>= (λ u. Ok (answer y)) in (
+        answer x,
+        tells x,
+        ap (λ (o : Option Token). some_or (refusal.Forbidden denial.BadToken) o
+            >>= (λ y. ending y (is_some y.ends))) there
+            ∙ ap (ending x) ends,
+        refl,
+      )
+
+-- ---- the law
+
+-- a version that is there, by the number that is asked for
+has_version : (a : Asking) (p : Place) (n : ℕ) (h : HasVersion a p n)
+    → fin.get h.key.versions (asked_number h.key.current n) ≡ Some h.version
+has_version a p n h = ap (fin.get h.key.versions) (by (n == 0) refl) ∙ h.is_kept
+  where
+    by : (v : Bool) → (n == 0) ≡ v → asked_number h.key.current n ≡ h.number
+    by true zero_ =
+        let none = eqb-true n 0 zero_ in
+        current_is h.key n none ∙ sym (h.by_current none)
+    by false some =
+        let other : n ≢ 0 = λ none. false≢true (sym some ∙ ap (λ m. m == 0) none) in
+        number_is h.key n other ∙ sym (h.by_number other)
+
+module _ (decide : PoliciesDecide) (a : Asking) (is : a.outcome ≡ step a.broker a.moment a.words a.ask)
+    (k : IsAllowed a) (none : a.ask.wrap_ttl ≡ 0) where
+  abbrev here : Broker
+  here = spent_by a k.caller
+
+  was_done : (command : Command) → command_of (clocked a).mounts a.ask ≡ Ok command → is_done command ≡ true
+      → a.outcome.response ≡ no_content
+  was_done command means it =
+      let d = all_done here k.caller (names_of a.words) command it in
+      answers decide a is k none command means d.2 d.3 d.0 d.1 ∙ ap response_to d.4
+
+  -- a reply is a 200
+  replied : (command : Command) → command_of (clocked a).mounts a.ask ≡ Ok command
+      → (traits command).own (names_of a.words) ≡ [] → (traits command).must_wrap ≡ false → (d : Done) (r : Reply)
+      → act here (Some k.caller) (names_of a.words) command ≡ Ok d → d.answered ≡ reply r None
+      → a.outcome.response.status ≡ status.Success
+  replied command means own free d r acted answered =
+      ap (λ (x : Response). x.status) (answers decide a is k none command means own free d acted
+      ∙ ap response_to answered)
+
+  read : (p : Place) (n : ℕ) → command_of (clocked a).mounts a.ask ≡ Ok (on_secret p (of_secret.Read n))
+      → HasVersion a p n → a.outcome.response.status ≡ status.Success
+  read p n means h =
+      let d = read_done here k.caller (names_of a.words) p n h.key h.there h.version (has_version a p n h)
+      h.not_deleted h.not_destroyed in
+      replied (on_secret p (of_secret.Read n)) means refl refl d.0 _ d.1 d.2
+
+  write : (p : Place) (asked : SecretWrite)
+      → command_of (clocked a).mounts a.ask ≡ Ok (on_secret p (of_secret.Write asked)) → MayWrite a p asked
+      → a.outcome.response.status ≡ status.Success
+  write p asked means m =
+      let names = names_of a.words in
+      let left = written here m.of_mount (secret_name p.mount p.path) asked.object
+      (key_or_new here.clock (get here.secrets (secret_name p.mount p.path))) in
+      let answer : Written → Done = λ w.
+      plainly (reply (written_reply names.request here.clock w.custom_metadata w.number) None) w.next in
+      replied (on_secret p (of_secret.Write asked)) means refl refl (answer left) _
+      (ap (λ (r : Result Written Refusal). r >>= (λ w. Ok (answer w))) (writes_it a here refl refl p asked m)) refl
+
+  -- a token of the clock is there after the use, with its end
+  after_use : (t : Text) (x : Token) → get (clocked a).tokens t ≡ Some x
+      → (y : Token) × (get here.tokens t ≡ Some y) × (y.ends ≡ x.ends)
+  after_use t x there = (
+    if same t k.caller then one_less x else x,
+    get-change (clocked a).tokens k.caller one_less t
+        ∙ ap (option_map (λ z. if same t k.caller then one_less z else z)) there,
+    by (same t k.caller) x,
+  )
+    where
+      by : (v : Bool) (x : Token) → (if v then one_less x else x).ends ≡ x.ends
+      by true x = refl
+      by false x = refl
+
+  look_up : (t : Text) → command_of (clocked a).mounts a.ask ≡ Ok (on_token (of_token.LookUp t))
+      → get (clocked a).tokens t ≢ None → a.outcome.response.status ≡ status.Success
+  look_up t means some = elim (found_or_not (get (clocked a).tokens t)) [
+    | inl none ↦ absurd (some none)
+    | inr x ↦
+        let y = after_use t x.0 x.1 in
+        let d = looked_up_done here k.caller (names_of a.words) t y.0 y.1 in
+        replied (on_token (of_token.LookUp t)) means refl refl d.0 d.1 d.2 d.3
+  ]
+
+  renew : (asked : TokenRenewal) (x : Token)
+      → command_of (clocked a).mounts a.ask ≡ Ok (on_token (of_token.Renew asked))
+      → get (clocked a).tokens asked.token ≡ Some x → x.ends ≢ None → a.outcome.response.status ≡ status.Success
+  renew asked x means there some =
+      let y = after_use asked.token x there in
+      let d = renewed_done here k.caller (names_of a.words) asked.token y.0 y.1 asked.increment
+      (ap (λ (o : Option ℕ). is_some o) y.2 ∙ has_some x.ends some) in
+      replied (on_token (of_token.Renew asked)) means refl refl d.0 d.1 d.2 d.3
+    where
+      has_some : (o : Option ℕ) → o ≢ None → is_some o ≡ true
+      has_some None end = absurd (end refl)
+      has_some (Some n) end = refl
+
+  read_own : (path : Text) → command_of (clocked a).mounts a.ask ≡ Ok (on_cubbyhole path of_cubbyhole.Read)
+      → get k.own.cubbyhole path ≢ None → a.outcome.response.status ≡ status.Success
+  read_own path means some = elim (found_or_not (get k.own.cubbyhole path)) [
+    | inl away ↦ absurd (some away)
+    | inr text ↦
+        let names = names_of a.words in
+        let answer : Text → Done = λ kept. plainly (reply (plain_reply names.request kept) None) here in
+        replied (on_cubbyhole path of_cubbyhole.Read) means refl refl (answer text.0) _
+        (ap (λ (o : Option Text). some_or refusal.NotFound o >>= (λ kept. Ok (answer kept)))
+        (ap (option_and_then (λ (x : Token). get x.cubbyhole path)) k.calls.there ∙ text.1)) refl
+  ]
+
+pub does_allowed : PoliciesDecide → AllDoAllowed
+does_allowed decide b history h = record {
+  done = λ i a command at k none means it.
+      was_done decide a (asked_at b history i a h at).outcome k none command means it;
+  reads = λ i a p n at k none means there. read decide a (asked_at b history i a h at).outcome k none p n means there;
+  writes = λ i a p asked at k none means may.
+      write decide a (asked_at b history i a h at).outcome k none p asked means may;
+  looks_up = λ i a t at k none means some. look_up decide a (asked_at b history i a h at).outcome k none t means some;
+  renews = λ i a asked x at k none means there some.
+      renew decide a (asked_at b history i a h at).outcome k none asked x means there some;
+  reads_own = λ i a path at k none means some.
+      read_own decide a (asked_at b history i a h at).outcome k none path means some;
+}

@@ -1,0 +1,357 @@
+-- How a request is answered that is not refused, command by command.
+use Rattle.std.specs.Prelude.{◌≡◌, ◌⊎◌, ℕ, Bool, true, false, not, is_some, if◌then◌else◌}
+use Rattle.std.specs.Prelude.{Option, Some, None, Result, Ok}
+use Rattle.std.proofs.Common.{refl, sym, ◌∙◌, ap, subst, inl, inr}
+use Rattle.std.proofs.lemmas.Bool.{false≢true}
+use Rattle.broker_types.specs.Text.{Text}
+use Rattle.broker_types.specs.Answer.{IsRefused}
+use Rattle.broker_types.specs.Broker.{Broker}
+use Rattle.broker_types.specs.Names.{Names, names_of}
+use Rattle.broker_types.specs.Operation.{kept_text, missing, nothing, reply, Answered, Done}
+use Rattle.broker_types.specs.Refuse.{some_or, unless}
+use Rattle.broker_types.specs.RefuseLaws.{no_ok, ok_step}
+use Rattle.broker_types.specs.declared.refusal.Reason.TheVariants as reason
+use Rattle.broker_types.specs.declared.refusal.Refusal.{Refusal}
+use Rattle.broker_types.specs.declared.refusal.Refusal.TheVariants as refusal
+use Rattle.broker_types.specs.declared.reply.Reply.{Reply}
+use Rattle.broker_types.specs.declared.status.Status.TheVariants as status
+use Rattle.records.specs.ValueLaws.{ok_inj}
+use Rattle.cubbyhole.specs.Cubbyhole as cubbyholes
+use Rattle.leases.specs.Leases as leases
+use Rattle.leases.specs.Roles as roles
+use Rattle.kv2.specs.Secrets as secrets
+use Rattle.kv2.specs.Versions.{Found}
+use Rattle.mounts.specs.Mounts as mounts
+use Rattle.policies.specs.Policies as policies
+use Rattle.broker_model.specs.Act.{act}
+use Rattle.broker_model.specs.Command.{Command, command_of, on_cubbyhole, on_issued, on_lease, on_mount, on_policy}
+use Rattle.broker_model.specs.Command.{on_secret, on_token, on_wrapping}
+use Rattle.broker_model.specs.Order.{Outcome, Wrapped, response_to}
+use Rattle.broker_model.specs.Permission.{permits}
+use Rattle.broker_model.specs.Responses.{no_content}
+use Rattle.broker_model.specs.Step.{request_of, step, traits}
+use Rattle.broker_model.specs.declared.commands.CubbyholeCommand.{CubbyholeCommand}
+use Rattle.broker_model.specs.declared.commands.CubbyholeCommand.TheVariants as of_cubbyhole
+use Rattle.broker_model.specs.declared.commands.IssuedCommand.{IssuedCommand}
+use Rattle.broker_model.specs.declared.commands.IssuedCommand.TheVariants as of_issued
+use Rattle.broker_model.specs.declared.commands.LeaseCommand.{LeaseCommand}
+use Rattle.broker_model.specs.declared.commands.LeaseCommand.TheVariants as of_lease
+use Rattle.broker_model.specs.declared.commands.MountCommand.{MountCommand}
+use Rattle.broker_model.specs.declared.commands.MountCommand.TheVariants as of_mount
+use Rattle.broker_model.specs.declared.commands.PolicyCommand.{PolicyCommand}
+use Rattle.broker_model.specs.declared.commands.PolicyCommand.TheVariants as of_policy
+use Rattle.broker_model.specs.declared.commands.SecretCommand.{SecretCommand}
+use Rattle.broker_model.specs.declared.commands.SecretCommand.TheVariants as of_secret
+use Rattle.broker_model.specs.declared.commands.TokenCommand.{TokenCommand}
+use Rattle.broker_model.specs.declared.commands.TokenCommand.TheVariants as of_token
+use Rattle.broker_model.specs.declared.commands.WrappingCommand.{WrappingCommand}
+use Rattle.broker_model.specs.declared.commands.WrappingCommand.TheVariants as of_response
+use Rattle.broker_model.specs.parts.AclPolicies.{act_on_policies}
+use Rattle.broker_model.specs.parts.Cubbyholes.{act_on_cubbyhole}
+use Rattle.broker_model.specs.parts.Issued.{act_on_issued}
+use Rattle.broker_model.specs.parts.Leases.{act_on_leases}
+use Rattle.broker_model.specs.parts.Lists.{are_none}
+use Rattle.broker_model.specs.parts.Mounts.{act_on_mounts}
+use Rattle.broker_model.specs.parts.Place.{Place}
+use Rattle.broker_model.specs.parts.SecretReplies.{object_left, version_reply}
+use Rattle.broker_model.specs.parts.Secrets.{act_on_secrets}
+use Rattle.broker_model.specs.parts.TokenCreation.{is_privileged, making_path, may_make, new_policies}
+use Rattle.broker_model.specs.parts.Tokens.{act_on_tokens, holder, known, named, revoke}
+use Rattle.broker_model.specs.parts.Wrappings.{act_on_wrappings, found}
+use Rattle.histories.specs.History.{Asking, clocked}
+use Rattle.histories.specs.Statuses.{AllStatusesFollow, ReadsEnded, cubbyhole_is_silent, is_silent, issued_is_silent}
+use Rattle.histories.specs.Statuses.{lease_is_silent, mount_is_silent, policy_is_silent, secret_is_silent}
+use Rattle.histories.specs.Statuses.{token_is_silent}
+use Rattle.histories.proofs.EventSecrets.{is_200}
+use Rattle.histories.proofs.OrderCases.{spent}
+use Rattle.histories.proofs.OrderKeeps.{wrapped_cases}
+use Rattle.histories.proofs.ReadsEnded.{shows_ended}
+use Rattle.histories.proofs.Requests.{asked_at, means_at_clock}
+use Rattle.histories.proofs.Served.{Served, nothing_is_no_reply, refused_or_served}
+
+-- ---- what tells nothing
+
+abbrev Silent : Done → Type 0
+Silent d = d.answered ≡ nothing
+
+-- an operation that was carried out
+so : (x d : Done) → ◌≡◌ {A = Result Done Refusal} (Ok x) (Ok d) → x.answered ≡ nothing → Silent d
+so x d e answered = ap (λ (z : Done). z.answered) (sym (ok_inj e)) ∙ answered
+
+module _ (b : Broker) (c : Text) (names : Names) (d : Done) where
+  cubbyhole_silent : (path : Text) (k : CubbyholeCommand) → cubbyhole_is_silent k ≡ true
+      → act_on_cubbyhole b c names path k ≡ Ok d → Silent d
+  cubbyhole_silent path (of_cubbyhole.Write full) is e =
+      so _ d (ok_step (some_or (refusal.BadRequest reason.MissingData) full) _ d e).2 refl
+  cubbyhole_silent path of_cubbyhole.Delete is e = so _ d e refl
+  cubbyhole_silent path _ is e = absurd (false≢true is)
+
+  token_silent : (k : TokenCommand) → token_is_silent k ≡ true → act_on_tokens b c names k ≡ Ok d → Silent d
+  token_silent (of_token.Revoke t) is e = so _ d e refl
+  token_silent (of_token.RevokeOrphan t) is e = so _ d e refl
+  token_silent (of_token.RevokeAccessor accessor) is e =
+      so _ d (ok_step (holder b accessor) (λ u. Ok (revoke b u)) d e).2 refl
+  token_silent of_token.RevokeSelf is e = so _ d e refl
+  token_silent _ is e = absurd (false≢true is)
+
+  secret_silent : (p : Place) (k : SecretCommand) → secret_is_silent k ≡ true → act_on_secrets b names p k ≡ Ok d
+      → Silent d
+  secret_silent p (of_secret.SetSettings asked) is e = so _ d e refl
+  secret_silent p of_secret.DeleteCurrent is e = so _ d e refl
+  secret_silent p (of_secret.Delete ns) is e = so _ d e refl
+  secret_silent p (of_secret.Undelete ns) is e = so _ d e refl
+  secret_silent p (of_secret.Destroy ns) is e = so _ d e refl
+  secret_silent p (of_secret.SetMetadata asked) is e = so _ d e refl
+  secret_silent p of_secret.Remove is e = so _ d e refl
+  secret_silent p _ is e = absurd (false≢true is)
+
+  policy_silent : (name : Text) (k : PolicyCommand) → policy_is_silent k ≡ true
+      → act_on_policies b names name k ≡ Ok d → Silent d
+  policy_silent name (of_policy.Set text) is e = so _ d (ok_step (policies.set b.policies name text) _ d e).2 refl
+  policy_silent name of_policy.Remove is e = so _ d (ok_step (policies.deleted b.policies name) _ d e).2 refl
+  policy_silent name _ is e = absurd (false≢true is)
+
+  mount_silent : (name : Text) (k : MountCommand) → mount_is_silent k ≡ true → act_on_mounts b names name k ≡ Ok d
+      → Silent d
+  mount_silent name (of_mount.Enable asked) is e =
+      so _ d (ok_step (mounts.enabled b.mounts name asked.type_name asked.version) _ d e).2 refl
+  mount_silent name of_mount.Disable is e = so _ d (ok_step (mounts.disabled b.mounts name) _ d e).2 refl
+  mount_silent name _ is e = absurd (false≢true is)
+
+  lease_silent : (prefix : Text) (k : LeaseCommand) → lease_is_silent k ≡ true
+      → act_on_leases b names prefix k ≡ Ok d → Silent d
+  lease_silent prefix (of_lease.Revoke id) is e = so _ d e refl
+  lease_silent prefix of_lease.RevokeUnder is e = so _ d e refl
+  lease_silent prefix _ is e = absurd (false≢true is)
+
+  issued_silent : (p : Place) (k : IssuedCommand) → issued_is_silent k ≡ true → act_on_issued b c names p k ≡ Ok d
+      → Silent d
+  issued_silent p (of_issued.SetRole asked) is e =
+      so _ d (ok_step (roles.set_role b p.mount p.path (record { ttl = asked.ttl; max_ttl = asked.max_ttl })) _ d e).2
+      refl
+  issued_silent p of_issued.RemoveRole is e = so _ d e refl
+  issued_silent p _ is e = absurd (false≢true is)
+
+  silent_for : (k : Command) → is_silent k ≡ true → act b (Some c) names k ≡ Ok d → Silent d
+  silent_for (on_cubbyhole path k) is e = cubbyhole_silent path k is e
+  silent_for (on_token k) is e = token_silent k is e
+  silent_for (on_secret p k) is e = secret_silent p k is e
+  silent_for (on_policy name k) is e = policy_silent name k is e
+  silent_for (on_mount name k) is e = mount_silent name k is e
+  silent_for (on_lease prefix k) is e = lease_silent prefix k is e
+  silent_for (on_issued p k) is e = issued_silent p k is e
+  silent_for (on_wrapping k) is e = absurd (false≢true is)
+
+-- without a caller nothing of this is done
+silent_openly : (b : Broker) (names : Names) (d : Done) (k : Command) → is_silent k ≡ true
+    → act b None names k ≡ Ok d → Silent d
+silent_openly b names d (on_wrapping k) is e = absurd (false≢true is)
+silent_openly b names d _ is e = no_ok e
+
+silent_by : (b : Broker) (caller : Option Text) (names : Names) (d : Done) (k : Command) → is_silent k ≡ true
+    → act b caller names k ≡ Ok d → Silent d
+silent_by b None names d k is e = silent_openly b names d k is e
+silent_by b (Some c) names d k is e = silent_for b c names d k is e
+
+-- ---- what tells something
+
+-- a reply, a text that was kept, or a 404 with a reply to a read of a version
+abbrev Tells : Command → Done → Type 0
+Tells k d =
+    ((r : Reply) × (made : Option Text) × (d.answered ≡ reply r made))
+    ⊎ (((t : Text) × (d.answered ≡ kept_text t))
+    ⊎ ((p : Place) × (n : ℕ) × (r : Reply) × (k ≡ on_secret p (of_secret.Read n)) × (d.answered ≡ missing r)))
+
+replied : (k : Command) (r : Reply) (made : Option Text) (x d : Done) → ◌≡◌ {A = Result Done Refusal} (Ok x) (Ok d)
+    → x.answered ≡ reply r made → Tells k d
+replied k r made x d e answered = inl (r, made, ap (λ (z : Done). z.answered) (sym (ok_inj e)) ∙ answered)
+
+module _ (b : Broker) (c : Text) (names : Names) (d : Done) where
+  cubbyhole_tells : (path : Text) (k : CubbyholeCommand) → cubbyhole_is_silent k ≡ false
+      → act_on_cubbyhole b c names path k ≡ Ok d → Tells (on_cubbyhole path k) d
+  cubbyhole_tells path of_cubbyhole.Read is e =
+      replied (on_cubbyhole path of_cubbyhole.Read) _ _ _ d
+      (ok_step (some_or refusal.NotFound (cubbyholes.object_at b c path)) _ d e).2 refl
+  cubbyhole_tells path of_cubbyhole.List is e =
+      replied (on_cubbyhole path of_cubbyhole.List) _ _ _ d
+      (ok_step (unless (not (are_none (cubbyholes.list b c path))) refusal.NotFound) _ d e).2 refl
+  cubbyhole_tells path _ is e = absurd (false≢true (sym is))
+
+  renewal_tells : (k : Command) (t : Text) (increment : ℕ)
+      → act_on_tokens b t names (of_token.RenewSelf increment) ≡ Ok d
+      → Tells k d
+  renewal_tells k t increment e =
+      let x = ok_step (known b t) _ d e in
+      replied k _ _ _ d
+      (ok_step (unless (is_some x.0.ends) (refusal.BadRequest reason.TokenNotRenewable)) _ d x.2).2 refl
+
+  token_tells : (k : TokenCommand) → token_is_silent k ≡ false → act_on_tokens b c names k ≡ Ok d
+      → Tells (on_token k) d
+  token_tells (of_token.Create making asked) is e =
+      let x = ok_step (known b c) _ d e in
+      let privileged = is_privileged b (making_path making) x.0 in
+      let policies = new_policies privileged x.0 asked in
+      replied (on_token (of_token.Create making asked)) _ _ _ d
+      (ok_step (may_make privileged making x.0 policies asked) _ d x.2).2 refl
+  token_tells (of_token.LookUp t) is e =
+      replied (on_token (of_token.LookUp t)) _ _ _ d (ok_step (known b t) _ d e).2 refl
+  token_tells (of_token.LookUpAccessor accessor) is e =
+      let t = ok_step (named b accessor) _ d e in
+      replied (on_token (of_token.LookUpAccessor accessor)) _ _ _ d (ok_step (known b t.0) _ d t.2).2 refl
+  token_tells of_token.LookUpSelf is e =
+      replied (on_token of_token.LookUpSelf) _ _ _ d (ok_step (known b c) _ d e).2 refl
+  token_tells (of_token.Renew asked) is e =
+      renewal_tells (on_token (of_token.Renew asked)) asked.token asked.increment e
+  token_tells (of_token.RenewSelf increment) is e =
+      renewal_tells (on_token (of_token.RenewSelf increment)) c increment e
+  token_tells of_token.ListAccessors is e = replied (on_token of_token.ListAccessors) _ _ _ d e refl
+  token_tells _ is e = absurd (false≢true (sym is))
+
+  read_tells : (p : Place) (n : ℕ) (v : Found) (w : Bool)
+      → d.answered ≡ (if w then reply (version_reply names.request v) None else missing (version_reply names.request v))
+      → Tells (on_secret p (of_secret.Read n)) d
+  read_tells p n v true answered = inl (version_reply names.request v, None, answered)
+  read_tells p n v false answered = inr (inr (p, n, version_reply names.request v, refl, answered))
+
+  secret_tells : (p : Place) (k : SecretCommand) → secret_is_silent k ≡ false → act_on_secrets b names p k ≡ Ok d
+      → Tells (on_secret p k) d
+  secret_tells p of_secret.ShowSettings is e =
+      replied (on_secret p of_secret.ShowSettings) _ _ _ d
+      (ok_step (some_or refusal.NotFound (secrets.config b p.mount)) _ d e).2 refl
+  secret_tells p (of_secret.Read n) is e =
+      let v = ok_step (some_or refusal.NotFound (secrets.read b p.mount p.path n)) _ d e in
+      read_tells p n v.0 (is_some (object_left (v.0).version)) (ap (λ (z : Done). z.answered) (sym (ok_inj v.2)))
+  secret_tells p (of_secret.Write asked) is e =
+      replied (on_secret p (of_secret.Write asked)) _ _ _ d
+      (ok_step (secrets.write b p.mount p.path asked.cas asked.object) _ d e).2 refl
+  secret_tells p of_secret.ShowMetadata is e =
+      replied (on_secret p of_secret.ShowMetadata) _ _ _ d
+      (ok_step (some_or refusal.NotFound (secrets.metadata b p.mount p.path)) _ d e).2 refl
+  secret_tells p of_secret.List is e =
+      replied (on_secret p of_secret.List) _ _ _ d
+      (ok_step (unless (not (are_none (secrets.list b p.mount p.path))) refusal.NotFound) _ d e).2 refl
+  secret_tells p _ is e = absurd (false≢true (sym is))
+
+  policy_tells : (name : Text) (k : PolicyCommand) → policy_is_silent k ≡ false
+      → act_on_policies b names name k ≡ Ok d → Tells (on_policy name k) d
+  policy_tells name of_policy.List is e = replied (on_policy name of_policy.List) _ _ _ d e refl
+  policy_tells name of_policy.Show is e =
+      replied (on_policy name of_policy.Show) _ _ _ d
+      (ok_step (some_or refusal.NotFound (policies.text_of b.policies name)) _ d e).2 refl
+  policy_tells name _ is e = absurd (false≢true (sym is))
+
+  mount_tells : (name : Text) (k : MountCommand) → mount_is_silent k ≡ false → act_on_mounts b names name k ≡ Ok d
+      → Tells (on_mount name k) d
+  mount_tells name of_mount.List is e = replied (on_mount name of_mount.List) _ _ _ d e refl
+  mount_tells name _ is e = absurd (false≢true (sym is))
+
+  lease_tells : (prefix : Text) (k : LeaseCommand) → lease_is_silent k ≡ false
+      → act_on_leases b names prefix k ≡ Ok d → Tells (on_lease prefix k) d
+  lease_tells prefix (of_lease.LookUp id) is e =
+      replied (on_lease prefix (of_lease.LookUp id)) _ _ _ d (ok_step (leases.lookup b id) _ d e).2 refl
+  lease_tells prefix (of_lease.Renew asked) is e =
+      replied (on_lease prefix (of_lease.Renew asked)) _ _ _ d
+      (ok_step (leases.renew b asked.lease_id asked.increment) _ d e).2 refl
+  lease_tells prefix _ is e = absurd (false≢true (sym is))
+
+  issued_tells : (p : Place) (k : IssuedCommand) → issued_is_silent k ≡ false → act_on_issued b c names p k ≡ Ok d
+      → Tells (on_issued p k) d
+  issued_tells p of_issued.ShowRole is e =
+      replied (on_issued p of_issued.ShowRole) _ _ _ d
+      (ok_step (some_or refusal.NotFound (roles.role b p.mount p.path)) _ d e).2 refl
+  issued_tells p of_issued.Issue is e =
+      replied (on_issued p of_issued.Issue) _ _ _ d
+      (ok_step (roles.creds b c p.mount p.path names.lease names.credential) _ d e).2 refl
+  issued_tells p (of_issued.Verify credential) is e = replied (on_issued p (of_issued.Verify credential)) _ _ _ d e refl
+  issued_tells p _ is e = absurd (false≢true (sym is))
+
+-- with a caller or without
+wrapping_tells : (b : Broker) (names : Names) (d : Done) (k : WrappingCommand) → act_on_wrappings b names k ≡ Ok d
+    → Tells (on_wrapping k) d
+wrapping_tells b names d (of_response.Wrap text) e = replied (on_wrapping (of_response.Wrap text)) _ _ _ d e refl
+wrapping_tells b names d (of_response.LookUp meant) e =
+    replied (on_wrapping (of_response.LookUp meant)) _ _ _ d (ok_step (found b meant) _ d e).2 refl
+wrapping_tells b names d (of_response.Rewrap meant) e =
+    replied (on_wrapping (of_response.Rewrap meant)) _ _ _ d (ok_step (found b meant) _ d e).2 refl
+wrapping_tells b names d (of_response.Unwrap meant) e =
+    let f = ok_step (found b meant) _ d e in
+    inr (inl ((f.0).response.reply, ap (λ (z : Done). z.answered) (sym (ok_inj f.2))))
+
+tells_for : (b : Broker) (c : Text) (names : Names) (d : Done) (k : Command) → is_silent k ≡ false
+    → act b (Some c) names k ≡ Ok d → Tells k d
+tells_for b c names d (on_cubbyhole path k) is e = cubbyhole_tells b c names d path k is e
+tells_for b c names d (on_token k) is e = token_tells b c names d k is e
+tells_for b c names d (on_secret p k) is e = secret_tells b c names d p k is e
+tells_for b c names d (on_policy name k) is e = policy_tells b c names d name k is e
+tells_for b c names d (on_mount name k) is e = mount_tells b c names d name k is e
+tells_for b c names d (on_lease prefix k) is e = lease_tells b c names d prefix k is e
+tells_for b c names d (on_issued p k) is e = issued_tells b c names d p k is e
+tells_for b c names d (on_wrapping k) is e = wrapping_tells b names d k e
+
+tells_openly : (b : Broker) (names : Names) (d : Done) (k : Command) → act b None names k ≡ Ok d → Tells k d
+tells_openly b names d (on_wrapping k) e = wrapping_tells b names d k e
+tells_openly b names d _ e = no_ok e
+
+tells_by : (b : Broker) (caller : Option Text) (names : Names) (d : Done) (k : Command) → is_silent k ≡ false
+    → act b caller names k ≡ Ok d → Tells k d
+tells_by b None names d k is e = tells_openly b names d k e
+tells_by b (Some c) names d k is e = tells_for b c names d k is e
+
+-- ---- one request
+
+module _ (a : Asking) (is : a.outcome ≡ step a.broker a.moment a.words a.ask) (command : Command)
+    (means : command_of (clocked a).mounts a.ask ≡ Ok command) where
+  module _ (s : Served a) where
+    acted : act (spent (clocked a) s.caller) s.caller (names_of a.words) command ≡ Ok s.done
+    acted =
+        subst (λ (x : Command). act (spent (clocked a) s.caller) s.caller (names_of a.words) x ≡ Ok s.done)
+        (ok_inj (sym (means_at_clock a s.caller s.command s.means) ∙ means)) s.acted
+
+    -- an answer that is no reply is not wrapped
+    unwrapped_is : (x : Answered) → s.done.answered ≡ x
+        → ((r : Reply) (made : Option Text) → s.done.answered ≡ reply r made → ⊥)
+        → a.outcome.response ≡ response_to x
+    unwrapped_is x answered no_reply =
+        ap (λ (o : Outcome). o.response) s.outcome
+        ∙ elim (wrapped_cases permits traits act (spent (clocked a) s.caller) (request_of a.ask) (names_of a.words)
+        s.command s.done) [
+          | inl plain ↦ ap (λ (z : Wrapped). response_to z.done.answered) plain ∙ ap response_to answered
+          | inr kept ↦ absurd (no_reply kept.0 kept.1 kept.3)
+        ]
+
+    abbrev Success : Type 0
+    Success = a.outcome.response.status ≡ status.Success
+
+    by_answer : Tells command s.done → Success ⊎ (IsRefused a.outcome.response ⊎ ReadsEnded a command)
+    by_answer (inl (r, made, answered)) = inl (is_200 a s r made answered)
+    by_answer (inr (inl (t, answered))) =
+        inl (ap (λ r. r.status) (unwrapped_is (kept_text t) answered
+        (λ r made replied. apart (sym answered ∙ replied))))
+      where
+        apart : {t : Text} {r : Reply} {made : Option Text} → kept_text t ≡ reply r made → ⊥
+        apart e = cc
+    by_answer (inr (inr (p, n, r, is_read, answered))) =
+        inr (inr (p, n, is_read, shows_ended a p n (means ∙ ap Ok is_read) s r answered))
+
+  silently : is_silent command ≡ true → (a.outcome.response ≡ no_content) ⊎ IsRefused a.outcome.response
+  silently quiet = elim (refused_or_served a is) [
+    | inl r ↦ inr r
+    | inr s ↦
+        let answered =
+        silent_by (spent (clocked a) s.caller) s.caller (names_of a.words) s.done command quiet (acted s) in
+        inl (unwrapped_is s nothing answered (λ r made replied. nothing_is_no_reply answered replied))
+  ]
+
+  tellingly : is_silent command ≡ false
+      → (a.outcome.response.status ≡ status.Success) ⊎ (IsRefused a.outcome.response ⊎ ReadsEnded a command)
+  tellingly loud = elim (refused_or_served a is) [
+    | inl r ↦ inr (inl r)
+    | inr s ↦ by_answer s
+        (tells_by (spent (clocked a) s.caller) s.caller (names_of a.words) s.done command loud (acted s))
+  ]
+
+pub statuses_follow : AllStatusesFollow
+statuses_follow b history h = record {
+  silent = λ i a command at means quiet. silently a (asked_at b history i a h at).outcome command means quiet;
+  told = λ i a command at means loud. tellingly a (asked_at b history i a h at).outcome command means loud;
+}

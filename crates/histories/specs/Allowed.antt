@@ -1,0 +1,129 @@
+-- The law that what is allowed is done, as a statement: of requests without a wrap TTL, some are refused only where
+-- policies refuse them, and some only where what they ask for is not there (Vault's documentation, "Tokens"; "Lease,
+-- renew, and revoke"; "KV secrets engine - version 2 (API)"; "Cubbyhole secrets engine (API)").
+use Rattle.std.specs.Prelude.{◌≡◌, ◌≢◌, ◌⊎◌, ◌<◌, ℕ, Bool, true, false, Some, None, Ok}
+use Rattle.std.specs.FinMap as fin
+use Rattle.broker_types.specs.Text.{Text}
+use Rattle.broker_types.specs.Map.{get}
+use Rattle.broker_types.specs.Broker.{Broker, Mount}
+use Rattle.broker_types.specs.Secret.{Key, Version}
+use Rattle.broker_types.specs.Token.{Token}
+use Rattle.broker_types.specs.declared.status.Status.TheVariants as status
+use Rattle.api_json.specs.declared.secret_bodies.SecretWrite.{SecretWrite}
+use Rattle.api_json.specs.declared.token_bodies.TokenRenewal.{TokenRenewal}
+use Rattle.broker_model.specs.Command.{Command, command_of, on_cubbyhole, on_issued, on_lease, on_secret, on_token}
+use Rattle.broker_model.specs.Responses.{no_content}
+use Rattle.broker_model.specs.declared.commands.CubbyholeCommand.{CubbyholeCommand}
+use Rattle.broker_model.specs.declared.commands.CubbyholeCommand.TheVariants as cubbyhole
+use Rattle.broker_model.specs.declared.commands.IssuedCommand.{IssuedCommand}
+use Rattle.broker_model.specs.declared.commands.IssuedCommand.TheVariants as issued
+use Rattle.broker_model.specs.declared.commands.LeaseCommand.{LeaseCommand}
+use Rattle.broker_model.specs.declared.commands.LeaseCommand.TheVariants as lease
+use Rattle.broker_model.specs.declared.commands.SecretCommand.{SecretCommand}
+use Rattle.broker_model.specs.declared.commands.SecretCommand.TheVariants as secret
+use Rattle.broker_model.specs.declared.commands.TokenCommand.{TokenCommand}
+use Rattle.broker_model.specs.declared.commands.TokenCommand.TheVariants as token
+use Rattle.broker_model.specs.parts.Place.{Place}
+use Rattle.histories.specs.Callers.{IsAllowed}
+use Rattle.histories.specs.History.{AreAsked, Asking, AskedAt, History, clocked}
+use Rattle.histories.specs.Versions.{named}
+
+-- ---- commands that are never refused
+
+-- an object that has members, and a deletion
+abbrev pub cubbyhole_is_done : CubbyholeCommand → Bool
+cubbyhole_is_done (cubbyhole.Write (Some text)) = true
+cubbyhole_is_done cubbyhole.Delete = true
+cubbyhole_is_done _ = false
+
+-- a revocation by a text, or of the client token
+abbrev pub token_is_done : TokenCommand → Bool
+token_is_done (token.Revoke t) = true
+token_is_done (token.RevokeOrphan t) = true
+token_is_done token.RevokeSelf = true
+token_is_done _ = false
+
+abbrev pub secret_is_done : SecretCommand → Bool
+secret_is_done (secret.SetSettings asked) = true
+secret_is_done secret.DeleteCurrent = true
+secret_is_done (secret.Delete ns) = true
+secret_is_done (secret.Undelete ns) = true
+secret_is_done (secret.Destroy ns) = true
+secret_is_done (secret.SetMetadata asked) = true
+secret_is_done secret.Remove = true
+secret_is_done _ = false
+
+abbrev pub lease_is_done : LeaseCommand → Bool
+lease_is_done (lease.Revoke id) = true
+lease_is_done lease.RevokeUnder = true
+lease_is_done _ = false
+
+abbrev pub issued_is_done : IssuedCommand → Bool
+issued_is_done issued.RemoveRole = true
+issued_is_done _ = false
+
+-- whether a command is carried out wherever it is allowed
+abbrev pub is_done : Command → Bool
+is_done (on_cubbyhole path command) = cubbyhole_is_done command
+is_done (on_token command) = token_is_done command
+is_done (on_secret place command) = secret_is_done command
+is_done (on_lease prefix command) = lease_is_done command
+is_done (on_issued place command) = issued_is_done command
+is_done _ = false
+
+-- ---- what is there
+
+-- The version that is asked for, or the current one if 0 is, is kept, and neither deleted nor destroyed.
+pub record HasVersion (a : Asking) (p : Place) (asked : ℕ) : Type 0 where
+  pub key : Key
+  pub there : get (clocked a).secrets (named p) ≡ Some key
+  pub number : ℕ
+  pub by_number : asked ≢ 0 → number ≡ asked
+  pub by_current : asked ≡ 0 → number ≡ key.current
+  pub version : Version
+  pub is_kept : fin.get key.versions number ≡ Some version
+  pub not_deleted : version.deleted ≡ None
+  pub not_destroyed : version.secret ≢ None
+
+-- The write tells the current version, which is 0 for a new secret; or it tells none, and neither the secret nor its
+-- mount, which is there, wants to be told. And there is a number for one more.
+pub record MayWrite (a : Asking) (p : Place) (asked : SecretWrite) : Type 0 where
+  pub of_mount : Mount
+  pub in_mount : get (clocked a).mounts p.mount ≡ Some of_mount
+  pub current : ℕ
+  pub by_key : (key : Key) → get (clocked a).secrets (named p) ≡ Some key → current ≡ key.current
+  pub by_none : get (clocked a).secrets (named p) ≡ None → current ≡ 0
+  pub told : (asked.cas ≡ Some current)
+      ⊎ ((asked.cas ≡ None) × (of_mount.cas_required ≡ false)
+      × ((key : Key) → get (clocked a).secrets (named p) ≡ Some key → key.cas_required ≡ false))
+  pub low : current < 999999999999999999
+
+-- ---- the law
+
+pub record DoesAllowed (history : History) : Type 0 where
+  -- These commands are carried out. So a revocation that is allowed is not refused.
+  pub done : (i : ℕ) (a : Asking) (command : Command) → AskedAt history i a → IsAllowed a → a.ask.wrap_ttl ≡ 0
+      → command_of (clocked a).mounts a.ask ≡ Ok command → is_done command ≡ true → a.outcome.response ≡ no_content
+  -- A read of a version that is there is a 200.
+  pub reads : (i : ℕ) (a : Asking) (p : Place) (n : ℕ) → AskedAt history i a → IsAllowed a → a.ask.wrap_ttl ≡ 0
+      → command_of (clocked a).mounts a.ask ≡ Ok (on_secret p (secret.Read n)) → HasVersion a p n
+      → a.outcome.response.status ≡ status.Success
+  -- So is a write that check-and-set lets pass.
+  pub writes : (i : ℕ) (a : Asking) (p : Place) (asked : SecretWrite) → AskedAt history i a → IsAllowed a
+      → a.ask.wrap_ttl ≡ 0 → command_of (clocked a).mounts a.ask ≡ Ok (on_secret p (secret.Write asked))
+      → MayWrite a p asked → a.outcome.response.status ≡ status.Success
+  -- So is a look-up of a token that is there, and a renewal of one that has an end.
+  pub looks_up : (i : ℕ) (a : Asking) (t : Text) → AskedAt history i a → IsAllowed a → a.ask.wrap_ttl ≡ 0
+      → command_of (clocked a).mounts a.ask ≡ Ok (on_token (token.LookUp t)) → get (clocked a).tokens t ≢ None
+      → a.outcome.response.status ≡ status.Success
+  pub renews : (i : ℕ) (a : Asking) (asked : TokenRenewal) (x : Token) → AskedAt history i a → IsAllowed a
+      → a.ask.wrap_ttl ≡ 0 → command_of (clocked a).mounts a.ask ≡ Ok (on_token (token.Renew asked))
+      → get (clocked a).tokens asked.token ≡ Some x → x.ends ≢ None → a.outcome.response.status ≡ status.Success
+  -- And so is a read of an object that is in the cubbyhole of the client token.
+  pub reads_own : (i : ℕ) (a : Asking) (path : Text) → AskedAt history i a → (k : IsAllowed a) → a.ask.wrap_ttl ≡ 0
+      → command_of (clocked a).mounts a.ask ≡ Ok (on_cubbyhole path cubbyhole.Read)
+      → get k.own.cubbyhole path ≢ None → a.outcome.response.status ≡ status.Success
+
+-- whatever the first broker is
+abbrev pub AllDoAllowed : Type 0
+AllDoAllowed = (b : Broker) (history : History) → AreAsked b history → DoesAllowed history

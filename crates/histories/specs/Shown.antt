@@ -1,0 +1,242 @@
+-- The law of what look-ups answer, as a statement (Vault's documentation, "Token auth method (API)",
+-- "/sys/leases", "/sys/policies", "KV secrets engine - version 2 (API)"; the engine that issues credentials is this
+-- project's). The forms of objects are those of `api_json`.
+use Rattle.std.specs.Prelude.{◌≡◌, ◌≢◌, ◌⊎◌, ◌<◌, ◌≤◌, ◌+◌, ◌-◌, ℕ, min, List, [], ◌∷◌, map, Bool, true, false}
+use Rattle.std.specs.Prelude.{Some, None, Ok, is_none, unwrap_or, codes}
+use Rattle.std.specs.FinMap as fin
+use Rattle.std.specs.Option.{option_map_or}
+use Rattle.broker_types.specs.Text.{Text}
+use Rattle.broker_types.specs.Map.{Map, entries, get, keys}
+use Rattle.broker_types.specs.Broker.{Broker, Mount, Role}
+use Rattle.broker_types.specs.Names.{names_of}
+use Rattle.broker_types.specs.Places.{lease_of}
+use Rattle.broker_types.specs.Secret.{Key, Version}
+use Rattle.broker_types.specs.Token.{Lease, Token}
+use Rattle.broker_types.specs.declared.status.Status.TheVariants as status
+use Rattle.records.specs.Children.{children, folder}
+use Rattle.api_json.specs.Objects.{auth_object, key_object, keys_object, lease_object, policy_object, role_object}
+use Rattle.api_json.specs.Objects.{settings_object, token_object, valid_object}
+use Rattle.api_json.specs.Reply.{lease_reply, plain_reply, reply_text}
+use Rattle.api_json.specs.declared.lease_objects.LeaseObject.{LeaseObject}
+use Rattle.api_json.specs.declared.secret_objects.KeyObject.{KeyObject}
+use Rattle.api_json.specs.declared.token_objects.TokenObject.{TokenObject}
+use Rattle.api_json.specs.declared.version_list.VersionObject.{VersionObject}
+use Rattle.broker_model.specs.Command.{Command, command_of, on_issued, on_lease, on_policy, on_secret, on_token}
+use Rattle.broker_model.specs.Command.{on_wrapping}
+use Rattle.broker_model.specs.declared.commands.IssuedCommand.TheVariants as of_issued
+use Rattle.broker_model.specs.declared.commands.LeaseCommand.TheVariants as of_lease
+use Rattle.broker_model.specs.declared.commands.PolicyCommand.TheVariants as of_policy
+use Rattle.broker_model.specs.declared.commands.SecretCommand.TheVariants as of_secret
+use Rattle.broker_model.specs.declared.commands.TokenCommand.TheVariants as of_token
+use Rattle.broker_model.specs.declared.commands.WrappingCommand.TheVariants as of_response
+use Rattle.broker_model.specs.parts.Place.{Place}
+use Rattle.histories.specs.Creations.{told_of, with_token}
+use Rattle.histories.specs.History.{AreAsked, Asking, AskedAt, History, clocked, spent_by}
+use Rattle.histories.specs.Kept.{unwrapped_answer, unwrapped_body}
+use Rattle.histories.specs.Own.{IsNewEnd, RenewsLease, RenewsToken, increment_of}
+use Rattle.histories.specs.Revocation.{IsClient}
+use Rattle.histories.specs.Versions.{named}
+
+-- the request was a 200 to this command
+pub record Succeeds (a : Asking) (command : Command) : Type 0 where
+  pub means : command_of (clocked a).mounts a.ask ≡ Ok command
+  pub answered : a.outcome.response.status ≡ status.Success
+
+-- the reply, without wrapping, has this as its data, and nothing else
+abbrev pub Shows : Asking → Text → Type 0
+Shows a payload = unwrapped_body a ≡ reply_text (plain_reply (names_of a.words).request payload)
+
+-- ---- tokens
+
+-- what is shown of the token x at this clock, under this id
+abbrev pub shown_of : ℕ → Text → Token → TokenObject
+shown_of now id x = record {
+  accessor = x.accessor;
+  issued = x.issued;
+  creation_ttl = x.ttl;
+  ends = x.ends;
+  explicit_max_ttl = x.explicit_max_ttl;
+  id = id;
+  meta = entries x.meta;
+  num_uses = unwrap_or x.uses_left 0;
+  orphan = is_none x.parent;
+  period = x.period;
+  policies = x.policies;
+  ttl = option_map_or (λ end. end - now) x.ends 0;
+}
+
+-- The reply shows the token t under this id, as it is once the client token has spent its use.
+pub record ShowsToken (a : Asking) (t id : Text) : Type 0 where
+  pub caller : Text
+  pub client : IsClient a caller
+  pub found : Token
+  pub there : get (spent_by a caller).tokens t ≡ Some found
+  pub shows : Shows a (token_object (shown_of (clocked a).clock id found))
+
+-- The reply shows the token that has the accessor, without its text.
+pub record ShowsHolder (a : Asking) (accessor : Text) : Type 0 where
+  pub text : Text
+  pub shown : ShowsToken a text []
+  pub holds : shown.found.accessor ≡ accessor
+
+-- The reply tells of the token q that was renewed, with its new end.
+pub record TellsRenewed (a : Asking) (q : Text) (r : RenewsToken a q) : Type 0 where
+  pub found : Token
+  pub there : get (spent_by a r.caller).tokens q ≡ Some found
+  pub end : ℕ
+  pub in_time : IsNewEnd (clocked a).clock (increment_of r.command) found end
+  pub told : unwrapped_body a
+      ≡ reply_text (with_token (names_of a.words).request
+      (auth_object (told_of (clocked a).clock q (record found { ends = Some end }))))
+
+-- ---- leases
+
+-- the reply shows a lease of this id that a token has
+pub record ShowsLease (a : Asking) (lease_id : Text) : Type 0 where
+  pub holder : Text
+  pub found : Lease
+  pub there : lease_of (clocked a) holder lease_id ≡ Some found
+  pub shown : LeaseObject
+  pub is_shown : shown
+      ≡ record {
+        ends = found.ends;
+        id = lease_id;
+        issued = found.issued;
+        renewed = found.renewed;
+        ttl = found.ends - (clocked a).clock;
+      }
+  pub shows : Shows a (lease_object shown)
+
+-- The reply tells of the lease that was renewed, with the seconds to its new end.
+pub record TellsRenewedLease (a : Asking) (lease_id : Text) (r : RenewsLease a lease_id) : Type 0 where
+  pub holder : Text
+  pub found : Lease
+  pub there : lease_of (clocked a) holder lease_id ≡ Some found
+  pub end : ℕ
+  pub asked : r.asked.increment ≢ 0
+      → end ≡ min ((clocked a).clock + r.asked.increment) (found.issued + found.max_ttl)
+  pub not_asked : r.asked.increment ≡ 0
+      → end ≡ min ((clocked a).clock + found.ttl) (found.issued + found.max_ttl)
+  pub told : unwrapped_body a
+      ≡ reply_text (lease_reply (names_of a.words).request lease_id (end - (clocked a).clock) None)
+
+-- whether some token has a lease with the credential
+abbrev pub IsValid : Broker → Text → Type 0
+IsValid b credential =
+    (q : Text) × (lease_id : Text) × (l : Lease) × (lease_of b q lease_id ≡ Some l) × (l.credential ≡ credential)
+
+-- the reply says whether the credential is that of a lease
+pub record SaysValid (a : Asking) (credential : Text) : Type 0 where
+  pub valid : Bool
+  pub shows : Shows a (valid_object valid)
+  pub yes : valid ≡ true → IsValid (clocked a) credential
+  pub no : valid ≡ false → IsValid (clocked a) credential → ⊥
+
+-- ---- settings
+
+pub record ShowsRole (a : Asking) (q : Text) : Type 0 where
+  pub found : Role
+  pub there : get (clocked a).roles q ≡ Some found
+  pub shows : Shows a (role_object found.max_ttl found.ttl)
+
+pub record ShowsSettings (a : Asking) (name : Text) : Type 0 where
+  pub found : Mount
+  pub there : get (clocked a).mounts name ≡ Some found
+  pub shows : Shows a (settings_object found.cas_required found.max_versions)
+
+-- the text of a policy as it was handed in, and no text of `root`
+pub record ShowsPolicy (a : Asking) (name : Text) : Type 0 where
+  pub text : Text
+  pub is : ((name ≡ codes "root") × (text ≡ [])) ⊎ (get (clocked a).policies name ≡ Some text)
+  pub shows : Shows a (policy_object name text)
+
+-- ---- secrets and lists
+
+-- the version at this number, without what it holds
+abbrev pub version_shown : ℕ × Version → VersionObject
+version_shown e = record {
+  created = e.1.created;
+  deleted = e.1.deleted;
+  destroyed = is_none e.1.secret;
+  version = e.0;
+}
+
+-- The reply shows the secret with its settings, its times and its versions. The oldest version is 0, unless the first
+-- of those that are kept is above 1.
+pub record ShowsSecret (a : Asking) (q : Text) : Type 0 where
+  pub found : Key
+  pub there : get (clocked a).secrets q ≡ Some found
+  pub oldest : ℕ
+  pub none : fin.entries found.versions ≡ [] → oldest ≡ 0
+  pub first : (n : ℕ) (v : Version) (rest : List (ℕ × Version)) → fin.entries found.versions ≡ (n, v) ∷ rest
+      → ((n ≤ 1) × (oldest ≡ 0)) ⊎ ((1 < n) × (oldest ≡ n))
+  pub shown : KeyObject
+  pub is_shown : shown
+      ≡ record {
+        cas_required = found.cas_required;
+        created = found.created;
+        current_version = found.current;
+        custom_metadata = entries found.custom_metadata;
+        max_versions = found.max_versions;
+        oldest_version = oldest;
+        updated = found.updated;
+        versions = map version_shown (fin.entries found.versions);
+      }
+  pub shows : Shows a (key_object shown)
+
+-- The reply lists the names that pass, each once, in the order of their bytes.
+pub record Lists (a : Asking) (Passes : Text → Type 0) : Type 0 where
+  pub names : Map Text
+  pub only : (name : Text) → get names name ≢ None → Passes name
+  pub all : (name : Text) → Passes name → get names name ≢ None
+  pub shows : Shows a (keys_object (keys names))
+
+-- a policy of the broker, or one that is always there
+abbrev pub IsPolicyName : Asking → Text → Type 0
+IsPolicyName a name =
+    (get (clocked a).policies name ≢ None) ⊎ ((name ≡ codes "default") ⊎ (name ≡ codes "root"))
+
+-- the accessor of a token
+abbrev pub IsAccessorOf : Asking → Text → Type 0
+IsAccessorOf a accessor =
+    (t : Text) × (x : Token) × (get (clocked a).tokens t ≡ Some x) × (x.accessor ≡ accessor)
+
+-- ---- the law
+
+pub record AnswersShow (history : History) : Type 0 where
+  -- Without a wrap TTL each request but an ask to wrap is answered with the reply without wrapping.
+  pub plain : (i : ℕ) (a : Asking) → AskedAt history i a → a.ask.wrap_ttl ≡ 0
+      → ((text : Text) → command_of (clocked a).mounts a.ask ≡ Ok (on_wrapping (of_response.Wrap text)) → ⊥)
+      → a.outcome.response ≡ unwrapped_answer a
+  pub by_text : (i : ℕ) (a : Asking) (t : Text) → AskedAt history i a → Succeeds a (on_token (of_token.LookUp t))
+      → ShowsToken a t t
+  pub client_token : (i : ℕ) (a : Asking) → AskedAt history i a → Succeeds a (on_token of_token.LookUpSelf)
+      → (c : Text) × IsClient a c × ShowsToken a c c
+  pub by_accessor : (i : ℕ) (a : Asking) (accessor : Text) → AskedAt history i a
+      → Succeeds a (on_token (of_token.LookUpAccessor accessor)) → ShowsHolder a accessor
+  pub renewed : (i : ℕ) (a : Asking) (q : Text) → AskedAt history i a → (r : RenewsToken a q) → TellsRenewed a q r
+  pub lease : (i : ℕ) (a : Asking) (prefix lease_id : Text) → AskedAt history i a
+      → Succeeds a (on_lease prefix (of_lease.LookUp lease_id)) → ShowsLease a lease_id
+  pub renewed_lease : (i : ℕ) (a : Asking) (lease_id : Text) → AskedAt history i a → (r : RenewsLease a lease_id)
+      → TellsRenewedLease a lease_id r
+  pub valid : (i : ℕ) (a : Asking) (p : Place) (credential : Text) → AskedAt history i a
+      → Succeeds a (on_issued p (of_issued.Verify credential)) → SaysValid a credential
+  pub role : (i : ℕ) (a : Asking) (p : Place) → AskedAt history i a → Succeeds a (on_issued p of_issued.ShowRole)
+      → ShowsRole a (named p)
+  pub settings : (i : ℕ) (a : Asking) (p : Place) → AskedAt history i a
+      → Succeeds a (on_secret p of_secret.ShowSettings) → ShowsSettings a p.mount
+  pub policy : (i : ℕ) (a : Asking) (name : Text) → AskedAt history i a → Succeeds a (on_policy name of_policy.Show)
+      → ShowsPolicy a name
+  pub secret : (i : ℕ) (a : Asking) (p : Place) → AskedAt history i a → Succeeds a (on_secret p of_secret.ShowMetadata)
+      → ShowsSecret a (named p)
+  pub policies : (i : ℕ) (a : Asking) (name : Text) → AskedAt history i a → Succeeds a (on_policy name of_policy.List)
+      → Lists a (IsPolicyName a)
+  pub accessors : (i : ℕ) (a : Asking) → AskedAt history i a → Succeeds a (on_token of_token.ListAccessors)
+      → Lists a (IsAccessorOf a)
+  pub listed : (i : ℕ) (a : Asking) (p : Place) → AskedAt history i a → Succeeds a (on_secret p of_secret.List)
+      → Shows a (keys_object (children (named (record { mount = p.mount; path = folder p.path }))
+      (keys (clocked a).secrets)))
+
+-- whatever the first broker is
+abbrev pub AllAnswersShow : Type 0
+AllAnswersShow = (b : Broker) (history : History) → AreAsked b history → AnswersShow history

@@ -1,0 +1,101 @@
+-- The law of how a request is answered that is not refused, as a statement (Vault's documentation, "HTTP API", HTTP
+-- status codes; RFC 9110, sections 15.3.1, 15.3.5 and 15.5.5).
+use Rattle.std.specs.Prelude.{◌≡◌, ◌⊎◌, ℕ, Bool, true, false, Ok}
+use Rattle.broker_types.specs.Answer.{IsRefused}
+use Rattle.broker_types.specs.Broker.{Broker}
+use Rattle.broker_types.specs.declared.status.Status.TheVariants as status
+use Rattle.broker_model.specs.Command.{Command, command_of, on_cubbyhole, on_issued, on_lease, on_mount, on_policy}
+use Rattle.broker_model.specs.Command.{on_secret, on_token, on_wrapping}
+use Rattle.broker_model.specs.Responses.{no_content}
+use Rattle.broker_model.specs.declared.commands.CubbyholeCommand.{CubbyholeCommand}
+use Rattle.broker_model.specs.declared.commands.CubbyholeCommand.TheVariants as cubbyhole
+use Rattle.broker_model.specs.declared.commands.IssuedCommand.{IssuedCommand}
+use Rattle.broker_model.specs.declared.commands.IssuedCommand.TheVariants as issued
+use Rattle.broker_model.specs.declared.commands.LeaseCommand.{LeaseCommand}
+use Rattle.broker_model.specs.declared.commands.LeaseCommand.TheVariants as lease
+use Rattle.broker_model.specs.declared.commands.MountCommand.{MountCommand}
+use Rattle.broker_model.specs.declared.commands.MountCommand.TheVariants as mount
+use Rattle.broker_model.specs.declared.commands.PolicyCommand.{PolicyCommand}
+use Rattle.broker_model.specs.declared.commands.PolicyCommand.TheVariants as policy
+use Rattle.broker_model.specs.declared.commands.SecretCommand.{SecretCommand}
+use Rattle.broker_model.specs.declared.commands.SecretCommand.TheVariants as secret
+use Rattle.broker_model.specs.declared.commands.TokenCommand.{TokenCommand}
+use Rattle.broker_model.specs.declared.commands.TokenCommand.TheVariants as token
+use Rattle.broker_model.specs.parts.Place.{Place}
+use Rattle.histories.specs.History.{AreAsked, Asking, AskedAt, History, clocked}
+use Rattle.histories.specs.Versions.{ShowsEnded}
+
+-- ---- which commands tell nothing
+
+abbrev pub cubbyhole_is_silent : CubbyholeCommand → Bool
+cubbyhole_is_silent (cubbyhole.Write full) = true
+cubbyhole_is_silent cubbyhole.Delete = true
+cubbyhole_is_silent _ = false
+
+abbrev pub token_is_silent : TokenCommand → Bool
+token_is_silent (token.Revoke t) = true
+token_is_silent (token.RevokeOrphan t) = true
+token_is_silent (token.RevokeAccessor accessor) = true
+token_is_silent token.RevokeSelf = true
+token_is_silent _ = false
+
+abbrev pub secret_is_silent : SecretCommand → Bool
+secret_is_silent (secret.SetSettings asked) = true
+secret_is_silent secret.DeleteCurrent = true
+secret_is_silent (secret.Delete ns) = true
+secret_is_silent (secret.Undelete ns) = true
+secret_is_silent (secret.Destroy ns) = true
+secret_is_silent (secret.SetMetadata asked) = true
+secret_is_silent secret.Remove = true
+secret_is_silent _ = false
+
+abbrev pub policy_is_silent : PolicyCommand → Bool
+policy_is_silent (policy.Set text) = true
+policy_is_silent policy.Remove = true
+policy_is_silent _ = false
+
+abbrev pub mount_is_silent : MountCommand → Bool
+mount_is_silent (mount.Enable asked) = true
+mount_is_silent mount.Disable = true
+mount_is_silent _ = false
+
+abbrev pub lease_is_silent : LeaseCommand → Bool
+lease_is_silent (lease.Revoke id) = true
+lease_is_silent lease.RevokeUnder = true
+lease_is_silent _ = false
+
+abbrev pub issued_is_silent : IssuedCommand → Bool
+issued_is_silent (issued.SetRole asked) = true
+issued_is_silent issued.RemoveRole = true
+issued_is_silent _ = false
+
+-- whether a command changes something, and tells nothing
+abbrev pub is_silent : Command → Bool
+is_silent (on_cubbyhole path command) = cubbyhole_is_silent command
+is_silent (on_token command) = token_is_silent command
+is_silent (on_secret place command) = secret_is_silent command
+is_silent (on_policy name command) = policy_is_silent command
+is_silent (on_mount name command) = mount_is_silent command
+is_silent (on_lease prefix command) = lease_is_silent command
+is_silent (on_issued place command) = issued_is_silent command
+is_silent (on_wrapping command) = false
+
+-- ---- the law
+
+-- the command reads a version that is deleted or destroyed, and the answer is a 404 that shows what is left of it
+abbrev pub ReadsEnded : Asking → Command → Type 0
+ReadsEnded a command = (p : Place) × (n : ℕ) × (command ≡ on_secret p (secret.Read n)) × ShowsEnded a p n
+
+pub record StatusesFollow (history : History) : Type 0 where
+  -- A command that tells nothing is answered with 204, or refused.
+  pub silent : (i : ℕ) (a : Asking) (command : Command) → AskedAt history i a
+      → command_of (clocked a).mounts a.ask ≡ Ok command → is_silent command ≡ true
+      → (a.outcome.response ≡ no_content) ⊎ IsRefused a.outcome.response
+  -- Another is answered with 200, or refused; or it reads a version that has ended.
+  pub told : (i : ℕ) (a : Asking) (command : Command) → AskedAt history i a
+      → command_of (clocked a).mounts a.ask ≡ Ok command → is_silent command ≡ false
+      → (a.outcome.response.status ≡ status.Success) ⊎ (IsRefused a.outcome.response ⊎ ReadsEnded a command)
+
+-- whatever the first broker is
+abbrev pub AllStatusesFollow : Type 0
+AllStatusesFollow = (b : Broker) (history : History) → AreAsked b history → StatusesFollow history
