@@ -31,7 +31,7 @@ use Rattle.soundness.proofs.TokenTells.{accessor_of_token, accessor_of_waiting, 
 use Rattle.soundness.proofs.OthersSound.{one_row, origin_had, waiting_row_at}
 
 -- the row that has the identifier i in a place
-abbrev key_of : Place → Text → RowKey
+abbrev pub key_of : Place → Text → RowKey
 key_of (places.token t) i = (kind.Token, t)
 key_of (places.accessor t) i = (kind.Accessor, i)
 key_of (places.lease t lease_id) i = (kind.Lease, lease_id)
@@ -61,7 +61,7 @@ place_of table (kind.Credential, q) = credential_place table (row_at table (kind
 place_of table (_, q) = places.token q
 
 -- what follows `hvs.`
-after_prefix : (i : Text) → token_identifier (token_text i) ≡ i
+pub after_prefix : (i : Text) → token_identifier (token_text i) ≡ i
 after_prefix i = drop-append-add (codes "hvs.") i 0
 
 module _ (rows : Rows) (s : AreSound (table_of rows)) where

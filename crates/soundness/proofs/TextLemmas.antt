@@ -1,6 +1,6 @@
 -- Texts that are split, and texts without what they begin with.
 use Rattle.std.specs.Prelude.{◌≡◌, ◌<◌, ◌^◌, ◌+◌, ◌-◌, ◌++◌, ◌∷◌, ℕ, length, drop, codes, true, false, is_some, IfSome}
-use Rattle.std.specs.Prelude.{Option, Some, None, option_and_then, if◌then◌else◌}
+use Rattle.std.specs.Prelude.{Option, Some, None, option_map, option_and_then, if◌then◌else◌}
 use Rattle.std.specs.Option.{option_map_or}
 use Rattle.std.specs.Str.{is_utf8}
 use Rattle.std.proofs.Common.{Bor, refl, sym, ◌∙◌, ap, subst, arith, append_assoc}
@@ -21,9 +21,9 @@ use Rattle.broker_types.specs.Sound.{IsIdentifier, IsLeaseId}
 use Rattle.broker_types.specs.Text.{Text, same}
 use Rattle.api_json.specs.Json.{tree, without_floats, members_in}
 use Rattle.api_json.specs.Kept.{is_object}
-use Rattle.records.specs.Splits.{slash}
+use Rattle.records.specs.Splits.{slash, split_once}
 use Rattle.records.specs.SplitLaws.{lacking_split}
-use Rattle.mounts.proofs.Cuts.{cut_some}
+use Rattle.mounts.proofs.Cuts.{cut_some, cut_none}
 
 -- a text is what is before the byte, the byte and what is after it
 pub cut_at : (c : ℕ) → c < 128 → (text : Text) (r : Option (Bor Text × Bor Text)) → IsSplitOnceResult c text r
@@ -39,6 +39,14 @@ cut_result c small text r split = by r refl
     by : (o : Option (Bor Text × Bor Text)) → r ≡ o → IfSome o (λ p. text ≡ p.0.now ++ c ∷ p.1.now)
     by None is = tt
     by (Some x) is = cut_at c small text r split x is
+
+pub cut_exact : (c : ℕ) → c < 128 → (text : Text) (r : Option (Bor Text × Bor Text)) → IsSplitOnceResult c text r
+    → option_map (λ p. (p.0.now, p.1.now)) r ≡ split_once c text
+cut_exact c small text r split = by r refl
+  where
+    by : (o : Option (Bor Text × Bor Text)) → r ≡ o → option_map (λ p. (p.0.now, p.1.now)) o ≡ split_once c text
+    by None is = sym (cut_none c small text r split is)
+    by (Some x) is = sym (cut_some c small text r split x is)
 
 -- the parts at which a text was cut
 pub parts_of : (text : Text) (r : Option (Bor Text × Bor Text)) (x : Bor Text × Bor Text) → r ≡ Some x

@@ -4,6 +4,8 @@ use Rattle.broker_types.specs.Broker.{Broker}
 use Rattle.broker_rows.specs.Representing.{Represents}
 use Rattle.records.specs.Table.{table_of}
 use Rattle.records.specs.Transaction.{Rows}
+use Rattle.soundness.specs.declared.trouble.Trouble.{Trouble}
+use Rattle.soundness.specs.Broken.{Breaks}
 use Rattle.soundness.specs.SoundRows.{AreSound}
 
 -- the rows are those of a sound broker, between two requests
@@ -14,6 +16,10 @@ AreOfABroker rows = (b : Broker) × Represents None rows b
 abbrev pub SoundRowsAreOfABroker : Type 0
 SoundRowsAreOfABroker = (rows : Rows) → AreSound (table_of rows) → AreOfABroker rows
 
--- and the rows of a sound broker keep them (no law says so yet)
+-- and the rows of a sound broker keep them
 abbrev pub RowsOfABrokerAreSound : Type 0
 RowsOfABrokerAreSound = (rows : Rows) → AreOfABroker rows → AreSound (table_of rows)
+
+-- rows in which a row breaks a rule are not
+abbrev pub BrokenRowsAreOfNoBroker : Type 0
+BrokenRowsAreOfNoBroker = (rows : Rows) (t : Trouble) → Breaks (table_of rows) t → AreOfABroker rows → ⊥

@@ -1,3 +1,4 @@
+pub mod Broken
 pub mod Laws
 pub mod Notes
 pub mod RowRules

@@ -17,5 +17,7 @@ mod trouble;
 mod visiting;
 
 pub use checking::check;
-pub use laws::sound_rows_are_of_a_broker;
+pub use laws::{
+    broken_rows_are_of_no_broker, rows_of_a_broker_are_sound, sound_rows_are_of_a_broker,
+};
 pub use trouble::{Rule, Trouble};

@@ -1,6 +1,6 @@
 //! Other rows that a row needs.
 
-ghost use Rattle.std.specs.Prelude.{◌≡◌, ◌≢◌, Option, Some, None, IfOk, IfErr, IfSome};
+ghost use Rattle.std.specs.Prelude.{◌≡◌, ◌≢◌, true, false, Option, Some, None, IfOk, IfErr, IfSome, IfNone};
 ghost use Rattle.std.specs.Bool.{OnTrue};
 ghost use Rattle.broker_types.specs.Fault.{IsMemoryOrStorage};
 ghost use Rattle.broker_types.specs.Text.{Text};
@@ -13,7 +13,8 @@ ghost use Rattle.records.specs.Ranges.{IsTokenInRange, IsKeyInRange};
 ghost use Rattle.records.specs.RowForms.{entry_row, accessor_row, credential_row, key_entry_row};
 ghost use Rattle.records.specs.Table.{table};
 ghost use Rattle.records.specs.Transaction.{IsHonest};
-ghost use Rattle.soundness.specs.RowRules.{IsNamedBy, IsCredentialOf};
+ghost use Rattle.soundness.specs.RowRules.{IsOf, IsNamedBy, IsCredentialOf};
+ghost use Rattle.soundness.specs.Broken.{IsKeyRow};
 
 use broker_types::{Fault, TextBuf, is_same};
 use records::{
@@ -25,6 +26,7 @@ use std::alloc::Global;
 /// The token in a row, if the row is one of a token. The only fault is running out of memory.
 pub(crate) fn token_in(alloc: Global, row: &Row) -> Result<Option<TokenRecord>, Fault>
     ensures found { IfOk result (λ o. IfSome o (λ x. IsTokenInRange x × (row.now ≡ entry_row x))) }
+    ensures whole { IfOk result (λ o. IfNone o (IsOf entry_row IsTokenInRange row.now → ⊥)) }
     ensures memory { IfErr result (λ fault. fault ≡ faults.Memory) }
 {
     match read_token(alloc, row) {
@@ -37,6 +39,7 @@ pub(crate) fn token_in(alloc: Global, row: &Row) -> Result<Option<TokenRecord>, 
 /// The key in a row, if the row is one of a key. The only fault is running out of memory.
 pub(crate) fn key_in(alloc: Global, row: &Row) -> Result<Option<KeyRecord>, Fault>
     ensures found { IfOk result (λ o. IfSome o (λ k. IsKeyInRange k × (row.now ≡ key_entry_row k))) }
+    ensures whole { IfOk result (λ o. IfNone o (IsOf key_entry_row IsKeyInRange row.now → ⊥)) }
     ensures memory { IfErr result (λ fault. fault ≡ faults.Memory) }
 {
     match read_key(alloc, row) {
@@ -50,6 +53,8 @@ pub(crate) fn key_in(alloc: Global, row: &Row) -> Result<Option<KeyRecord>, Faul
 pub(crate) fn has_row<T: RecordsTx>(tx: &mut T, kind: Kind, key: &str) -> Result<bool, Fault>
     ensures found { IsHonest (T.seen tx.new)
         → IfOk result (λ v. OnTrue v (table (T.seen tx.old) kind key.now ≢ None)) }
+    ensures whole { IsHonest (T.seen tx.new)
+        → IfOk result (λ v. v ≡ false → table (T.seen tx.old) kind key.now ≡ None) }
     ensures call { IsReading (T.seen tx.old) (T.seen tx.new) result IsMemoryOrStorage }
 {
     Ok(tx.get(kind, key)?.is_some())
@@ -59,6 +64,8 @@ pub(crate) fn has_row<T: RecordsTx>(tx: &mut T, kind: Kind, key: &str) -> Result
 pub(crate) fn has_parent<T: RecordsTx>(tx: &mut T, parent: &Option<TextBuf>) -> Result<bool, Fault>
     ensures found { IsHonest (T.seen tx.new) → IfOk result (λ v. OnTrue v
         ((p : Text) → parent.now ≡ Some p → table (T.seen tx.old) kind.Token p ≢ None)) }
+    ensures whole { IsHonest (T.seen tx.new) → IfOk result (λ v. v ≡ false
+        → (p : Text) × (parent.now ≡ Some p) × (table (T.seen tx.old) kind.Token p ≡ None)) }
     ensures call { IsReading (T.seen tx.old) (T.seen tx.new) result IsMemoryOrStorage }
 {
     match parent {
@@ -69,7 +76,8 @@ pub(crate) fn has_parent<T: RecordsTx>(tx: &mut T, parent: &Option<TextBuf>) -> 
 
 /// Whether two accessors name what is of one kind.
 fn are_alike(found: Holder, what: Holder) -> bool
-    ensures { OnTrue result (found ≡ what) }
+    ensures sound { OnTrue result (found ≡ what) }
+    ensures whole { found ≡ what → result ≡ true }
 {
     match found {
         Holder::Token => match what {
@@ -92,6 +100,8 @@ pub(crate) fn is_named<T: RecordsTx>(
 ) -> Result<bool, Fault>
     ensures found { IsHonest (T.seen tx.new) → IfOk result (λ v. OnTrue v
         (table (T.seen tx.old) kind.Accessor accessor.now ≡ Some (accessor_row token.now what))) }
+    ensures whole { IsHonest (T.seen tx.new) → IfOk result (λ v.
+        table (T.seen tx.old) kind.Accessor accessor.now ≡ Some (accessor_row token.now what) → v ≡ true) }
     ensures call { IsReading (T.seen tx.old) (T.seen tx.new) result IsMemoryOrStorage }
 {
     let Some(row) = tx.get(Kind::Accessor, accessor)? else {
@@ -115,6 +125,8 @@ fn token_has<T: RecordsTx>(
 ) -> Result<bool, Fault>
     ensures found { IsHonest (T.seen tx.new) → IfOk result (λ v. OnTrue v
         (IsNamedBy (table (T.seen tx.old)) accessor.now (token.now, holder.Token))) }
+    ensures whole { IsHonest (T.seen tx.new) → IfOk result (λ v.
+        IsNamedBy (table (T.seen tx.old)) accessor.now (token.now, holder.Token) → v ≡ true) }
     ensures call { IsReading (T.seen tx.old) (T.seen tx.new) result IsMemoryOrStorage }
 {
     let Some(row) = tx.get(Kind::Token, token)? else {
@@ -130,6 +142,8 @@ fn token_has<T: RecordsTx>(
 fn response_has<T: RecordsTx>(tx: &mut T, token: &str, accessor: &str) -> Result<bool, Fault>
     ensures found { IsHonest (T.seen tx.new) → IfOk result (λ v. OnTrue v
         (IsNamedBy (table (T.seen tx.old)) accessor.now (token.now, holder.WrappingToken))) }
+    ensures whole { IsHonest (T.seen tx.new) → IfOk result (λ v.
+        IsNamedBy (table (T.seen tx.old)) accessor.now (token.now, holder.WrappingToken) → v ≡ true) }
     ensures call { IsReading (T.seen tx.old) (T.seen tx.new) result IsMemoryOrStorage }
 {
     let Some(row) = tx.get(Kind::Waiting, token)? else {
@@ -151,6 +165,8 @@ pub(crate) fn is_held<T: RecordsTx>(
 ) -> Result<bool, Fault>
     ensures found { IsHonest (T.seen tx.new) → IfOk result (λ v. OnTrue v
         (IsNamedBy (table (T.seen tx.old)) accessor.now (token.now, what))) }
+    ensures whole { IsHonest (T.seen tx.new) → IfOk result (λ v.
+        IsNamedBy (table (T.seen tx.old)) accessor.now (token.now, what) → v ≡ true) }
     ensures call { IsReading (T.seen tx.old) (T.seen tx.new) result IsMemoryOrStorage }
 {
     match what {
@@ -167,6 +183,8 @@ pub(crate) fn is_of_lease<T: RecordsTx>(
 ) -> Result<bool, Fault>
     ensures found { IsHonest (T.seen tx.new) → IfOk result (λ v. OnTrue v
         (table (T.seen tx.old) kind.Credential credential.now ≡ Some (credential_row lease_id.now))) }
+    ensures whole { IsHonest (T.seen tx.new) → IfOk result (λ v.
+        table (T.seen tx.old) kind.Credential credential.now ≡ Some (credential_row lease_id.now) → v ≡ true) }
     ensures call { IsReading (T.seen tx.old) (T.seen tx.new) result IsMemoryOrStorage }
 {
     let Some(row) = tx.get(Kind::Credential, credential)? else {
@@ -186,6 +204,8 @@ pub(crate) fn lease_has<T: RecordsTx>(
 ) -> Result<bool, Fault>
     ensures found { IsHonest (T.seen tx.new) → IfOk result (λ v. OnTrue v
         (IsCredentialOf (table (T.seen tx.old)) credential.now lease_id.now)) }
+    ensures whole { IsHonest (T.seen tx.new) → IfOk result (λ v.
+        IsCredentialOf (table (T.seen tx.old)) credential.now lease_id.now → v ≡ true) }
     ensures call { IsReading (T.seen tx.old) (T.seen tx.new) result IsMemoryOrStorage }
 {
     let Some(row) = tx.get(Kind::Lease, lease_id)? else {
@@ -206,6 +226,8 @@ pub(crate) fn current_version<T: RecordsTx>(
     ensures found { IsHonest (T.seen tx.new) → IfOk result (λ o. IfSome o (λ n.
         (k : KeyEntry) × IsKeyInRange k
         × (table (T.seen tx.old) kind.KvKey name.now ≡ Some (key_entry_row k)) × (n ≡ k.current))) }
+    ensures whole { IsHonest (T.seen tx.new) → IfOk result (λ o. IfNone o
+        ((k : KeyEntry) → IsKeyRow (table (T.seen tx.old)) name.now k → ⊥)) }
     ensures call { IsReading (T.seen tx.old) (T.seen tx.new) result IsMemoryOrStorage }
 {
     let Some(row) = tx.get(Kind::KvKey, name)? else {

@@ -1,10 +1,12 @@
 //! Rows of responses that wait.
 
 ghost use Rattle.broker_types.specs.Fault.{IsMemoryOrStorage};
+ghost use Rattle.records.specs.declared.kind.Kind.TheVariants as kind;
 ghost use Rattle.records.specs.Calls.{IsReading};
 ghost use Rattle.records.specs.RowForms.{waiting_row};
 ghost use Rattle.records.specs.Table.{table};
 ghost use Rattle.records.specs.Transaction.{IsHonest};
+ghost use Rattle.soundness.specs.Broken.{BreaksAt, Shows};
 ghost use Rattle.soundness.specs.RowRules.{IsOf, IsWaitingAt};
 ghost use Rattle.soundness.specs.Visiting.{Finds};
 
@@ -22,6 +24,8 @@ pub(crate) fn response<T: RecordsTx>(
 ) -> Result<Option<Rule>, Fault>
     ensures sound { IsHonest (T.seen tx.new)
         → Finds result (IsOf waiting_row (IsWaitingAt (table (T.seen tx.old)) key.now) row.now) }
+    ensures broken { IsHonest (T.seen tx.new)
+        → Shows result (λ rule. BreaksAt (table (T.seen tx.old)) rule kind.Waiting key.now row.now) }
     ensures call { IsReading (T.seen tx.old) (T.seen tx.new) result IsMemoryOrStorage }
 {
     let Ok(waiting) = read_waiting(row) else {

@@ -1,12 +1,15 @@
 //! Rows of the clock, of identifiers that were given out, and of mounts, policies and roles.
 
-ghost use Rattle.std.specs.Prelude.{◌≡◌, ◌≢◌, codes, true, ⊤, IfErr, IfNone};
+ghost use Rattle.std.specs.Prelude.{◌≡◌, ◌≢◌, codes, true, ⊤, IfErr, IfSome, IfNone};
 ghost use Rattle.std.specs.Bool.{OnTrue};
 ghost use Rattle.broker_types.specs.Name as names;
 ghost use Rattle.broker_types.specs.Sound.{IsIdentifier, IsSoundMount, IsSoundPolicy, IsSoundRole};
 ghost use Rattle.broker_types.specs.declared.fault.Fault.TheVariants as faults;
 ghost use Rattle.broker_model.specs.Forms.{forms};
+ghost use Rattle.records.specs.declared.kind.Kind.TheVariants as kind;
 ghost use Rattle.records.specs.RowForms.{clock_row, used_row, mount_row, policy_row, role_row};
+ghost use Rattle.records.specs.Table.{Table};
+ghost use Rattle.soundness.specs.Broken.{BreaksAt, Shows};
 ghost use Rattle.soundness.specs.RowRules.{IsOf, IsClock};
 ghost use Rattle.soundness.specs.Visiting.{Finds};
 
@@ -18,7 +21,8 @@ use std::alloc::Global;
 
 /// What the row of the clock breaks.
 pub(crate) fn clock(key: &str, row: &Row) -> Option<Rule>
-    ensures { IfNone result (IsOf clock_row (IsClock key.now) row.now) }
+    ensures sound { IfNone result (IsOf clock_row (IsClock key.now) row.now) }
+    ensures broken { (rows : Table) → IfSome result (λ rule. BreaksAt rows rule kind.Clock key.now row.now) }
 {
     if !key.is_empty() {
         return Some(Rule::Key);
@@ -31,7 +35,8 @@ pub(crate) fn clock(key: &str, row: &Row) -> Option<Rule>
 
 /// What the row of an identifier that was given out breaks.
 pub(crate) fn used(key: &str, row: &Row) -> Option<Rule>
-    ensures { IfNone result (IsOf {X = ⊤} (λ _. used_row) (λ _. IsIdentifier key.now) row.now) }
+    ensures sound { IfNone result (IsOf {X = ⊤} (λ _. used_row) (λ _. IsIdentifier key.now) row.now) }
+    ensures broken { (rows : Table) → IfSome result (λ rule. BreaksAt rows rule kind.Used key.now row.now) }
 {
     if !is_identifier(key) {
         return Some(Rule::Key);
@@ -44,7 +49,8 @@ pub(crate) fn used(key: &str, row: &Row) -> Option<Rule>
 
 /// What the row of a mount breaks.
 pub(crate) fn mount(key: &str, row: &Row) -> Option<Rule>
-    ensures { IfNone result (IsOf mount_row (IsSoundMount key.now) row.now) }
+    ensures sound { IfNone result (IsOf mount_row (IsSoundMount key.now) row.now) }
+    ensures broken { (rows : Table) → IfSome result (λ rule. BreaksAt rows rule kind.Mount key.now row.now) }
 {
     if !is_mount_name(key) {
         return Some(Rule::Key);
@@ -57,7 +63,8 @@ pub(crate) fn mount(key: &str, row: &Row) -> Option<Rule>
 
 /// Whether a policy may have the name: every name but `root`.
 fn is_policy_name(name: &str) -> bool
-    ensures { OnTrue result ((names.is_name name.now ≡ true) × (name.now ≢ codes "root")) }
+    ensures sound { OnTrue result ((names.is_name name.now ≡ true) × (name.now ≢ codes "root")) }
+    ensures whole { names.is_name name.now ≡ true → name.now ≢ codes "root" → result ≡ true }
 {
     is_name(name) && name != "root"
 }
@@ -65,6 +72,7 @@ fn is_policy_name(name: &str) -> bool
 /// What the row of a policy breaks. The only fault is running out of memory.
 pub(crate) fn policy(alloc: Global, key: &str, row: &Row) -> Result<Option<Rule>, Fault>
     ensures sound { Finds result (IsOf policy_row (IsSoundPolicy forms key.now) row.now) }
+    ensures broken { (rows : Table) → Shows result (λ rule. BreaksAt rows rule kind.Policy key.now row.now) }
     ensures memory { IfErr result (λ fault. fault ≡ faults.Memory) }
 {
     let Ok(text) = read_policy(row) else {
@@ -81,7 +89,8 @@ pub(crate) fn policy(alloc: Global, key: &str, row: &Row) -> Result<Option<Rule>
 
 /// What the row of a role breaks.
 pub(crate) fn role(key: &str, row: &Row) -> Option<Rule>
-    ensures { IfNone result (IsOf role_row (IsSoundRole key.now) row.now) }
+    ensures sound { IfNone result (IsOf role_row (IsSoundRole key.now) row.now) }
+    ensures broken { (rows : Table) → IfSome result (λ rule. BreaksAt rows rule kind.Role key.now row.now) }
 {
     if !is_role_name(key) {
         return Some(Rule::Key);

@@ -1,18 +1,20 @@
 //! Names, paths, keys and identifiers of rows.
 
-ghost use Rattle.std.specs.Prelude.{◌≡◌, ◌<◌, ◌^◌, ◌++◌, ◌∷◌, true, codes, is_some, IfOk, IfErr, IfSome};
+ghost use Rattle.std.specs.Prelude.{◌≡◌, ◌<◌, ◌^◌, ◌++◌, ◌∷◌, true, codes, Some, is_some, option_map};
+ghost use Rattle.std.specs.Prelude.{IfOk, IfErr, IfSome, IfNone};
 ghost use Rattle.std.specs.Bool.{OnTrue};
 ghost use Rattle.broker_types.specs.Identifier.{id};
 ghost use Rattle.broker_types.specs.Name as names;
 ghost use Rattle.broker_types.specs.Name.{is_mount_name};
 ghost use Rattle.broker_types.specs.Places as places;
 ghost use Rattle.broker_types.specs.Sound.{IsIdentifier, IsLeaseId, IsPathText, IsSecretName};
+ghost use Rattle.broker_types.specs.Text.{Text};
 ghost use Rattle.broker_types.specs.TokenText.{token_text};
 ghost use Rattle.broker_types.specs.declared.fault.Fault.TheVariants as faults;
 ghost use Rattle.serde_json.specs.Find.{as_object};
 ghost use Rattle.api_json.specs.Kept as kept;
 ghost use Rattle.api_json.specs.Parsed.{data_of};
-ghost use Rattle.records.specs.Splits.{slash};
+ghost use Rattle.records.specs.Splits.{slash, split_once, lacks};
 ghost use Rattle.policies.specs.Reading as reading;
 ghost use Rattle.soundness.specs.Texts.{IsRoleName};
 
@@ -25,7 +27,8 @@ use uuid::Uuid;
 
 /// The word of an identifier.
 pub(crate) fn word_of(text: &str) -> Option<u128>
-    ensures { IfSome result (λ word. (word < 2 ^ 128) × (text.now ≡ id word)) }
+    ensures sound { IfSome result (λ word. (word < 2 ^ 128) × (text.now ≡ id word)) }
+    ensures whole { IfNone result (IsIdentifier text.now → ⊥) }
 {
     let Ok(uuid) = Uuid::parse_str(text) else {
         return None;
@@ -41,7 +44,8 @@ pub(crate) fn word_of(text: &str) -> Option<u128>
 
 /// Whether a text is an identifier.
 pub(crate) fn is_identifier(text: &str) -> bool
-    ensures { OnTrue result (IsIdentifier text.now) }
+    ensures sound { OnTrue result (IsIdentifier text.now) }
+    ensures whole { IsIdentifier text.now → result ≡ true }
 {
     match word_of(text) {
         Some(_) => true,
@@ -51,21 +55,24 @@ pub(crate) fn is_identifier(text: &str) -> bool
 
 /// The text before the first slash, and the text after it.
 fn cut(text: &str) -> Option<(&str, &str)>
-    ensures { IfSome result (λ p. text.now ≡ p.0.now ++ slash ∷ p.1.now) }
+    ensures sound { IfSome result (λ p. text.now ≡ p.0.now ++ slash ∷ p.1.now) }
+    ensures exact { option_map (λ p. (p.0.now, p.1.now)) result ≡ split_once slash text.now }
 {
     text.split_once('/')
 }
 
 /// What follows a prefix of a text.
 fn after<'t>(text: &'t str, prefix: &str) -> Option<&'t str>
-    ensures { IfSome result (λ rest. text.now ≡ prefix.now ++ rest.now) }
+    ensures sound { IfSome result (λ rest. text.now ≡ prefix.now ++ rest.now) }
+    ensures whole { IfNone result ((rest : Text) → text.now ≡ prefix.now ++ rest → ⊥) }
 {
     text.strip_prefix(prefix)
 }
 
 /// The identifier of a token.
 pub(crate) fn token_identifier(token: &str) -> Option<&str>
-    ensures { IfSome result (λ identifier. token.now ≡ token_text identifier.now) }
+    ensures sound { IfSome result (λ identifier. token.now ≡ token_text identifier.now) }
+    ensures whole { IfNone result ((identifier : Text) → token.now ≡ token_text identifier → ⊥) }
 {
     after(token, "hvs.")
 }
@@ -79,7 +86,8 @@ pub(crate) fn is_mount_name(name: &str) -> bool
 
 /// Whether a text is the path of a request, or a part of one.
 pub(crate) fn is_path(text: &str) -> bool
-    ensures { OnTrue result (IsPathText text.now) }
+    ensures sound { OnTrue result (IsPathText text.now) }
+    ensures whole { IsPathText text.now → result ≡ true }
 {
     match Path::read(CowStr::Borrowed(text)) {
         Ok(path) => path.as_str() == text,
@@ -89,7 +97,8 @@ pub(crate) fn is_path(text: &str) -> bool
 
 /// Whether a text is the name of a secret: a mount, a slash and a path.
 pub(crate) fn is_secret_name(text: &str) -> bool
-    ensures { OnTrue result (IsSecretName text.now) }
+    ensures sound { OnTrue result (IsSecretName text.now) }
+    ensures whole { IsSecretName text.now → result ≡ true }
 {
     let Some((mount, path)) = cut(text) else {
         return false;
@@ -102,7 +111,8 @@ pub(crate) fn is_secret_name(text: &str) -> bool
 
 /// Whether a text is the name of a role: a mount, a slash and a name.
 pub(crate) fn is_role_name(text: &str) -> bool
-    ensures { OnTrue result (IsRoleName text.now) }
+    ensures sound { OnTrue result (IsRoleName text.now) }
+    ensures whole { IsRoleName text.now → result ≡ true }
 {
     let Some((mount, role)) = cut(text) else {
         return false;
@@ -115,8 +125,10 @@ pub(crate) fn is_role_name(text: &str) -> bool
 
 /// Whether a mount and a role may have the names, and the text is an identifier.
 fn are_parts_of_id(mount: &str, role: &str, identifier: &str) -> bool
-    ensures { OnTrue result ((is_mount_name mount.now ≡ true) × (names.is_name role.now ≡ true)
+    ensures sound { OnTrue result ((is_mount_name mount.now ≡ true) × (names.is_name role.now ≡ true)
         × IsIdentifier identifier.now) }
+    ensures whole { is_mount_name mount.now ≡ true → names.is_name role.now ≡ true → IsIdentifier identifier.now
+        → result ≡ true }
 {
     if !is_mount_name(mount) {
         return false;
@@ -129,7 +141,10 @@ fn are_parts_of_id(mount: &str, role: &str, identifier: &str) -> bool
 
 /// The role and the identifier of what follows the mount and the slash of a lease's id.
 fn issued(rest: &str) -> Option<(&str, &str)>
-    ensures { IfSome result (λ p. rest.now ≡ codes "creds/" ++ (p.0.now ++ slash ∷ p.1.now)) }
+    ensures sound { IfSome result (λ p. rest.now ≡ codes "creds/" ++ (p.0.now ++ slash ∷ p.1.now)) }
+    ensures whole { (role identifier : Text) → rest.now ≡ codes "creds/" ++ (role ++ slash ∷ identifier)
+        → lacks slash role ≡ true
+        → option_map {U = Text × Text} (λ p. (p.0.now, p.1.now)) result ≡ Some (role, identifier) }
 {
     let folder = after(rest, "creds/")?;
     cut(folder)
@@ -138,8 +153,9 @@ fn issued(rest: &str) -> Option<(&str, &str)>
 /// The identifier at the end of a text, if this is the id of a lease: a mount, `/creds/`, a role, a slash and an
 /// identifier.
 pub(crate) fn lease_identifier(text: &str) -> Option<&str>
-    ensures { IfSome result (λ identifier.
+    ensures sound { IfSome result (λ identifier.
         IsLeaseId text.now × (identifier.now ≡ places.lease_identifier text.now)) }
+    ensures whole { IfNone result (IsLeaseId text.now → ⊥) }
 {
     let Some((mount, rest)) = cut(text) else {
         return None;
@@ -162,7 +178,8 @@ fn holds_object(tree: &Tree) -> bool
 
 /// Whether a text is the compact text of an object. The only error is running out of memory.
 pub(crate) fn is_object(alloc: Global, text: &str) -> Result<bool, AllocError>
-    ensures { IfOk result (λ v. OnTrue v (kept.is_object text.now ≡ true)) }
+    ensures sound { IfOk result (λ v. OnTrue v (kept.is_object text.now ≡ true)) }
+    ensures whole { IfOk result (λ v. kept.is_object text.now ≡ true → v ≡ true) }
 {
     let Some(tree) = Tree::read(alloc, text.as_bytes())? else {
         return Ok(false);
@@ -177,6 +194,7 @@ pub(crate) fn is_object(alloc: Global, text: &str) -> Result<bool, AllocError>
 /// Whether a text is a policy. The only fault is running out of memory.
 pub(crate) fn is_policy(alloc: Global, text: &str) -> Result<bool, Fault>
     ensures policy { IfOk result (λ v. OnTrue v (reading.is_policy text.now ≡ true)) }
+    ensures whole { IfOk result (λ v. reading.is_policy text.now ≡ true → v ≡ true) }
     ensures memory { IfErr result (λ fault. fault ≡ faults.Memory) }
 {
     match Policy::from_json(alloc, text) {

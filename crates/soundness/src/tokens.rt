@@ -1,14 +1,17 @@
 //! Rows of tokens, of their accessors, and of what they keep.
 
-ghost use Rattle.std.specs.Prelude.{◌≡◌, ◌≢◌, ◌++◌, ◌∷◌, false, Some, IfOk, IfSome};
+ghost use Rattle.std.specs.Prelude.{◌≡◌, ◌≢◌, ◌++◌, ◌∷◌, true, false, Some, IfOk, IfSome, IfNone};
 ghost use Rattle.std.specs.List.{list_all};
 ghost use Rattle.broker_types.specs.Fault.{IsMemoryOrStorage};
 ghost use Rattle.broker_types.specs.Name as names;
+ghost use Rattle.broker_types.specs.Text.{Text};
+ghost use Rattle.records.specs.declared.kind.Kind.TheVariants as kind;
 ghost use Rattle.records.specs.Calls.{IsReading};
 ghost use Rattle.records.specs.RowForms.{entry_row, accessor_row, cubby_row};
 ghost use Rattle.records.specs.Splits.{slash};
 ghost use Rattle.records.specs.Table.{table};
 ghost use Rattle.records.specs.Transaction.{IsHonest};
+ghost use Rattle.soundness.specs.Broken.{BreaksAt, Shows};
 ghost use Rattle.soundness.specs.RowRules.{IsOf, IsTokenAt, Named, IsNamedBy, Owned, IsObjectAt};
 ghost use Rattle.soundness.specs.Visiting.{Finds};
 
@@ -28,7 +31,8 @@ fn are_names(texts: &[TextBuf]) -> bool
 
 /// Whether uses are limited, and none is left.
 fn is_spent(uses_left: Option<u64>) -> bool
-    ensures { result ≡ false → uses_left ≢ Some 0 }
+    ensures sound { result ≡ false → uses_left ≢ Some 0 }
+    ensures spent { result ≡ true → uses_left ≡ Some 0 }
 {
     match uses_left {
         Some(uses) => uses == 0,
@@ -45,6 +49,8 @@ pub(crate) fn token<T: RecordsTx>(
 ) -> Result<Option<Rule>, Fault>
     ensures sound { IsHonest (T.seen tx.new)
         → Finds result (IsOf entry_row (IsTokenAt (table (T.seen tx.old)) key.now) row.now) }
+    ensures broken { IsHonest (T.seen tx.new)
+        → Shows result (λ rule. BreaksAt (table (T.seen tx.old)) rule kind.Token key.now row.now) }
     ensures call { IsReading (T.seen tx.old) (T.seen tx.new) result IsMemoryOrStorage }
 {
     let Some(token) = token_in(alloc, row)? else {
@@ -74,6 +80,8 @@ pub(crate) fn accessor<T: RecordsTx>(
 ) -> Result<Option<Rule>, Fault>
     ensures sound { IsHonest (T.seen tx.new) → Finds result
         (IsOf (λ (n : Named). accessor_row n.0 n.1) (IsNamedBy (table (T.seen tx.old)) key.now) row.now) }
+    ensures broken { IsHonest (T.seen tx.new)
+        → Shows result (λ rule. BreaksAt (table (T.seen tx.old)) rule kind.Accessor key.now row.now) }
     ensures call { IsReading (T.seen tx.old) (T.seen tx.new) result IsMemoryOrStorage }
 {
     let Ok(what) = read_accessor(row) else {
@@ -87,7 +95,8 @@ pub(crate) fn accessor<T: RecordsTx>(
 
 /// What follows a token and a slash.
 fn path_of<'k>(key: &'k str, token: &str) -> Option<&'k str>
-    ensures { IfSome result (λ path. key.now ≡ token.now ++ slash ∷ path.now) }
+    ensures sound { IfSome result (λ path. key.now ≡ token.now ++ slash ∷ path.now) }
+    ensures whole { IfNone result ((path : Text) → key.now ≡ token.now ++ slash ∷ path → ⊥) }
 {
     let rest = key.strip_prefix(token)?;
     rest.strip_prefix("/")
@@ -102,6 +111,8 @@ pub(crate) fn object<T: RecordsTx>(
 ) -> Result<Option<Rule>, Fault>
     ensures sound { IsHonest (T.seen tx.new) → Finds result
         (IsOf (λ (e : Owned). cubby_row e.0 e.1) (IsObjectAt (table (T.seen tx.old)) key.now) row.now) }
+    ensures broken { IsHonest (T.seen tx.new)
+        → Shows result (λ rule. BreaksAt (table (T.seen tx.old)) rule kind.Cubby key.now row.now) }
     ensures call { IsReading (T.seen tx.old) (T.seen tx.new) result IsMemoryOrStorage }
 {
     let Ok(text) = read_cubby(row) else {

@@ -19,7 +19,7 @@ returns-clause-sound c =
       k,
       record {
         in_range = read.0;
-        name = from_true c.is_secret_name.result c.if-not-is_secret_name.false c.is_secret_name.ensures;
+        name = from_true c.is_secret_name.result c.if-not-is_secret_name.false c.is_secret_name.ensures.sound;
         few_metadata = meta.0;
         metadata = meta.1;
       },

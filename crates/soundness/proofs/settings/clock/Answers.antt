@@ -1,0 +1,8 @@
+use Rattle.std.proofs.Common.{refl}
+use Rattle.broker_types.specs.Sound.{IsMoment}
+use Rattle.records.specs.RowForms.{clock_row}
+use Rattle.soundness.proofs.ReadLemmas.{unread}
+use Rattle.soundness.proofs.settings.clock.Goals as goal
+
+pub returns-in-Err-clause-broken : goal.returns-in-Err-clause-broken
+returns-in-Err-clause-broken c = λ rows. unread IsMoment clock_row c.args.row.now _ c.in-Err.ensures _ refl
