@@ -52,6 +52,10 @@ stop_on_input_rule =
 abbrev pub log_rule : Rule
 log_rule = record (new_rule (codes "log")) { long = Some (codes "log"); action = Some SetTrue }
 
+-- `--check`
+abbrev pub check_rule : Rule
+check_rule = record (new_rule (codes "check")) { long = Some (codes "check"); action = Some SetTrue }
+
 -- `brokerd replay`
 abbrev pub replay_app : App
 replay_app = new_app (codes "replay")
@@ -60,10 +64,12 @@ replay_app = new_app (codes "replay")
 abbrev pub check_app : App
 check_app = with_rule (new_app (codes "check")) checked_rule
 
--- `brokerd serve --listen ADDR [--db FILE] [--connections N] [--at-once M] [--until-stopped] [--stop-on-input] [--log]`
+-- `brokerd serve --listen ADDR [--db FILE [--check]] [--connections N] [--at-once M] [--until-stopped]
+-- [--stop-on-input] [--log]`
 abbrev pub serve_app : App
 serve_app =
     with_rule
+    (with_rule
     (with_rule
     (with_rule
     (with_rule
@@ -71,7 +77,8 @@ serve_app =
     at_once_rule)
     until_stopped_rule)
     stop_on_input_rule)
-    log_rule
+    log_rule)
+    check_rule
 
 -- `brokerd`, which has a version and requires a subcommand
 abbrev pub top_app : App
@@ -148,6 +155,7 @@ IsMeant name rows (Some (Serve db settings)) =
     × IsPlaces rows settings.at_once
     × IsFlag settings.stops_on_input (one_of (codes "stop-on-input") rows)
     × IsFlag settings.logs (one_of (codes "log") rows)
+    × IsFlag settings.checks (one_of (codes "check") rows)
 
 -- the command that the words of a line name, by the subcommand that they enter
 abbrev pub IsCommandOf : Option (Text × List Row) → Option Command → Type 0

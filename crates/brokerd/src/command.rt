@@ -1,7 +1,7 @@
 ghost use Rattle.std.specs.Prelude.{◌≡◌, IfOk, IfErr, IfSome, None, codes, false, map, string_bytes, true};
 ghost use Rattle.clap.specs.Words.{app_of, found_of, kind_of, rows_of, rule_of, subcommand_of, takes};
 ghost use Rattle.brokerd.specs.CommandLine.{program_app, check_app, replay_app, serve_app, listen_rule};
-ghost use Rattle.brokerd.specs.CommandLine.{at_once_rule, checked_rule, connections_rule, db_rule, log_rule};
+ghost use Rattle.brokerd.specs.CommandLine.{at_once_rule, check_rule, checked_rule, connections_rule, db_rule, log_rule};
 ghost use Rattle.brokerd.specs.CommandLine.{stop_on_input_rule, until_stopped_rule};
 ghost use Rattle.brokerd.specs.CommandLine.{IsMeant, IsCommandOf, IsCount, IsPlaces, LacksCount, LacksPlaces};
 
@@ -78,6 +78,7 @@ fn meant<'a>(name: &str, found: &ArgMatches<'a>) -> Option<Command<'a>>
             at_once: places(found)?,
             stops_on_input: found.get_flag("stop-on-input"),
             logs: found.get_flag("log"),
+            checks: found.get_flag("check"),
         },
     })
 }
@@ -161,7 +162,8 @@ fn serve<'a>(alloc: Global) -> Result<clap::Command<'a>, AllocError>
         .arg(at_once(alloc))?
         .arg(until_stopped(alloc))?
         .arg(stop_on_input(alloc))?
-        .arg(log(alloc))
+        .arg(log(alloc))?
+        .arg(check_first(alloc))
 }
 
 fn listen<'a>(alloc: Global) -> Arg<'a>
@@ -234,4 +236,14 @@ fn log<'a>(alloc: Global) -> Arg<'a>
         .long("log")
         .action(ArgAction::SetTrue)
         .help("Log each request on standard error, by time, status, milliseconds, method and path")
+}
+
+fn check_first<'a>(alloc: Global) -> Arg<'a>
+    ensures rule { rule_of result ≡ check_rule }
+    ensures local { result.global ≡ false }
+{
+    Arg::new(alloc, "check")
+        .long("check")
+        .action(ArgAction::SetTrue)
+        .help("Check the database first, and serve it only if it is the database of a broker")
 }

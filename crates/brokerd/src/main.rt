@@ -15,7 +15,7 @@ use command::{Command, command_of};
 use database_check::{Finding, check_file};
 use endpoints::{Reading, Writing};
 use replay::{Exit, replay};
-use server::{Settings, serve_file, serve_in_memory};
+use server::{ServeError, Settings, serve_file, serve_in_memory};
 use std::io::{Eprint, Print};
 use std::process::ExitCode;
 use std::{env, io};
@@ -34,16 +34,11 @@ fn main(rt: HostRuntime) -> anyhow::Result<ExitCode> {
             tell(&rt, exit)
         }
         Ok(Some(Command::Check { db })) => check(&rt, db),
-        Ok(Some(Command::Serve { db, settings })) => {
-            let exit = serve(&rt, db, &settings);
-            tell(&rt, exit)
-        }
-        Ok(None) => {
-            eprintln!(&rt;
-                "brokerd: --until-stopped takes the place of --connections: give one of them"
-            )?;
-            Ok(ExitCode::from(2))
-        }
+        Ok(Some(Command::Serve { db, settings })) => serve(&rt, db, &settings),
+        Ok(None) => refuse_options(
+            &rt,
+            "--until-stopped takes the place of --connections: give one of them",
+        ),
         Err(error) => refuse(&rt, &error),
     }
 }
@@ -69,16 +64,33 @@ fn found_status(finding: &Finding) -> u8
     }
 }
 
-/// Serves the broker of a file, or else one in memory.
-fn serve(rt: &HostRuntime, db: Option<&str>, settings: &Settings<'_>) -> Exit {
-    let served = match db {
-        Some(path) => serve_file(rt, path, settings),
-        None => serve_in_memory(rt, settings),
+/// Serves the broker of a file, or else one in memory, which is never checked.
+fn serve(rt: &HostRuntime, db: Option<&str>, settings: &Settings<'_>) -> anyhow::Result<ExitCode> {
+    let Some(path) = db else {
+        if settings.checks {
+            return refuse_options(rt, "--check needs a database: give --db too");
+        }
+        return match serve_in_memory(rt, settings) {
+            Ok(()) => tell(rt, Exit::Done),
+            Err(fault) => tell(rt, Exit::Faulted(fault.number())),
+        };
     };
-    match served {
-        Ok(()) => Exit::Done,
-        Err(fault) => Exit::Faulted(fault.number()),
+    match serve_file(rt, path, settings) {
+        Ok(()) => tell(rt, Exit::Done),
+        Err(ServeError::Faulted(fault)) => tell(rt, Exit::Faulted(fault.number())),
+        Err(ServeError::Unsound(defect)) => {
+            eprintln!(rt; "{path}: {defect}")?;
+            Ok(ExitCode::from(1))
+        }
     }
+}
+
+/// Says on standard error why options do not go together, and answers the status.
+fn refuse_options<R: Eprint>(rt: &R, why: &str) -> anyhow::Result<ExitCode>
+    ensures { IfOk result (λ code. exit_status code ≡ 2) }
+{
+    eprintln!(rt; "brokerd: {why}")?;
+    Ok(ExitCode::from(2))
 }
 
 /// Says on standard error why the command did not end well, if so, and answers the status: 0, or 1 after a

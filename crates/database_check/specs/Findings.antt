@@ -1,8 +1,10 @@
 -- What a check of a database finds (this project's definition).
 use Rattle.std.specs.Prelude.{⊤}
+use Rattle.sqlite.specs.Recovery.{Image}
 use Rattle.records.specs.Table.{table_of}
 use Rattle.records.specs.Transaction.{Rows}
 use Rattle.records.specs.Upgraded.{AreUpgraded}
+use Rattle.records_sql.specs.Adopted.{IsKeptIn}
 use Rattle.soundness.specs.Laws.{AreOfABroker}
 use Rattle.database_check.specs.declared.checking.Finding.{Finding}
 use Rattle.database_check.specs.declared.checking.Finding.TheVariants.{Sound, Unsound}
@@ -15,3 +17,7 @@ IfSound (Unsound defect) P = ⊤
 -- an opening makes rows of them that are those of a sound broker
 abbrev pub OpenAsABroker : Rows → Type 0
 OpenAsABroker old = (rows : Rows) × AreUpgraded (table_of old) (table_of rows) × AreOfABroker rows
+
+-- two files, a database and its log, keep rows of which an opening makes those of a sound broker
+abbrev pub KeepABroker : Image → Type 0
+KeepABroker image = (rows : Rows) × IsKeptIn image rows × OpenAsABroker rows

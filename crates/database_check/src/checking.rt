@@ -1,20 +1,23 @@
 //! A database that is checked, row by row.
 
-ghost use Rattle.std.specs.Prelude.{◌≡◌, IsTrue, IfOk, IfErr};
+ghost use Rattle.std.specs.Prelude.{◌≡◌, ◌⊎◌, ◌≤◌, IsTrue, IfNone, IfOk, IfErr, OnOk};
+ghost use Rattle.sqlite.specs.Files.{over_files};
+ghost use Rattle.sqlite.specs.WalFiles.{image_at};
 ghost use Rattle.broker_types.specs.Fault.{IsMemoryOrStorage};
 ghost use Rattle.broker.specs.Kept.{IsHonestStore};
+ghost use Rattle.broker_rows.specs.ClockRow.{HasNoClock};
 ghost use Rattle.broker_sql.specs.SqlKept.{kept_records};
 ghost use Rattle.records.specs.Calls.{IsCall};
 ghost use Rattle.records.specs.Transaction.{IsHonest};
-ghost use Rattle.database_check.specs.Findings.{IfSound, OpenAsABroker};
+ghost use Rattle.database_check.specs.Findings.{IfSound, KeepABroker, OpenAsABroker};
 
 use crate::counts::Counts;
 use crate::defect::Defect;
 use broker_types::Fault;
-use records::{RecordsTx, upgrade_keys};
+use records::{Kind, RecordsTx, upgrade_keys};
 use records_sql::SqlRecords;
 use soundness::check;
-use sqlite::{Alter, Unknown};
+use sqlite::{Alter, FileFrom, FileStore, Start, Unknown};
 use std::alloc::Global;
 use std::rt::HostRuntime;
 use std::{fmt, fs};
@@ -45,6 +48,8 @@ pub fn check_records<S: Alter>(alloc: Global, records: &mut SqlRecords<S>) -> Re
         IfSound finding (OpenAsABroker (kept_records S.Store records.old).rows)) }
     ensures same { IsHonestStore (kept_records S.Store records.new) → IsTrue (kept_records S.Store records.new).is_open
         → (kept_records S.Store records.new).rows ≡ (kept_records S.Store records.old).rows }
+    ensures mismatches { (kept_records S.Store records.old).mismatches
+        ≤ (kept_records S.Store records.new).mismatches }
     ensures faults { IfErr result IsMemoryOrStorage }
 {
     // What is rewritten in it is rolled back.
@@ -52,31 +57,95 @@ pub fn check_records<S: Alter>(alloc: Global, records: &mut SqlRecords<S>) -> Re
     find(alloc, &mut tx)
 }
 
-/// Rewrites the rows of keys in format 1, and checks all rows.
+/// Rewrites the rows of keys in format 1, checks all rows, and counts them if they are those of a sound broker.
 fn find<T: RecordsTx>(alloc: Global, tx: &mut T) -> Result<Finding, Fault>
     ensures sound { IsHonest (T.seen tx.new) → IfOk result (λ finding.
         IfSound finding (OpenAsABroker (T.seen tx.old).rows)) }
     ensures call { IsCall (T.seen tx.old) (T.seen tx.new) result IsMemoryOrStorage }
 {
-    upgrade_keys(alloc, tx)?;
-    match check(alloc, tx)? {
+    match find_defect(alloc, tx)? {
         None => Ok(Finding::Sound(Counts::of(tx)?)),
-        Some(trouble) => Ok(Finding::Unsound(Defect::at(alloc, tx, &trouble)?)),
+        Some(defect) => Ok(Finding::Unsound(defect)),
     }
 }
 
-/// Whether a file, with its log beside it, has the rows of a sound broker. No row is changed, and no program may have
-/// the file open meanwhile. It fails with `Memory` if memory runs out, and with `Storage` if there is no such file, it
-/// is empty, it cannot be opened as a database of a broker (`SqlRecords::open_from`), or the storage fails.
-pub fn check_file(rt: &HostRuntime, path: &str) -> Result<Finding, Fault>
-    ensures { IfErr result IsMemoryOrStorage }
+/// Rewrites the rows of keys in format 1, and checks all rows.
+fn find_defect<T: RecordsTx>(alloc: Global, tx: &mut T) -> Result<Option<Defect>, Fault>
+    ensures sound { IsHonest (T.seen tx.new) → IfOk result (λ defect.
+        IfNone defect (OpenAsABroker (T.seen tx.old).rows)) }
+    ensures call { IsCall (T.seen tx.old) (T.seen tx.new) result IsMemoryOrStorage }
+{
+    upgrade_keys(alloc, tx)?;
+    match check(alloc, tx)? {
+        None => Ok(None),
+        Some(trouble) => Ok(Some(Defect::at(alloc, tx, &trouble)?)),
+    }
+}
+
+/// The first row that keeps the rows that were committed from being those of a sound broker, as `check_records` finds it,
+/// but none if they lack the row of the clock: then no broker was started. The rows stay as they are, and afterwards the
+/// records can be asked. It fails only if memory runs out or the storage fails.
+pub fn defect_of<S: Alter>(
+    alloc: Global,
+    records: &mut SqlRecords<S>,
+) -> Result<Option<Defect>, Fault>
+    ensures sound { IsHonestStore (kept_records S.Store records.new) → IfOk result (λ defect. IfNone defect
+        (HasNoClock (kept_records S.Store records.old).rows ⊎ OpenAsABroker (kept_records S.Store records.old).rows)) }
+    ensures same { IsHonestStore (kept_records S.Store records.new)
+        → OnOk result ((kept_records S.Store records.new).rows ≡ (kept_records S.Store records.old).rows) }
+    ensures mismatches { (kept_records S.Store records.old).mismatches
+        ≤ (kept_records S.Store records.new).mismatches }
+    ensures faults { IfErr result IsMemoryOrStorage }
+{
+    let defect = {
+        // What is rewritten in it is rolled back.
+        let mut tx = records.begin()?;
+        find_if_started(alloc, &mut tx)?
+    };
+    records.ask()?;
+    Ok(defect)
+}
+
+/// Checks all rows, if there is the row of the clock.
+fn find_if_started<T: RecordsTx>(alloc: Global, tx: &mut T) -> Result<Option<Defect>, Fault>
+    ensures sound { IsHonest (T.seen tx.new) → IfOk result (λ defect.
+        IfNone defect (HasNoClock (T.seen tx.old).rows ⊎ OpenAsABroker (T.seen tx.old).rows)) }
+    ensures call { IsCall (T.seen tx.old) (T.seen tx.new) result IsMemoryOrStorage }
+{
+    if tx.get(Kind::Clock, "")?.is_none() {
+        return Ok(None);
+    }
+    find_defect(alloc, tx)
+}
+
+/// Whether a file and its log, which is beside it, keep the rows of a sound broker, and the records that were checked. `S`
+/// stands for what they hold. No row is changed, and no program may have the file open meanwhile. It fails with `Memory` if
+/// memory runs out, and with `Storage` if there is no such file, it is empty, it cannot be opened as a database of a broker
+/// (`SqlRecords::open_from`), or the storage fails.
+pub fn check_from<S: Start>(
+    rt: &HostRuntime,
+    path: &str,
+    start: S,
+) -> Result<(Finding, SqlRecords<FileStore<FileFrom<S>>>), Fault>
+    ensures sound { IfOk result (λ checked. IsHonestStore (kept_records over_files checked.1)
+        → IfSound checked.0 (KeepABroker (image_at S.Start))) }
+    ensures faults { IfErr result IsMemoryOrStorage }
 {
     // To open it would make the file, or the table in an empty one.
     if !has_bytes(rt, path) {
         return Err(Fault::Storage);
     }
-    let mut records = SqlRecords::open_from(rt, path, Unknown)?;
-    check_records(rt.alloc(), &mut records)
+    let mut records = SqlRecords::open_from(rt, path, start)?;
+    let finding = check_records(rt.alloc(), &mut records)?;
+    Ok((finding, records))
+}
+
+/// What `check_from` finds of a file, of whose contents nothing is supposed.
+pub fn check_file(rt: &HostRuntime, path: &str) -> Result<Finding, Fault>
+    ensures { IfErr result IsMemoryOrStorage }
+{
+    let (finding, _records) = check_from(rt, path, Unknown)?;
+    Ok(finding)
 }
 
 /// Whether there is a file that is not empty.

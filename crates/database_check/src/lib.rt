@@ -5,6 +5,6 @@ mod checking;
 mod counts;
 mod defect;
 
-pub use checking::{Finding, check_file, check_records};
+pub use checking::{Finding, check_file, check_from, check_records, defect_of};
 pub use counts::Counts;
 pub use defect::Defect;

@@ -1,6 +1,7 @@
 -- What follows from how a store was made ready.
 use Rattle.std.proofs.Common.{◌≡◌, ◌≢◌, ◌⊎◌, inl, inr, ℕ, ◌≤◌, Option, Some, None, slice_index, sym, subst, ◌∙◌, arith}
 use Rattle.std.specs.FinMap.{empty, get-empty}
+use Rattle.std.specs.Prelude.{IfNone}
 use Rattle.broker_types.specs.Broker.{Broker}
 use Rattle.broker_types.specs.First.{first_broker}
 use Rattle.broker_types.specs.Identifier.{id}
@@ -9,12 +10,14 @@ use Rattle.broker_types.specs.TokenText.{token_text}
 use Rattle.broker_types.specs.declared.words.Words.{Words}
 use Rattle.records.specs.Kind.{key_cmp}
 use Rattle.records.specs.Table.{table_of}
+use Rattle.records.specs.TableLaws.{table_of-injective}
 use Rattle.records.specs.Transaction.{Rows}
 use Rattle.records.specs.Upgraded.{AreUpgraded}
-use Rattle.records.specs.UpgradedLaws.{clock_stays, empty_before, empty_stays}
+use Rattle.records.specs.UpgradedLaws.{clock_stays, empty_before, empty_stays, one_table}
 use Rattle.broker_rows.specs.Representing.{Represents}
 use Rattle.broker_rows.specs.ClockRow.{HasNoClock}
 use Rattle.broker.specs.Kept.{Kept, IsHonestStore}
+use Rattle.database_check.specs.Findings.{OpenAsABroker}
 use Rattle.server.specs.Prepared.{IsOpened, IsPrepared, IsStarted}
 
 no_clock : HasNoClock empty
@@ -24,6 +27,29 @@ no_clock = get-empty key_cmp _
 pub new_broker : (moment : ℕ) (words : Words) (before after : Rows) (root : Option Text) → IsPrepared moment words before after root → before ≡ empty → (b : Broker) × Represents None after b
 new_broker moment words before after None it none = absurd (it.started (subst HasNoClock (sym none) no_clock))
 new_broker moment words before after (Some token) it none = (_, it.broker)
+
+-- what holds if nothing was found
+pub if_none : {X : Type 0} {P : Type 0} (o : Option X) → o ≡ None → IfNone o P → P
+if_none {X = X} {P = P} o is p = subst (λ (q : Option X). IfNone q P) is p
+
+-- a store was started, or those of the records open as a broker's: its rows are those of a broker
+pub sound_broker : (moment : ℕ) (words : Words) (before after : Rows) (root : Option Text) → IsPrepared moment words before after root
+    → HasNoClock before ⊎ OpenAsABroker before → (b : Broker) × Represents None after b
+sound_broker moment words before after (Some token) it opens = (_, it.broker)
+sound_broker moment words before after None it (inl none) = absurd (it.started none)
+sound_broker moment words before after None it (inr opens) =
+    let one : table_of opens.0 ≡ table_of after = one_table (table_of before) (table_of opens.0) (table_of after) opens.1 it.upgraded in
+    subst (λ (rows : Rows). (b : Broker) × Represents None rows b) (table_of-injective opens.0 after one) opens.2
+
+-- the records were checked, and made ready after that
+pub checked_broker : (moment : ℕ) (words : Words) (records checked store : Kept) (root : Option Text) → checked.mismatches ≤ store.mismatches
+    → (IsHonestStore checked → HasNoClock records.rows ⊎ OpenAsABroker records.rows) → (IsHonestStore checked → checked.rows ≡ records.rows)
+    → (IsHonestStore store → IsPrepared moment words checked.rows store.rows root) → IsHonestStore store
+    → IsPrepared moment words records.rows store.rows root × ((b : Broker) × Represents None store.rows b)
+checked_broker moment words records checked store root less opens same prepared honest =
+    let before : IsHonestStore checked = omega (arith, less, honest) in
+    let of_records = subst (λ (rows : Rows). IsPrepared moment words rows store.rows root) (same before) (prepared honest) in
+    (of_records, sound_broker moment words records.rows store.rows root of_records (opens before))
 
 -- A start is refused for its words, or for rows that are there: they are not, as long as the storage returned what was written.
 pub refused : (found mid last : Kept) (a b : ℕ) → found.mismatches ≤ mid.mismatches → mid.mismatches ≤ last.mismatches → (IsHonestStore mid → found.rows ≡ empty)

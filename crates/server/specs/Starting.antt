@@ -7,6 +7,8 @@ use Rattle.broker_sql.specs.SqlKept.{sql_kept}
 use Rattle.broker_sql.specs.declared.sql_store.SqlStore.{SqlStore}
 use Rattle.hub.specs.declared.serve.ConnectionFault.{ConnectionFault}
 use Rattle.hub.specs.declared.serve.ConnectionFault.TheVariants.{Broker, Read, Write}
+use Rattle.server.specs.declared.serve_error.ServeError.{ServeError}
+use Rattle.server.specs.declared.serve_error.ServeError.TheVariants.{Unsound, Faulted}
 
 -- Memory ran out, the storage failed, two words are equal, or something could not be read or written (1, 2, 4, 5, 6). A
 -- new broker has no damaged row (3).
@@ -17,6 +19,11 @@ IsFaultOfNew (Broker Damaged) = ⊥
 IsFaultOfNew (Broker BadStart) = ⊤
 IsFaultOfNew Read = ⊤
 IsFaultOfNew Write = ⊤
+
+-- if it is a fault, P
+abbrev pub IfFaulted : ServeError → (ConnectionFault → Type 0) → Type 0
+IfFaulted (Unsound defect) P = ⊤
+IfFaulted (Faulted fault) P = P fault
 
 -- a storage that never returns other than what was written, as memory
 abbrev pub ReturnsWhatWasWritten : {S : Type 0} → store.Ghosts S → Type 0

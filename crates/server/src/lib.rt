@@ -13,6 +13,7 @@ mod opening;
 mod peer;
 mod preparing;
 mod replying;
+mod serve_error;
 mod serving;
 mod settings;
 mod starting;
@@ -21,7 +22,8 @@ mod waiting;
 
 pub use drawn::{DrawnWords, seeded};
 pub use listening::Listening;
-pub use preparing::prepare;
+pub use preparing::{prepare, prepare_checked};
+pub use serve_error::ServeError;
 pub use serving::serve;
 pub use settings::Settings;
 pub use starting::{serve_file, serve_in_memory};

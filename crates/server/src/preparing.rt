@@ -1,14 +1,19 @@
 //! A broker made ready: the one that a database keeps, or a new one.
 
-ghost use Rattle.std.specs.Prelude.{◌≡◌, ◌⊎◌, ◌≤◌, IsTrue, IfOk, IfErr, Err};
+ghost use Rattle.std.specs.Prelude.{◌≡◌, ◌⊎◌, ◌≤◌, IsTrue, IfOk, IfErr, Err, None};
+ghost use Rattle.broker_types.specs.Broker.{Broker};
 ghost use Rattle.broker_types.specs.Fault.{IsMemoryOrStorage};
+ghost use Rattle.broker_rows.specs.Representing.{Represents};
 ghost use Rattle.broker.specs.Kept.{IsHonestStore};
 ghost use Rattle.broker_sql.specs.Beginning.{LacksClock};
 ghost use Rattle.broker_sql.specs.SqlKept.{kept_records, sql_kept};
 ghost use Rattle.server.specs.Prepared.{CannotStart, IsPrepared};
+ghost use Rattle.server.specs.Starting.{IfFaulted, IsFaultOfNew};
 
+use crate::serve_error::ServeError;
 use broker_sql::SqlStore;
 use broker_types::{Fault, Moment, TokenText, Words};
+use database_check::defect_of;
 use records_sql::SqlRecords;
 use sqlite::Alter;
 use std::alloc::Global;
@@ -40,4 +45,27 @@ pub fn prepare<S: Alter + Drop>(
     }
     let root = store.start(moment, words)?;
     Ok((store, Some(root)))
+}
+
+/// The same, and the store has the rows of a sound broker, whoever wrote the records: they are checked first, unless they
+/// lack the row of the clock, and refused for the first row that keeps them from being such rows. It fails as `prepare`
+/// does. The records are gone then; if they were refused, the rows are as before.
+pub fn prepare_checked<S: Alter + Drop>(
+    alloc: Global,
+    mut records: SqlRecords<S>,
+    moment: Moment,
+    words: &Words,
+) -> Result<(SqlStore<S>, Option<TokenText>), ServeError>
+    ensures sound { IfOk result (λ made. IsHonestStore (sql_kept S.Store made.0)
+        → (b : Broker) × Represents None (sql_kept S.Store made.0).rows b) }
+    ensures prepared { IfOk result (λ made. IsHonestStore (sql_kept S.Store made.0)
+        → IsPrepared moment words.now (kept_records S.Store records).rows (sql_kept S.Store made.0).rows made.1) }
+    ensures stands { IfOk result (λ made. IsHonestStore (sql_kept S.Store made.0)
+        → IsTrue (sql_kept S.Store made.0).is_open) }
+    ensures faults { IfErr result (λ error. IfFaulted error IsFaultOfNew) }
+{
+    match defect_of(alloc, &mut records)? {
+        Some(defect) => Err(ServeError::Unsound(defect)),
+        None => Ok(prepare(alloc, records, moment, words)?),
+    }
 }

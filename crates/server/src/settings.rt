@@ -11,4 +11,6 @@ pub struct Settings<'a> {
     pub stops_on_input: bool,
     /// Whether each request is logged on standard error.
     pub logs: bool,
+    /// Whether a file is checked before it is served.
+    pub checks: bool,
 }

@@ -1,21 +1,26 @@
 //! Programs that serve: a broker in memory, or that of a file.
 
-ghost use Rattle.std.specs.Prelude.{◌≡◌, IsTrue, IfErr};
+ghost use Rattle.std.specs.Prelude.{◌≡◌, IsTrue, IfErr, None};
 ghost use Rattle.std.specs.FinMap as map;
-ghost use Rattle.broker_sql.specs.SqlKept.{kept_records};
-ghost use Rattle.server.specs.Starting.{IsFaultOfNew, ReturnsWhatWasWritten};
+ghost use Rattle.broker_types.specs.Broker.{Broker};
+ghost use Rattle.broker_rows.specs.Representing.{Represents};
+ghost use Rattle.broker_sql.specs.SqlKept.{kept_records, sql_kept};
+ghost use Rattle.server.specs.Starting.{IfFaulted, IsFaultOfNew, ReturnsWhatWasWritten};
 
-use crate::drawn::seeded;
+use crate::drawn::{DrawnWords, seeded};
 use crate::listening::Listening;
 use crate::log::Log;
 use crate::noting::Noting;
 use crate::opening::tell_opening;
-use crate::preparing::prepare;
+use crate::preparing::{prepare, prepare_checked};
+use crate::serve_error::ServeError;
 use crate::serving::serve;
 use crate::settings::Settings;
 use crate::system_clock::SystemClock;
+use broker_sql::SqlStore;
 use broker_types::{Fault, TokenText};
 use hub::{Clock, ConnectionFault, Hub, WordSource};
+use rand_chacha::ChaCha20Rng;
 use records_sql::SqlRecords;
 use sqlite::{Alter, Unknown};
 use std::fs::OpenOptions;
@@ -42,18 +47,19 @@ pub fn serve_in_memory(rt: &HostRuntime, settings: &Settings<'_>) -> Result<(), 
 /// root token on standard output. A file that is not there is made, for its owner alone; in one that is there, rows of
 /// keys in format 1 are rewritten in format 2. That a large one is opened is said on standard error first. It fails as
 /// `serve_in_memory` does; and with `Storage` if the file cannot be opened, or has another table than that of a broker,
-/// with `BadStart` if it has rows and none of the clock, and with `Damaged` if a row cannot be read.
-pub fn serve_file(
-    rt: &HostRuntime,
-    path: &str,
-    settings: &Settings<'_>,
-) -> Result<(), ConnectionFault> {
+/// with `BadStart` if it has rows and none of the clock, and with `Damaged` if a row cannot be read. If files are checked,
+/// it fails with `Unsound` before it listens if the file has a broker that is not sound, and changes no row of it then.
+pub fn serve_file(rt: &HostRuntime, path: &str, settings: &Settings<'_>) -> Result<(), ServeError> {
     let log = begin_log(rt, settings)?;
     // If it is there, or cannot be made, opening it tells.
     let _ = make_private(rt, path);
     tell_opening(rt, path, &log)?;
     let records = SqlRecords::open_from(rt, path, Unknown)?;
-    serve_records(rt, records, settings, log)
+    if settings.checks {
+        return serve_checked(rt, records, settings, log);
+    }
+    serve_records(rt, records, settings, log)?;
+    Ok(())
 }
 
 /// The log, if there is to be one.
@@ -101,6 +107,40 @@ fn serve_records<S: Alter + Drop>(
         return Err(ConnectionFault::Read);
     };
     let (store, root) = prepare(rt.alloc(), records, clock.now(), &words.words())?;
+    serve_store(rt, store, root, settings, log, &mut words)
+}
+
+/// The same, if the broker is sound; then it has no damaged row, in a storage that returns what was written.
+fn serve_checked<S: Alter + Drop>(
+    rt: &HostRuntime,
+    records: SqlRecords<S>,
+    settings: &Settings<'_>,
+    log: Option<Rc<Log>>,
+) -> Result<(), ServeError>
+    ensures { ReturnsWhatWasWritten S.Store → IfErr result (λ error. IfFaulted error IsFaultOfNew) }
+{
+    let mut clock = SystemClock::new(rt);
+    let Ok(mut words) = seeded(rt) else {
+        return Err(ServeError::Faulted(ConnectionFault::Read));
+    };
+    let (store, root) = prepare_checked(rt.alloc(), records, clock.now(), &words.words())?;
+    serve_store(rt, store, root, settings, log, &mut words)?;
+    Ok(())
+}
+
+/// Prints the root token, if there is one, and serves the store. One with the rows of a sound broker, in a storage that
+/// returns what was written, has no damaged row.
+fn serve_store<S: Alter + Drop>(
+    rt: &HostRuntime,
+    store: SqlStore<S>,
+    root: Option<TokenText>,
+    settings: &Settings<'_>,
+    log: Option<Rc<Log>>,
+    words: &mut DrawnWords<ChaCha20Rng>,
+) -> Result<(), ConnectionFault>
+    ensures { ReturnsWhatWasWritten S.Store → IsTrue (sql_kept S.Store store).is_open → (b : Broker)
+        → Represents None (sql_kept S.Store store).rows b → IfErr result IsFaultOfNew }
+{
     if let Some(root) = root
         && print_root(rt, &root).is_err()
     {
@@ -111,7 +151,8 @@ fn serve_records<S: Alter + Drop>(
         Err(error) => return Err(fault_of(&error)),
     };
     let mut hub = Hub::new(rt.alloc(), Noting::new(store, shared(&log)?));
-    serve(rt, &mut hub, listening, &mut clock, &mut words)?;
+    let mut clock = SystemClock::new(rt);
+    serve(rt, &mut hub, listening, &mut clock, words)?;
     if let Some(log) = &log {
         log.tell("stopped");
     }

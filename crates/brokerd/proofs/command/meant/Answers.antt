@@ -55,4 +55,6 @@ returns c =
           (is_flag (one_text f (codes "stop-on-input")) c.get_flag.result c.get_flag.ensures.none c.get_flag.ensures.other c.get_flag.ensures.value),
       rw (← one_text-rows f (codes "log"))
           (is_flag (one_text f (codes "log")) c.get_flag-2.result c.get_flag-2.ensures.none c.get_flag-2.ensures.other c.get_flag-2.ensures.value),
+      rw (← one_text-rows f (codes "check"))
+          (is_flag (one_text f (codes "check")) c.get_flag-3.result c.get_flag-3.ensures.none c.get_flag-3.ensures.other c.get_flag-3.ensures.value),
     )

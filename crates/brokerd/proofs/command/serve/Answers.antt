@@ -13,4 +13,6 @@ returns c =
     let four = c.in_ok-arg-4.ensures.shape c.at_once.ensures.local ∙ ap₂ with_rule three c.at_once.ensures.rule in
     let five = c.in_ok-arg-5.ensures.shape c.until_stopped.ensures.local ∙ ap₂ with_rule four c.until_stopped.ensures.rule in
     let six = c.in_ok-arg-6.ensures.shape c.stop_on_input.ensures.local ∙ ap₂ with_rule five c.stop_on_input.ensures.rule in
-    IfOk-weaker c.arg-7.result _ _ (λ d h. h.shape c.log.ensures.local ∙ ap₂ with_rule six c.log.ensures.rule) c.arg-7.ensures
+    let seven = c.in_ok-arg-7.ensures.shape c.log.ensures.local ∙ ap₂ with_rule six c.log.ensures.rule in
+    IfOk-weaker c.arg-8.result _ _ (λ d h. h.shape c.check_first.ensures.local ∙ ap₂ with_rule seven c.check_first.ensures.rule)
+    c.arg-8.ensures

@@ -1,0 +1,23 @@
+use Rattle.std.proofs.Common.{◌≡◌, ◌∙◌, Err, IsTrue, None, ap, sym, subst}
+use Rattle.std.proofs.lemmas.Result.{err_from_is_err_and}
+use Rattle.broker_types.specs.declared.fault.Fault.TheVariants.{Memory, Storage}
+use Rattle.broker.specs.Kept.{Kept}
+use Rattle.broker_rows.specs.Representing.{Represents}
+use Rattle.hub.specs.World.{new_world}
+use Rattle.server.specs.Noting.{store_of}
+use Rattle.server.proofs.starting.serve_store.Goals as goal
+
+pub returns-in_err-serve : goal.returns-in_err-serve
+returns-in_err-serve g c always stands b represents =
+    let p = err_from_is_err_and c.from_residual-in_err-serve.result c.from_residual-in_err-serve.ensures.1 in
+    let opened = subst (λ (k : Kept). IsTrue k.is_open) (sym (c.new-hub.ensures.store ∙ c.new.ensures)) stands in
+    let rows = subst (λ (k : Kept). Represents None k.rows b) (sym c.new.ensures) represents in
+    let storage : c.in_err-serve.field-0.0 ≡ Storage =
+    c.in_err-serve.ensures.served.wants (always (store_of c.serve.new.hub.store)) opened (new_world b) (c.new-hub.ensures.represents b rows) in
+    rw (p.1 ∙ ap Err p.2) (rw storage tt)
+
+pub returns-in_err-shared : goal.returns-in_err-shared
+returns-in_err-shared g c always stands b represents =
+    let p = err_from_is_err_and c.from_residual.result c.from_residual.ensures.1 in
+    let memory : c.in_err-shared.field-0.0 ≡ Memory = c.in_err-shared.ensures in
+    rw (p.1 ∙ ap Err p.2) (rw memory tt)
