@@ -3,7 +3,8 @@
 #
 # A broker changes FILE only while it moves its log, FILE-wal, into it, and then the log gets another head. So FILE is
 # copied before the log, and both are copied again if the head of the log is another one by then. At the end brokerd
-# has to read the copy. BROKERD names another program. docs/STORAGE.md says more, and how to restore.
+# has to read the copy: BROKERD, the one on the PATH, or else that of the package or checkout of this script.
+# docs/STORAGE.md says more, and how to restore.
 set -eu
 umask 077
 
@@ -15,6 +16,7 @@ file=$1
 folder=$2
 part=$folder.part # becomes the folder once all is right
 name=$(basename "$file")
+brokerd=${BROKERD:-$(command -v brokerd || echo "$(dirname "$0")/../bin/brokerd")}
 
 fail() {
     echo "backup.sh: $1" >&2
@@ -32,26 +34,28 @@ copy() {
     [ "$(head_of_log)" = "$before" ]
 }
 
-# Reads a copy of the copy, since a start may write to its files. No address is called nowhere: brokerd ends with
-# fault 5 there, after it has read the whole database, and with another fault if that is damaged. Of a database without
-# a broker it would print a new root token.
+# Reads a copy of the copy, since a start may write to its files, and keeps in `said` what that says. No address is called
+# nowhere: brokerd ends with fault 5 there, after it has read the whole database, and with another fault if that is
+# damaged. Of a database without a broker it prints a new root token.
 is_read() {
-    local said
     mkdir "$part/read"
     cp "$part/$name" "$part/$name-wal" "$part/read"
-    said=$("${BROKERD:-brokerd}" serve --listen nowhere --db "$part/read/$name" 2>&1) || true
+    said=$("$brokerd" serve --listen nowhere --db "$part/read/$name" 2>&1) || true
     rm -r "$part/read"
     # It says first that it opens a large one.
     said=${said#"opening $part/read/$name: "* MB$'\n'}
+    [[ $said != "root token: "* ]] || fail "there is no broker in $file"
     [ "$said" = 'fault 5' ]
 }
 
+command -v "$brokerd" > /dev/null || fail "there is no $brokerd: put brokerd on the PATH, or name it by BROKERD"
+[ -f "$file" ] || fail "there is no $file"
 [ ! -e "$folder" ] || fail "there is a $folder"
 mkdir "$part"
 trap 'rm -rf "$part"' EXIT
 for turn in {1..20}; do
     if copy; then
-        is_read || fail "brokerd cannot read the copy"
+        is_read || fail "$brokerd cannot read the copy: $said"
         sync "$part/$name" "$part/$name-wal"
         mv -T "$part" "$folder"
         exit

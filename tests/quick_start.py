@@ -1,5 +1,6 @@
 #!/usr/bin/env python3
-"""Types the quick start of README.md in a folder, and compares what the commands print with what the page shows.
+"""Types the quick start of README.md in a folder, and compares what the commands print with what the page shows. Then
+it types how SERVE.md makes a token for an app, and how CLIENT.md hands on the secret that this token can read.
 
 usage: tests/quick_start.py FOLDER
 
@@ -8,6 +9,7 @@ commands of the shell are run as they stand, but for the port, which is a free o
 was printed. In what the page shows, `..` is any text, and a time is any time. The last line is 'N passed, M failed'.
 """
 
+import json
 import os
 import re
 import select
@@ -23,6 +25,8 @@ import broker  # noqa: E402
 PORT = "8200"
 TOKEN = re.compile(r"hvs\.[0-9a-f-]{36}")
 TIME = re.compile(r"\d{4}-\d\d-\d\dT\d\d\\:\d\d\\:\d\dZ|\d{4}\\-\d\d\\-\d\dT\d\d:\d\d:\d\dZ")
+IDENTIFIER = re.compile(r"[0-9a-f]{8}(?:\\?-[0-9a-f]{4}){3}\\?-[0-9a-f]{12}")
+BLOCK = re.compile(r"(?:^    .*\n)+", re.MULTILINE)
 COMMANDS = ("bin/", "curl ", "export ")
 SECONDS = 30
 
@@ -44,7 +48,7 @@ def steps():
 def pattern_of(shown):
     """What a shown line allows."""
     pattern = ".*".join(re.escape(part.strip()) for part in re.split(r"\s\.\.\s", shown))
-    return TIME.sub(r"[0-9TZ:-]+", pattern)
+    return IDENTIFIER.sub("[0-9a-f-]{36}", TIME.sub(r"[0-9TZ:-]+", pattern))
 
 
 def heed_interrupts():
@@ -78,6 +82,46 @@ def run(command, folder, token, port):
     return done.stdout.strip() if done.returncode == 0 else f"status {done.returncode}: {done.stderr.strip()}"
 
 
+def section(page, title):
+    """The commands of a section, each with the lines that it prints, if any are shown, and its status. Lines that are
+    shown without a command are what the last one prints the next time, when it fails. A loop is left out, and so is
+    what names an identifier of the page."""
+    text = (TOP / page).read_text(encoding="utf-8").partition(f"\n## {title}\n")[2].partition("\n## ")[0]
+    for block in BLOCK.findall(text):
+        lines = [line[4:] for line in block.splitlines()]
+        shown = [line for line in lines if line.startswith("{")]
+        command = "\n".join(line for line in lines if line not in shown)
+        if not command.startswith("while ") and not IDENTIFIER.search(command):
+            last = command or last
+            yield last, shown, 0 if command else 1
+
+
+def typed(page, title, folder, token, port, compare):
+    """Types a section in one shell, and answers what each command printed."""
+    commands = list(section(page, title))
+    if len(commands) < 3:
+        raise SystemExit(f"{page} has few commands in {title}")
+    exports = f"export VAULT_ADDR=http://127.0.0.1:{port} VAULT_TOKEN={token}\n"
+    script = "".join(f"{command}\nprintf '\\036%s\\036' $?\n" for command, _, _ in commands)
+    done = subprocess.run(["bash"], cwd=folder, input=exports + script, capture_output=True, text=True, timeout=SECONDS,
+                          check=False)
+    *said, _ = done.stdout.split("\036")
+    for (command, shown, status), printed, found in zip(commands, said[::2], said[1::2]):
+        compare(f"{page}, the status of {command}", found, str(status))
+        if shown:
+            compare(f"{page}, {command}", printed.strip(), "\n".join(shown))
+    compare(f"{page}, its commands", str(len(said) // 2), str(len(commands)))
+    return said[::2]
+
+
+def hand_on(folder, token, port, compare):
+    """Makes a token for an app, and hands on a secret with it."""
+    _, made, *_ = typed("docs/SERVE.md", "Tokens for apps", folder, token, port, compare)
+    app = json.loads(made)["auth"]["client_token"]
+    typed("docs/CLIENT.md", "Handing on a secret", folder, app, port, compare)
+    (folder / "wrapping-token").unlink(missing_ok=True)
+
+
 def main():
     folder = Path(sys.argv[1])
     first, *others = steps()
@@ -98,6 +142,7 @@ def main():
     asked = [(command, shown) for command, shown in others if not command.startswith("export ")]
     for command, shown in asked:
         compare(command, run(command.replace(PORT, port), folder, token, port), "\n".join(shown))
+    hand_on(folder, token, port, compare)
     server.stop()
     server = Broker(first[0].replace(PORT, port), folder)
     broker.connect(int(port)).close()

@@ -299,6 +299,8 @@ count python3 tests/clients/keep_alive.py "$port" "$token" 10000
 count "$(python_with_hvac)" tests/clients/hvac_calls.py "$port" "$token"
 count "$(python_with_hvac)" tests/clients/hvac_methods.py "$port" "$token"
 count "$(python_with_hvac)" tests/clients/hvac_pool.py "$port" "$token"
+count python3 tests/clients/documented.py "$port" "$token"
+count python3 tests/clients/vault_requests.py "$port" "$token"
 limit=600 count python3 tests/clients/ansible_calls.py "$port" "$token" 5
 run "an address that is taken" 1 'fault 5' serve --listen "127.0.0.1:$port"
 if kill -0 "$pid" 2> /dev/null && [ ! -s "$found/served.err" ]; then pass; else fail "the program" "it has ended"; fi

@@ -120,10 +120,12 @@ def what_is_wrong(program, copy, token, answered):
     return None
 
 
-def copy_by_script(program, file, to, *tools):
-    """The exit status of the script, and what it has said. `tools` are folders with commands in place of the system's."""
-    path = ":".join([*map(str, tools), os.environ["PATH"]])
-    done = subprocess.run([SCRIPT, file, to], env={**os.environ, "BROKERD": str(program), "PATH": path},
+def copy_by_script(program, file, to, *tools, script=SCRIPT):
+    """The exit status of the script, and what it has said. `tools` are folders with commands in place of the system's,
+    whose own brokerd is not found."""
+    folders = [it for it in os.environ["PATH"].split(":") if not Path(it, "brokerd").exists()]
+    path = ":".join([*map(str, tools), *folders])
+    done = subprocess.run([script, file, to], env={**os.environ, "BROKERD": str(program), "PATH": path},
                           capture_output=True, text=True)
     return done.returncode, done.stderr.strip()
 
@@ -200,6 +202,32 @@ class Trial:
                 self.check(to.name, why is None, why)
                 shutil.rmtree(again)
 
+    def find_program(self):
+        """BROKERD reads the copy, else one on the PATH, else the one of the package of the script."""
+        package, tools = self.folder / "package", self.folder / "program"
+        script = shutil.copytree(SCRIPT.parent, package / "examples") / SCRIPT.name
+        for folder in (package / "bin", tools):
+            folder.mkdir()
+        (tools / "brokerd").symlink_to(self.program)
+        cases = {"no program": ("", [], 1), "no such program": ("brokerd", [], 1), "BROKERD": (self.program, [], 0),
+                 "the PATH": ("", [tools], 0), "the package": ("", [], 0)}
+        for name, (program, folders, wanted) in cases.items():
+            if name == "the package":
+                (package / "bin/brokerd").symlink_to(self.program)
+            to = self.folder / name
+            status, said = copy_by_script(program, self.file, to, *folders, script=script)
+            self.check(name, status == wanted and to.exists() == (status == 0) and
+                       said.endswith("name it by BROKERD" if wanted else ""), f"status {status}: {said}")
+
+    def find_no_broker(self):
+        """Of a database without a broker there is no copy."""
+        file, to = self.folder / "none.db", self.folder / "none"
+        with contextlib.closing(sqlite3.connect(file)) as database:
+            database.executescript("PRAGMA journal_mode = wal; CREATE TABLE a (b); DROP TABLE a")
+            status, said = copy_by_script(self.program, file, to)
+        self.check("no broker", status == 1 and said.endswith(f"there is no broker in {file}") and not to.exists(),
+                   f"status {status}: {said}")
+
     def restore(self, token, used, waiting):
         """A response that was unwrapped after the copy waits there again, but not once all that wait were dropped."""
         code = re.search(r'sqlite3 FILE "(DELETE .*?)"', PAGE.read_text(encoding="utf-8"), re.DOTALL)[1]
@@ -230,6 +258,8 @@ def main():
         trial.check("the writes", writer.error is None, writer.error)
         trial.judge(token)
         trial.restore(token, used, waiting)
+        trial.find_program()
+        trial.find_no_broker()
     print(f"{trial.passed} passed, {trial.failed} failed")
     return trial.failed != 0
 

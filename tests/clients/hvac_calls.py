@@ -6,7 +6,13 @@
 If hvac is not installed, it says so, and nothing is tried. The last line is 'N passed, M failed'.
 """
 
+import contextlib
+import io
+import os
+import re
 import sys
+import textwrap
+from pathlib import Path
 
 try:
     import hvac
@@ -15,9 +21,21 @@ except ImportError:
     hvac = None
 
 
+PAGE = Path(__file__).resolve().parent.parent.parent / "docs/CLIENTS.md"
+
+
 def expect(condition, what):
     if not condition:
         raise AssertionError(what)
+
+
+def page(root, url):
+    """What docs/CLIENTS.md shows."""
+    code = re.search(r"^    import hvac\n(?:(?:    .*)?\n)+", PAGE.read_text(encoding="utf-8"), re.MULTILINE)[0]
+    os.environ.update(VAULT_ADDR=url, VAULT_TOKEN=root.token)
+    with contextlib.redirect_stdout(io.StringIO()) as printed:
+        exec(textwrap.dedent(code), {})
+    expect(printed.getvalue() == "{'user': 'app'}\n", f"it prints {printed.getvalue()}")
 
 
 def secrets(root, _):
@@ -111,7 +129,7 @@ def main():
         print("0 passed, 0 failed")
         return 0
     url = f"http://127.0.0.1:{sys.argv[1]}"
-    calls, failed = [secrets, tokens, mounts, leases, wrapping], 0
+    calls, failed = [page, secrets, tokens, mounts, leases, wrapping], 0
     if hasattr(hvac.Client(url=url).sys, "create_or_update_acl_policy"):  # older ones only have `sys/policy`
         calls.append(policies)
     for call in calls:

@@ -527,6 +527,56 @@ def a_client_looks_after_tokens(client):
         expect_refused("Forbidden", client.lookup_token, made["client_token"])
 
 
+@calls("create_token", "renew_self_token", "revoke_self_token", "unwrap")
+def tokens_are_created_as_before(client):
+    """By the methods of an older hvac."""
+    child = client_of(client, client.create_token(policies=["default"], ttl="1h")["auth"]["client_token"])
+    expect_same(child.renew_self_token(increment=60)["auth"]["lease_duration"], 60)
+    expect_same(child.lookup_token(), answer(data=token_in_data(["default"], id=child.token)))
+    child.revoke_self_token()
+    expect_refused("Forbidden", child.lookup_token)
+    wrapped = client.create_token(policies=["app"], ttl="1h", orphan=True, num_uses=1, wrap_ttl="1m")
+    expect_same(wrapped, answer(wrap_info=wrap_info("auth/token/create-orphan", 60, wrapped_accessor=ANY)))
+    auth = token_in_auth(["app", "default"], orphan=True, num_uses=1)
+    expect_same(client.unwrap(wrapped["wrap_info"]["token"]), answer(auth=auth))
+
+
+@calls("enable_secret_backend", "list_secret_backends", "disable_secret_backend", "read_lease", "renew_secret",
+       "revoke_secret", "revoke_secret_prefix")
+def leases_are_renewed_as_before(client):
+    client.enable_secret_backend("issued", mount_point="hvac-old")
+    client.write("hvac-old/roles/app", ttl="1h")
+    expect("hvac-old/" in client.list_secret_backends()["data"], "the mount is not listed")
+    first, second = (client.read("hvac-old/creds/app")["lease_id"] for _ in range(2))
+    expect_same(client.renew_secret(first, increment=60)["lease_duration"], 60)
+    expect_same(client.read_lease(first)["data"]["ttl"] <= 60, True)
+    client.revoke_secret(first)
+    expect_refused("InvalidRequest", client.read_lease, first)
+    client.revoke_secret_prefix("hvac-old/creds")
+    expect_refused("InvalidRequest", client.read_lease, second)
+    client.disable_secret_backend("hvac-old")
+
+
+@calls("login")
+def a_login_takes_the_token(client):
+    """Of whatever path makes one."""
+    child = client_of(client, client.token)
+    made = child.login("/v1/auth/token/create", json={"policies": ["default"], "ttl": "1h"})
+    expect_same(made, answer(auth=token_in_auth(["default"], client_token=child.token)))
+    expect(child.token != client.token and child.is_authenticated(), "the client has another token")
+
+
+@calls("adapter.list", "secrets.kv.v2.list_secrets")
+def lists_are_asked_for_without_their_method(client):
+    """With `strict_http`, for a proxy that knows the common methods alone, LIST is sent as GET with `list=true`."""
+    client.secrets.kv.v2.create_or_update_secret(path="methods/strict/a", secret={"k": "v"})
+    strict, seen = hvac.Client(url=client.url, token=client.token, strict_http=True), []
+    strict.session.hooks["response"] = [lambda reply, **_: seen.append(reply.request.method)]
+    expect_same(strict.secrets.kv.v2.list_secrets(path="methods/strict"), answer(data={"keys": ["a"]}))
+    expect_same(strict.adapter.list("/v1/secret/metadata/methods/strict"), answer(data={"keys": ["a"]}))
+    expect_same(seen, ["GET", "GET"])
+
+
 @calls("is_authenticated", "logout")
 def a_client_knows_its_token(client):
     child = client_of(client, new_token(client)["client_token"])
@@ -556,7 +606,7 @@ def main():
         print("hvac is not installed for this Python: its methods are skipped")
         print("0 passed, 0 failed")
         return 0
-    warnings.simplefilter("ignore")  # of what is deprecated
+    warnings.showwarning = lambda *_, **__: None  # of what is deprecated: hvac lets none be ignored
     client = hvac.Client(url=f"http://127.0.0.1:{sys.argv[1]}", token=sys.argv[2], session=requests.Session())
     served = {name for _, methods, _ in CALLS for name in methods}
     refused, missing = try_refused(client, served)

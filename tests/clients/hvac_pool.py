@@ -8,6 +8,7 @@ installed, it says so, and nothing is tried. The last line is 'N passed, M faile
 """
 
 import concurrent.futures
+import os
 import sys
 import threading
 
@@ -19,6 +20,7 @@ try:
 except ImportError:
     hvac = None
 
+FOLDER = f"pool/{os.getpid()}"  # of secrets
 THREADS = 8
 TIMES = 25
 
@@ -32,10 +34,10 @@ def own_secrets(client, thread):
     """Each thread writes versions of a secret of its own, and reads each one."""
     kv = client.secrets.kv.v2
     for number in range(1, TIMES + 1):
-        made = kv.create_or_update_secret(path=f"pool/{thread}", secret={"number": number})
+        made = kv.create_or_update_secret(path=f"{FOLDER}/{thread}", secret={"number": number})
         expect(made["data"]["version"] == number, f"version {made['data']['version']} is made, not {number}")
-        found = kv.read_secret_version(path=f"pool/{thread}", raise_on_deleted_version=True) if is_new(kv) \
-            else kv.read_secret_version(path=f"pool/{thread}")
+        found = kv.read_secret_version(path=f"{FOLDER}/{thread}", raise_on_deleted_version=True) if is_new(kv) \
+            else kv.read_secret_version(path=f"{FOLDER}/{thread}")
         expect(found["data"]["data"] == {"number": number}, f"{found['data']['data']} is read, not {number}")
     return TIMES * 2
 
@@ -51,10 +53,10 @@ def one_counter(client, _):
     for _ in range(TIMES):
         while True:
             calls += 2
-            found = kv.read_secret_version(path="pool/counter")["data"]
+            found = kv.read_secret_version(path=f"{FOLDER}/counter")["data"]
             version, number = found["metadata"]["version"], found["data"]["number"]
             try:
-                kv.create_or_update_secret(path="pool/counter", secret={"number": number + 1}, cas=version)
+                kv.create_or_update_secret(path=f"{FOLDER}/counter", secret={"number": number + 1}, cas=version)
                 break
             except hvac.exceptions.InvalidRequest:
                 pass
@@ -113,9 +115,9 @@ def run(port, token):
     client = hvac.Client(url=f"http://127.0.0.1:{port}", token=token, session=session)
     before = held(port)
     calls = at_once(client, own_secrets)
-    client.secrets.kv.v2.create_or_update_secret(path="pool/counter", secret={"number": 0})
+    client.secrets.kv.v2.create_or_update_secret(path=f"{FOLDER}/counter", secret={"number": 0})
     calls += at_once(client, one_counter)
-    counted = client.secrets.kv.v2.read_secret_version(path="pool/counter")["data"]["data"]["number"]
+    counted = client.secrets.kv.v2.read_secret_version(path=f"{FOLDER}/counter")["data"]["data"]["number"]
     expect(counted == THREADS * TIMES, f"{counted} is counted, not {THREADS * TIMES}")
     client.write("cubbyhole/pool", user="app")
     WRAPPED.extend(client.read("cubbyhole/pool", wrap_ttl="1m")["wrap_info"]["token"] for _ in range(TIMES))

@@ -5,6 +5,9 @@ processor time, in 500 MB, and by no signal. What it serves from a database with
 SQLite reads there, or if that reads nothing, what was there before the change; a file that is cut to nothing is a new
 broker. What it serves from a log is the broker after some number of the requests, or a new one. Neither has sums that
 tell a change in every place, so answered requests may be lost, and changed ones served: this is counted.
+
+`brokerd check` of such files says `ok` or which row is wrong, or ends with `fault 2`, within the same time and memory.
+What it accepts is then served until the last reply, and in a database without a log SQLite reads the rows of a broker.
 """
 
 import contextlib
@@ -14,7 +17,7 @@ import sqlite3
 from dataclasses import dataclass
 
 from asking import LOOK, REQUESTS, WITH_ALL_KINDS, Reply, Request, Server, Story, looked, rows_of
-from program import SECONDS, Running, Wrong, expect
+from program import SECONDS, Running, Wrong, expect, run_to_end
 from rows import bytes_of, close_log, put, read_rows, rows_in
 from stored_broker import broker_of
 from trial import MOMENT, Tally, side_by_side
@@ -31,7 +34,8 @@ FILLING = tuple(Request("POST", f"secret/data/{number % 7}/k{number}", '{"data":
 CHANGES_IN_THE_GATE = 600
 LEAST = {"databases": 250, "logs": 150, "refused": 100, "damaged": 5, "other rows served": 30,
          "the same rows served": 60, "logs with all requests": 40, "requests lost with the log": 70,
-         "brokers lost with the log": 3, "unchanged files told": 15, "logs of another broker told": 1}
+         "brokers lost with the log": 3, "unchanged files told": 15, "logs of another broker told": 1, "accepted": 80,
+         "served, but not accepted": 8}
 
 # What is asked of what is found. The last takes the response that waits.
 QUESTIONS = (
@@ -327,12 +331,41 @@ def first_other(replies, expected):
     return f"{len(replies)} replies in place of {len(expected)}"
 
 
+def is_accepted(trial, files):
+    """Whether `brokerd check` accepts the database of some files. Raises Wrong."""
+    file = trial.place() / "broker.db"
+    put(file, files)
+    end = run_to_end(trial.program, "check", "--db", file)
+    expect(end.memory <= MOST_MEMORY, f"checked, it took {end.memory} kB")
+    expect(end.seconds <= SECONDS, f"checked, it took {end.seconds:.1f} s of processor time")
+    if end.is_fault(2):
+        return False
+    expect(end.status in (0, 1) and end.said == "", f"checked: {end}")
+    expect(end.printed.startswith(f"{file}: ") and end.printed.count("\n") == 1, f"checked: {end.printed}")
+    expect(end.printed.startswith(f"{file}: ok, ") == (end.status == 0), f"checked: {end}, {end.printed}")
+    return end.status == 0
+
+
+def judge_check(trial, files, told):
+    """What came of a check of the database of some files, of which this is told when they are served: what is accepted
+    has to be served, and if SQLite reads it, it has to find the rows of a broker. Raises Wrong."""
+    served = told in ("the same rows served", "other rows served")
+    if not is_accepted(trial, files):
+        return ["served, but not accepted"] * served
+    expect(served, f"accepted, but {told}")
+    rows = read_by_sqlite(trial.place() / "read.db", files)
+    expect(rows is None or reference_of(rows) is not None, "accepted are the rows of no broker")
+    return ["accepted"]
+
+
 def judge_log(trial, base, files, first=0, last=None):
     """What the program serves of files whose log was changed: how many of the requests from the first to the last are
     lost, all if it has started a new broker, or None if it serves none. Raises Wrong."""
+    accepted = is_accepted(trial, files)
     file, known = trial.place() / "broker.db", base.looked[first:last]
     put(file, files)
     replies, end = ask_all(trial, file, base.questions[:1])
+    expect(accepted == (bool(replies) and end.root_token() is None), f"accepted: {accepted}, and then {end}")
     if not replies:
         return None
     if end.root_token() is not None:
@@ -361,7 +394,8 @@ def try_change(trial, base, seed):
         else:
             files = {"": data, "-wal": base.logged["-wal"] if part == "a database beside its log" else None}
             told, end = judge_database(trial, base, files, files)
-            return ["databases", told, *tell_unchanged(trial, base, files, told), ("MB at most", end.memory // 1000)]
+            return ["databases", told, *tell_unchanged(trial, base, files, told), *judge_check(trial, files, told),
+                    ("MB at most", end.memory // 1000)]
     except Wrong as error:
         raise Wrong(f"{name}, in {part}: {error}") from None
     if lost is None:

@@ -1,9 +1,10 @@
-"""What `brokerd check` says of a database.
+"""What `brokerd check` says of a database, and whether `brokerd serve --check` serves it.
 
 It has to accept each database that keeps a broker: those of the reference broker at the end of each row of tests/rows
 and after drawn requests, as SQLite writes them, some of their secrets in the older format. The counts that it tells are
 those of the rows. In the database of a broker with rows of every kind each rule is broken by hand: it has to tell the
-row and the rule. No check changes a row, and none prints a token.
+row and the rule. No check changes a row, and none prints a token. What is accepted is served then, and what is not is
+refused in the same words, before the program listens; and a broker is started in a new file.
 """
 
 import json
@@ -29,6 +30,8 @@ COUNTED = ((TOKEN, "token", "tokens"), (OBJECT, "cubbyhole object", "cubbyhole o
            (SECRET, "secret", "secrets"), (VERSION, "version", "versions"), (LEASE, "lease", "leases"),
            (RESPONSE, "wrapped response", "wrapped responses"), (MOUNT, "mount", "mounts"),
            (POLICY, "policy", "policies"), (ROLE, "role", "roles"))
+FAULT_WITHOUT_CLOCK = 4
+WITHOUT_FILE = "brokerd: --check needs a database: give --db too\n"
 SECONDS = 60  # that a check may take beside much other work
 LEAST = {"accepted": 150, "rows in the older format": 20, "rules": 14, "told": 80}
 
@@ -49,11 +52,16 @@ ORIGIN = "its origin was not issued, or is that of another response too"
 
 # ---------------------------------------------------------------------------------------- databases
 
+def run(trial, *words):
+    """A run of the program until it ends."""
+    return subprocess.run([trial.program, *words], stdin=subprocess.DEVNULL, capture_output=True, timeout=SECONDS,
+                          text=True)
+
+
 def check(trial, file):
     """What the program says of a file. Raises Wrong if it prints a token, or changes a row."""
     before = rows_in(file)
-    ended = subprocess.run([trial.program, "check", "--db", file], stdin=subprocess.DEVNULL, capture_output=True,
-                           timeout=SECONDS, text=True)
+    ended = run(trial, "check", "--db", file)
     expect(rows_in(file) == before, "a row has changed")
     expect("hvs." not in ended.stdout + ended.stderr, f"a token is printed: {ended.stdout}")
     return ended
@@ -67,14 +75,40 @@ def counts_of(rows):
     return ", ".join(words.values())
 
 
-def accept(trial, rows, draw):
-    """The database of these rows has to be accepted. Raises Wrong."""
+def accept(trial, rows, draw, served):
+    """The database of these rows has to be accepted, and served with those that an opening makes of them. Raises
+    Wrong."""
     file = trial.place() / "broker.db"
     write(file, rows, draw)
     ended = check(trial, file)
     wanted = f"{file}: ok, {counts_of(rows)}\n"
     expect((ended.returncode, ended.stdout, ended.stderr) == (0, wanted, ""),
            f"{ended.stdout or ended.stderr} in place of {wanted}")
+    expect(serve(trial, file) is None, "a root token is printed")
+    expect(rows_in(file) == served, "it serves other rows")
+
+
+def serve(trial, file):
+    """The root token that is printed, or None, by a program that checks a file and has to serve it. Raises Wrong."""
+    with Running(trial.program, file, {}, options=("--check",)) as running:
+        connection = running.connect()
+        if connection is not None:
+            connection.close()
+        end = running.close()
+    expect(end.is_kill(), f"checked, and not served: {end}")
+    return end.root_token()
+
+
+def refuse_to_serve(trial, file, said):
+    """A program that checks a file has to end before it listens, with these words, and to change no row. Raises
+    Wrong."""
+    before = rows_in(file)
+    with Running(trial.program, file, {}, options=("--check",)) as running:
+        connection = running.connect()
+        expect(connection is None, "it listens")
+        end = running.close()
+    expect((end.status, end.printed, end.said) == (1, "", said), f"{end} in place of {said}")
+    expect(rows_in(file) == before, "a row has changed")
 
 
 # ---------------------------------------------------------------------------------------- rules
@@ -270,6 +304,7 @@ def refuse(trial, rule, place, rows):
     expect((ended.returncode, ended.stderr) == (1, ""), f"status {ended.returncode}: {ended.stdout}{ended.stderr}")
     expect(line.startswith(begin) and line.endswith(end), f"{line} in place of {begin} .. {end}")
     expect(place[0] not in (TOKEN, RESPONSE) or rule == FORMAT or " (accessor " in line, f"no accessor: {line}")
+    refuse_to_serve(trial, file, ended.stdout if rule else f"fault {FAULT_WITHOUT_CLOCK}\n")
 
 
 # ---------------------------------------------------------------------------------------- what is tried
@@ -285,10 +320,10 @@ def at_the_end(file, events):
 def try_accepted(trial, file, events):
     """The broker at the end of a row has to be accepted, also with secrets in the older format. Raises Wrong."""
     rows, draw = rows_of(at_the_end(file, events)), random.Random(file.stem)
-    accept(trial, rows, draw)
+    accept(trial, rows, draw, rows)
     older = {place: in_a_format(place, row, draw) for place, row in rows.items()}
     if older != rows:
-        accept(trial, older, draw)
+        accept(trial, older, draw, rows)
     return ["accepted", *["rows in the older format"] * sum(older[place] != rows[place] for place in rows)]
 
 
@@ -299,21 +334,27 @@ def try_refused(trial, rule, place, rows):
 
 
 def try_files(trial):
-    """Files that are none of a broker, and one that is in use. Raises Wrong."""
+    """Files that are none of a broker, and one that is in use; a broker is started in a new file. Raises Wrong."""
     place = trial.place()
     absent, empty, other = place / "absent.db", place / "empty.db", place / "other.db"
     empty.touch()
     other.write_bytes(b"x" * 5000)
     for file in (absent, empty, other):
         before = file.exists() and file.read_bytes()
-        ended = subprocess.run([trial.program, "check", "--db", file], capture_output=True, timeout=SECONDS, text=True)
+        ended = run(trial, "check", "--db", file)
         expect((ended.returncode, ended.stdout, ended.stderr) == (1, "", f"fault {FAULT_OF_STORAGE}\n"),
                f"of {file.name}: {ended}")
         expect((file.exists() and file.read_bytes()) == before, f"{file.name} has changed")
+    for file in (absent, empty):
+        expect(serve(trial, file) is not None, f"of {file.name}: no root token is printed")
+        expect(serve(trial, file) is None, f"of {file.name}: a root token is printed twice")
+    ended = run(trial, "serve", "--listen", "127.0.0.1:0", "--connections", "1", "--check", "--db", other)
+    expect((ended.returncode, ended.stdout, ended.stderr) == (1, "", f"fault {FAULT_OF_STORAGE}\n"), f"{ended}")
+    ended = run(trial, "serve", "--listen", "127.0.0.1:0", "--check")
+    expect((ended.returncode, ended.stdout, ended.stderr) == (2, "", WITHOUT_FILE), f"{ended}")
     with Running(trial.program, place / "used.db", {}) as running:
         running.told_root()
-        ended = subprocess.run([trial.program, "check", "--db", place / "used.db"], capture_output=True,
-                               timeout=SECONDS, text=True)
+        ended = run(trial, "check", "--db", place / "used.db")
         running.close()
     expect((ended.returncode, ended.stderr) == (1, f"fault {FAULT_OF_STORAGE}\n"), f"of a file in use: {ended}")
     return ["files"]

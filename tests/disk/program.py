@@ -69,6 +69,18 @@ def own_address():
     return f"127.{64 + (pid >> 16) % 64}.{pid >> 8 & 255}.{pid & 255}", 10_000 + next(PORTS) % 20_000
 
 
+def run_to_end(program, *words):
+    """How the program ended, which has no more than the seconds of processor time that there are."""
+    process = subprocess.Popen(
+        [program, *words], stdin=subprocess.DEVNULL, stdout=subprocess.PIPE, stderr=subprocess.PIPE,
+        preexec_fn=lambda: resource.setrlimit(resource.RLIMIT_CPU, (SECONDS, SECONDS)))
+    with process.stdout as printed, process.stderr as said:
+        told, error = (each.read().decode(errors="replace") for each in (printed, said))
+    _, status, usage = os.wait4(process.pid, 0)
+    process.returncode = os.waitstatus_to_exitcode(status)
+    return End(process.returncode, told, error, usage.ru_maxrss, usage.ru_utime + usage.ru_stime)
+
+
 def exchange(connection, text):
     """The bytes of the reply to a request, as of the next reply."""
     try:
@@ -107,11 +119,12 @@ def reply_from(connection):
 class Running:
     """A program that serves the broker of a file."""
 
-    def __init__(self, program, file, variables=None, longest=None):
-        """With these variables of the environment; no file may be longer than so many bytes, if that is given."""
+    def __init__(self, program, file, variables=None, longest=None, options=()):
+        """With these variables of the environment, and these options beside its own; no file may be longer than so many
+        bytes, if that is given."""
         self.address = own_address()
         self.process = subprocess.Popen(
-            [program, "serve", "--listen", "{}:{}".format(*self.address), "--until-stopped", "--db", str(file)],
+            [program, "serve", "--listen", "{}:{}".format(*self.address), "--until-stopped", "--db", str(file), *options],
             stdin=subprocess.DEVNULL, stdout=subprocess.PIPE, stderr=subprocess.PIPE, env=variables,
             **({} if longest is None else self.limited(longest)))
         self.connection = None

@@ -43,10 +43,10 @@ def most_memory(process):
     raise SystemExit(f"the system does not tell the memory of {process}")
 
 
-def start(program, file, token):
+def start(program, file, token, *options):
     """One start, which is stopped once the program listens."""
     begin = time.monotonic()
-    with Broker(program, "--db", file, token=token) as broker:
+    with Broker(program, "--db", file, *options, token=token) as broker:
         seconds = time.monotonic() - begin
         return Start(seconds, broker.processor(), most_memory(broker.process.pid))
 
@@ -57,7 +57,7 @@ def formats_in(file):
         return ", ".join(f"{count} of format {name}" for name, count in database.execute(FORMATS))
 
 
-def run(program, source, token, folder):
+def run(program, source, token, _many, folder):
     """Two starts over a copy."""
     file = f"{folder}/broker.db"
     shutil.copyfile(source, file)
@@ -84,7 +84,7 @@ def tell(program, many, runs):
           flush=True)
 
 
-def measure(programs, many, count, folder):
+def measure(programs, many, count, folder, run_of, tell_of):
     """All runs with so many secrets and tokens."""
     with tempfile.TemporaryDirectory(dir=folder) as own:
         source, token = filled(programs[0], own, many)
@@ -92,21 +92,22 @@ def measure(programs, many, count, folder):
         for _ in range(count):
             for program in programs:
                 with tempfile.TemporaryDirectory(dir=own) as place:
-                    runs[program].append(run(program, source, token, place))
+                    runs[program].append(run_of(program, source, token, many, place))
         for program in programs:
-            tell(program, many, runs[program])
+            tell_of(program, many, runs[program])
 
 
-def main():
-    parser = argparse.ArgumentParser(description="measures the starts of brokerd serve")
+def main(what, run_of, tell_of):
+    """Measures by the command line what `run_of` does in a folder of its own, and `tell_of` prints."""
+    parser = argparse.ArgumentParser(description=f"measures {what}")
     parser.add_argument("programs", metavar="PROGRAM", nargs="+")
     parser.add_argument("--many", type=int, nargs="+", required=True)
     parser.add_argument("--runs", type=int, default=3)
     parser.add_argument("--db", default=tempfile.gettempdir())
     arguments = parser.parse_args()
     for many in arguments.many:
-        measure(arguments.programs, many, arguments.runs, arguments.db)
+        measure(arguments.programs, many, arguments.runs, arguments.db, run_of, tell_of)
 
 
 if __name__ == "__main__":
-    main()
+    main("the starts of brokerd serve", run, tell)
